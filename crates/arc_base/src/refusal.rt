@@ -1,0 +1,79 @@
+/// Why input is refused. Each kind is printed as one word, in lower case with hyphens.
+#[derive(Clone, Copy, Debug, PartialEq, Eq)]
+pub enum Kind {
+    /// The document is no JSON, or a member is missing, unknown or of the wrong form.
+    DocumentForm,
+    /// The store does not hold a file that is to be read.
+    Missing,
+    /// A file has more bytes than its limit, or the router files up to this one have more than theirs.
+    TooLong,
+    /// An indented line stands in no block.
+    OrphanLine,
+    /// No line form matches.
+    UnknownLine,
+    /// A word of a line is out of its form or range, missing, or one too many; or a banner is not closed.
+    BadWord,
+    /// A mask or wildcard is an address, but its ones do not stand together.
+    WildcardNotPrefix,
+    /// An interface, process or list block stands twice, or a list stands as lines and as a block.
+    DuplicateBlock,
+    /// The numbers of a list's entries do not rise, or only some entries have one.
+    SequenceNotRising,
+    /// A router has no name, or the name of an earlier one.
+    Hostname,
+    /// A router has no routing process, two, or one of another protocol than the first router's.
+    Protocol,
+    /// An OSPF area differs from the first one of the network.
+    TwoAreas,
+    /// A router has the autonomous system of an earlier one.
+    SameAs,
+    /// A neighbour is not the far end of a listed link, or has no autonomous system.
+    NeighborUnknown,
+    /// A BGP network statement names no connected subnet of its router.
+    NetworkNotConnected,
+    /// Two subnets overlap and are not those of the two ends of one link.
+    Overlap,
+    /// A link names an interface that is unknown, a loopback or in use, or one router twice.
+    LinkFace,
+    /// The ends of a link have addresses in different subnets, or the same address.
+    LinkSubnets,
+    /// An inbound packet list denies the routing protocol's own packets on a link.
+    ListStopsSession,
+    /// The OSPF network types at a link's ends differ, or a router id stands twice.
+    AdjacencyForm,
+    /// A prefix lies in no host network, or source and destination lie in the same one.
+    Endpoint,
+    /// A count passes its limit: which, and how many there are.
+    Limit(LimitKind, u64),
+    /// The name of an output is that of an input or of another output.
+    OutputName,
+    /// A line of an edit file names no edit, or one that was named before.
+    EditLine,
+    /// The input asks for what this version does not do yet.
+    NotBuilt,
+}
+
+/// What is counted against a limit.
+#[derive(Clone, Copy, Debug, PartialEq, Eq)]
+pub enum LimitKind {
+    /// The routers of a document: at most 256.
+    Routers,
+    /// The interfaces of a router: at most 256.
+    Interfaces,
+    /// The links of a document: at most 1,024.
+    Links,
+    /// The policies of a document: at most 256.
+    Policies,
+    /// The failed links that a reach policy speaks of: at most 16.
+    Failures,
+    /// The entries of a list: at most 16,384, or 2,048 where files are to be changed.
+    Entries,
+    /// The traffic classes of a document: at most 4,096.
+    Classes,
+    /// The modelled edits of a network: at most 8,192.
+    Edits,
+    /// The literals of a formula: at most 32,000,000.
+    Literals,
+    /// The variables of a formula: at most 16,777,216.
+    Variables,
+}

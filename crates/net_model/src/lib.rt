@@ -1,0 +1,15 @@
+//! The network that router files stand for, the policies over it, and the witnesses of verdicts. Its definitions are
+//! all that a reader of the product's theorems has to believe.
+#![tactic(auto)]
+
+pub mod laws;
+mod lists;
+mod policies;
+mod routing;
+mod rows;
+mod verdicts;
+
+pub use lists::{Packet, PacketEntry, PacketList, RouteEntry, RouteList};
+pub use policies::{Class, Document, LinkText, Policy, PolicyKind, Weights};
+pub use rows::{FaceRow, LinkRow, Network, Protocol, RouterRow, SessionRow};
+pub use verdicts::{ClassSide, LinkPath, Verdict};
