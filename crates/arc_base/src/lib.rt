@@ -11,6 +11,8 @@ mod place;
 mod prefix;
 mod refusal;
 mod span;
+#[cfg(test)]
+mod tests;
 
 pub use list::List;
 pub use memory::Memory;
