@@ -3,21 +3,27 @@
 //! set of its addresses.
 #![tactic(auto)]
 
+mod cut;
 pub mod laws;
 mod list;
 mod memory;
 mod name;
 mod place;
 mod prefix;
+mod prefix_text;
 mod refusal;
 mod span;
 #[cfg(test)]
 mod tests;
 
+pub use cut::cut_at;
 pub use list::List;
 pub use memory::Memory;
 pub use name::Name;
 pub use place::{Face, Link, ListId, Router};
 pub use prefix::Prefix;
+pub use prefix_text::{
+    push_address, push_number, push_prefix, read_address, read_number, read_prefix,
+};
 pub use refusal::{Kind, LimitKind};
 pub use span::Span;
