@@ -1,15 +1,18 @@
 //! The network that router files stand for, the policies over it, and the witnesses of verdicts. Its definitions are
-//! all that a reader of the product's theorems has to believe.
+//! all that a reader of the product's theorems has to believe; docs/model.md goes through them in plain words. Its calls
+//! answer what lists permit, which interface has a host network, and which arcs are routed.
 #![tactic(auto)]
 
-pub mod laws;
+mod forwarding;
 mod lists;
 mod policies;
 mod routing;
 mod rows;
+mod tables;
 mod verdicts;
 
 pub use lists::{Packet, PacketEntry, PacketList, RouteEntry, RouteList};
 pub use policies::{Class, Document, LinkText, Policy, PolicyKind, Weights};
 pub use rows::{FaceRow, LinkRow, Network, Protocol, RouterRow, SessionRow};
+pub use tables::RoutedLink;
 pub use verdicts::{ClassSide, LinkPath, Verdict};

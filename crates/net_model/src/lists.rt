@@ -3,31 +3,36 @@ ghost use Rattle.std.specs.Option.{option_copied};
 
 use arc_base::{List, Name, Prefix, Router};
 
-/// The addresses of a packet.
+/// A packet, as far as routers look at it.
 #[derive(Clone, Copy, Debug, PartialEq, Eq)]
 pub struct Packet {
+    /// The source address.
     pub from: u32,
+    /// The destination address.
     pub to: u32,
 }
 
-/// An entry of a packet list.
+/// An entry of a packet list, for the packets whose addresses lie in its prefixes.
 #[derive(Clone, Copy, Debug, PartialEq, Eq)]
 pub struct PacketEntry {
     pub permit: bool,
+    /// The prefix of the source address.
     pub from: Prefix,
+    /// The prefix of the destination address; of length 0 in an entry that speaks of sources alone.
     pub to: Prefix,
 }
 
-/// A packet list of a router.
+/// A packet list (an access list) of a router, which filters packets at the interfaces that it is bound to.
 #[derive(Debug, Drop)]
 pub struct PacketList {
     pub router: Router,
     pub name: Name,
+    /// Whether it is an extended list, whose entries speak of sources and destinations.
     pub extended: bool,
     pub entries: List<PacketEntry>,
 }
 
-/// An entry of a route list: the prefixes inside `prefix` whose length is from `low` to `high`.
+/// An entry of a route list: for the prefixes inside `prefix` whose length is from `low` to `high`.
 #[derive(Clone, Copy, Debug, PartialEq, Eq)]
 pub struct RouteEntry {
     pub permit: bool,
@@ -36,7 +41,7 @@ pub struct RouteEntry {
     pub high: u8,
 }
 
-/// A route list of a router.
+/// A route list (a prefix list) of a router, which filters the routes that the sessions it is bound to take in.
 #[derive(Debug, Drop)]
 pub struct RouteList {
     pub router: Router,
@@ -48,10 +53,10 @@ impl PacketEntry {
     ghost use Rattle.net_model.specs.Lists.{matches};
 
     /// Whether both addresses of the packet lie in the entry's prefixes.
-    pub fn matches(&self, p: Packet) -> bool
-        ensures { result ≡ matches p self.now }
+    pub fn matches(&self, packet: Packet) -> bool
+        ensures { result ≡ matches packet self.now }
     {
-        self.from.covers(p.from) && self.to.covers(p.to)
+        self.from.covers(packet.from) && self.to.covers(packet.to)
     }
 }
 
@@ -59,10 +64,10 @@ impl RouteEntry {
     ghost use Rattle.net_model.specs.Lists.{route_matches};
 
     /// Whether the prefix lies inside the entry's, with a length in its range.
-    pub fn matches(&self, p: Prefix) -> bool
-        ensures { result ≡ route_matches p self.now }
+    pub fn matches(&self, route: Prefix) -> bool
+        ensures { result ≡ route_matches route self.now }
     {
-        p.inside(&self.prefix) && self.low <= p.len && p.len <= self.high
+        route.inside(&self.prefix) && self.low <= route.len && route.len <= self.high
     }
 }
 
@@ -70,17 +75,17 @@ impl PacketList {
     ghost use Rattle.net_model.specs.Lists.{matches, permits};
 
     /// The first entry that matches the packet.
-    pub fn deciding(&self, p: Packet) -> Option<&PacketEntry>
-        ensures { option_copied result ≡ find (matches p) self.now.entries }
+    fn deciding(&self, packet: Packet) -> Option<&PacketEntry>
+        ensures { option_copied result ≡ find (matches packet) self.now.entries }
     {
-        self.entries.slice().iter().find(|e| e.matches(p))
+        self.entries.slice().iter().find(|e| e.matches(packet))
     }
 
-    /// Whether the first matching entry permits the packet. With no such entry it does not.
-    pub fn permits(&self, p: Packet) -> bool
-        ensures { result ≡ permits self.now.entries p }
+    /// Whether the first entry that matches the packet permits it. Where none matches the packet is denied.
+    pub fn permits(&self, packet: Packet) -> bool
+        ensures { result ≡ permits self.now.entries packet }
     {
-        match self.deciding(p) {
+        match self.deciding(packet) {
             Some(entry) => entry.permit,
             None => false,
         }
@@ -91,17 +96,17 @@ impl RouteList {
     ghost use Rattle.net_model.specs.Lists.{route_matches, route_permits};
 
     /// The first entry that matches the prefix.
-    pub fn deciding(&self, p: Prefix) -> Option<&RouteEntry>
-        ensures { option_copied result ≡ find (route_matches p) self.now.entries }
+    fn deciding(&self, route: Prefix) -> Option<&RouteEntry>
+        ensures { option_copied result ≡ find (route_matches route) self.now.entries }
     {
-        self.entries.slice().iter().find(|e| e.matches(p))
+        self.entries.slice().iter().find(|e| e.matches(route))
     }
 
-    /// Whether the first matching entry permits the prefix. With no such entry it does not.
-    pub fn permits(&self, p: Prefix) -> bool
-        ensures { result ≡ route_permits self.now.entries p }
+    /// Whether the first entry that matches the prefix permits it. Where none matches the prefix is denied.
+    pub fn permits(&self, route: Prefix) -> bool
+        ensures { result ≡ route_permits self.now.entries route }
     {
-        match self.deciding(p) {
+        match self.deciding(route) {
             Some(entry) => entry.permit,
             None => false,
         }

@@ -1,21 +1,26 @@
 use arc_base::{List, Name, Prefix};
 
-/// The packets from one prefix to another.
+/// A traffic class: the packets from one prefix to another.
 #[derive(Clone, Copy, Debug, PartialEq, Eq)]
 pub struct Class {
+    /// The prefix of the source addresses.
     pub from: Prefix,
+    /// The prefix of the destination addresses.
     pub to: Prefix,
 }
 
-/// What a policy asks, with the number of failed links for `Reach`.
+/// What a policy asks of its packets.
 #[derive(Clone, Copy, Debug, PartialEq, Eq)]
 pub enum PolicyKind {
+    /// None is ever delivered, whichever links fail.
     Blocked,
+    /// Each that is delivered has crossed a waypoint link, whichever links fail.
     Through,
+    /// Each is delivered while at most so many links fail.
     Reach(u32),
 }
 
-/// A policy on every packet from one prefix to another.
+/// A policy on every packet from one prefix to another. The two lie in different host networks.
 #[derive(Clone, Copy, Debug, PartialEq, Eq)]
 pub struct Policy {
     pub kind: PolicyKind,
@@ -23,15 +28,18 @@ pub struct Policy {
     pub to: Prefix,
 }
 
-/// What an edit costs.
+/// What an edit of each kind costs, from 1 to 16.
 #[derive(Clone, Copy, Debug, PartialEq, Eq)]
 pub struct Weights {
+    /// An entry of a packet list.
     pub list: u32,
+    /// An entry of a route list.
     pub filter: u32,
+    /// A passive interface or a neighbour's shutdown.
     pub session: u32,
 }
 
-/// A link as the document names it.
+/// A link as the document names it: at each end a router's host name and an interface of it.
 #[derive(Debug, Drop)]
 pub struct LinkText {
     pub a_router: Name,
@@ -41,9 +49,10 @@ pub struct LinkText {
     pub waypoint: bool,
 }
 
-/// The document: router files, links, policies and weights.
+/// The document: it names the router files, and gives the links, the policies and the weights of edits.
 #[derive(Debug, Drop)]
 pub struct Document {
+    /// The names of the router files.
     pub routers: List<Name>,
     pub links: List<LinkText>,
     pub policies: List<Policy>,

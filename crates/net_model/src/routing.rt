@@ -1,6 +1,7 @@
 ghost use Rattle.std.specs.Prelude.{◌≡◌, ◌↔◌, ℕ, length, Any, find, slice_get, IsTrue, IfSome, IfNone};
 ghost use Rattle.std.specs.Option.{option_copied};
-ghost use Rattle.net_model.specs.Routing.{tail_end, head_end, session_at, Names, TakesPart, IsAbleEnd, IsOpen, RouteListPermits, FilterPermits, Tells, Leads, IsRoutedLink};
+ghost use Rattle.net_model.specs.Routing.{tail_end, head_end, session_at, Names, TakesPart, IsAbleEnd, IsOpen, RouteListPermits, FilterPermits, Tells, Carries, IsRoutedLink};
+ghost use Rattle.net_model.specs.Tables.{IsRoutedOver};
 ghost use Rattle.net_model.specs.Forwarding.{LiesInHostOf, IsHostOf};
 
 use crate::rows::{FaceRow, LinkRow, Network, Protocol, SessionRow};
@@ -11,14 +12,12 @@ impl FaceRow {
     pub fn hosts(&self, p: Prefix) -> bool
         ensures { IsTrue result ↔ LiesInHostOf p self.now }
     {
-        match self.host {
-            Some(host) => p.inside(&host),
-            None => false,
-        }
+        let Some(host) = self.host else { return false };
+        p.inside(&host)
     }
 
     /// Whether this is the host network of this interface, is told, and the interface is up.
-    pub fn tells(&self, to: Prefix) -> bool
+    fn tells(&self, to: Prefix) -> bool
         ensures { IsTrue result ↔ Tells to self.now }
     {
         match self.host {
@@ -26,17 +25,30 @@ impl FaceRow {
             None => false,
         }
     }
+
+    /// Whether this interface is not passive, and no session of it is shut down.
+    fn is_open(&self, session: Option<&SessionRow>) -> bool
+        ensures { IsTrue result ↔ IsOpen (option_copied session.entry) self.now }
+    {
+        if self.passive {
+            return false;
+        }
+        match session {
+            Some(session) => !session.down,
+            None => true,
+        }
+    }
 }
 
 impl LinkRow {
-    /// Where the link's arc begins: at end a where `from_a` is true.
+    /// Where the link's arc begins: at end a where `from_a` is true, and else at end b.
     pub fn tail(&self, from_a: bool) -> Face
         ensures { result ≡ tail_end self.now from_a }
     {
         if from_a { self.a } else { self.b }
     }
 
-    /// Where the link's arc ends: at end b where `from_a` is true.
+    /// Where the link's arc ends: at end b where `from_a` is true, and else at end a.
     pub fn head(&self, from_a: bool) -> Face
         ensures { result ≡ head_end self.now from_a }
     {
@@ -58,58 +70,46 @@ impl Network {
         None
     }
 
-    /// The neighbour that is configured at the interface.
+    /// The session of the interface. It looks through all sessions of the network.
     pub fn session_at(&self, face: Face) -> Option<&SessionRow>
         ensures { option_copied result ≡ session_at self.now face }
     {
         self.sessions.slice().iter().find(|s| s.face.0 == face.0)
     }
 
-    /// Whether the host network is told, and its interface is up.
+    /// Whether the host network is told and its interface is up. It looks through all interfaces of the network.
     pub fn is_told(&self, to: Prefix) -> bool
         ensures { IsTrue result ↔ Any (Tells to) self.now.faces }
     {
         self.faces.slice().iter().any(|face| face.tells(to))
     }
 
-    /// Whether the neighbour has the address of this interface, and the AS of its router.
-    fn names(&self, session: &SessionRow, face: &FaceRow) -> bool
-        ensures { IsTrue result ↔ Names self.now session.now face.now }
+    /// Whether the session's peer is the address of this interface, and its remote AS that of the interface's router.
+    fn names(&self, session: &SessionRow, far: &FaceRow) -> bool
+        ensures { IsTrue result ↔ Names self.now session.now far.now }
     {
-        match self.routers.get(face.router.0) {
-            Some(router) => face.addr == Some(session.peer) && session.remote == router.asn,
+        match self.routers.get(far.router.0) {
+            Some(router) => far.addr == Some(session.peer) && session.remote == router.asn,
             None => false,
         }
     }
 
-    fn takes_part(&self, face: Face, row: &FaceRow, far: &FaceRow) -> bool
-        ensures { IsTrue result ↔ TakesPart self.now.protocol self.now face row.now far.now }
+    fn takes_part(&self, session: Option<&SessionRow>, near: &FaceRow, far: &FaceRow) -> bool
+        ensures { IsTrue result ↔ TakesPart self.now.protocol self.now (option_copied session.entry) near.now far.now }
     {
         match self.protocol {
-            Protocol::Ospf => row.enabled,
-            Protocol::Bgp => match self.session_at(face) {
+            Protocol::Ospf => near.enabled,
+            Protocol::Bgp => match session {
                 Some(session) => self.names(session, far),
                 None => false,
             },
         }
     }
 
-    fn is_able_end(&self, face: Face, row: &FaceRow, far: &FaceRow) -> bool
-        ensures { IsTrue result ↔ IsAbleEnd self.now face row.now far.now }
+    fn is_able_end(&self, session: Option<&SessionRow>, near: &FaceRow, far: &FaceRow) -> bool
+        ensures { IsTrue result ↔ IsAbleEnd self.now (option_copied session.entry) near.now far.now }
     {
-        row.up && row.addr.is_some() && self.takes_part(face, row, far)
-    }
-
-    fn is_open(&self, face: Face, row: &FaceRow) -> bool
-        ensures { IsTrue result ↔ IsOpen self.now face row.now }
-    {
-        if row.passive {
-            return false;
-        }
-        match self.session_at(face) {
-            Some(session) => !session.down,
-            None => true,
-        }
+        near.up && near.addr.is_some() && self.takes_part(session, near, far)
     }
 
     fn route_list_permits(&self, filter: Option<ListId>, to: Prefix) -> bool
@@ -122,41 +122,48 @@ impl Network {
         }
     }
 
-    fn filter_permits(&self, face: Face, to: Prefix) -> bool
-        ensures { IsTrue result ↔ FilterPermits self.now face to }
+    fn filter_permits(&self, session: Option<&SessionRow>, to: Prefix) -> bool
+        ensures { IsTrue result ↔ FilterPermits self.now (option_copied session.entry) to }
     {
-        match self.session_at(face) {
+        match session {
             Some(session) => self.route_list_permits(session.filter, to),
             None => true,
         }
     }
 
-    /// Whether the arc from the one interface to the other is routed for the host network.
-    fn leads(
+    /// Whether the interface `head` can hand a route for the host network on to the interface `tail`.
+    fn carries(
         &self,
-        tail: Face,
-        tail_row: &FaceRow,
-        head: Face,
-        head_row: &FaceRow,
+        tail_session: Option<&SessionRow>,
+        tail: &FaceRow,
+        head_session: Option<&SessionRow>,
+        head: &FaceRow,
         to: Prefix,
     ) -> bool
-        ensures { IsTrue result ↔ Leads self.now to tail tail_row.now head head_row.now }
+        ensures { IsTrue result ↔ Carries self.now to (option_copied tail_session.entry) tail.now (option_copied head_session.entry) head.now }
     {
-        self.is_told(to)
-            && self.is_able_end(tail, tail_row, head_row)
-            && self.is_able_end(head, head_row, tail_row)
-            && self.is_open(tail, tail_row)
-            && self.is_open(head, head_row)
-            && self.filter_permits(tail, to)
+        self.is_able_end(tail_session, tail, head)
+            && self.is_able_end(head_session, head, tail)
+            && tail.is_open(tail_session)
+            && head.is_open(head_session)
+            && self.filter_permits(tail_session, to)
     }
 
-    /// Whether the link's arc, from end a to end b where `from_a` is true and else from b to a, is routed for the host network.
-    pub fn routed(&self, link: Link, from_a: bool, to: Prefix) -> bool
-        ensures { IsTrue result ↔ IsRoutedLink self.now link.0 from_a to }
+    /// Whether the arc of the link with this row is routed for the host network. The sessions are those of its tail and head.
+    pub(crate) fn routed_over(
+        &self,
+        told: bool,
+        row: &LinkRow,
+        from_a: bool,
+        tail_session: Option<&SessionRow>,
+        head_session: Option<&SessionRow>,
+        to: Prefix,
+    ) -> bool
+        requires told { IsTrue told ↔ Any (Tells to) self.now.faces }
+        requires tail { option_copied tail_session ≡ session_at self.now (tail_end row.now from_a) }
+        requires head { option_copied head_session ≡ session_at self.now (head_end row.now from_a) }
+        ensures { IsTrue result ↔ IsRoutedOver self.now row.now from_a to }
     {
-        let Some(row) = self.links.get(link.0) else {
-            return false;
-        };
         let tail = row.tail(from_a);
         let head = row.head(from_a);
         let Some(tail_row) = self.faces.get(tail.0) else {
@@ -165,6 +172,27 @@ impl Network {
         let Some(head_row) = self.faces.get(head.0) else {
             return false;
         };
-        self.leads(tail, tail_row, head, head_row, to)
+        told && self.carries(tail_session, tail_row, head_session, head_row, to)
+    }
+
+    /// Whether the link's arc, from end a to end b where `from_a` is true and else from b to a, is routed for the host network.
+    /// It looks through all interfaces and sessions; for many links see `routed_if_told` and `routed_links`.
+    pub fn routed(&self, link: Link, from_a: bool, to: Prefix) -> bool
+        ensures { IsTrue result ↔ IsRoutedLink self.now link.0 from_a to }
+    {
+        self.routed_if_told(self.is_told(to), link, from_a, to)
+    }
+
+    /// The answer of `routed`, where `told` is that of `is_told`. It looks through all sessions, of which OSPF has none.
+    pub fn routed_if_told(&self, told: bool, link: Link, from_a: bool, to: Prefix) -> bool
+        requires { IsTrue told ↔ Any (Tells to) self.now.faces }
+        ensures { IsTrue result ↔ IsRoutedLink self.now link.0 from_a to }
+    {
+        let Some(row) = self.links.get(link.0) else {
+            return false;
+        };
+        let tail_session = self.session_at(row.tail(from_a));
+        let head_session = self.session_at(row.head(from_a));
+        self.routed_over(told, row, from_a, tail_session, head_session, to)
     }
 }

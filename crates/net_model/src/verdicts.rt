@@ -2,26 +2,33 @@ use crate::lists::Packet;
 use crate::policies::Class;
 use arc_base::{Link, List};
 
-/// A class, and the routers that its packets may get to.
+/// A class with a side: the routers that its packets may get to, whichever links fail.
 #[derive(Debug, Drop)]
 pub struct ClassSide {
     pub class: Class,
+    /// For each router of the network, in order, whether it is on the side.
     pub side: List<bool>,
 }
 
-/// The links of a path, in order.
+/// The links of a path from the source router to the target router, in order.
 #[derive(Debug, Drop)]
 pub struct LinkPath {
     pub links: List<Link>,
 }
 
-/// An answer with its witness. The first two are yes, the next three no.
+/// An answer to a policy with its witness. `Closed` and `Paths` are yes, `Walk`, `Denied` and `Cut` are no.
 #[derive(Debug, Drop)]
 pub enum Verdict {
+    /// Yes to blocked or through: classes that make up the policy's, each with a side that its packets do not get off.
     Closed(List<ClassSide>),
+    /// Yes to reach: one path more than links may fail, no two over one link.
     Paths(List<LinkPath>),
+    /// No to blocked or through: packets that are delivered over this path once all other links have failed.
     Walk(Class, LinkPath),
+    /// No to reach: packets that do not enter, or do not leave, even with all links up.
     Denied(Class),
+    /// No to reach: links that separate source and target once they fail, and the source's side of them.
     Cut(List<Link>, List<bool>),
+    /// No answer to reach: an arc of this link, over which the packets may be routed, denies this packet.
     Refused(Packet, Link),
 }

@@ -1,0 +1,10 @@
+//! Networks that are worked through by hand, built row by row: the square of docs/model.md, and a pair of routers under BGP.
+//! Tests run the calls of `net_model` on them and compare the answers with what was worked out. No other crate stands on this.
+#![tactic(auto)]
+
+#[cfg(test)]
+mod pair;
+#[cfg(test)]
+mod square;
+#[cfg(test)]
+mod tests;

@@ -1,0 +1,162 @@
+-- Classes that share no packet, and have as many packets as the whole that they lie in, have them all.
+use Rattle.std.proofs.Common.{◌≡◌, ℕ, suc, ◌+◌, ◌-◌, ◌*◌, ◌^◌, ◌<◌, ◌≤◌, ◌⊎◌, inl, inr, Bool, true, false, List, [], ◌∷◌, ap, refl, sym, ◌∙◌, subst, arith}
+use Rattle.std.specs.Prelude.{AllPairs, All, sum_by}
+use Rattle.std.proofs.Math.Nat.{mul_comm, div-lt_iff_lt-mul}
+use Rattle.std.proofs.Math.Pow.{pow_pos}
+use Rattle.std.proofs.lemmas.Nat.{pow-add}
+use Rattle.std.proofs.lemmas.List.Sums.{sum_by-cons}
+use Rattle.std.proofs.lemmas.Bool.{eqb-true}
+use Rattle.arc_base.specs.Addresses.{holds, Holds, size, first_bits}
+use Rattle.arc_base.specs.declared.prefix.Prefix.{Prefix}
+use Rattle.net_model.specs.declared.lists.Packet.{Packet}
+use Rattle.net_model.specs.declared.policies.Class.{Class}
+use Rattle.net_model.specs.declared.verdicts.ClassSide.{ClassSide}
+use Rattle.net_model.specs.Packets.{IsOf, LiesIn, ShareNoPacket, packets}
+use Rattle.net_laws.proofs.Counting.{total, total-cong, total-const, total-scale, total-sum, total-mono, total-tight, ind, addresses}
+
+-- whether the class has the packet from a to b, as a number
+abbrev pub count_in : Class → ℕ → ℕ → ℕ
+count_in c a b = ind (holds c.from a) * ind (holds c.to b)
+
+pub true_or_false : (b : Bool) → (b ≡ true) ⊎ (b ≡ false)
+true_or_false true = inl refl
+true_or_false false = inr refl
+
+-- the class has the packet, or counts it as 0
+in_or_zero : (c : Class) (p : Packet) → IsOf c p ⊎ (count_in c p.from p.to ≡ 0)
+in_or_zero c p =
+    elim (true_or_false (holds c.from p.from)) [
+      | inl from ↦ elim (true_or_false (holds c.to p.to)) [
+        | inl to ↦ inl (from, to)
+        | inr off ↦ inr (let z : ind (holds c.to p.to) ≡ 0 = ap ind off in omega (arith, ap (λ (x : ℕ). ind (holds c.from p.from) * x) z))
+      ]
+      | inr off ↦ inr (let z : ind (holds c.from p.from) ≡ 0 = ap ind off in omega (arith, ap (λ (x : ℕ). x * ind (holds c.to p.to)) z))
+    ]
+
+in_is_one : (c : Class) (p : Packet) → IsOf c p → count_in c p.from p.to ≡ 1
+in_is_one c p of =
+    let x : ind (holds c.from p.from) ≡ 1 = ap ind of.0 in
+    let y : ind (holds c.to p.to) ≡ 1 = ap ind of.1 in
+    ap (λ (k : ℕ). k * ind (holds c.to p.to)) x ∙ ap (λ (k : ℕ). 1 * k) y
+
+-- a class has as many packets as it counts
+packets_counted : (n : ℕ) → n ≡ 2 ^ 32 → (c : Class) → total n (λ a. total n (λ b. count_in c a b)) ≡ packets c
+packets_counted n whole c =
+    let to : total n (λ b. ind (holds c.to b)) ≡ size c.to = addresses n c.to whole in
+    let from : total n (λ a. ind (holds c.from a)) ≡ size c.from = addresses n c.from whole in
+    let inner : (a : ℕ) → a < n → total n (λ b. count_in c a b) ≡ size c.to * ind (holds c.from a) =
+    λ a l. total-scale n (ind (holds c.from a)) (λ b. ind (holds c.to b)) ∙ ap (λ (x : ℕ). ind (holds c.from a) * x) to ∙ mul_comm (ind (holds c.from a)) (size c.to) in
+    total-cong n (λ a. total n (λ b. count_in c a b)) (λ a. size c.to * ind (holds c.from a)) inner
+    ∙ total-scale n (size c.to) (λ a. ind (holds c.from a)) ∙ ap (λ (x : ℕ). size c.to * x) from ∙ mul_comm (size c.to) (size c.from)
+
+-- how many of the classes have the packet from a to b
+abbrev pub count_all : List ClassSide → ℕ → ℕ → ℕ
+count_all [] a b = 0
+count_all (c ∷ cs) a b = count_in c.class a b + count_all cs a b
+
+all_counted : (n : ℕ) → n ≡ 2 ^ 32 → (cs : List ClassSide) → total n (λ a. total n (λ b. count_all cs a b)) ≡ sum_by (λ c. packets c.class) cs
+all_counted n whole [] =
+    let inner : (a : ℕ) → a < n → total n (λ b. 0) ≡ 0 = λ a l. total-const n 0 (λ b. 0) (λ k m. refl) ∙ (omega arith) in
+    total-const n 0 (λ a. total n (λ b. 0)) inner ∙ (omega arith)
+all_counted n whole (c ∷ cs) =
+    let inner : (a : ℕ) → a < n → total n (λ b. count_in c.class a b + count_all cs a b) ≡ total n (λ b. count_in c.class a b) + total n (λ b. count_all cs a b) =
+    λ a l. total-sum n (λ b. count_in c.class a b) (λ b. count_all cs a b) in
+    let outer : total n (λ a. total n (λ b. count_in c.class a b) + total n (λ b. count_all cs a b)) ≡ total n (λ a. total n (λ b. count_in c.class a b)) + total n (λ a. total n (λ b. count_all cs a b)) =
+    total-sum n (λ a. total n (λ b. count_in c.class a b)) (λ a. total n (λ b. count_all cs a b)) in
+    let first : total n (λ a. total n (λ b. count_in c.class a b)) ≡ packets c.class = packets_counted n whole c.class in
+    let rest : total n (λ a. total n (λ b. count_all cs a b)) ≡ sum_by (λ c. packets c.class) cs = all_counted n whole cs in
+    total-cong n (λ a. total n (λ b. count_in c.class a b + count_all cs a b)) (λ a. total n (λ b. count_in c.class a b) + total n (λ b. count_all cs a b)) inner
+    ∙ outer ∙ ap (λ (x : ℕ). x + total n (λ a. total n (λ b. count_all cs a b))) first ∙ ap (λ (x : ℕ). packets c.class + x) rest
+    ∙ sym (sum_by-cons (λ (c : ClassSide). packets c.class) c cs)
+
+abbrev pub Apart : ClassSide → ClassSide → Type 0
+Apart c d = ShareNoPacket c.class d.class
+
+pub AllPairs-first : {X : Type 0} (R : X → X → Type 0) (x : X) (xs : List X) → AllPairs R (x ∷ xs) → All (R x) xs
+AllPairs-first R x xs h = λ k d l. h 0 (suc k) d (omega arith) (omega arith)
+
+pub AllPairs-rest : {X : Type 0} (R : X → X → Type 0) (x : X) (xs : List X) → AllPairs R (x ∷ xs) → AllPairs R xs
+AllPairs-rest R x xs h = λ i j d l m. h (suc i) (suc j) d (omega arith) (omega arith)
+
+pub All-first : {X : Type 0} (P : X → Type 0) (x : X) (xs : List X) → All P (x ∷ xs) → P x
+All-first P x xs h = h 0 x (omega arith)
+
+pub All-rest : {X : Type 0} (P : X → Type 0) (x : X) (xs : List X) → All P (x ∷ xs) → All P xs
+All-rest P x xs h = λ k d l. h (suc k) d (omega arith)
+
+-- where one class has the packet, those apart from it do not
+none_else : (c : ClassSide) (cs : List ClassSide) → All (Apart c) cs → (p : Packet) → IsOf c.class p → count_all cs p.from p.to ≡ 0
+none_else c [] apart p of = refl
+none_else c (d ∷ cs) apart p of =
+    let rest : count_all cs p.from p.to ≡ 0 = none_else c cs (All-rest (Apart c) d cs apart) p of in
+    elim (in_or_zero d.class p) [
+      | inl other ↦ absurd (All-first (Apart c) d cs apart p of other)
+      | inr off ↦ omega (arith, off, rest)
+    ]
+
+-- no packet is counted more often than by the whole
+no_more_than_whole : (whole : Class) (cs : List ClassSide) → AllPairs Apart cs → All (λ c. LiesIn c.class whole) cs → (p : Packet) →
+    count_all cs p.from p.to ≤ count_in whole p.from p.to
+no_more_than_whole whole [] apart part p = omega arith
+no_more_than_whole whole (c ∷ cs) apart part p =
+    let rest : count_all cs p.from p.to ≤ count_in whole p.from p.to =
+    no_more_than_whole whole cs (AllPairs-rest Apart c cs apart) (All-rest (λ (x : ClassSide). LiesIn x.class whole) c cs part) p in
+    elim (in_or_zero c.class p) [
+      | inl of ↦
+          let lies : LiesIn c.class whole = All-first (λ (x : ClassSide). LiesIn x.class whole) c cs part in
+          let one : count_in c.class p.from p.to ≡ 1 = in_is_one c.class p of in
+          let top : count_in whole p.from p.to ≡ 1 = in_is_one whole p (lies.0 p.from of.0, lies.1 p.to of.1) in
+          let none : count_all cs p.from p.to ≡ 0 = none_else c cs (AllPairs-first Apart c cs apart) p of in
+          omega (arith, one, top, none)
+      | inr off ↦ omega (arith, off, rest)
+    ]
+
+-- an address that a prefix holds is below 2 ^ 32
+Holds-below : (p : Prefix) (a : ℕ) → Holds p a → a < 2 ^ 32
+Holds-below p a h =
+    let few : p.len ≤ 32 = p.length in
+    let in_all : p.addr < 2 ^ 32 = p.in_range in
+    let bits : 32 ≡ p.len + (32 - p.len) = omega arith in
+    let split : 2 ^ 32 ≡ 2 ^ p.len * 2 ^ (32 - p.len) = ap (λ (x : ℕ). 2 ^ x) bits ∙ pow-add 2 p.len (32 - p.len) in
+    let below : p.addr < 2 ^ p.len * 2 ^ (32 - p.len) = subst (λ (x : ℕ). p.addr < x) split in_all in
+    let quotient : first_bits p.len p.addr < 2 ^ p.len = (div-lt_iff_lt-mul (pow_pos (32 - p.len))).1 below in
+    let same : first_bits p.len p.addr ≡ first_bits p.len a = sym (eqb-true _ _ h) in
+    let other : first_bits p.len a < 2 ^ p.len = subst (λ (x : ℕ). x < 2 ^ p.len) same quotient in
+    let within : a < 2 ^ p.len * 2 ^ (32 - p.len) = (div-lt_iff_lt-mul (pow_pos (32 - p.len))).0 other in
+    subst (λ (x : ℕ). a < x) (sym split) within
+
+-- a class that is counted has the packet
+found : (Q : ClassSide → Type 0) (cs : List ClassSide) → All Q cs → (p : Packet) → 1 ≤ count_all cs p.from p.to → (c : ClassSide) × Q c × IsOf c.class p
+found Q [] all p some = absurd (omega arith)
+found Q (c ∷ cs) all p some =
+    elim (in_or_zero c.class p) [
+      | inl of ↦ (c, All-first Q c cs all, of)
+      | inr off ↦ found Q cs (All-rest Q c cs all) p (omega (arith, off, some))
+    ]
+
+module _ (n : ℕ) (range : n ≡ 2 ^ 32) (whole : Class) (cs : List ClassSide) (apart : AllPairs Apart cs) (part : All (λ c. LiesIn c.class whole) cs)
+    (same : sum_by (λ c. packets c.class) cs ≡ packets whole) where
+  bounded : (a b : ℕ) → count_all cs a b ≤ count_in whole a b
+  bounded a b = no_more_than_whole whole cs apart part (record { from = a; to = b })
+
+  row : (a : ℕ) → a < n → total n (λ b. count_all cs a b) ≤ total n (λ b. count_in whole a b)
+  row a l = total-mono n (λ b. count_in whole a b) (λ b. count_all cs a b) (λ b m. bounded a b)
+
+  all_rows : total n (λ a. total n (λ b. count_in whole a b)) ≤ total n (λ a. total n (λ b. count_all cs a b))
+  all_rows = omega (arith, all_counted n range cs, packets_counted n range whole, same)
+
+  tight : (a b : ℕ) → a < n → b < n → count_in whole a b ≤ count_all cs a b
+  tight a b l m =
+      let rows : total n (λ y. count_in whole a y) ≤ total n (λ y. count_all cs a y) =
+      total-tight n (λ x. total n (λ y. count_in whole x y)) (λ x. total n (λ y. count_all cs x y)) row all_rows a l in
+      total-tight n (λ y. count_in whole a y) (λ y. count_all cs a y) (λ y k. bounded a y) rows b m
+
+-- each packet of the whole is of one of the classes
+pub covered : (whole : Class) (cs : List ClassSide) (Q : ClassSide → Type 0) → AllPairs Apart cs → All (λ c. LiesIn c.class whole) cs → All Q cs →
+    sum_by (λ c. packets c.class) cs ≡ packets whole → (p : Packet) → IsOf whole p → (c : ClassSide) × Q c × IsOf c.class p
+covered whole cs Q apart part all same p of =
+    let n : ℕ = 2 ^ 32 in
+    let one : count_in whole p.from p.to ≡ 1 = in_is_one whole p of in
+    let enough : count_in whole p.from p.to ≤ count_all cs p.from p.to =
+    tight (2 ^ 32) refl whole cs apart part same p.from p.to (Holds-below whole.from p.from of.0) (Holds-below whole.to p.to of.1) in
+    found Q cs all p (omega (arith, one, enough))

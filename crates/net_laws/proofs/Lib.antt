@@ -1,0 +1,16 @@
+pub mod StableMaps
+pub mod ClosedSides
+pub mod Counting
+pub mod Cover
+pub mod PathDistances
+pub mod RightWalks
+pub mod TwoRouters
+pub mod FailedLinks
+pub mod RightPaths
+pub mod Decisions
+pub mod Existence
+pub mod RightCuts
+pub mod RightVerdicts
+pub mod ValidExample
+pub mod VerdictExamples
+pub mod SquareExample

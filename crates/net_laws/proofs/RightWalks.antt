@@ -1,0 +1,89 @@
+-- A right walk is delivered where all links but its own have failed.
+use Rattle.std.proofs.Common.{◌≡◌, ℕ, zero, suc, inl, inr, Bool, true, not, List, [], ◌∷◌, ap, refl, sym, ◌∙◌, arith}
+use Rattle.std.specs.Prelude.{IsFalse, ◌==◌, ◌||◌}
+use Rattle.std.specs.List.{AllByRecursion, list_any}
+use Rattle.std.proofs.lemmas.Bool.{eq-eqb, false≢true, not-false}
+use Rattle.std.proofs.lemmas.Bool.Decides.{eqb_tells}
+use Rattle.std.proofs.Math.Bool.{or-true}
+use Rattle.arc_base.specs.declared.place.Link.{Link}
+use Rattle.net_model.specs.declared.lists.Packet.{Packet}
+use Rattle.net_model.specs.declared.policies.Class.{Class}
+use Rattle.net_model.specs.declared.policies.PolicyKind.{PolicyKind}
+use Rattle.net_model.specs.declared.policies.PolicyKind.TheVariants.{Blocked, Through}
+use Rattle.net_model.specs.declared.verdicts.LinkPath.{LinkPath}
+use Rattle.net_model.specs.declared.rows.Network.{Network}
+use Rattle.net_model.specs.Packets.{IsOf, LiesIn}
+use Rattle.net_model.specs.Routing.{Arc}
+use Rattle.net_model.specs.Forwarding.{Ends, source_router, target_router}
+use Rattle.net_model.specs.Policies.{CrossesWaypoint}
+use Rattle.net_model.specs.Witnesses.{MayBreak, links_of, all_but, IsRightWalk}
+use Rattle.net_laws.specs.Laws.{Delivers, RightWalksAreDelivered, RightWalksUnblock, RightWalksBypass}
+use Rattle.net_laws.proofs.PathDistances.{OnPath, Once, Once-from, along, stable, goes_along}
+
+tests_on_path : (arcs : List Arc) (link : ℕ) → OnPath arcs link → list_any (λ (l : Link). l.0 == link) (links_of arcs) ≡ true
+tests_on_path [] link on = absurd on
+tests_on_path (arc ∷ arcs) link (inl e) = ap (λ (b : Bool). b || list_any (λ (l : Link). l.0 == link) (links_of arcs)) (eq-eqb arc.link link e)
+tests_on_path (arc ∷ arcs) link (inr on) =
+    ap (λ (b : Bool). (arc.link == link) || b) (tests_on_path arcs link on) ∙ or-true (arc.link == link)
+
+on_path_tests : (arcs : List Arc) (link : ℕ) → list_any (λ (l : Link). l.0 == link) (links_of arcs) ≡ true → OnPath arcs link
+on_path_tests [] link e = absurd (false≢true e)
+on_path_tests (arc ∷ arcs) link e =
+    elim (eqb_tells arc.link link) [
+      | inl at ↦ inl at.1
+      | inr off ↦ inr (on_path_tests arcs link (sym (ap (λ (b : Bool). b || list_any (λ (l : Link). l.0 == link) (links_of arcs)) off.0) ∙ e))
+    ]
+
+module _ (net : Network) (ends : Ends) (kind : PolicyKind) (whole class : Class) (shown : LinkPath) (right : IsRightWalk net ends kind whole class shown) where
+  of_links : (link : ℕ) → list_any (λ (l : Link). l.0 == link) (links_of right.path.arcs) ≡ list_any (λ (l : Link). l.0 == link) shown.links
+  of_links link = ap (λ (ls : List Link). list_any (λ (l : Link). l.0 == link) ls) right.path.links
+
+  left : (link : ℕ) → IsFalse (all_but shown link) → OnPath right.path.arcs link
+  left link e = on_path_tests right.path.arcs link (of_links link ∙ not-false _ e)
+
+  kept : (link : ℕ) → OnPath right.path.arcs link → IsFalse (all_but shown link)
+  kept link on = ap not (sym (of_links link) ∙ tests_on_path right.path.arcs link on)
+
+  once : Once (source_router ends) right.path.arcs
+  once = Once-from (source_router ends) right.path.arcs right.once
+
+  pub delivers : Delivers net ends class shown right.path.arcs
+  delivers = record {
+    distances = along net ends.to (target_router ends) right.path.arcs;
+    stable = stable net ends.to (target_router ends) (all_but shown) right.path.arcs (source_router ends) right.path.leads once left kept;
+    delivered = λ p of. record {
+      enters = right.enters p of;
+      walk = goes_along net ends.to (target_router ends) (all_but shown) (along net ends.to (target_router ends) right.path.arcs) p
+          right.path.arcs (source_router ends) right.path.leads once kept (λ w on. refl) (right.permitted p of);
+      leaves = right.leaves p of;
+    };
+  }
+
+pub right_walks_are_delivered : RightWalksAreDelivered
+right_walks_are_delivered net ends kind whole class shown right = delivers net ends kind whole class shown right
+
+-- each class has a packet
+pub first_packet : (class : Class) → (p : Packet) × IsOf class p
+first_packet class = (record { from = class.from.addr; to = class.to.addr }, (eq-eqb _ _ refl, eq-eqb _ _ refl))
+
+pub part_of : (class whole : Class) (p : Packet) → LiesIn class whole → IsOf class p → IsOf whole p
+part_of class whole p lies of = (lies.0 p.from of.0, lies.1 p.to of.1)
+
+pub right_walks_unblock : RightWalksUnblock
+right_walks_unblock net ends whole class shown right blocked =
+    let d : Delivers net ends class shown right.path.arcs = delivers net ends Blocked whole class shown right in
+    let p : (p : Packet) × IsOf class p = first_packet class in
+    blocked (all_but shown) d.distances d.stable p.0 (part_of class whole p.0 right.part p.1) right.path.arcs (d.delivered p.0 p.1)
+
+-- arcs over no waypoint link cross none
+plain : (arcs : List Arc) → AllByRecursion (MayBreak Through) arcs → CrossesWaypoint arcs → ⊥
+plain [] breaks crosses = absurd (omega (arith, crosses.2))
+plain (arc ∷ arcs) breaks (zero, x, within, e, crosses) = false≢true (sym breaks.0 ∙ ap (λ (a : Arc). a.row.waypoint) e ∙ crosses)
+plain (arc ∷ arcs) breaks (suc k, x, within, e, crosses) = plain arcs breaks.1 (k, x, omega arith, e, crosses)
+
+pub right_walks_bypass : RightWalksBypass
+right_walks_bypass net ends whole class shown right through =
+    let d : Delivers net ends class shown right.path.arcs = delivers net ends Through whole class shown right in
+    let p : (p : Packet) × IsOf class p = first_packet class in
+    plain right.path.arcs right.breaks
+    (through (all_but shown) d.distances d.stable p.0 (part_of class whole p.0 right.part p.1) right.path.arcs (d.delivered p.0 p.1))

@@ -1,0 +1,11 @@
+use Rattle.net_laws.proofs.RightVerdicts.{one_pair_of_ends, right_verdicts_are_true, right_verdicts_decide}
+use Rattle.net_laws.proofs.laws.verdicts_are_right.Goals as goal
+
+pub returns-clause-ends : goal.returns-clause-ends
+returns-clause-ends c = one_pair_of_ends
+
+pub returns-clause-verdicts : goal.returns-clause-verdicts
+returns-clause-verdicts c = right_verdicts_are_true
+
+pub returns-clause-decide : goal.returns-clause-decide
+returns-clause-decide c = right_verdicts_decide
