@@ -1,5 +1,6 @@
 use arc_base::{Kind, Memory};
 use std::alloc::{AllocError, AllocFailed};
+use thiserror::Error;
 
 /// Why input is refused, and where.
 #[derive(Clone, Copy, Debug, PartialEq, Eq)]
@@ -12,11 +13,13 @@ pub struct Refusal {
 }
 
 /// Why there is no document or no network.
-#[derive(Clone, Copy, Debug, PartialEq, Eq)]
+#[derive(Clone, Copy, Debug, PartialEq, Eq, Error)]
 pub enum NetFault {
     /// The first refusal of the input.
+    #[error("the input is refused")]
     Refused(Refusal),
     /// Want of memory.
+    #[error("there is not enough memory")]
     Memory,
 }
 

@@ -1,6 +1,14 @@
-//! The document that names the router files, the links and the policies.
+//! The document that names the router files, the links and the policies. It is read from JSON (RFC 8259); what is no
+//! document is refused whole.
 #![tactic(auto)]
 
+mod document_text;
 mod fault;
+mod items;
+pub mod laws;
+mod members;
+#[cfg(test)]
+mod tests;
 
+pub use document_text::document;
 pub use fault::{NetFault, Refusal};

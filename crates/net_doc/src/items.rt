@@ -1,0 +1,146 @@
+//! The routers, the links and the policies of a document.
+ghost use Rattle.std.specs.Prelude.{◌≡◌, option_map, option_and_then, IfOk};
+ghost use Rattle.serde_json.specs.View.{view, items_view};
+ghost use Rattle.net_doc.specs.Members.{all_of, text_under};
+ghost use Rattle.net_doc.specs.Documents.{router_of, are_different, routers_of, end_of, link_of, links_of, kind_of, policy_of, policies_of};
+
+use crate::members::{has_only, list_under, text_under};
+use arc_base::{List, Memory, Name, cut_at, read_prefix};
+use indexmap::IndexSet;
+use net_model::{LinkText, Policy, PolicyKind};
+use serde_json::Value;
+use std::alloc::Global;
+
+/// The routers' files.
+pub(crate) fn read_routers(alloc: Global, value: &Value) -> Result<Option<List<Name>>, Memory>
+    ensures { IfOk result (λ routers. routers ≡ routers_of (view value.now)) }
+{
+    let Some(items) = list_under(value, "routers") else {
+        return Ok(None);
+    };
+    let Some(names) = read_names(alloc, items)? else {
+        return Ok(None);
+    };
+    if names.is_empty() || !are_different(alloc, names.as_slice())? {
+        return Ok(None);
+    }
+    Ok(Some(List::of(names)?))
+}
+
+fn read_names(alloc: Global, items: &[Value]) -> Result<Option<Vec<Name>>, Memory>
+    ensures { IfOk result (λ names. option_map (λ names. names.items) names ≡ all_of router_of (items_view items.now)) }
+{
+    let mut names = Vec::new(alloc);
+    for item in items {
+        let Some(name) = read_router(item) else {
+            return Ok(None);
+        };
+        names.push(Name::make(alloc, name.as_bytes())?)?;
+    }
+    Ok(Some(names))
+}
+
+fn read_router(value: &Value) -> Option<&str>
+    ensures { option_map (λ name. name.now) result ≡ router_of (view value.now) }
+{
+    let name = value.as_str()?;
+    if name.is_empty() || name.len() > 1024 {
+        return None;
+    }
+    Some(name)
+}
+
+fn are_different(alloc: Global, names: &[Name]) -> Result<bool, Memory>
+    ensures { IfOk result (λ answer. answer ≡ are_different names.now) }
+{
+    let mut seen = IndexSet::new(alloc);
+    for name in names {
+        if !seen.insert(name.bytes())? {
+            return Ok(false);
+        }
+    }
+    Ok(true)
+}
+
+/// The links.
+pub(crate) fn read_links(alloc: Global, value: &Value) -> Result<Option<List<LinkText>>, Memory>
+    ensures { IfOk result (λ links. links ≡ links_of (view value.now)) }
+{
+    let Some(items) = list_under(value, "links") else {
+        return Ok(None);
+    };
+    let mut links = Vec::new(alloc);
+    for item in items {
+        let Some(link) = read_link(alloc, item)? else {
+            return Ok(None);
+        };
+        links.push(link)?;
+    }
+    Ok(Some(List::of(links)?))
+}
+
+fn read_link(alloc: Global, value: &Value) -> Result<Option<LinkText>, Memory>
+    ensures { IfOk result (λ link. link ≡ link_of (view value.now)) }
+{
+    if !has_only(value, &["a", "b"]) {
+        return Ok(None);
+    }
+    let (Some(a), Some(b)) = (read_end(value, "a"), read_end(value, "b")) else {
+        return Ok(None);
+    };
+    Ok(Some(LinkText {
+        a_router: Name::make(alloc, a.0)?,
+        a_face: Name::make(alloc, a.1)?,
+        b_router: Name::make(alloc, b.0)?,
+        b_face: Name::make(alloc, b.1)?,
+        waypoint: false,
+    }))
+}
+
+fn read_end<'v>(value: &'v Value, name: &str) -> Option<(&'v [u8], &'v [u8])>
+    ensures { option_map (λ parts. (parts.0.now, parts.1.now)) result ≡ option_and_then end_of (text_under name.now (view value.now)) }
+{
+    cut_at(text_under(value, name)?.as_bytes(), b':')
+}
+
+/// The policies.
+pub(crate) fn read_policies(alloc: Global, value: &Value) -> Result<Option<List<Policy>>, Memory>
+    ensures { IfOk result (λ policies. policies ≡ policies_of (view value.now)) }
+{
+    let Some(items) = list_under(value, "policies") else {
+        return Ok(None);
+    };
+    let mut policies = Vec::new(alloc);
+    for item in items {
+        let Some(policy) = read_policy(item) else {
+            return Ok(None);
+        };
+        policies.push(policy)?;
+    }
+    if policies.len() != 1 {
+        return Ok(None);
+    }
+    Ok(Some(List::of(policies)?))
+}
+
+fn read_policy(value: &Value) -> Option<Policy>
+    ensures { result ≡ policy_of (view value.now) }
+{
+    if !has_only(value, &["kind", "from", "to"]) {
+        return None;
+    }
+    Some(Policy {
+        kind: read_kind(text_under(value, "kind")?)?,
+        from: read_prefix(text_under(value, "from")?.as_bytes())?,
+        to: read_prefix(text_under(value, "to")?.as_bytes())?,
+    })
+}
+
+fn read_kind(text: &str) -> Option<PolicyKind>
+    ensures { result ≡ kind_of text.now }
+{
+    match text {
+        "blocked" => Some(PolicyKind::Blocked),
+        _ => None,
+    }
+}
