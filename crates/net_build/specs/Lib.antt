@@ -1,1 +1,9 @@
-pub mod Plain
+pub mod Kinds
+pub mod Sites
+pub mod Rows
+pub mod Conditions
+pub mod PlainNetwork
+pub mod Names
+pub mod Claims
+pub mod Named
+pub mod Networks

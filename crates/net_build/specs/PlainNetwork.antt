@@ -1,0 +1,35 @@
+-- The network of a document and its plain files.
+use Rattle.std.specs.Prelude.{◌≡◌, ◌≢◌, List, All}
+use Rattle.net_model.specs.declared.policies.Document.{Document}
+use Rattle.net_model.specs.declared.policies.Policy.{Policy}
+use Rattle.net_model.specs.declared.rows.Network.{Network}
+use Rattle.net_model.specs.Packets.{subject}
+use Rattle.net_model.specs.Forwarding.{Ends, AreEnds}
+use Rattle.plain_files.specs.declared.plain.PlainFile.{PlainFile}
+use Rattle.net_build.specs.Sites.{full_names}
+use Rattle.net_build.specs.Rows.{AreRows}
+use Rattle.net_build.specs.Conditions.{NamesNoFaceTwice, HostnamesDiffer, HasOneArea, JoinsFaces, LinksNoFaceTwice, FitsSubnets, OverlapsNowhere, HasOneType, HasEndpoints, KeepsLimits}
+
+-- the network has the rows of the files and the document, and nothing is a reason to refuse these
+pub record IsNetworkOfPlain (doc : Document) (plain : List PlainFile) (net : Network) : Type 0 where
+  pub rows : AreRows doc plain net
+  pub duplicate_block : All NamesNoFaceTwice plain
+  pub hostname : HostnamesDiffer plain
+  pub two_areas : HasOneArea plain
+  pub link_face : All (JoinsFaces (full_names plain)) doc.links
+  pub link_face_twice : LinksNoFaceTwice doc
+  pub overlap : OverlapsNowhere net
+  pub link_subnets : All (FitsSubnets net) net.links
+  pub adjacency_form : All HasOneType doc.links
+  pub endpoint : All (HasEndpoints net) doc.policies
+  pub limit : KeepsLimits doc plain
+
+-- the policy's prefixes lie in the host networks of two different interfaces
+pub record HasTwoEnds (net : Network) (policy : Policy) : Type 0 where
+  pub ends : Ends
+  pub are_ends : AreEnds net (subject policy) ends
+  pub apart : ends.source ≢ ends.target
+
+-- a document and plain files have one network at most
+abbrev pub HasOneNetwork : Type 0
+HasOneNetwork = (doc : Document) (plain : List PlainFile) (net other : Network) → IsNetworkOfPlain doc plain net → IsNetworkOfPlain doc plain other → net ≡ other

@@ -1,0 +1,11 @@
+pub mod WordCuts
+pub mod Decimals
+pub mod FaceUnits
+pub mod NameForms
+pub mod Prefixes
+pub mod Once
+pub mod Saying
+pub mod FacesSoFar
+pub mod CoveragesSoFar
+pub mod PlainTexts
+pub mod KnownWords
