@@ -1,0 +1,9 @@
+pub mod NewVisits
+pub mod Readings
+pub mod Ways
+pub mod Hops
+pub mod Classes
+pub mod Walks
+pub mod ClosedSides
+pub mod Policies
+pub mod ExampleNetwork

@@ -1,0 +1,24 @@
+use arc_base::Memory;
+use thiserror::Error;
+
+/// Why there is no verdict.
+#[derive(Clone, Copy, Debug, PartialEq, Eq, Error)]
+pub enum JudgeFault {
+    /// The policy has so many traffic classes, more than 4,096.
+    #[error("{0} traffic classes are too many")]
+    TooMany(u64),
+    /// Want of memory.
+    #[error("out of memory")]
+    Memory,
+}
+
+impl From<Memory> for JudgeFault {
+    ghost use Rattle.std.specs.Prelude.{◌≡◌};
+    ghost use Rattle.verdicts.specs.declared.fault.JudgeFault.TheVariants as faults;
+
+    ghost from_gives = { λ _ e. e ≡ faults.Memory };
+
+    fn from(_error: Memory) -> JudgeFault {
+        JudgeFault::Memory
+    }
+}
