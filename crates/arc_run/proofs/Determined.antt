@@ -1,0 +1,154 @@
+-- Files have one document and network, or one refusal.
+use Rattle.std.proofs.Common.{◌≡◌, ℕ, ◌+◌, ◌<◌, ◌⊎◌, inl, inr, List, [], length, take, get_or, sym, ◌∙◌, ap, subst, arith}
+use Rattle.std.proofs.lemmas.Option.{slice_get_within, get_or_from_slice_get}
+use Rattle.std.proofs.lemmas.List.{length-take, get_or-take}
+use Rattle.std.proofs.lemmas.Bool.{cases_lt}
+use Rattle.std.specs.Prelude.{Option, Some, None, slice_get}
+use Rattle.arc_outside.specs.Files.{Files}
+use Rattle.net_model.specs.declared.policies.Document.{Document}
+use Rattle.net_model.specs.declared.rows.Network.{Network}
+use Rattle.net_doc.specs.declared.fault.Refusal.{Refusal}
+use Rattle.net_doc.specs.Documents.{document_of}
+use Rattle.plain_files.specs.Known.{first_unknown}
+use Rattle.net_build.specs.Networks.{KnowsLines, IsUnknownLine, IsNotBuilt, IsNetworkOf}
+use Rattle.net_build.proofs.TextsRead.{one_network_of}
+use Rattle.arc_run.specs.declared.outcome.FileRefusal.{FileRefusal}
+use Rattle.arc_run.specs.Inputs.{HoldsDocument, HoldsFiles, HoldsInput, RefusesDocument, RefusesFile, RefusesNetwork, IsInputRefusal, contents, named}
+use Rattle.arc_run.specs.Refusals.{read_refusal, first_refusal, bytes_at, document_limit, routers_limit}
+use Rattle.net_model.specs.Policies.{MeetsDocument}
+use Rattle.arc_base.specs.declared.refusal.Kind.TheVariants.{UnknownLine}
+use Rattle.arc_run.specs.Headline.{IsDetermined, SaysYes, SaysNo, SaysRefused}
+
+-- the value of an option is one, and there is none where there is none
+one_value : {A : Type 0} (o : Option A) (x y : A) → o ≡ Some x → o ≡ Some y → x ≡ y
+one_value o x y e f = cc
+
+no_value : {A : Type 0} (o : Option A) (x : A) → o ≡ Some x → o ≡ None → ⊥
+no_value o x e f = absurd (cc)
+
+-- a text with an unknown line is none of texts without one
+known_at : (files : List (List ℕ)) (place : ℕ) (text : List ℕ) (line : ℕ) → slice_get files place ≡ Some text → first_unknown text ≡ Some line → KnowsLines files → ⊥
+known_at files place text line at_place unknown known =
+    let here : first_unknown (get_or files place text) ≡ None = known place text (slice_get_within files place text at_place) in
+    no_value (first_unknown text) line unknown (ap first_unknown (sym (get_or_from_slice_get files place text text at_place)) ∙ here)
+
+not_before : (files : List (List ℕ)) (i j : ℕ) (text : List ℕ) (line : ℕ) → slice_get files i ≡ Some text → first_unknown text ≡ Some line → KnowsLines (take j files) → i < j → ⊥
+not_before files i j text line at_place unknown known below =
+    let within : i < length (take j files) = omega (arith, length-take j files, slice_get_within files i text at_place, below) in
+    let same : get_or (take j files) i text ≡ text = get_or-take j files i text below ∙ get_or_from_slice_get files i text text at_place in
+    no_value (first_unknown text) line unknown (ap first_unknown (sym same) ∙ known i text within)
+
+refusal_at : ℕ → ℕ → Refusal
+refusal_at place line = record { file = place + 1; number = line; kind = UnknownLine }
+
+unknown_once : (files : List (List ℕ)) (r s : Refusal) → IsUnknownLine files r → IsUnknownLine files s → r ≡ s
+unfolding refusal_at
+unknown_once files r s u v =
+    elim (cases_lt u.place v.place) [
+      | inl below ↦ absurd (not_before files u.place v.place u.text u.line u.at_place u.unknown v.earlier below)
+      | inr above ↦ elim (cases_lt v.place u.place) [
+        | inl below ↦ absurd (not_before files v.place u.place v.text v.line v.at_place v.unknown u.earlier below)
+        | inr above' ↦
+            let places : u.place ≡ v.place = omega arith in
+            let texts : u.text ≡ v.text = one_value (slice_get files v.place) u.text v.text (ap (slice_get files) (sym places) ∙ u.at_place) v.at_place in
+            let lines : u.line ≡ v.line = one_value (first_unknown v.text) u.line v.line (ap first_unknown (sym texts) ∙ u.unknown) v.unknown in
+            u.told ∙ ap (λ (p : ℕ). refusal_at p u.line) places ∙ ap (refusal_at v.place) lines ∙ sym v.told
+      ]
+    ]
+
+-- the refusals of a network that is not built are one
+network_refused_once : (doc : Document) (files : List (List ℕ)) (r s : Refusal) → IsUnknownLine files r ⊎ IsNotBuilt doc files r → IsUnknownLine files s ⊎ IsNotBuilt doc files s → r ≡ s
+network_refused_once doc files r s (inl u) (inl v) = unknown_once files r s u v
+network_refused_once doc files r s (inl u) (inr v) = absurd (known_at files u.place u.text u.line u.at_place u.unknown v.known)
+network_refused_once doc files r s (inr u) (inl v) = absurd (known_at files v.place v.text v.line v.at_place v.unknown u.known)
+network_refused_once doc files r s (inr u) (inr v) = u.told ∙ sym v.told
+
+not_refused : (doc : Document) (files : List (List ℕ)) (net : Network) (r : Refusal) → KnowsLines files → IsNetworkOf doc files net → IsUnknownLine files r ⊎ IsNotBuilt doc files r → ⊥
+not_refused doc files net r known network (inl u) = known_at files u.place u.text u.line u.at_place u.unknown known
+not_refused doc files net r known network (inr u) = u.none net network
+
+module _ (document : List ℕ) (files : Files) where
+  one_document : (doc other : Document) → HoldsDocument document files doc → HoldsDocument document files other → doc ≡ other
+  one_document doc other h k = one_value (document_of (bytes_at files document)) doc other h.read k.read
+
+  one_network : (doc : Document) (net other : Network) → HoldsInput document files doc net → HoldsInput document files doc other → net ≡ other
+  one_network doc net other h k = one_network_of doc (contents files doc) net other h.network.1 k.network.1
+
+  -- the stages of the refusals, and what each says of the ones before
+  document_none : (doc : Document) (r : FileRefusal) → HoldsDocument document files doc → RefusesDocument document files r → ⊥
+  document_none doc r h u = no_value (document_of (bytes_at files document)) doc h.read u.refused.0
+
+  document_once : (r s : FileRefusal) → RefusesDocument document files r → RefusesDocument document files s → r ≡ s
+  document_once r s u v =
+      let same : u.refusal ≡ v.refusal = u.refused.1 ∙ sym v.refused.1 in
+      u.is_named ∙ ap (named document []) same ∙ sym v.is_named
+
+  files_none : (doc : Document) (r : FileRefusal) → HoldsFiles document files doc → RefusesFile document files r → ⊥
+  files_none doc r h u =
+      let same : doc ≡ u.doc = one_document doc u.doc h.document_is u.document_is in
+      no_value (first_refusal routers_limit files u.doc.routers) r u.refused (ap (λ (d : Document). first_refusal routers_limit files d.routers) (sym same) ∙ h.held)
+
+  files_once : (r s : FileRefusal) → RefusesFile document files r → RefusesFile document files s → r ≡ s
+  files_once r s u v =
+      let same : u.doc ≡ v.doc = one_document u.doc v.doc u.document_is v.document_is in
+      one_value (first_refusal routers_limit files v.doc.routers) r s (ap (λ (d : Document). first_refusal routers_limit files d.routers) (sym same) ∙ u.refused) v.refused
+
+  network_once : (r s : FileRefusal) → RefusesNetwork document files r → RefusesNetwork document files s → r ≡ s
+  network_once r s u v =
+      let same : u.doc ≡ v.doc = one_document u.doc v.doc u.files_are.document_is v.files_are.document_is in
+      let P : Document → Type 0 = λ d. IsUnknownLine (contents files d) u.refusal ⊎ IsNotBuilt d (contents files d) u.refusal in
+      let once : u.refusal ≡ v.refusal = network_refused_once v.doc (contents files v.doc) u.refusal v.refusal (subst P same u.refused) v.refused in
+      u.is_named ∙ ap (λ (d : Document). named document d.routers u.refusal) same ∙ ap (named document v.doc.routers) once ∙ sym v.is_named
+
+  network_none : (doc : Document) (net : Network) (r : FileRefusal) → HoldsInput document files doc net → RefusesNetwork document files r → ⊥
+  network_none doc net r h u =
+      let same : u.doc ≡ doc = one_document u.doc doc u.files_are.document_is h.files_are.document_is in
+      let P : Document → Type 0 = λ d. IsUnknownLine (contents files d) u.refusal ⊎ IsNotBuilt d (contents files d) u.refusal in
+      not_refused doc (contents files doc) net u.refusal h.network.0 h.network.1 (subst P same u.refused)
+
+  -- a file that is held is not refused as one that is not
+  held_none : (r : FileRefusal) → read_refusal document_limit files document ≡ None → read_refusal document_limit files document ≡ Some r → ⊥
+  held_none r none some = no_value (read_refusal document_limit files document) r some none
+
+  pub not_both : (doc : Document) (net : Network) (r : FileRefusal) → HoldsInput document files doc net → IsInputRefusal document files r → ⊥
+  not_both doc net r h (inl e) = held_none r h.files_are.document_is.held e
+  not_both doc net r h (inr (inl u)) = document_none doc r h.files_are.document_is u
+  not_both doc net r h (inr (inr (inl u))) = files_none doc r h.files_are u
+  not_both doc net r h (inr (inr (inr u))) = network_none doc net r h u
+
+  one_refusal : (r s : FileRefusal) → IsInputRefusal document files r → IsInputRefusal document files s → r ≡ s
+  one_refusal r s (inl e) (inl f) = one_value (read_refusal document_limit files document) r s e f
+  one_refusal r s (inl e) (inr (inl v)) = absurd (held_none r v.held e)
+  one_refusal r s (inl e) (inr (inr (inl v))) = absurd (held_none r v.document_is.held e)
+  one_refusal r s (inl e) (inr (inr (inr v))) = absurd (held_none r v.files_are.document_is.held e)
+  one_refusal r s (inr (inl u)) (inl f) = absurd (held_none s u.held f)
+  one_refusal r s (inr (inl u)) (inr (inl v)) = document_once r s u v
+  one_refusal r s (inr (inl u)) (inr (inr (inl v))) = absurd (document_none v.doc r v.document_is u)
+  one_refusal r s (inr (inl u)) (inr (inr (inr v))) = absurd (document_none v.doc r v.files_are.document_is u)
+  one_refusal r s (inr (inr (inl u))) (inl f) = absurd (held_none s u.document_is.held f)
+  one_refusal r s (inr (inr (inl u))) (inr (inl v)) = absurd (document_none u.doc s u.document_is v)
+  one_refusal r s (inr (inr (inl u))) (inr (inr (inl v))) = files_once r s u v
+  one_refusal r s (inr (inr (inl u))) (inr (inr (inr v))) = absurd (files_none v.doc r v.files_are u)
+  one_refusal r s (inr (inr (inr u))) (inl f) = absurd (held_none s u.files_are.document_is.held f)
+  one_refusal r s (inr (inr (inr u))) (inr (inl v)) = absurd (document_none u.doc s u.files_are.document_is v)
+  one_refusal r s (inr (inr (inr u))) (inr (inr (inl v))) = absurd (files_none u.doc s u.files_are v)
+  one_refusal r s (inr (inr (inr u))) (inr (inr (inr v))) = network_once r s u v
+
+  pub determined : IsDetermined document files
+  determined = record { one_document = one_document; one_network = one_network; one_refusal = one_refusal; not_both = not_both }
+
+  -- of yes, no and refused only one is said
+  pub yes_or_no : SaysYes document files → SaysNo document files → ⊥
+  yes_or_no yes' no' =
+      let docs : yes'.doc ≡ no'.doc = one_document yes'.doc no'.doc yes'.input.files_are.document_is no'.input.files_are.document_is in
+      let P : Document → Type 0 = λ d. HoldsInput document files d yes'.net in
+      let Q : Document → Type 0 = λ d. MeetsDocument yes'.net d in
+      let nets : yes'.net ≡ no'.net = one_network no'.doc yes'.net no'.net (subst P docs yes'.input) no'.input in
+      let R : Network → Type 0 = λ n. MeetsDocument n no'.doc in
+      no'.breaks (subst R nets (subst Q docs yes'.meets))
+
+  pub yes_or_refused : SaysYes document files → SaysRefused document files → ⊥
+  yes_or_refused yes' refused = not_both yes'.doc yes'.net refused.refusal yes'.input refused.refused
+
+  pub no_or_refused : SaysNo document files → SaysRefused document files → ⊥
+  no_or_refused no' refused = not_both no'.doc no'.net refused.refusal no'.input refused.refused

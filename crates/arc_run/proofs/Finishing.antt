@@ -1,0 +1,77 @@
+-- A run that ends with a defined outcome.
+use Rattle.std.proofs.Common.{◌≡◌, ℕ, ◌<◌, ◌≤◌, ◌⊎◌, inl, inr, List, length, take, refl, sym, ◌∙◌, subst, arith}
+use Rattle.std.specs.Prelude.{Option, Some, None, IsSome}
+use Rattle.arc_outside.specs.Files.{Files, WhereTold}
+use Rattle.arc_run.specs.declared.words.Command.{Command}
+use Rattle.arc_run.specs.declared.outcome.Outcome.{Outcome}
+use Rattle.arc_run.specs.declared.outcome.Outcome.TheVariants as outcomes
+use Rattle.arc_run.specs.Outcomes.{IsDefined, HasOutcomeCause, text_of, writes_of, status_of}
+use Rattle.arc_run.specs.Runs.{Runs, Leaves, StopsBefore, StopsInText, PartWritten, FailsWithin, WereWritten, WasPut}
+
+-- nothing was written
+unwritten : (command : Option Command) (held held' : Option Files) → held' ≡ held → WhereTold (PartWritten command) held held'
+unwritten command None held' same = subst (λ (o : Option Files). WhereTold (PartWritten command) None o) (sym same) tt
+unwritten command (Some files) held' same = subst (λ (o : Option Files). WhereTold (PartWritten command) (Some files) o) (sym same) (inl refl)
+
+-- a write of the outcome failed
+part_written : (command : Option Command) (outcome : Outcome) (held held' : Option Files) → IsDefined command held outcome → WhereTold (FailsWithin (writes_of outcome)) held held' → WhereTold (PartWritten command) held held'
+part_written command outcome None None defined fails = tt
+part_written command outcome None (Some after) defined fails = absurd fails
+part_written command outcome (Some before) None defined fails = absurd fails
+part_written command outcome (Some before) (Some after) defined fails = inr (outcome, defined, fails)
+
+-- only a command's outcome writes
+command_writes : (command : Option Command) (held : Option Files) (outcome : Outcome) → IsDefined command held outcome → 0 < length (writes_of outcome) → IsSome command
+command_writes (Some command) held outcome defined some = refl
+command_writes None held outcomes.Usage defined some = absurd (omega arith)
+command_writes None held (outcomes.Refused r) defined some = absurd defined
+command_writes None held (outcomes.Done d) defined some = absurd defined
+
+-- what caused the outcome then causes it now
+later_cause : {then now : Type 0} (outcome : Outcome) → (then → now) → HasOutcomeCause then outcome → HasOutcomeCause now outcome
+later_cause outcomes.Usage later cause = tt
+later_cause (outcomes.Refused r) later cause = λ is. later (cause is)
+later_cause (outcomes.Done d) later cause = tt
+
+module _ {absent : Type 0} (command : Option Command) (outcome : Outcome) (held now held' : Option Files) (put put' : Option (List ℕ)) (defined : IsDefined command held outcome) (cause : HasOutcomeCause absent outcome) (same : now ≡ held) where
+  leaves : (text : List ℕ) → WereWritten (writes_of outcome) now held' → WasPut text put put' → Leaves command absent held held' put put' outcome text
+  leaves text written was_put = record {
+    defined = defined;
+    cause = cause;
+    files = subst (λ (o : Option Files). WereWritten (writes_of outcome) o held') same written;
+    sink = was_put;
+  }
+
+  in_text : WereWritten (writes_of outcome) now held' → (count : ℕ) × WasPut (take count (text_of outcome)) put put' → StopsInText command absent held held' put put'
+  in_text written was_put = record { outcome = outcome; count = was_put.0; leaves = leaves (take was_put.0 (text_of outcome)) written was_put.1 }
+
+module _ (command : Option Command) (outcome : Outcome) (held now held' : Option Files) (put put' : Option (List ℕ)) (defined : IsDefined command held outcome) (same : now ≡ held) where
+  before : WhereTold (FailsWithin (writes_of outcome)) now held' → put' ≡ put → StopsBefore command held held' put put'
+  before fails none = record {
+    files = part_written command outcome held held' defined (subst (λ (o : Option Files). WhereTold (FailsWithin (writes_of outcome)) o held') same fails);
+    sink = none;
+  }
+
+at_start : (command : Option Command) (held now held' : Option Files) (put put' : Option (List ℕ)) → now ≡ held → held' ≡ now → put' ≡ put → StopsBefore command held held' put put'
+at_start command held now held' put put' same unchanged none = record { files = unwritten command held held' (unchanged ∙ same); sink = none }
+
+-- what the ending does, as a run over the store and the sink as they were
+pub finished : {then absent failed broken : Type 0} (command : Option Command) (outcome : Outcome) (held now held' : Option Files) (put put' : Option (List ℕ)) (code : ℕ) → IsDefined command held outcome → (then → absent) → HasOutcomeCause then outcome → now ≡ held →
+    (code < 6 → (code ≡ status_of outcome) × WereWritten (writes_of outcome) now held' × WasPut (text_of outcome) put put') →
+    (code ≡ 6 → failed × (0 < length (writes_of outcome)) × WhereTold (FailsWithin (writes_of outcome)) now held' × (put' ≡ put)) →
+    (code ≡ 7 → broken × WereWritten (writes_of outcome) now held' × ((count : ℕ) × WasPut (take count (text_of outcome)) put put')) →
+    (code ≡ 8 → ((held' ≡ now) × (put' ≡ put)) ⊎ (WhereTold (FailsWithin (writes_of outcome)) now held' × (put' ≡ put)) ⊎ (WereWritten (writes_of outcome) now held' × ((count : ℕ) × WasPut (take count (text_of outcome)) put put'))) →
+    code ≤ 8 → Runs command absent failed broken held held' put put' code
+finished command outcome held now held' put put' code defined later cause same ended store_failed sink_failed memory known =
+    let cause_now = later_cause outcome later cause in
+    record {
+      ended = λ h. let e = ended h in record { outcome = outcome; status_is = e.0; leaves = leaves command outcome held now held' put put' defined cause_now same (text_of outcome) e.1 e.2 };
+      store_failed = λ h. let e = store_failed h in (e.0, command_writes command held outcome defined e.1, before command outcome held now held' put put' defined same e.2 e.3);
+      sink_failed = λ h. let e = sink_failed h in (e.0, in_text command outcome held now held' put put' defined cause_now same e.1 e.2);
+      memory = λ h. elim (memory h) [
+        | inl e ↦ inl (at_start command held now held' put put' same e.0 e.1)
+        | inr (inl e) ↦ inl (before command outcome held now held' put put' defined same e.0 e.1)
+        | inr (inr e) ↦ inr (in_text command outcome held now held' put put' defined cause_now same e.0 e.1)
+      ];
+      known = known;
+    }

@@ -1,0 +1,23 @@
+use Rattle.std.proofs.Common.{arith, ◌≡◌, ◌++◌, ◌∷◌, [], ◌+◌, ap, subst, sym, length, length-append, take, List}
+use Rattle.std.specs.Prelude.{slice_get}
+use Rattle.std.specs.List.{AllZip}
+use Rattle.net_model.specs.declared.verdicts.Verdict.{Verdict}
+use Rattle.arc_run.specs.Verifies.{IsVerdictOn}
+use Rattle.arc_run.proofs.Judging.{at_place, zip_more, verdict_on}
+use Rattle.arc_run.proofs.verifying.judge_all.Goals as goal
+
+pub judge-requires-clause-ends : goal.judge-requires-clause-ends
+judge-requires-clause-ends c = at_place _ _ _ c.requires.ends
+
+pub judge-requires-clause-uniform : goal.judge-requires-clause-uniform
+judge-requires-clause-uniform c = at_place _ _ _ c.requires.uniform
+
+pub loop-which-preserved : goal.loop-which-preserved
+loop-which-preserved c =
+    let pushed : c.push.new.self ≡ c.loop-which.verdicts ++ c.in-Ok.verdict ∷ [] = c.in_ok-push-in-Ok.ensures.ok in
+    let on = verdict_on c.args.input.now.net (slice_get c.args.input.now.doc.policies c.loop-which.which) c.in-Ok.verdict c.in-Ok.ensures.right c.in-Ok.ensures.fixed in
+    record {
+      judged = subst (λ (vs : List Verdict). AllZip (IsVerdictOn c.args.input.now.net) (take (c.loop-which.which + 1) c.args.input.now.doc.policies) vs) (sym pushed)
+          (zip_more (IsVerdictOn c.args.input.now.net) c.args.input.now.doc.policies c.loop-which.verdicts c.loop-which.which c.in-Ok.verdict (omega arith) c.loop-which.invariant.judged on);
+      count = omega (arith, ap length pushed, length-append c.loop-which.verdicts (c.in-Ok.verdict ∷ []), c.loop-which.invariant.count);
+    }

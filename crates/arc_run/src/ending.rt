@@ -1,0 +1,112 @@
+//! The common ending of all commands: the files are written, and then the text is put.
+ghost use Rattle.std.specs.Prelude.{◌≡◌, ◌⊎◌, ◌<◌, ◌≤◌, ◌+◌, ◌++◌, take, drop, option_map, length, IfOk, IfErr, OnOk, OnErr, IsErrOf, ℕ};
+ghost use Rattle.arc_outside.specs.Causes.{Rose};
+ghost use Rattle.arc_outside.specs.Files.{WhereTold};
+ghost use Rattle.arc_run.specs.Outcomes.{text_of, writes_of, status_of};
+ghost use Rattle.arc_run.specs.Runs.{WasPut, WereWritten, FailsWithin};
+
+use crate::files::write_all;
+use crate::outcome::{Done, Outcome, Status};
+use crate::refusals::line_of;
+use arc_base::{List, Memory, Name};
+use arc_outside::{Fault, Sink, Store};
+use std::alloc::Global;
+
+// Puts some of the text from this place on.
+fn put_from<K: Sink>(out: &mut K, text: &[u8], at: usize) -> Result<usize, Fault>
+    requires { at < length text.now }
+    ensures some { IfOk result (λ n. 0 < n) }
+    ensures bound { IfOk result (λ n. at + n ≤ length text.now) }
+    ensures appended { IfOk result (λ n. K.written out.new ≡ option_map (λ written. written ++ take n (drop at text.now)) (K.written out.old)) }
+    ensures nothing { OnErr result (K.written out.new ≡ K.written out.old) }
+    ensures cause { IsErrOf result Fault.Failed → Rose (K.faults out.old) (K.faults out.new) }
+    ensures never_missing { IsErrOf result Fault.Missing → ⊥ }
+    ensures faults { K.faults out.old ≤ K.faults out.new }
+{
+    let (_, rest) = text.split_at(at);
+    out.put(rest)
+}
+
+// Puts the whole text.
+fn put_all<K: Sink>(out: &mut K, text: &[u8]) -> Result<(), Fault>
+    ensures put { OnOk result (WasPut text.now (K.written out.old) (K.written out.new)) }
+    ensures stopped { OnErr result ((count : ℕ) × WasPut (take count text.now) (K.written out.old) (K.written out.new)) }
+    ensures cause { IsErrOf result Fault.Failed → Rose (K.faults out.old) (K.faults out.new) }
+    ensures never_missing { IsErrOf result Fault.Missing → ⊥ }
+    ensures faults { K.faults out.old ≤ K.faults out.new }
+{
+    let mut at = 0;
+    while at < text.len() {
+        match put_from(out, text, at) {
+            Ok(n) => at += n,
+            Err(fault) => return Err(fault),
+        }
+    }
+    Ok(())
+}
+
+// The text, the files to write and the status of an outcome.
+fn plan(alloc: Global, outcome: Outcome) -> Result<Done, Memory>
+    ensures { IfOk result (λ done. done ≡ record { text = text_of outcome; writes = writes_of outcome; status = status_of outcome }) }
+{
+    match outcome {
+        Outcome::Usage => Ok(Done {
+            text: Name::make(
+                alloc,
+                b"usage: arcv verify|trace|repair|check|apply|solve|lrat|generate\n",
+            )?,
+            writes: List::make(alloc),
+            status: 4,
+        }),
+        Outcome::Refused(refusal) => Ok(Done {
+            text: Name::of(line_of(alloc, &refusal)?),
+            writes: List::make(alloc),
+            status: 5,
+        }),
+        Outcome::Done(done) => Ok(done),
+    }
+}
+
+// Ends a run with this outcome.
+pub fn finish<S: Store, K: Sink>(
+    alloc: Global,
+    outcome: Outcome,
+    store: &mut S,
+    out: &mut K,
+) -> Status
+    requires { status_of outcome ≤ 5 }
+
+    ensures ended { result.code < 6 → (result.code ≡ status_of outcome)
+        × WereWritten (writes_of outcome) (S.held store.old) (S.held store.new)
+        × WasPut (text_of outcome) (K.written out.old) (K.written out.new) }
+    ensures store_failed { result.code ≡ 6 → Rose (S.faults store.old) (S.faults store.new)
+        × (0 < length (writes_of outcome))
+        × WhereTold (FailsWithin (writes_of outcome)) (S.held store.old) (S.held store.new)
+        × (K.written out.new ≡ K.written out.old) }
+    ensures sink_failed { result.code ≡ 7 → Rose (K.faults out.old) (K.faults out.new)
+        × WereWritten (writes_of outcome) (S.held store.old) (S.held store.new)
+        × ((count : ℕ) × WasPut (take count (text_of outcome)) (K.written out.old) (K.written out.new)) }
+    ensures memory { result.code ≡ 8 →
+        ((S.held store.new ≡ S.held store.old) × (K.written out.new ≡ K.written out.old))
+        ⊎ (WhereTold (FailsWithin (writes_of outcome)) (S.held store.old) (S.held store.new) × (K.written out.new ≡ K.written out.old))
+        ⊎ (WereWritten (writes_of outcome) (S.held store.old) (S.held store.new)
+        × ((count : ℕ) × WasPut (take count (text_of outcome)) (K.written out.old) (K.written out.new))) }
+    ensures code { result.code ≤ 8 }
+    ensures absences { S.absences store.old ≤ S.absences store.new }
+    ensures faults { S.faults store.old ≤ S.faults store.new }
+{
+    let plan = match plan(alloc, outcome) {
+        Ok(plan) => plan,
+        Err(_) => return Status { code: 8 },
+    };
+    match write_all(store, plan.writes.slice()) {
+        Ok(()) => {}
+        Err(Fault::Failed) => return Status { code: 6 },
+        Err(_) => return Status { code: 8 },
+    }
+    match put_all(out, plan.text.bytes()) {
+        Ok(()) => Status { code: plan.status },
+        Err(Fault::Failed) => Status { code: 7 },
+        Err(_) => Status { code: 8 },
+    }
+}

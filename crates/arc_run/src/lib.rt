@@ -1,0 +1,23 @@
+//! The top call: from the words of the command line, a store and a sink to an exit status. Its contract is the
+//! product's: what each status says of the files that were read, what was put and written, and whose fault it is where
+//! there is no answer.
+#![tactic(auto)]
+
+mod ending;
+mod files;
+mod inputs;
+pub mod laws;
+mod outcome;
+mod refusals;
+mod surely;
+#[cfg(test)]
+mod tests;
+mod top;
+mod verifying;
+mod words;
+
+pub use inputs::Input;
+pub use outcome::{Done, FileRefusal, Outcome, Status, Stop};
+pub use surely::run_surely;
+pub use top::run;
+pub use words::Command;

@@ -1,0 +1,84 @@
+//! How a command ends.
+
+use arc_base::{Kind, List, Memory, Name};
+use std::alloc::{AllocError, AllocFailed};
+
+/// The exit status of a run: 0 for yes, 1 for no, 2 and 3 for the answers of commands to come, 4 where the words
+/// match no command, 5 for a refusal, 6 and 7 where the store or the sink failed, 8 for want of memory.
+#[derive(Clone, Copy, Debug, PartialEq, Eq)]
+pub struct Status {
+    pub code: u8,
+}
+
+/// A refusal of the input.
+#[derive(Drop)]
+pub struct FileRefusal {
+    /// The name of the file that it is about.
+    pub name: Name,
+    /// The line of a router file, the number of a link or policy of the document, or 0.
+    pub number: u32,
+    pub kind: Kind,
+}
+
+/// What a command that is not refused does.
+#[derive(Drop)]
+pub struct Done {
+    /// The text that is put to the sink.
+    pub text: Name,
+    /// The files that are written before that, in order: their names and their bytes.
+    pub writes: List<(Name, Name)>,
+    /// The exit status, at most 3.
+    pub status: u8,
+}
+
+/// A defined outcome.
+#[derive(Drop)]
+pub enum Outcome {
+    /// The words match no command.
+    Usage,
+    Refused(FileRefusal),
+    Done(Done),
+}
+
+/// Why a command has no answer.
+#[derive(Drop)]
+pub enum Stop {
+    Refused(FileRefusal),
+    /// Want of memory.
+    Memory,
+    /// The store failed.
+    Failed,
+}
+
+impl From<Memory> for Stop {
+    ghost use Rattle.std.specs.Prelude.{◌≡◌};
+    ghost use Rattle.arc_run.specs.declared.outcome.Stop.TheVariants as stops;
+
+    ghost from_gives = { λ _ e. e ≡ stops.Memory };
+
+    fn from(_error: Memory) -> Stop {
+        Stop::Memory
+    }
+}
+
+impl From<AllocError> for Stop {
+    ghost use Rattle.std.specs.Prelude.{◌≡◌};
+    ghost use Rattle.arc_run.specs.declared.outcome.Stop.TheVariants as stops;
+
+    ghost from_gives = { λ _ e. e ≡ stops.Memory };
+
+    fn from(_error: AllocError) -> Stop {
+        Stop::Memory
+    }
+}
+
+impl<T: Drop> From<AllocFailed<T>> for Stop {
+    ghost use Rattle.std.specs.Prelude.{◌≡◌};
+    ghost use Rattle.arc_run.specs.declared.outcome.Stop.TheVariants as stops;
+
+    ghost from_gives = { λ _ e. e ≡ stops.Memory };
+
+    fn from(_error: AllocFailed<T>) -> Stop {
+        Stop::Memory
+    }
+}

@@ -1,0 +1,96 @@
+//! The top call.
+ghost use Rattle.std.specs.Prelude.{◌≡◌, ◌⊎◌, ◌<◌, ◌≤◌, List, ℕ, Some, None, IfSome, IfOk, IfErr, IsErrOf};
+ghost use Rattle.arc_outside.specs.Causes.{Rose};
+ghost use Rattle.arc_run.specs.Headline.{TellsExactly};
+ghost use Rattle.arc_run.specs.Words.{command_of};
+ghost use Rattle.arc_run.specs.Outcomes.{Answers, HasStopCause, IsDefined, HasOutcomeCause};
+ghost use Rattle.arc_run.specs.Runs.{Runs};
+
+use crate::ending::finish;
+use crate::outcome::{Done, Outcome, Status, Stop};
+use crate::verifying::verify;
+use crate::words::{Command, read_words};
+use arc_base::Name;
+use arc_outside::{Sink, Store};
+use std::alloc::Global;
+
+// Why a run has no outcome.
+#[derive(Clone, Copy, Debug, PartialEq, Eq)]
+enum Halt {
+    Memory,
+    Failed,
+}
+
+// Runs the function of the command.
+fn answer<S: Store>(alloc: Global, command: &Command, store: &mut S) -> Result<Done, Stop>
+    ensures answer { Answers command.now (S.held store.old) result }
+    ensures same { S.held store.new ≡ S.held store.old }
+    ensures cause { IfErr result (HasStopCause (Rose (S.faults store.old) (S.faults store.new)) (Rose (S.absences store.old) (S.absences store.new))) }
+    ensures faults { S.faults store.old ≤ S.faults store.new }
+    ensures absences { S.absences store.old ≤ S.absences store.new }
+{
+    match command {
+        Command::Verify(document) => verify(alloc, document, store),
+    }
+}
+
+// Finds the outcome that the words and the files define. It writes nothing.
+fn perform<S: Store>(alloc: Global, words: &[Name], store: &mut S) -> Result<Outcome, Halt>
+    ensures defined { IfOk result (λ outcome. IsDefined (command_of words.now) (S.held store.old) outcome) }
+    ensures cause { IfOk result (λ outcome. HasOutcomeCause (Rose (S.absences store.old) (S.absences store.new)) outcome) }
+    ensures failed { IsErrOf result Halt.Failed → Rose (S.faults store.old) (S.faults store.new) }
+    ensures failed_in_command { IsErrOf result Halt.Failed → command_of words.now ≡ None → ⊥ }
+    ensures same { S.held store.new ≡ S.held store.old }
+    ensures faults { S.faults store.old ≤ S.faults store.new }
+    ensures absences { S.absences store.old ≤ S.absences store.new }
+{
+    let command = match read_words(alloc, words) {
+        Ok(Some(command)) => command,
+        Ok(None) => return Ok(Outcome::Usage),
+        Err(_) => return Err(Halt::Memory),
+    };
+    match answer(alloc, &command, store) {
+        Ok(done) => Ok(Outcome::Done(done)),
+        Err(Stop::Refused(refusal)) => Ok(Outcome::Refused(refusal)),
+        Err(Stop::Memory) => Err(Halt::Memory),
+        Err(Stop::Failed) => Err(Halt::Failed),
+    }
+}
+
+// Finds the outcome, and ends with it.
+fn run_defined<S: Store, K: Sink>(
+    alloc: Global,
+    words: &[Name],
+    store: &mut S,
+    out: &mut K,
+) -> Status
+    ensures { Runs (command_of words.now)
+        (Rose (S.absences store.old) (S.absences store.new)) (Rose (S.faults store.old) (S.faults store.new)) (Rose (K.faults out.old) (K.faults out.new))
+        (S.held store.old) (S.held store.new) (K.written out.old) (K.written out.new) result.code }
+{
+    match perform(alloc, words, store) {
+        Ok(outcome) => finish(alloc, outcome, store, out),
+        Err(Halt::Memory) => Status { code: 8 },
+        Err(Halt::Failed) => Status { code: 6 },
+    }
+}
+
+/// Does what the words say over the store and the sink, and answers the exit status. All text is put at the end, after
+/// all files are read and written.
+pub fn run<S: Store, K: Sink>(alloc: Global, words: &[Name], store: &mut S, out: &mut K) -> Status
+    ensures runs { Runs (command_of words.now)
+        (Rose (S.absences store.old) (S.absences store.new)) (Rose (S.faults store.old) (S.faults store.new)) (Rose (K.faults out.old) (K.faults out.new))
+        (S.held store.old) (S.held store.new) (K.written out.old) (K.written out.new) result.code }
+
+    // The usage line comes exactly where the words match no command, but for 7 and 8.
+    ensures usage { result.code ≡ 4 → command_of words.now ≡ None }
+    ensures no_command { command_of words.now ≡ None → (result.code ≡ 4) ⊎ (7 ≤ result.code) }
+
+    // The headline. Where `verify` ends with a status below 6, that is 0 exactly where the document and its router files have a
+    // network and stable forwarding meets every policy in it under every set of failed links that the policy speaks of,
+    // 1 exactly where they have a network that breaks a policy, and 5 exactly where they are refused.
+    ensures verified { (document : List ℕ) → command_of words.now ≡ Some (Command.Verify document) →
+        result.code < 6 → IfSome (S.held store.old) (TellsExactly document result.code) }
+{
+    run_defined(alloc, words, store, out)
+}

@@ -1,0 +1,82 @@
+//! The command `verify DOC`.
+ghost use Rattle.std.specs.Prelude.{◌≡◌, ◌≤◌, length, IfOk, IfErr};
+ghost use Rattle.std.specs.List.{AllZip, list_all};
+ghost use Rattle.arc_outside.specs.Causes.{Rose};
+ghost use Rattle.net_model.specs.Witnesses.{is_yes};
+ghost use Rattle.arc_run.specs.Inputs.{IsFit};
+ghost use Rattle.arc_run.specs.Outcomes.{Answers, HasStopCause};
+ghost use Rattle.arc_run.specs.Verifies.{IsVerdictOn, verdicts_status};
+
+use crate::inputs::{Input, read_input};
+use crate::outcome::{Done, Stop};
+use crate::words::Command;
+use arc_base::{List, Memory, Name};
+use arc_outside::Store;
+use net_model::Verdict;
+use policy_report::report;
+use std::alloc::Global;
+use verdicts::judge;
+
+// The verdict on each policy of the document, in order.
+fn judge_all(alloc: Global, input: &Input) -> Result<List<Verdict>, Memory>
+    requires { IsFit input.now }
+    ensures { IfOk result (AllZip (IsVerdictOn input.now.net) input.now.doc.policies) }
+{
+    let mut verdicts = List::make(alloc);
+    for which in 0..input.doc.policies.len() {
+        match judge(alloc, &input.net, &input.doc.policies, which) {
+            Ok(verdict) => verdicts.push(verdict)?,
+            Err(_) => return Err(Memory),
+        }
+    }
+    Ok(verdicts)
+}
+
+// Whether the verdict is a yes.
+fn is_yes(verdict: &Verdict) -> bool
+    ensures { result ≡ is_yes verdict.now }
+{
+    matches!(verdict, Verdict::Closed(_) | Verdict::Paths(_))
+}
+
+// Whether each verdict is a yes.
+fn are_all_yes(verdicts: &[Verdict]) -> bool
+    ensures { result ≡ list_all is_yes verdicts.now }
+{
+    verdicts.iter().all(|verdict| is_yes(verdict))
+}
+
+// The status of these verdicts.
+fn status_of(verdicts: &[Verdict]) -> u8
+    ensures value { result ≡ verdicts_status verdicts.now }
+    ensures small { result ≤ 3 }
+{
+    if are_all_yes(verdicts) { 0 } else { 1 }
+}
+
+/// Judges each policy of the document, and reports the verdicts.
+pub fn verify<S: Store>(alloc: Global, document: &Name, store: &mut S) -> Result<Done, Stop>
+    ensures answer { Answers (Command.Verify document.now) (S.held store.old) result }
+    ensures same { S.held store.new ≡ S.held store.old }
+    ensures cause { IfErr result (HasStopCause (Rose (S.faults store.old) (S.faults store.new)) (Rose (S.absences store.old) (S.absences store.new))) }
+    ensures faults { S.faults store.old ≤ S.faults store.new }
+    ensures absences { S.absences store.old ≤ S.absences store.new }
+{
+    let input = match read_input(alloc, document, store) {
+        Ok(input) => input,
+        Err(stop) => return Err(stop),
+    };
+    let verdicts = match judge_all(alloc, &input) {
+        Ok(verdicts) => verdicts,
+        Err(Memory) => return Err(Stop::Memory),
+    };
+    let text = match report(alloc, &input.net, &input.doc, &verdicts) {
+        Ok(text) => text,
+        Err(Memory) => return Err(Stop::Memory),
+    };
+    Ok(Done {
+        text: Name::of(text),
+        writes: List::make(alloc),
+        status: status_of(verdicts.slice()),
+    })
+}

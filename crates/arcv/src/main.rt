@@ -1,0 +1,38 @@
+//! The command `arcv`: `run` over the files of the system and its standard output, with the words that follow the
+//! program's name. The exit status is the run's.
+#![tactic(auto)]
+
+use arc_base::{List, Memory, Name};
+use arc_outside::{DiskStore, StdSink};
+use arc_run::run;
+use std::alloc::Global;
+use std::process::ExitCode;
+use std::{env, io};
+
+// The words that follow the program's name. Words that cannot be had as text are none, and so match no command.
+fn words(rt: &HostRuntime, alloc: Global) -> Result<List<Name>, Memory> {
+    let mut words = List::make(alloc);
+    let args = match env::args(rt) {
+        Ok(args) => args,
+        Err(error) if error.kind() == io::ErrorKind::OutOfMemory => return Err(Memory),
+        Err(_) => return Ok(words),
+    };
+    let mut is_program = true;
+    for word in args {
+        if !is_program && words.len() < u32::MAX {
+            words.push(Name::make(alloc, word.as_bytes())?)?;
+        }
+        is_program = false;
+    }
+    Ok(words)
+}
+
+fn main(rt: HostRuntime) -> ExitCode {
+    let alloc = rt.alloc();
+    let Ok(words) = words(&rt, alloc) else {
+        return ExitCode::from(8);
+    };
+    let mut store = DiskStore::make(rt);
+    let mut out = StdSink::make(rt);
+    ExitCode::from(run(alloc, words.slice(), &mut store, &mut out).code)
+}

@@ -1,0 +1,96 @@
+//! Words of a line, put at the end of a text with a space before each.
+ghost use Rattle.std.specs.Prelude.{◌≡◌, ◌++◌, [], ◌∷◌, cond, decimal, false, slice_index_or, OnOk};
+ghost use Rattle.arc_base.specs.PrefixText.{address_text, prefix_text};
+ghost use Rattle.policy_report.specs.Lines.{spaced};
+ghost use Rattle.policy_report.specs.Reports.{class_words, link_words, side_words};
+
+use arc_base::{Link, Memory, Prefix, push_address, push_number, push_prefix};
+use net_model::{Class, Packet, RouterRow};
+use std::alloc::Global;
+
+/// A word.
+pub(crate) fn push_word(text: &mut Vec<u8>, word: &[u8]) -> Result<(), Memory>
+    ensures { OnOk result (text.new.items ≡ text.old.items ++ 32 ∷ word.now) }
+{
+    text.push(b' ')?;
+    text.extend_from_slice(word)?;
+    Ok(())
+}
+
+/// A number.
+pub(crate) fn push_count(alloc: Global, text: &mut Vec<u8>, count: u64) -> Result<(), Memory>
+    ensures { OnOk result (text.new.items ≡ text.old.items ++ 32 ∷ decimal count) }
+{
+    text.push(b' ')?;
+    push_number(alloc, text, count)
+}
+
+fn push_prefix_word(alloc: Global, text: &mut Vec<u8>, prefix: &Prefix) -> Result<(), Memory>
+    ensures { OnOk result (text.new.items ≡ text.old.items ++ 32 ∷ prefix_text prefix.now) }
+{
+    text.push(b' ')?;
+    push_prefix(alloc, text, prefix)
+}
+
+fn push_address_word(alloc: Global, text: &mut Vec<u8>, address: u32) -> Result<(), Memory>
+    ensures { OnOk result (text.new.items ≡ text.old.items ++ 32 ∷ address_text address) }
+{
+    text.push(b' ')?;
+    push_address(alloc, text, address)
+}
+
+/// The two prefixes of a class.
+pub(crate) fn push_class(alloc: Global, text: &mut Vec<u8>, class: &Class) -> Result<(), Memory>
+    ensures { OnOk result (text.new.items ≡ text.old.items ++ spaced (class_words class.now)) }
+{
+    push_prefix_word(alloc, text, &class.from)?;
+    push_prefix_word(alloc, text, &class.to)
+}
+
+/// The two addresses of a packet.
+pub(crate) fn push_packet(alloc: Global, text: &mut Vec<u8>, packet: &Packet) -> Result<(), Memory>
+    ensures { OnOk result (text.new.items
+        ≡ text.old.items ++ spaced (address_text packet.now.from ∷ address_text packet.now.to ∷ [])) }
+{
+    push_address_word(alloc, text, packet.from)?;
+    push_address_word(alloc, text, packet.to)
+}
+
+/// The numbers of links, counted from 1.
+pub(crate) fn push_links(alloc: Global, text: &mut Vec<u8>, links: &[Link]) -> Result<(), Memory>
+    ensures { OnOk result (text.new.items ≡ text.old.items ++ spaced (link_words links.now)) }
+{
+    for link in links {
+        push_count(alloc, text, u64::from(link.0) + 1)?;
+    }
+    Ok(())
+}
+
+/// The names of the routers on a side.
+pub(crate) fn push_side(
+    text: &mut Vec<u8>,
+    routers: &[RouterRow],
+    side: &[bool],
+) -> Result<(), Memory>
+    ensures { OnOk result (text.new.items ≡ text.old.items ++ spaced (side_words routers.now side.now)) }
+{
+    for (place, router) in routers.iter().enumerate() {
+        push_if(text, router.name.bytes(), is_on(side, place))?;
+    }
+    Ok(())
+}
+
+fn push_if(text: &mut Vec<u8>, word: &[u8], chosen: bool) -> Result<(), Memory>
+    ensures { OnOk result (text.new.items ≡ text.old.items ++ cond chosen (32 ∷ word.now) []) }
+{
+    if !chosen {
+        return Ok(());
+    }
+    push_word(text, word)
+}
+
+fn is_on(side: &[bool], place: usize) -> bool
+    ensures { result ≡ slice_index_or side.now place false }
+{
+    side.get(place).copied().unwrap_or(false)
+}
