@@ -1,0 +1,14 @@
+pub mod Lists
+pub mod Rows
+pub mod Searches
+pub mod Looks
+pub mod Marked
+pub mod Grows
+pub mod Extracts
+pub mod Turns
+pub mod Ways
+pub mod Sums
+pub mod Residuals
+pub mod Cuts
+pub mod Takes
+pub mod Menger

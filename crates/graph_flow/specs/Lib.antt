@@ -1,0 +1,9 @@
+pub mod Paths
+pub mod Sides
+pub mod Flows
+pub mod Laws
+pub mod Residual
+pub mod Marks
+pub mod Adjacency
+pub mod Kept
+pub mod Answers

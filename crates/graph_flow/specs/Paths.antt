@@ -1,0 +1,64 @@
+-- Graphs as lists of arcs, paths over them, and paths that share no link.
+use Rattle.std.specs.Prelude.{◌≡◌, ◌≢◌, ℕ, ◌<◌, List, [], ◌∷◌, length, map, All, AllPairs, Contains}
+use Rattle.std.specs.List.{flat_map}
+use Rattle.arc_base.specs.declared.place.Link.{Link}
+use Rattle.graph_flow.specs.declared.arcs.Arc.{Arc}
+
+-- how many nodes there are, numbered from 0, and the arcs between them
+pub record Digraph : Type 0 where
+  pub nodes : ℕ
+  pub arcs : List Arc
+
+-- the arc leads from one of the nodes to another
+pub record Joins (nodes : ℕ) (arc : Arc) : Type 0 where
+  pub tail_node : arc.tail < nodes
+  pub head_node : arc.head < nodes
+  pub apart : arc.tail ≢ arc.head
+
+-- if the two are arcs of one link, each leads where the other comes from
+pub record MayShare (a b : Arc) : Type 0 where
+  pub forth : a.link ≡ b.link → a.tail ≡ b.head
+  pub back : a.link ≡ b.link → a.head ≡ b.tail
+
+-- the arcs join nodes, and a link has at most two of them, one in each direction
+pub record IsGraph (g : Digraph) : Type 0 where
+  pub joined : All (Joins g.nodes) g.arcs
+  pub opposite : AllPairs MayShare g.arcs
+
+-- the way is made of the arcs and leads from u to v, each arc beginning where the one before ends
+abbrev pub Path : List Arc → ℕ → List Arc → ℕ → Type 0
+Path arcs u [] v = u ≡ v
+Path arcs u (arc ∷ way) v = Contains arcs arc × (arc.tail ≡ u) × Path arcs arc.head way v
+
+-- some path leads from u to v
+abbrev pub Leads : List Arc → ℕ → ℕ → Type 0
+Leads arcs u v = (way : List Arc) × Path arcs u way v
+
+-- the links of the way
+abbrev pub links_of : List Arc → List Link
+links_of way = map (λ arc. arc.link) way
+
+-- the nodes that the way passes, from its first one u
+abbrev pub nodes_of : ℕ → List Arc → List ℕ
+nodes_of u way = u ∷ map (λ arc. arc.head) way
+
+-- no item stands twice
+abbrev pub AreDifferent : {X : Type 0} → List X → Type 0
+AreDifferent xs = AllPairs (λ x y. x ≢ y) xs
+
+-- the links are those of a path from u to v that passes no node twice
+pub record IsPath (arcs : List Arc) (u : ℕ) (links : List Link) (v : ℕ) : Type 0 where
+  pub way : List Arc
+  pub of_links : links_of way ≡ links
+  pub leads : Path arcs u way v
+  pub once : AreDifferent (nodes_of u way)
+
+-- the links of all the paths, one path after the other
+abbrev pub all_links : List (List Link) → List Link
+all_links paths = flat_map (λ path. path) paths
+
+-- so many paths from s to t that pass no node twice, and no link stands in two of them, nor twice in one
+pub record AreDisjointPaths (arcs : List Arc) (s t many : ℕ) (paths : List (List Link)) : Type 0 where
+  pub count : length paths ≡ many
+  pub each : All (λ path. IsPath arcs s path t) paths
+  pub disjoint : AreDifferent (all_links paths)

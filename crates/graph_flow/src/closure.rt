@@ -1,0 +1,101 @@
+ghost use Rattle.std.specs.Prelude.{◌≡◌, ℕ, ◌<◌, length, IfOk, IsSome, IsTrue, Some, None, Option, List, ◌↔◌, ◌^◌, slice_index_or, replicate, reverse, vec_len};
+ghost use Rattle.graph_flow.specs.Paths.{Leads, IsPath, links_of};
+ghost use Rattle.graph_flow.specs.Marks.{AreSteps, depth_of, mark_at, way_to};
+ghost use Rattle.arc_base.specs.declared.place.Link.{Link};
+
+use crate::arcs::LinkRow2;
+use crate::graph::Graph;
+use crate::search::{Mark, Search};
+use arc_base::{Link, List, Memory};
+use std::alloc::Global;
+use std::marker::Model;
+
+/// The nodes that paths lead to from a node of a graph. It belongs to the graph that it was made for. Contracts see,
+/// for each node, the links of a path to it, or none where it is not reached.
+#[derive(Debug, Drop)]
+pub struct Closure {
+    search: Search,
+}
+
+impl Model for Closure {
+    ghost use Rattle.std.specs.Prelude.{List, Option};
+    ghost use Rattle.arc_base.specs.declared.place.Link.{Link};
+
+    ghost Value = { List (Option (List Link)) };
+
+    ghost use Rattle.graph_flow.specs.Marks.{paths_by};
+    ghost use Rattle.graph_flow.specs.Kept.{IsKeptClosure};
+
+    ghost view = { λ c. paths_by c.search.marks.items };
+
+    ghost invariant = { IsKeptClosure };
+}
+
+impl Closure {
+    /// Takes the room for the graph's nodes. No node is reached yet.
+    pub fn make(alloc: Global, g: &Graph) -> Result<Closure, Memory>
+        ensures { IfOk result (λ closure. closure ≡ replicate g.now.nodes None) }
+    {
+        Ok(Closure {
+            search: Search::make(alloc, g.nodes())?,
+        })
+    }
+
+    /// Reaches the nodes to which paths lead from a node, and no others. It takes no memory.
+    pub fn spread(&mut self, g: &Graph, from: u32)
+        requires from { from < g.now.nodes }
+        requires graph { length self.old ≡ g.now.nodes }
+        ensures room { length self.new ≡ length self.old }
+        ensures reached { (node : ℕ) → node < g.now.nodes → IsSome (slice_index_or self.new node None) ↔ Leads g.now.arcs from node }
+        ensures paths { (node : ℕ) (links : List Link) → slice_index_or self.new node None ≡ Some links → IsPath g.now.arcs from links node }
+    {
+        self.search.run(g, &[], from);
+    }
+
+    /// Whether a path leads to the node.
+    pub fn reached(&self, node: u32) -> bool
+        requires { node < length self.now }
+        ensures { IsTrue result ↔ IsSome (slice_index_or self.now node None) }
+    {
+        self.search.is_seen(node)
+    }
+
+    /// The path to a node that is reached. It passes no node twice.
+    pub fn path(&self, alloc: Global, node: u32) -> Result<LinkRow2, Memory>
+        requires node { node < length self.now }
+        requires reached { IsSome (slice_index_or self.now node None) }
+        ensures { IfOk result (λ path. slice_index_or self.now node None ≡ Some path.links) }
+    {
+        let back = links_back(alloc, &self.search.marks, node)?;
+        turned_round(alloc, back)
+    }
+}
+
+/// The links of the way by which a node was reached, the last one first.
+fn links_back(alloc: Global, marks: &[Mark], node: u32) -> Result<Vec<Link>, Memory>
+    requires node { node < length marks.now }
+    requires steps { AreSteps marks.now }
+    requires shallow { depth_of (mark_at marks.now node) < 2 ^ 32 }
+    ensures links { IfOk result (λ back. reverse back.items ≡ links_of (way_to marks.now node)) }
+    ensures few { IfOk result (λ back. vec_len back < 2 ^ 32) }
+{
+    let mut back = Vec::new(alloc);
+    let mut at = node;
+    while let Mark::After(arc, _) = marks[at as usize] {
+        back.push(arc.link)?;
+        at = arc.tail;
+    }
+    Ok(back)
+}
+
+/// The links in the other order.
+fn turned_round(alloc: Global, mut back: Vec<Link>) -> Result<LinkRow2, Memory>
+    requires { vec_len back < 2 ^ 32 }
+    ensures { IfOk result (λ path. path.links ≡ reverse back.items) }
+{
+    let mut links = List::make(alloc);
+    while let Some(link) = back.pop() {
+        links.push(link)?;
+    }
+    Ok(LinkRow2 { links })
+}

@@ -1,0 +1,140 @@
+ghost use Rattle.std.specs.Prelude.{◌≡◌, ◌≤◌, ◌<◌, ◌+◌, ◌^◌, length, IfOk, IsTrue, IsFalse, replicate, List, vec_len, ℕ, Contains, Some};
+ghost use Rattle.graph_flow.specs.Flows.{unit_at};
+ghost use Rattle.graph_flow.specs.Residual.{residual};
+ghost use Rattle.graph_flow.specs.Marks.{is_seen, depth_of, mark_at, IsSpread, IsSearch, Follows};
+ghost use Rattle.graph_flow.specs.declared.arcs.Arc.{Arc};
+
+use crate::arcs::Arc;
+use crate::graph::Graph;
+use crate::residual::residual_of;
+use arc_base::Memory;
+use std::alloc::Global;
+
+/// What a search knows of a node: nothing yet, that it began there, or over which arc and after how many it came there.
+#[derive(Clone, Copy, Debug, PartialEq, Eq)]
+pub(crate) enum Mark {
+    Unseen,
+    Start,
+    After(Arc, u32),
+}
+
+/// The room of a search in breadth: what it knows of each node, and the nodes in the order in which it came to them.
+#[derive(Debug, Drop)]
+pub(crate) struct Search {
+    pub(crate) marks: Vec<Mark>,
+    pub(crate) queue: Vec<u32>,
+}
+
+impl Search {
+    pub(crate) fn make(alloc: Global, nodes: u32) -> Result<Search, Memory>
+        ensures marks { IfOk result (λ search. search.marks.items ≡ replicate nodes Mark.Unseen) }
+        ensures queue { IfOk result (λ search. vec_len search.queue ≡ nodes) }
+    {
+        Ok(Search {
+            marks: vec![in alloc; Mark::Unseen; nodes as usize]?,
+            queue: vec![in alloc; 0; nodes as usize]?,
+        })
+    }
+
+    /// Whether the last search reached a node.
+    pub(crate) fn is_seen(&self, node: u32) -> bool
+        requires { node < vec_len self.now.marks }
+        ensures { result ≡ is_seen (mark_at self.now.marks.items node) }
+    {
+        !matches!(self.marks[node as usize], Mark::Unseen)
+    }
+
+    /// Looks for all nodes to which a way leads over arcs that have room for one more unit.
+    pub(crate) fn run(&mut self, g: &Graph, carried: &[Option<Arc>], from: u32)
+        requires from { from < g.now.nodes }
+        requires marks { vec_len self.old.marks ≡ g.now.nodes }
+        requires queue { vec_len self.old.queue ≡ g.now.nodes }
+        requires units { (link : ℕ) (arc : Arc) → unit_at carried.now link ≡ Some arc → Contains g.now.arcs arc }
+        ensures spread { IsSpread (residual carried.now g.now.arcs) from self.new.marks.items }
+        ensures marks { vec_len self.new.marks ≡ vec_len self.old.marks }
+        ensures queue { vec_len self.new.queue ≡ vec_len self.old.queue }
+    {
+        self.begin(from);
+        let mut count = 1;
+        let mut looked = 0;
+        while looked < count {
+            count = self.look(g, carried, from, looked, count);
+            looked += 1;
+        }
+    }
+
+    /// Forgets what was found, and begins at a node.
+    fn begin(&mut self, from: u32)
+        requires marks { from < vec_len self.old.marks }
+        requires queue { vec_len self.old.queue ≡ vec_len self.old.marks }
+        ensures search { (arcs : List Arc) → IsSearch arcs from self.new.marks.items self.new.queue.items 1 0 }
+        ensures marks { vec_len self.new.marks ≡ vec_len self.old.marks }
+        ensures queue { vec_len self.new.queue ≡ vec_len self.old.queue }
+    {
+        for mark in self.marks.iter_mut() {
+            *mark = Mark::Unseen;
+        }
+        self.marks[from as usize] = Mark::Start;
+        self.queue[0] = from;
+    }
+
+    /// Looks at the arcs of one node of the queue, and answers how many nodes the queue then has.
+    fn look(
+        &mut self,
+        g: &Graph,
+        carried: &[Option<Arc>],
+        from: u32,
+        looked: usize,
+        count: usize,
+    ) -> usize
+        requires place { looked < count }
+        requires marks { vec_len self.old.marks ≡ g.now.nodes }
+        requires queue { vec_len self.old.queue ≡ g.now.nodes }
+        requires units { (link : ℕ) (arc : Arc) → unit_at carried.now link ≡ Some arc → Contains g.now.arcs arc }
+        requires search { IsSearch (residual carried.now g.now.arcs) from self.old.marks.items self.old.queue.items count looked }
+        ensures search { IsSearch (residual carried.now g.now.arcs) from self.new.marks.items self.new.queue.items result (looked + 1) }
+        ensures more { count ≤ result }
+        ensures marks { vec_len self.new.marks ≡ vec_len self.old.marks }
+        ensures queue { vec_len self.new.queue ≡ vec_len self.old.queue }
+    {
+        let node = self.queue[looked];
+        let mut count = count;
+        for arc in g.touching(node) {
+            if let Some(next) = residual_of(carried, arc) {
+                count = self.follow(next, node, count);
+            }
+        }
+        count
+    }
+
+    /// Puts the head of an arc into the queue, where the arc leads from the node and its head was not seen before.
+    fn follow(&mut self, arc: Arc, node: u32, count: usize) -> usize
+        requires head { arc.head < vec_len self.old.marks }
+        requires node { IsTrue (is_seen (mark_at self.old.marks.items node)) }
+        requires shallow { depth_of (mark_at self.old.marks.items node) < count }
+        requires queue { vec_len self.old.queue ≡ vec_len self.old.marks }
+        requires few { vec_len self.old.marks < 2 ^ 32 }
+        requires room { IsFalse (is_seen (mark_at self.old.marks.items arc.head)) → count < vec_len self.old.queue }
+        ensures follows { Follows self.old.marks.items self.old.queue.items count arc node self.new.marks.items self.new.queue.items result }
+        ensures marks { vec_len self.new.marks ≡ vec_len self.old.marks }
+        ensures queue { vec_len self.new.queue ≡ vec_len self.old.queue }
+    {
+        if arc.tail != node || self.is_seen(arc.head) {
+            return count;
+        }
+        let depth = self.depth(node);
+        self.marks[arc.head as usize] = Mark::After(arc, depth + 1);
+        self.queue[count] = arc.head;
+        count + 1
+    }
+
+    fn depth(&self, node: u32) -> u32
+        requires { node < vec_len self.now.marks }
+        ensures { result ≡ depth_of (mark_at self.now.marks.items node) }
+    {
+        match self.marks[node as usize] {
+            Mark::After(_, depth) => depth,
+            Mark::Unseen | Mark::Start => 0,
+        }
+    }
+}
