@@ -1,0 +1,30 @@
+-- The lines of a text that are no comments, one by one.
+use Rattle.std.proofs.Common.{◌≡◌, ℕ, suc, zero, ◌+◌, ◌<◌, ◌≤◌, ℤ, Bool, true, false, not, cond, List, [], ◌∷◌, ◌++◌, length, refl, ap, sym, ◌∙◌, append_assoc, Option, Some, None, IsFalse}
+use Rattle.std.specs.List.{list_any}
+use Rattle.cnf_types.specs.Words.{lines, words, without_return}
+use Rattle.cnf_types.specs.Dimacs.{content, is_comment, line_words, line_numbers, numbers, first_bad, is_bad, pieces}
+use Rattle.cnf_types.specs.declared.literal.Lit.{Lit}
+use Rattle.cnf_types.specs.declared.clauses.Clause.{Clause}
+use Rattle.cnf_types.specs.Progress.{onto, pieces_after}
+use Rattle.cnf_types.proofs.Growing.{onto_nothing}
+
+pub content_line : (n : ℕ) (line : List ℕ) (ls : List (List ℕ)) → is_comment line ≡ false → content n (line ∷ ls) ≡ (n + 1, line) ∷ content (n + 1) ls
+content_line n line ls e = rw e refl
+
+pub content_comment : (n : ℕ) (line : List ℕ) (ls : List (List ℕ)) → is_comment line ≡ true → content n (line ∷ ls) ≡ content (n + 1) ls
+content_comment n line ls e = rw e refl
+
+-- a line whose words are numbers goes before the first bad line
+pub bad_later : (vars n : ℕ) (line bytes : List ℕ) (ls rest : List (List ℕ)) → rest ≡ line ∷ ls → is_comment line ≡ false → bytes ≡ without_return line → IsFalse (list_any (is_bad vars) (words bytes)) → first_bad vars (content (n + 1) ls) ≡ first_bad vars (content n rest)
+bad_later vars n line bytes ls rest rest_is off bytes_is good =
+    let fine : list_any (is_bad vars) (line_words line) ≡ false = rw bytes_is at good in
+    sym (ap (λ r. first_bad vars (content n r)) rest_is ∙ ap (first_bad vars) (content_line n line ls off) ∙ ap (λ b. cond b (Some (n + 1, line)) (first_bad vars (content (n + 1) ls))) fine)
+
+-- its numbers come before those of the lines that follow
+pub numbers_line : (vars n : ℕ) (line bytes : List ℕ) (ls rest : List (List ℕ)) (more : List ℤ) → rest ≡ line ∷ ls → is_comment line ≡ false → bytes ≡ without_return line → line_numbers vars (words bytes) ++ (numbers vars (content (n + 1) ls) ++ more) ≡ numbers vars (content n rest) ++ more
+numbers_line vars n line bytes ls rest more rest_is off bytes_is =
+    ap (λ b. line_numbers vars (words b) ++ (numbers vars (content (n + 1) ls) ++ more)) bytes_is ∙ sym (ap (λ r. numbers vars (content n r) ++ more) rest_is ∙ ap (λ c. numbers vars c ++ more) (content_line n line ls off) ∙ append_assoc (line_numbers vars (line_words line)) (numbers vars (content (n + 1) ls)) more)
+
+-- no clause yet
+pub pieces_at_first : (clauses : List Clause) (front : List Lit) (more : List ℤ) → clauses ≡ [] → front ≡ [] → pieces_after clauses front more ≡ pieces more
+pieces_at_first clauses front more clauses_is front_is = rw (clauses_is, front_is) (onto_nothing more)

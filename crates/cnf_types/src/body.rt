@@ -1,0 +1,150 @@
+//! The clauses of a DIMACS text, word by word and line by line.
+ghost use Rattle.std.specs.Prelude.{◌≡◌, ◌+◌, ◌-◌, ◌<◌, ◌≤◌, ◌^◌, ◌++◌, [], ◌∷◌, ℕ, ℤ, List as Items, length, IsFalse, IsTrue, IfOk, IfErr, IsSomeAnd, IsErrOf, OnOk, None, unsigned_abs};
+ghost use Rattle.std.specs.List.{list_any};
+ghost use Rattle.cnf_types.specs.Words.{lines, words};
+ghost use Rattle.cnf_types.specs.Numbers.{number};
+ghost use Rattle.cnf_types.specs.Dimacs.{is_bad, line_numbers, first_bad, content, numbers, pieces};
+ghost use Rattle.cnf_types.specs.Progress.{pieces_after, IsFirstBad};
+
+use crate::clauses::Clause;
+use crate::faults::CnfFault;
+use crate::header::is_comment;
+use crate::literal::Lit;
+use crate::numbers::number;
+use crate::words::{first_line, next_word, without_return};
+use arc_base::{List, Memory};
+use std::alloc::Global;
+use std::mem;
+
+/// Why a word is not taken.
+#[derive(Clone, Copy, Debug, PartialEq, Eq)]
+pub(crate) enum WordFault {
+    BadNumber,
+    Memory,
+}
+
+impl From<Memory> for WordFault {
+    ghost use Rattle.cnf_types.specs.declared.body.WordFault.TheVariants.{Memory};
+
+    ghost from_gives = { λ _ fault. fault ≡ Memory };
+
+    fn from(_memory: Memory) -> WordFault {
+        WordFault::Memory
+    }
+}
+
+/// The clauses so far, and the literals of the one that is not closed.
+#[derive(Debug, Drop)]
+pub(crate) struct Body {
+    pub vars: u64,
+    pub clauses: List<Clause>,
+    pub unclosed: List<Lit>,
+}
+
+impl Body {
+    /// No clause, over the variables from 1 to `vars`.
+    pub fn make(alloc: Global, vars: u64) -> Body
+        ensures vars { result.vars ≡ vars }
+        ensures clauses { result.clauses ≡ [] }
+        ensures unclosed { result.unclosed ≡ [] }
+    {
+        Body {
+            vars,
+            clauses: List::make(alloc),
+            unclosed: List::make(alloc),
+        }
+    }
+
+    /// Takes a literal, or closes the clause at 0.
+    fn take_number(&mut self, alloc: Global, number: i64) -> Result<(), Memory>
+        requires size { unsigned_abs number < 2 ^ 63 }
+        requires room { length self.old.clauses < 2 ^ 32 - 1 }
+        requires open_room { length self.old.unclosed < 2 ^ 32 - 1 }
+        ensures pieces { OnOk result ((more : Items ℤ) → pieces_after self.new.clauses self.new.unclosed more ≡ pieces_after self.old.clauses self.old.unclosed (number ∷ more)) }
+        ensures clauses { length self.new.clauses ≤ length self.old.clauses + 1 }
+        ensures unclosed { length self.new.unclosed ≤ length self.old.unclosed + 1 }
+        ensures vars { self.new.vars ≡ self.old.vars }
+    {
+        if number != 0 {
+            self.unclosed
+                .push(Lit::make(number.unsigned_abs(), number > 0))?;
+        } else {
+            let lits = mem::replace(&mut self.unclosed, List::make(alloc));
+            self.clauses.push(Clause { lits })?;
+        }
+        Ok(())
+    }
+
+    /// Takes a word: a number of at most `vars`, whatever its sign.
+    fn take_word(&mut self, alloc: Global, word: &[u8]) -> Result<(), WordFault>
+        requires limit { self.old.vars < 2 ^ 63 }
+        requires room { length self.old.clauses < 2 ^ 32 - 1 }
+        requires unclosed_room { length self.old.unclosed < 2 ^ 32 - 1 }
+        ensures number { OnOk result (IsFalse (is_bad self.old.vars word.now)) }
+        ensures pieces { OnOk result ((more : Items ℤ) → pieces_after self.new.clauses self.new.unclosed more ≡ pieces_after self.old.clauses self.old.unclosed (line_numbers self.old.vars (word.now ∷ []) ++ more)) }
+        ensures bad { IsErrOf result WordFault.BadNumber → IsTrue (is_bad self.old.vars word.now) }
+        ensures clauses { length self.new.clauses ≤ length self.old.clauses + 1 }
+        ensures unclosed { length self.new.unclosed ≤ length self.old.unclosed + 1 }
+        ensures vars { self.new.vars ≡ self.old.vars }
+    {
+        let Some(number) = number(word, self.vars) else {
+            return Err(WordFault::BadNumber);
+        };
+        self.take_number(alloc, number)?;
+        Ok(())
+    }
+
+    /// Takes the words of a line, which is longer than the room that is left is small.
+    fn take_words(&mut self, alloc: Global, line: &[u8]) -> Result<(), WordFault>
+        requires limit { self.old.vars < 2 ^ 63 }
+        requires room { length self.old.clauses + length line.now < 2 ^ 32 }
+        requires unclosed_room { length self.old.unclosed + length line.now < 2 ^ 32 }
+        ensures numbers { OnOk result (IsFalse (list_any (is_bad self.old.vars) (words line.now))) }
+        ensures pieces { OnOk result ((more : Items ℤ) → pieces_after self.new.clauses self.new.unclosed more ≡ pieces_after self.old.clauses self.old.unclosed (line_numbers self.old.vars (words line.now) ++ more)) }
+        ensures bad { IsErrOf result WordFault.BadNumber → IsTrue (list_any (is_bad self.old.vars) (words line.now)) }
+        ensures clauses { length self.new.clauses ≤ length self.old.clauses + length line.now }
+        ensures unclosed { length self.new.unclosed ≤ length self.old.unclosed + length line.now }
+        ensures vars { self.new.vars ≡ self.old.vars }
+    {
+        let mut rest = line;
+        while let Some((word, after)) = next_word(rest) {
+            self.take_word(alloc, word)?;
+            rest = after;
+        }
+        Ok(())
+    }
+}
+
+/// Reads the clauses in the lines of a text that follow the header, and gives them with the number of the last
+/// line. `before` lines stand before them.
+pub(crate) fn read_lines(
+    alloc: Global,
+    vars: u64,
+    before: u32,
+    text: &[u8],
+) -> Result<(Body, u32), CnfFault>
+    requires limit { vars < 2 ^ 63 }
+    requires size { before + length text.now < 2 ^ 32 }
+    ensures numbers { OnOk result (first_bad vars (content before (lines text.now)) ≡ None) }
+    ensures pieces { IfOk result (λ found. pieces_after found.0.clauses found.0.unclosed [] ≡ pieces (numbers vars (content before (lines text.now)) ++ [])) }
+    ensures last { IfOk result (λ found. found.1 ≡ before + length (lines text.now)) }
+    ensures vars { IfOk result (λ found. found.0.vars ≡ vars) }
+    ensures fault { IfErr result (λ fault. IsFirstBad fault (first_bad vars (content before (lines text.now)))) }
+{
+    let mut body = Body::make(alloc, vars);
+    let mut line = before;
+    let mut rest = text;
+    while !rest.is_empty() {
+        let (bytes, after) = first_line(rest);
+        line += 1;
+        if !is_comment(bytes) {
+            match body.take_words(alloc, without_return(bytes)) {
+                Ok(()) => {}
+                Err(WordFault::BadNumber) => return Err(CnfFault::BadNumber(line)),
+                Err(WordFault::Memory) => return Err(CnfFault::Memory),
+            }
+        }
+        rest = after;
+    }
+    Ok((body, line))
+}

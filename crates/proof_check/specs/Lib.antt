@@ -1,0 +1,6 @@
+pub mod Knowledge
+pub mod Logs
+pub mod Marks
+pub mod Outcomes
+pub mod Propagation
+pub mod View

@@ -1,0 +1,69 @@
+//! The judgement of a proof text.
+ghost use Rattle.std.specs.Prelude.{◌≡◌, ℕ, ◌↔◌, [], ◌<◌, ◌^◌, length, Bool, None, IfOk, IsNone};
+ghost use Rattle.cnf_types.specs.Words.{lines};
+ghost use Rattle.cnf_types.specs.Formulas.{Satisfies};
+ghost use Rattle.proof_log.specs.Reading.{reading};
+ghost use Rattle.proof_check.specs.Knowledge.{start};
+ghost use Rattle.proof_check.specs.Outcomes.{line_rejection, line_after, log_outcome, IsRefutation};
+ghost use Rattle.proof_check.specs.View.{known};
+
+use crate::checker::Checker;
+use crate::faults::StepFault;
+use crate::rejections::{Outcome, Rejection};
+use arc_base::{List, Memory};
+use cnf_types::{Formula, first_line};
+use proof_log::{LineKind, step};
+use std::alloc::Global;
+
+/// Judges a line, and takes its step where that is accepted.
+fn judge_line(
+    alloc: Global,
+    checker: &mut Checker,
+    line: &[u8],
+) -> Result<Option<Rejection>, Memory>
+    ensures rejection { IfOk result (λ r. r ≡ line_rejection (reading line.now) (known checker.old)) }
+    ensures after { IfOk result (λ r. IsNone r → known checker.new ≡ line_after (reading line.now) (known checker.old)) }
+{
+    match step(alloc, line) {
+        Ok(None) => Ok(None),
+        Ok(Some(step)) => match checker.step(&step) {
+            Ok(()) => Ok(None),
+            Err(StepFault::Memory) => Err(Memory),
+            Err(fault) => Ok(Some(Rejection::Fault(fault))),
+        },
+        Err(LineKind::Memory) => Err(Memory),
+        Err(_) => Ok(Some(Rejection::Form)),
+    }
+}
+
+/// Judges the lines of a proof.
+fn judge_lines(alloc: Global, f: &Formula, proof: &[u8]) -> Result<Outcome, Memory>
+    ensures { IfOk result (λ o. o ≡ log_outcome (start f.now None []) 1 (lines proof.now)) }
+{
+    let mut checker = Checker::make(alloc, f, None, &List::make(alloc))?;
+    let mut number = 1;
+    let mut rest = proof;
+    while !rest.is_empty() {
+        let (line, after) = first_line(rest);
+        if let Some(rejection) = judge_line(alloc, &mut checker, line)? {
+            return Ok(Outcome::Rejected(number, rejection));
+        }
+        number += 1;
+        rest = after;
+    }
+    if checker.refuted() {
+        Ok(Outcome::Accepted)
+    } else {
+        Ok(Outcome::Rejected(number, Rejection::NotRefuted))
+    }
+}
+
+/// Judges the text of a proof that no assignment satisfies the formula, in time linear in its bytes and in the
+/// literals of the hinted clauses. There are no prices, so each bound is too high.
+pub fn check_log(alloc: Global, f: &Formula, proof: &[u8]) -> Result<Outcome, Memory>
+    ensures outcome { IfOk result (λ o. o ≡ log_outcome (start f.now None []) 1 (lines proof.now)) }
+    ensures accepted { IfOk result (λ o. (o ≡ Outcome.Accepted) ↔ IsRefutation f.now proof.now) }
+    ensures sound { IfOk result (λ o. o ≡ Outcome.Accepted → (assignment : ℕ → Bool) → Satisfies assignment f.now → ⊥) }
+{
+    judge_lines(alloc, f, proof)
+}

@@ -1,0 +1,14 @@
+use Rattle.std.proofs.Common.{◌≡◌, ◌++◌, length}
+use Rattle.std.specs.List.{list_any}
+use Rattle.cnf_types.specs.Words.{words}
+use Rattle.proof_log.specs.Reading.{is_bad, numbers}
+use Rattle.proof_log.proofs.numbers.push_numbers.Given as goal
+
+abbrev pub invariant-loop-word : goal.invariant-loop-word
+invariant-loop-word l = record {
+  bad : list_any is_bad (words l.rest) ≡ list_any is_bad (words l.line);
+  added : l.all.items ++ numbers (words l.rest) ≡ l.fn.all.items ++ numbers (words l.line);
+}
+
+abbrev pub decreases-loop-word : goal.decreases-loop-word
+decreases-loop-word l = length l.rest
