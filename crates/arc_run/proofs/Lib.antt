@@ -5,4 +5,5 @@ pub mod RoutersRead
 pub mod Judging
 pub mod Finishing
 pub mod Determined
+pub mod Refuting
 pub mod Headline

@@ -1,10 +1,16 @@
 -- What the statuses of `verify` say, in the words of the subject.
-use Rattle.std.specs.Prelude.{◌≡◌, ◌↔◌, ◌⊎◌, ℕ, List}
+use Rattle.std.specs.Prelude.{◌≡◌, ◌↔◌, ◌⊎◌, ℕ, Bool, List, Some, None, Ok}
 use Rattle.arc_outside.specs.Files.{Files}
 use Rattle.net_model.specs.declared.policies.Document.{Document}
 use Rattle.net_model.specs.declared.rows.Network.{Network}
 use Rattle.net_model.specs.Policies.{MeetsDocument}
+use Rattle.cnf_types.specs.declared.clauses.Formula.{Formula}
+use Rattle.cnf_types.specs.Dimacs.{reading}
+use Rattle.cnf_types.specs.Formulas.{Satisfies}
+use Rattle.proof_check.specs.Outcomes.{IsRefutation}
 use Rattle.arc_run.specs.declared.outcome.FileRefusal.{FileRefusal}
+use Rattle.arc_run.specs.Refusals.{bytes_at}
+use Rattle.arc_run.specs.Lrats.{lrat_refusal}
 use Rattle.arc_run.specs.Inputs.{HoldsDocument, HoldsInput, IsInputRefusal}
 
 -- the document and its files have a network, and it meets every policy under every set of failed links
@@ -39,3 +45,31 @@ pub record IsDetermined (document : List ℕ) (files : Files) : Type 0 where
   pub one_network : (doc : Document) (net other : Network) → HoldsInput document files doc net → HoldsInput document files doc other → net ≡ other
   pub one_refusal : (r s : FileRefusal) → IsInputRefusal document files r → IsInputRefusal document files s → r ≡ s
   pub not_both : (doc : Document) (net : Network) (r : FileRefusal) → HoldsInput document files doc net → IsInputRefusal document files r → ⊥
+
+-- the formula and the proof are held, and the proof is an accepted log for the formula that adds the empty clause; so no
+-- assignment satisfies the formula
+pub record IsRefuted (cnf proof : List ℕ) (files : Files) : Type 0 where
+  pub held : lrat_refusal cnf proof files ≡ None
+  pub formula : Formula
+  pub formula_is : reading (bytes_at files cnf) ≡ Ok formula
+  pub refutes : IsRefutation formula (bytes_at files proof)
+  pub unsatisfiable : (assignment : ℕ → Bool) → Satisfies assignment formula → ⊥
+
+-- they are held, and the proof is no such log
+pub record IsNotRefuted (cnf proof : List ℕ) (files : Files) : Type 0 where
+  pub held : lrat_refusal cnf proof files ≡ None
+  pub formula : Formula
+  pub formula_is : reading (bytes_at files cnf) ≡ Ok formula
+  pub refutes_not : ¬ IsRefutation formula (bytes_at files proof)
+
+-- the formula or the proof is refused
+pub record IsLratRefused (cnf proof : List ℕ) (files : Files) : Type 0 where
+  pub refusal : FileRefusal
+  pub refused : lrat_refusal cnf proof files ≡ Some refusal
+
+-- Which of the three it is, the status tells: 0 for accepted, 1 for rejected, and 5 for refused.
+pub record TellsRefutation (cnf proof : List ℕ) (status : ℕ) (files : Files) : Type 0 where
+  pub accepted_exactly : (status ≡ 0) ↔ IsRefuted cnf proof files
+  pub rejected_exactly : (status ≡ 1) ↔ IsNotRefuted cnf proof files
+  pub refused_exactly : (status ≡ 5) ↔ IsLratRefused cnf proof files
+  pub nothing_else : (status ≡ 0) ⊎ ((status ≡ 1) ⊎ (status ≡ 5))

@@ -12,6 +12,7 @@ use Rattle.net_model.specs.Validity.{IsValid}
 use Rattle.verdicts.specs.Judged.{HasEnds, AreUniform}
 use Rattle.net_build.specs.Networks.{BuildsNetwork}
 use Rattle.arc_run.specs.declared.outcome.FileRefusal.{FileRefusal}
+use Rattle.arc_run.specs.declared.outcome.Reason.TheVariants as reasons
 use Rattle.arc_run.specs.declared.outcome.Stop.{Stop}
 use Rattle.arc_run.specs.declared.outcome.Stop.TheVariants as stops
 use Rattle.arc_run.specs.declared.inputs.Input.{Input}
@@ -24,7 +25,7 @@ name_of document routers (suc i) = get_or routers i []
 
 -- the refusal with the name of its file
 abbrev pub named : List ℕ → List (List ℕ) → Refusal → FileRefusal
-named document routers r = record { name = name_of document routers r.file; number = r.number; kind = r.kind }
+named document routers r = record { name = name_of document routers r.file; number = r.number; reason = reasons.Kind r.kind }
 
 -- the contents of the router files
 abbrev pub contents : Files → Document → List (List ℕ)

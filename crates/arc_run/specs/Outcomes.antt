@@ -3,9 +3,10 @@ use Rattle.std.specs.Prelude.{◌≡◌, ℕ, ◌≤◌, List, [], Option, Some,
 use Rattle.arc_base.specs.declared.refusal.Kind.TheVariants.{Missing}
 use Rattle.arc_outside.specs.Files.{Files}
 use Rattle.arc_run.specs.declared.words.Command.{Command}
-use Rattle.arc_run.specs.declared.words.Command.TheVariants.{Verify}
+use Rattle.arc_run.specs.declared.words.Command.TheVariants.{Verify, Lrat}
 use Rattle.arc_run.specs.declared.outcome.Done.{Done}
 use Rattle.arc_run.specs.declared.outcome.FileRefusal.{FileRefusal}
+use Rattle.arc_run.specs.declared.outcome.Reason.TheVariants as reasons
 use Rattle.arc_run.specs.declared.outcome.Outcome.{Outcome}
 use Rattle.arc_run.specs.declared.outcome.Outcome.TheVariants as outcomes
 use Rattle.arc_run.specs.declared.outcome.Stop.{Stop}
@@ -14,14 +15,17 @@ use Rattle.arc_run.specs.Words.{usage}
 use Rattle.arc_run.specs.Refusals.{refusal_line}
 use Rattle.arc_run.specs.Inputs.{IsInputRefusal}
 use Rattle.arc_run.specs.Verifies.{IsVerified}
+use Rattle.arc_run.specs.Lrats.{lrat_refusal, IsJudged}
 
 -- the first refusal of a command
 abbrev pub IsRefusal : Command → Files → FileRefusal → Type 0
 IsRefusal (Verify document) files r = IsInputRefusal document files r
+IsRefusal (Lrat cnf proof) files r = lrat_refusal cnf proof files ≡ Some r
 
 -- what a command may answer where it is not refused
 abbrev pub IsAnswer : Command → Files → Done → Type 0
 IsAnswer (Verify document) files done = IsVerified document files done
+IsAnswer (Lrat cnf proof) files done = IsJudged cnf proof files done
 
 -- the text of an outcome, the files that it writes in order, and its status
 abbrev pub text_of : Outcome → List ℕ
@@ -68,7 +72,7 @@ Answers command held (Err stops.Failed) = Unit {0}
 -- A missing file is refused only where the count of absences rose, and a failure is told only where the count of faults
 -- rose.
 abbrev pub HasRefusalCause : Type 0 → FileRefusal → Type 0
-HasRefusalCause absent r = r.kind ≡ Missing → absent
+HasRefusalCause absent r = r.reason ≡ reasons.Kind Missing → absent
 
 abbrev pub HasStopCause : Type 0 → Type 0 → Stop → Type 0
 HasStopCause failed absent stops.Memory = Unit {0}

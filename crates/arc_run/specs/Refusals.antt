@@ -6,6 +6,8 @@ use Rattle.arc_base.specs.declared.refusal.LimitKind.{LimitKind}
 use Rattle.arc_base.specs.declared.refusal.LimitKind.TheVariants as counts
 use Rattle.arc_outside.specs.Files.{Files}
 use Rattle.arc_run.specs.declared.outcome.FileRefusal.{FileRefusal}
+use Rattle.arc_run.specs.declared.outcome.Reason.{Reason}
+use Rattle.arc_run.specs.declared.outcome.Reason.TheVariants as reasons
 
 -- what a name holds, and nothing where it holds nothing
 abbrev pub bytes_at : Files → List ℕ → List ℕ
@@ -13,8 +15,8 @@ bytes_at files name = unwrap_or (files name) []
 
 -- the refusal of a file: it is missing, or it has more bytes than the limit says
 abbrev pub refusal_within : ℕ → List ℕ → Option (List ℕ) → Option FileRefusal
-refusal_within limit name None = Some (record { name = name; number = 0; kind = kinds.Missing })
-refusal_within limit name (Some bytes) = if nat_lt limit (length bytes) then Some (record { name = name; number = 0; kind = kinds.TooLong }) else None
+refusal_within limit name None = Some (record { name = name; number = 0; reason = reasons.Kind kinds.Missing })
+refusal_within limit name (Some bytes) = if nat_lt limit (length bytes) then Some (record { name = name; number = 0; reason = reasons.Kind kinds.TooLong }) else None
 
 abbrev pub read_refusal : ℕ → Files → List ℕ → Option FileRefusal
 read_refusal limit files name = refusal_within limit name (files name)
@@ -82,6 +84,13 @@ kind_words kinds.OutputName = codes "output-name"
 kind_words kinds.EditLine = codes "edit-line"
 kind_words kinds.NotBuilt = codes "not-built"
 
+-- the words for the reason of a refusal
+abbrev pub reason_words : Reason → List ℕ
+reason_words (reasons.Kind kind) = kind_words kind
+reason_words reasons.BadHeader = codes "bad-header"
+reason_words reasons.BadNumber = codes "bad-number"
+reason_words reasons.ClauseCount = codes "clause-count"
+
 -- the line that tells a refusal
 unfoldable pub refusal_line : FileRefusal → List ℕ
-refusal_line r = codes "refused " ++ r.name ++ codes " " ++ decimal r.number ++ codes " " ++ kind_words r.kind ++ codes "\n"
+refusal_line r = codes "refused " ++ r.name ++ codes " " ++ decimal r.number ++ codes " " ++ reason_words r.reason ++ codes "\n"

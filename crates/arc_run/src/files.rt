@@ -6,7 +6,7 @@ ghost use Rattle.arc_run.specs.Outcomes.{HasStopCause};
 ghost use Rattle.arc_run.specs.Runs.{WereWritten, FailsWithin};
 ghost use Rattle.arc_run.specs.Reading.{ReadsFile, ReadsRouters};
 
-use crate::outcome::{FileRefusal, Stop};
+use crate::outcome::{FileRefusal, Reason, Stop};
 use arc_base::{Kind, List, Memory, Name};
 use arc_outside::{Fault, ReadAll, Store, read_all};
 use std::alloc::Global;
@@ -45,13 +45,13 @@ pub fn read_file<S: Store>(
 
 // The refusal of a file as a whole.
 fn refused(alloc: Global, name: &Name, kind: Kind) -> Stop
-    ensures { (result ≡ Stop.Memory) ⊎ (result ≡ Stop.Refused (record { name = name.now; number = 0; kind = kind })) }
+    ensures { (result ≡ Stop.Memory) ⊎ (result ≡ Stop.Refused (record { name = name.now; number = 0; reason = Reason.Kind kind })) }
 {
     match Name::make(alloc, name.bytes()) {
         Ok(name) => Stop::Refused(FileRefusal {
             name,
             number: 0,
-            kind,
+            reason: Reason::Kind(kind),
         }),
         Err(Memory) => Stop::Memory,
     }

@@ -6,7 +6,7 @@ ghost use Rattle.arc_run.specs.Inputs.{name_of, named, IsFit, ReadsDocumentAt, R
 ghost use Rattle.arc_run.specs.Outcomes.{HasStopCause};
 
 use crate::files::{DOCUMENT_LIMIT, read_file, read_routers};
-use crate::outcome::{FileRefusal, Stop};
+use crate::outcome::{FileRefusal, Reason, Stop};
 use arc_base::{List, Memory, Name};
 use arc_outside::Store;
 use net_build::network;
@@ -42,7 +42,7 @@ fn named(alloc: Global, document: &Name, routers: &List<Name>, refusal: Refusal)
         Ok(name) => Stop::Refused(FileRefusal {
             name,
             number: refusal.number,
-            kind: refusal.kind,
+            reason: Reason::Kind(refusal.kind),
         }),
         Err(Memory) => Stop::Memory,
     }

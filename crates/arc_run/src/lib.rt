@@ -7,6 +7,7 @@ mod ending;
 mod files;
 mod inputs;
 pub mod laws;
+mod lrat_check;
 mod outcome;
 mod refusals;
 mod surely;
@@ -17,7 +18,7 @@ mod verifying;
 mod words;
 
 pub use inputs::Input;
-pub use outcome::{Done, FileRefusal, Outcome, Status, Stop};
+pub use outcome::{Done, FileRefusal, Outcome, Reason, Status, Stop};
 pub use surely::run_surely;
 pub use top::run;
 pub use words::Command;

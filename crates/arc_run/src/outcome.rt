@@ -10,6 +10,19 @@ pub struct Status {
     pub code: u8,
 }
 
+/// Why a file is refused.
+#[derive(Clone, Copy, Debug, PartialEq, Eq)]
+pub enum Reason {
+    /// A kind of refusal that any command over a document may have.
+    Kind(Kind),
+    /// A formula's header is missing or of another form (DIMACS).
+    BadHeader,
+    /// A word of a formula is no number, or has no such variable.
+    BadNumber,
+    /// A formula has more clauses than its header says, or fewer.
+    ClauseCount,
+}
+
 /// A refusal of the input.
 #[derive(Drop)]
 pub struct FileRefusal {
@@ -17,7 +30,7 @@ pub struct FileRefusal {
     pub name: Name,
     /// The line of a router file, the number of a link or policy of the document, or 0.
     pub number: u32,
-    pub kind: Kind,
+    pub reason: Reason,
 }
 
 /// What a command that is not refused does.

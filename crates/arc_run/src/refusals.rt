@@ -1,8 +1,8 @@
 //! The line that tells a refusal.
 ghost use Rattle.std.specs.Prelude.{◌≡◌, ◌++◌, IfOk, OnOk};
-ghost use Rattle.arc_run.specs.Refusals.{count_word, kind_words, refusal_line};
+ghost use Rattle.arc_run.specs.Refusals.{count_word, kind_words, reason_words, refusal_line};
 
-use crate::outcome::FileRefusal;
+use crate::outcome::{FileRefusal, Reason};
 use arc_base::{Kind, LimitKind};
 use std::alloc::{AllocError, Global};
 
@@ -67,6 +67,17 @@ fn kind_words(alloc: Global, kind: Kind) -> Result<Vec<u8>, AllocError>
     Vec::from_slice(alloc, word)
 }
 
+fn reason_words(alloc: Global, reason: Reason) -> Result<Vec<u8>, AllocError>
+    ensures { IfOk result (λ text. text.items ≡ reason_words reason) }
+{
+    match reason {
+        Reason::Kind(kind) => kind_words(alloc, kind),
+        Reason::BadHeader => Vec::from_slice(alloc, b"bad-header"),
+        Reason::BadNumber => Vec::from_slice(alloc, b"bad-number"),
+        Reason::ClauseCount => Vec::from_slice(alloc, b"clause-count"),
+    }
+}
+
 /// The line, with its end.
 #[tactic(auto, unfolding(crate::specs::Refusals::refusal_line))]
 pub fn line_of(alloc: Global, refusal: &FileRefusal) -> Result<Vec<u8>, AllocError>
@@ -78,8 +89,8 @@ pub fn line_of(alloc: Global, refusal: &FileRefusal) -> Result<Vec<u8>, AllocErr
     let number = refusal.number.to_string(alloc)?;
     text.extend_from_slice(number.as_bytes())?;
     text.extend_from_slice(b" ")?;
-    let kind = kind_words(alloc, refusal.kind)?;
-    text.extend_from_slice(kind.as_slice())?;
+    let reason = reason_words(alloc, refusal.reason)?;
+    text.extend_from_slice(reason.as_slice())?;
     text.extend_from_slice(b"\n")?;
     Ok(text)
 }

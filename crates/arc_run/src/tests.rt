@@ -89,7 +89,7 @@ fn failing(alloc: Global, call: u64) -> Result<List<u64>, Memory> {
 
 const VERIFY: &[&[u8]] = &[b"verify", b"net.json"];
 
-const ROWS: [Row; 9] = [
+const ROWS: [Row; 10] = [
     // the two routers are not blocked from each other
     Row {
         files: &[(b"net.json", PAIR), (b"r1.cfg", R1), (b"r2.cfg", R2)],
@@ -148,6 +148,12 @@ const ROWS: [Row; 9] = [
         code: 5,
     },
     Row {
+        files: &[(b"f.cnf", b"p cnf 1 1\n2 0\n")],
+        words: &[b"lrat", b"f.cnf", b"proof"],
+        text: b"refused f.cnf 2 bad-number\n",
+        code: 5,
+    },
+    Row {
         files: &[],
         words: &[],
         text: USAGE,
@@ -160,6 +166,41 @@ const ROWS: [Row; 9] = [
         code: 4,
     },
 ];
+
+const CNF: &[u8] = b"p cnf 1 2\n1 0\n-1 0\n";
+
+// A proof, the text that is put and the status.
+const PROOFS: [(&[u8], &[u8], u8); 6] = [
+    (b"3 0 1 2 0\n", b"accepted\n", 0),
+    (b"3 1 0 1 0\r\nc no step\n4 0 3 2 0", b"accepted\n", 0),
+    (b"3 0 1 0\n", b"rejected 1 no-conflict\n", 1),
+    (b"3 0 9 0\n", b"rejected 1 unknown-id\n", 1),
+    (b"3 b 0 0\n", b"rejected 1 bound-too-high\n", 1),
+    (b"3 -1 0 2 0\n", b"rejected 2 not-refuted\n", 1),
+];
+
+#[test]
+fn lrat_answers(rt: HostRuntime) -> Result<(), Fail> {
+    let alloc = rt.alloc();
+    let line = words(alloc, &[b"lrat", b"f.cnf", b"proof"])?;
+    for (proof, text, code) in PROOFS {
+        let mut held = List::make(alloc);
+        push(
+            &mut held,
+            (Name::make(alloc, b"f.cnf")?, Name::make(alloc, CNF)?),
+        )?;
+        push(
+            &mut held,
+            (Name::make(alloc, b"proof")?, Name::make(alloc, proof)?),
+        )?;
+        let mut store = SureStore::make(alloc, held)?;
+        let mut out = SureSink::make(alloc);
+        let status = run(alloc, line.slice(), &mut store, &mut out);
+        assert_eq!(rt; out.bytes(), text);
+        assert_eq!(rt; status.code, code);
+    }
+    Ok(())
+}
 
 // With ample memory no row ends for want of it.
 #[test]

@@ -1,12 +1,13 @@
 //! The top call.
 ghost use Rattle.std.specs.Prelude.{◌≡◌, ◌⊎◌, ◌<◌, ◌≤◌, List, ℕ, Some, None, IfSome, IfOk, IfErr, IsErrOf};
 ghost use Rattle.arc_outside.specs.Causes.{Rose};
-ghost use Rattle.arc_run.specs.Headline.{TellsExactly};
+ghost use Rattle.arc_run.specs.Headline.{TellsExactly, TellsRefutation};
 ghost use Rattle.arc_run.specs.Words.{command_of};
 ghost use Rattle.arc_run.specs.Outcomes.{Answers, HasStopCause, IsDefined, HasOutcomeCause};
 ghost use Rattle.arc_run.specs.Runs.{Runs};
 
 use crate::ending::finish;
+use crate::lrat_check::lrat;
 use crate::outcome::{Done, Outcome, Status, Stop};
 use crate::verifying::verify;
 use crate::words::{Command, read_words};
@@ -31,6 +32,7 @@ fn answer<S: Store>(alloc: Global, command: &Command, store: &mut S) -> Result<D
 {
     match command {
         Command::Verify(document) => verify(alloc, document, store),
+        Command::Lrat(cnf, proof) => lrat(alloc, cnf, proof, store),
     }
 }
 
@@ -91,6 +93,12 @@ pub fn run<S: Store, K: Sink>(alloc: Global, words: &[Name], store: &mut S, out:
     // 1 exactly where they have a network that breaks a policy, and 5 exactly where they are refused.
     ensures verified { (document : List ℕ) → command_of words.now ≡ Some (Command.Verify document) →
         result.code < 6 → IfSome (S.held store.old) (TellsExactly document result.code) }
+
+    // Where `lrat` ends with a status below 6, that is 0 exactly where the proof is an accepted log for the formula that adds
+    // the empty clause, and then no assignment satisfies the formula; 1 exactly where it is none, and 5 exactly where the
+    // formula or the proof is refused.
+    ensures refuted { (cnf proof : List ℕ) → command_of words.now ≡ Some (Command.Lrat cnf proof) →
+        result.code < 6 → IfSome (S.held store.old) (TellsRefutation cnf proof result.code) }
 {
     run_defined(alloc, words, store, out)
 }
