@@ -1,3 +1,5 @@
+pub mod LinkNumbers
+pub mod DownFlags
 pub mod Told
 pub mod Puts
 pub mod Writes
@@ -5,5 +7,6 @@ pub mod RoutersRead
 pub mod Judging
 pub mod Finishing
 pub mod Determined
+pub mod Traced
 pub mod Refuting
 pub mod Headline

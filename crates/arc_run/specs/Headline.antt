@@ -1,15 +1,18 @@
--- What the statuses of `verify` say, in the words of the subject.
-use Rattle.std.specs.Prelude.{◌≡◌, ◌↔◌, ◌⊎◌, ℕ, Bool, List, Some, None, Ok}
+-- What the statuses of the commands say, in the words of the subject.
+use Rattle.std.specs.Prelude.{◌≡◌, ◌↔◌, ◌⊎◌, ℕ, Bool, List, length, Some, None, Ok}
 use Rattle.arc_outside.specs.Files.{Files}
 use Rattle.net_model.specs.declared.policies.Document.{Document}
 use Rattle.net_model.specs.declared.rows.Network.{Network}
 use Rattle.net_model.specs.Policies.{MeetsDocument}
+use Rattle.net_build.specs.Conditions.{HasEndpoints}
 use Rattle.cnf_types.specs.declared.clauses.Formula.{Formula}
 use Rattle.cnf_types.specs.Dimacs.{reading}
 use Rattle.cnf_types.specs.Formulas.{Satisfies}
 use Rattle.proof_check.specs.Outcomes.{IsRefutation}
 use Rattle.arc_run.specs.declared.outcome.FileRefusal.{FileRefusal}
 use Rattle.arc_run.specs.Refusals.{bytes_at}
+use Rattle.arc_run.specs.declared.words.TraceWords.{TraceWords}
+use Rattle.arc_run.specs.Traces.{first_above, IsTraceRefusal}
 use Rattle.arc_run.specs.Lrats.{lrat_refusal}
 use Rattle.arc_run.specs.Inputs.{HoldsDocument, HoldsInput, IsInputRefusal}
 
@@ -45,6 +48,25 @@ pub record IsDetermined (document : List ℕ) (files : Files) : Type 0 where
   pub one_network : (doc : Document) (net other : Network) → HoldsInput document files doc net → HoldsInput document files doc other → net ≡ other
   pub one_refusal : (r s : FileRefusal) → IsInputRefusal document files r → IsInputRefusal document files s → r ≡ s
   pub not_both : (doc : Document) (net : Network) (r : FileRefusal) → HoldsInput document files doc net → IsInputRefusal document files r → ⊥
+
+-- the document and its files have a network with these links, and the prefixes lie in two different host networks of it
+pub record HasTrace (words : TraceWords) (files : Files) : Type 0 where
+  pub doc : Document
+  pub net : Network
+  pub input : HoldsInput words.document files doc net
+  pub links : first_above (length net.links) words.down ≡ None
+  pub ends : HasEndpoints net words.from words.to
+
+-- they have none, and there is a first reason for it
+pub record HasNoTrace (words : TraceWords) (files : Files) : Type 0 where
+  pub refusal : FileRefusal
+  pub refused : IsTraceRefusal words files refusal
+
+-- Which of the two it is, the status tells: 0 for a trace, and 5 for refused.
+pub record TellsTrace (words : TraceWords) (status : ℕ) (files : Files) : Type 0 where
+  pub traced_exactly : (status ≡ 0) ↔ HasTrace words files
+  pub refused_exactly : (status ≡ 5) ↔ HasNoTrace words files
+  pub nothing_else : (status ≡ 0) ⊎ (status ≡ 5)
 
 -- the formula and the proof are held, and the proof is an accepted log for the formula that adds the empty clause; so no
 -- assignment satisfies the formula

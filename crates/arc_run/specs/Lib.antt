@@ -3,6 +3,7 @@ pub mod Refusals
 pub mod Reading
 pub mod Inputs
 pub mod Verifies
+pub mod Traces
 pub mod Lrats
 pub mod Outcomes
 pub mod Runs

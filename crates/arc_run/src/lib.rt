@@ -14,6 +14,7 @@ mod surely;
 #[cfg(test)]
 mod tests;
 mod top;
+mod tracing;
 mod verifying;
 mod words;
 
@@ -21,4 +22,4 @@ pub use inputs::Input;
 pub use outcome::{Done, FileRefusal, Outcome, Reason, Status, Stop};
 pub use surely::run_surely;
 pub use top::run;
-pub use words::Command;
+pub use words::{Command, TraceWords};

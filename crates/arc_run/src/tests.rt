@@ -89,7 +89,9 @@ fn failing(alloc: Global, call: u64) -> Result<List<u64>, Memory> {
 
 const VERIFY: &[&[u8]] = &[b"verify", b"net.json"];
 
-const ROWS: [Row; 10] = [
+const LRAT: &[&[u8]] = &[b"lrat", b"f.cnf", b"proof"];
+
+const ROWS: [Row; 22] = [
     // the two routers are not blocked from each other
     Row {
         files: &[(b"net.json", PAIR), (b"r1.cfg", R1), (b"r2.cfg", R2)],
@@ -149,9 +151,109 @@ const ROWS: [Row; 10] = [
     },
     Row {
         files: &[(b"f.cnf", b"p cnf 1 1\n2 0\n")],
-        words: &[b"lrat", b"f.cnf", b"proof"],
+        words: LRAT,
         text: b"refused f.cnf 2 bad-number\n",
         code: 5,
+    },
+    Row {
+        files: &[(b"f.cnf", b"p cnf 1 2\n1 0\n")],
+        words: LRAT,
+        text: b"refused f.cnf 2 clause-count\n",
+        code: 5,
+    },
+    Row {
+        files: &[(b"f.cnf", b"1 0\n")],
+        words: LRAT,
+        text: b"refused f.cnf 1 bad-header\n",
+        code: 5,
+    },
+    Row {
+        files: &[(b"f.cnf", b"p cnf 16777217 0\n")],
+        words: LRAT,
+        text: b"refused f.cnf 0 limit variables 16777217\n",
+        code: 5,
+    },
+    Row {
+        files: &[(b"f.cnf", CNF)],
+        words: LRAT,
+        text: b"refused proof 0 missing\n",
+        code: 5,
+    },
+    Row {
+        files: &PAIR_FILES,
+        words: &[b"trace", b"net.json", b"10.1.0.0/24", b"10.2.0.0/25"],
+        text: b"trace 10.1.0.0/24 r1 10.2.0.0/25 r2\nr1 1 via 1\nr2 0\n",
+        code: 0,
+    },
+    Row {
+        files: &PAIR_FILES,
+        words: &[
+            b"trace",
+            b"net.json",
+            b"10.1.0.0/24",
+            b"10.2.0.0/24",
+            b"--down",
+            b"01,1",
+        ],
+        text: b"trace 10.1.0.0/24 r1 10.2.0.0/24 r2\nr1 none\nr2 0\n",
+        code: 0,
+    },
+    Row {
+        files: &PAIR_FILES,
+        words: &[
+            b"trace",
+            b"net.json",
+            b"10.7.0.0/24",
+            b"10.2.0.0/24",
+            b"--down",
+            b"1,5,7",
+        ],
+        text: b"refused net.json 5 link-face\n",
+        code: 5,
+    },
+    Row {
+        files: &PAIR_FILES,
+        words: &[b"trace", b"net.json", b"10.7.0.0/24", b"10.2.0.0/24"],
+        text: b"refused net.json 0 endpoint\n",
+        code: 5,
+    },
+    Row {
+        files: &PAIR_FILES,
+        words: &[b"trace", b"net.json", b"10.2.0.0/25", b"10.2.0.128/25"],
+        text: b"refused net.json 0 endpoint\n",
+        code: 5,
+    },
+    Row {
+        files: &[],
+        words: &[b"trace", b"net.json", b"10.1.0.1/24", b"10.2.0.0/24"],
+        text: USAGE,
+        code: 4,
+    },
+    Row {
+        files: &[],
+        words: &[
+            b"trace",
+            b"net.json",
+            b"10.1.0.0/24",
+            b"10.2.0.0/24",
+            b"--down",
+            b"1,,2",
+        ],
+        text: USAGE,
+        code: 4,
+    },
+    Row {
+        files: &[],
+        words: &[
+            b"trace",
+            b"net.json",
+            b"10.1.0.0/24",
+            b"10.2.0.0/24",
+            b"--down",
+            b"4294967296",
+        ],
+        text: USAGE,
+        code: 4,
     },
     Row {
         files: &[],
@@ -169,25 +271,37 @@ const ROWS: [Row; 10] = [
 
 const CNF: &[u8] = b"p cnf 1 2\n1 0\n-1 0\n";
 
-// A proof, the text that is put and the status.
-const PROOFS: [(&[u8], &[u8], u8); 6] = [
-    (b"3 0 1 2 0\n", b"accepted\n", 0),
-    (b"3 1 0 1 0\r\nc no step\n4 0 3 2 0", b"accepted\n", 0),
-    (b"3 0 1 0\n", b"rejected 1 no-conflict\n", 1),
-    (b"3 0 9 0\n", b"rejected 1 unknown-id\n", 1),
-    (b"3 b 0 0\n", b"rejected 1 bound-too-high\n", 1),
-    (b"3 -1 0 2 0\n", b"rejected 2 not-refuted\n", 1),
+// A second formula: its first clause has two literals, so that no hint on it is unit at once.
+const WIDE_CNF: &[u8] = b"p cnf 2 3\n1 2 0\n1 -2 0\n-1 0\n";
+
+// A formula, a proof, the text that is put and the status.
+type Judged = (&'static [u8], &'static [u8], &'static [u8], u8);
+
+const PROOFS: [Judged; 13] = [
+    (CNF, b"3 0 1 2 0\n", b"accepted\n", 0),
+    (CNF, b"3 1 0 1 0\r\nc no step\n4 0 3 2 0", b"accepted\n", 0),
+    (CNF, b"3 0 1 0\n", b"rejected 1 no-conflict\n", 1),
+    (CNF, b"2 0 1 2 0\n", b"rejected 1 id-not-rising\n", 1),
+    (CNF, b"3 0 9 0\n", b"rejected 1 unknown-id\n", 1),
+    (CNF, b"3 0 -1 2 0\n", b"rejected 1 negative-hint\n", 1),
+    (CNF, b"3 b 0 0\n", b"rejected 1 bound-too-high\n", 1),
+    (CNF, b"3 -1 0 2 0\n", b"rejected 2 not-refuted\n", 1),
+    (CNF, b"", b"rejected 1 not-refuted\n", 1),
+    (CNF, b"3 1 0 2 0\n", b"rejected 1 no-conflict\n", 1),
+    (CNF, b"3 1 0\n", b"rejected 1 form\n", 1),
+    (WIDE_CNF, b"4 0 1 0\n", b"rejected 1 hint-not-unit\n", 1),
+    (WIDE_CNF, b"4 1 0 1 2 0\n5 0 3 4 0\n", b"accepted\n", 0),
 ];
 
 #[test]
 fn lrat_answers(rt: HostRuntime) -> Result<(), Fail> {
     let alloc = rt.alloc();
-    let line = words(alloc, &[b"lrat", b"f.cnf", b"proof"])?;
-    for (proof, text, code) in PROOFS {
+    let line = words(alloc, LRAT)?;
+    for (cnf, proof, text, code) in PROOFS {
         let mut held = List::make(alloc);
         push(
             &mut held,
-            (Name::make(alloc, b"f.cnf")?, Name::make(alloc, CNF)?),
+            (Name::make(alloc, b"f.cnf")?, Name::make(alloc, cnf)?),
         )?;
         push(
             &mut held,
@@ -204,7 +318,7 @@ fn lrat_answers(rt: HostRuntime) -> Result<(), Fail> {
 
 // With ample memory no row ends for want of it.
 #[test]
-fn verify_answers(rt: HostRuntime) -> Result<(), Fail> {
+fn rows_answer(rt: HostRuntime) -> Result<(), Fail> {
     let alloc = rt.alloc();
     for row in &ROWS {
         let mut store = SureStore::make(alloc, store_files(alloc, row.files)?)?;

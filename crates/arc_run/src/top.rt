@@ -1,7 +1,7 @@
 //! The top call.
 ghost use Rattle.std.specs.Prelude.{◌≡◌, ◌⊎◌, ◌<◌, ◌≤◌, List, ℕ, Some, None, IfSome, IfOk, IfErr, IsErrOf};
 ghost use Rattle.arc_outside.specs.Causes.{Rose};
-ghost use Rattle.arc_run.specs.Headline.{TellsExactly, TellsRefutation};
+ghost use Rattle.arc_run.specs.Headline.{TellsExactly, TellsTrace, TellsRefutation};
 ghost use Rattle.arc_run.specs.Words.{command_of};
 ghost use Rattle.arc_run.specs.Outcomes.{Answers, HasStopCause, IsDefined, HasOutcomeCause};
 ghost use Rattle.arc_run.specs.Runs.{Runs};
@@ -9,8 +9,9 @@ ghost use Rattle.arc_run.specs.Runs.{Runs};
 use crate::ending::finish;
 use crate::lrat_check::lrat;
 use crate::outcome::{Done, Outcome, Status, Stop};
+use crate::tracing::trace;
 use crate::verifying::verify;
-use crate::words::{Command, read_words};
+use crate::words::{Command, TraceWords, read_words};
 use arc_base::Name;
 use arc_outside::{Sink, Store};
 use std::alloc::Global;
@@ -32,6 +33,7 @@ fn answer<S: Store>(alloc: Global, command: &Command, store: &mut S) -> Result<D
 {
     match command {
         Command::Verify(document) => verify(alloc, document, store),
+        Command::Trace(words) => trace(alloc, words, store),
         Command::Lrat(cnf, proof) => lrat(alloc, cnf, proof, store),
     }
 }
@@ -93,6 +95,11 @@ pub fn run<S: Store, K: Sink>(alloc: Global, words: &[Name], store: &mut S, out:
     // 1 exactly where they have a network that breaks a policy, and 5 exactly where they are refused.
     ensures verified { (document : List ℕ) → command_of words.now ≡ Some (Command.Verify document) →
         result.code < 6 → IfSome (S.held store.old) (TellsExactly document result.code) }
+
+    // Where `trace` ends with a status below 6, that is 0 exactly where the document and its router files have a network with
+    // the links and the prefixes, and 5 exactly where they are refused.
+    ensures traced { (trace : TraceWords) → command_of words.now ≡ Some (Command.Trace trace) →
+        result.code < 6 → IfSome (S.held store.old) (TellsTrace trace result.code) }
 
     // Where `lrat` ends with a status below 6, that is 0 exactly where the proof is an accepted log for the formula that adds
     // the empty clause, and then no assignment satisfies the formula; 1 exactly where it is none, and 5 exactly where the

@@ -270,7 +270,7 @@ module _ (doc : Document) (plain : List PlainFile) (net : Network) (k : AreKnown
   }
 
 -- the end points of a policy are two interfaces
-pub two_ends_of : (net : Network) → IsValid net → (policy : Policy) → HasEndpoints net policy → HasTwoEnds net policy
+pub two_ends_of : (net : Network) → IsValid net → (policy : Policy) → HasEndpoints net policy.from policy.to → HasTwoEnds net policy
 two_ends_of net is_valid policy h =
     let to : (p : Prefix) × (h.to.face.host ≡ Some p) × IsInside policy.to p = some_of h.to.face.host (IsInside policy.to) h.to.lies in
     record {

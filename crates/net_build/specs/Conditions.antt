@@ -1,9 +1,9 @@
 -- What is asked of plain files and of the document, one definition for each reason to refuse them.
 use Rattle.std.specs.Prelude.{◌≡◌, ◌≢◌, ℕ, ◌≤◌, ◌⊎◌, Some, IfSome, List, map, length, slice_get, All, AllPairs, Contains}
 use Rattle.std.specs.List.{flat_map}
+use Rattle.arc_base.specs.declared.prefix.Prefix.{Prefix}
 use Rattle.net_model.specs.declared.policies.Document.{Document}
 use Rattle.net_model.specs.declared.policies.LinkText.{LinkText}
-use Rattle.net_model.specs.declared.policies.Policy.{Policy}
 use Rattle.net_model.specs.declared.rows.FaceRow.{FaceRow}
 use Rattle.net_model.specs.declared.rows.LinkRow.{LinkRow}
 use Rattle.net_model.specs.declared.rows.Network.{Network}
@@ -60,12 +60,12 @@ OverlapsNowhere net =
 abbrev pub HasOneType : LinkText → Type 0
 HasOneType link = is_point_to_point (kind_of link.a_face) ≡ is_point_to_point (kind_of link.b_face)
 
--- the policy's two prefixes lie in two different host networks (else endpoint)
-pub record HasEndpoints (net : Network) (policy : Policy) : Type 0 where
+-- the two prefixes lie in two different host networks (else endpoint)
+pub record HasEndpoints (net : Network) (origin destination : Prefix) : Type 0 where
   pub source : ℕ
   pub target : ℕ
-  pub from : IsHostOf net policy.from source
-  pub to : IsHostOf net policy.to target
+  pub from : IsHostOf net origin source
+  pub to : IsHostOf net destination target
   pub apart : source ≢ target
 
 -- no count passes its limit (else limit routers, interfaces, links)

@@ -21,7 +21,7 @@ pub record IsNetworkOfPlain (doc : Document) (plain : List PlainFile) (net : Net
   pub overlap : OverlapsNowhere net
   pub link_subnets : All (FitsSubnets net) net.links
   pub adjacency_form : All HasOneType doc.links
-  pub endpoint : All (HasEndpoints net) doc.policies
+  pub endpoint : All (λ policy. HasEndpoints net policy.from policy.to) doc.policies
   pub limit : KeepsLimits doc plain
 
 -- the policy's prefixes lie in the host networks of two different interfaces

@@ -15,5 +15,6 @@ mod overlap;
 mod rows;
 mod subnets;
 
+pub use endpoints::has_endpoints;
 pub use kinds::FaceKind;
 pub use networks::network;

@@ -1,3 +1,5 @@
+pub mod Again
 pub mod Forms
+pub mod Printed
 pub mod Within
 pub mod Zeros

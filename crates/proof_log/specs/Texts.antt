@@ -41,9 +41,9 @@ log_text log = steps_text 0 log.steps
 abbrev pub IsId : ℕ → Type 0
 IsId id = (0 < id) × (id < 2 ^ 63)
 
--- a literal of a variable from 1 on, and a hint other than 0 and of an absolute value below 2 ^ 63
+-- a literal of a variable from 1 to 2 ^ 63 - 1, and a hint other than 0 and of an absolute value below 2 ^ 63
 abbrev pub IsLiteral : Lit → Type 0
-IsLiteral l = 0 < variable l
+IsLiteral l = (0 < variable l) × (variable l < 2 ^ 63)
 
 abbrev pub IsHint : ℤ → Type 0
 IsHint h = (0 < unsigned_abs h) × (unsigned_abs h < 2 ^ 63)
@@ -53,3 +53,7 @@ abbrev pub HasLine : Step → Type 0
 HasLine (Add id lits hints) = IsId id × All IsLiteral lits × All IsHint hints
 HasLine (Drop ids) = All IsId ids
 HasLine (Bound id price) = IsId id × (price < 2 ^ 32)
+
+-- the lines of a log's text are read as the log's steps
+abbrev pub LinesAreReadAgain : Type 0
+LinesAreReadAgain = (log : Log) → All HasLine log.steps → map reading (lines (log_text log)) ≡ map (λ s. Ok (Some s)) log.steps

@@ -1,8 +1,10 @@
 //! Proof logs: the steps that add a clause with its hints, drop clauses or assert a bound, and their text, which is
-//! that of LRAT without RAT steps, with lines for bounds.
+//! that of LRAT without RAT steps, with lines for bounds. Each line that is written is read as the step that it was
+//! written from.
 #![tactic(auto)]
 
 mod interpreting;
+pub mod laws;
 mod numbers;
 mod printing;
 mod reading;
@@ -11,3 +13,6 @@ mod steps;
 pub use printing::text;
 pub use reading::{LineKind, step};
 pub use steps::{Log, Step};
+
+#[cfg(test)]
+mod tests;

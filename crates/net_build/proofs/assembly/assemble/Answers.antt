@@ -60,7 +60,7 @@ returns-then-not-all_have_endpoints-clause-exact c = λ net is.
     known_from c.args.doc.now c.args.plain.now c.in-Some.net c.in_ok-net.field-0 c.keeps_limits.result c.in_ok-differ.differ c.requires c.keeps_limits.ensures
     c.if-not-keeps_limits.false c.in_ok-differ.ensures c.if-not-differ.false c.in_ok-net.ensures.names c.in_ok-net.ensures.rows c.in-Some.is in
     let same : net ≡ c.in-Some.net = same_rows c.args.doc.now c.args.plain.now k.names.names net c.in-Some.net is.rows k.rows in
-    false≢true (sym c.if-not-all_have_endpoints.true ∙ c.all_have_endpoints.ensures.1 (subst (λ (n : Network). All (HasEndpoints n) c.args.doc.now.policies) same is.endpoint))
+    false≢true (sym c.if-not-all_have_endpoints.true ∙ c.all_have_endpoints.ensures.1 (subst (λ (n : Network). All (λ policy. HasEndpoints n policy.from policy.to) c.args.doc.now.policies) same is.endpoint))
 
 pub returns-clause-exact : goal.returns-clause-exact
 returns-clause-exact c =
@@ -97,5 +97,5 @@ returns-clause-ends c =
     c.if-not-keeps_limits.false c.in_ok-differ.ensures c.if-not-differ.false c.in_ok-net.ensures.names c.in_ok-net.ensures.rows c.in-Some.is in
     let clear : OverlapsNowhere c.in-Some.net = at_true _ _ _ c.if-not-clear.false c.in_ok-clear.ensures in
     let is_valid : IsValid c.in-Some.net = valid c.args.doc.now c.args.plain.now c.in-Some.net k clear in
-    All-weaker (HasEndpoints c.in-Some.net) (HasTwoEnds c.in-Some.net) (two_ends_of c.in-Some.net is_valid) c.args.doc.now.policies
+    All-weaker (λ policy. HasEndpoints c.in-Some.net policy.from policy.to) (HasTwoEnds c.in-Some.net) (two_ends_of c.in-Some.net is_valid) c.args.doc.now.policies
     (c.all_have_endpoints.ensures.0 c.if-not-all_have_endpoints.false)

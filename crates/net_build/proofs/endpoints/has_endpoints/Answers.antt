@@ -26,7 +26,7 @@ returns-in-Some-host_of c = (
     apart = (differ c.in-Some.source.0 c.in-Some-host_of.target.0).0 told;
   },
   λ h. (differ c.in-Some.source.0 c.in-Some-host_of.target.0).1 (λ same. h.apart (
-      one_host c.args.net.now c.requires c.args.policy.now.from h.source c.in-Some.source.0 h.from c.in-Some.ensures.found ∙ same ∙
-      one_host c.args.net.now c.requires c.args.policy.now.to c.in-Some-host_of.target.0 h.target c.in-Some-host_of.ensures.found h.to
+      one_host c.args.net.now c.requires c.args.from h.source c.in-Some.source.0 h.from c.in-Some.ensures.found ∙ same ∙
+      one_host c.args.net.now c.requires c.args.to c.in-Some-host_of.target.0 h.target c.in-Some-host_of.ensures.found h.to
       )),
 )

@@ -1,0 +1,9 @@
+pub mod Least
+pub mod GroupedSteps
+pub mod UnderWay
+pub mod TraceLines
+pub mod Nearest
+pub mod Settling
+pub mod StepLists
+pub mod StableSteps
+pub mod NextHops

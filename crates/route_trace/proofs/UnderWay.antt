@@ -1,0 +1,147 @@
+-- What stays true while routers settle.
+use Rattle.std.proofs.Common.{◌≡◌, ℕ, ◌+◌, ◌*◌, ◌^◌, ◌<◌, ◌≤◌, ◌⊎◌, inl, inr, Bool, true, false, not, Option, Some, None, List, length, set, get_or, replicate, sym, ◌∙◌, ap, subst, arith}
+use Rattle.std.specs.Prelude.{All, count_by, ◌==◌, if◌then◌else◌}
+use Rattle.std.proofs.lemmas.Bool.{cases_eq, cases_lt, cases_Bool}
+use Rattle.std.proofs.lemmas.List.{length-set, length-replicate, get_or-replicate, get_or-set_same, get_or-set_other, get_or_past}
+use Rattle.std.proofs.lemmas.List.Elements.{All-filter}
+use Rattle.std.proofs.lemmas.List.Sums.{sum_by-set, count_by-le-length}
+use Rattle.std.proofs.lemmas.Option.{none-some, same_Some}
+use Rattle.route_trace.specs.declared.steps.Step.{Step}
+use Rattle.route_trace.specs.declared.steps.End.TheVariants.{Head}
+use Rattle.route_trace.specs.Routes.{flagged, distance_map}
+use Rattle.route_trace.specs.Steps.{IsFit, IsGiven, IsLeastOf, IsStableOver, IsNearest, waiting, steps_at}
+use Rattle.route_trace.proofs.Settling.{IsHalfway, halfway_more, finished, starting, small_more}
+
+-- how many routers are still to be settled
+abbrev pub unsettled : List Bool → ℕ
+unsettled settled = count_by not settled
+
+pub record IsUnderWay (steps : List Step) (routers owner : ℕ) (distances : List (Option ℕ)) (settled : List Bool) : Type 0 where
+  pub whole : length distances ≡ routers
+  pub flags : length settled ≡ routers
+  pub half : IsHalfway steps owner (distance_map distances) (flagged settled)
+  pub small : (u n : ℕ) → distance_map distances u ≡ Some n → n + 65535 * unsettled settled ≤ 65535 * routers
+
+-- a router that waits is not settled
+pub waits_open : (distances : List (Option ℕ)) (settled : List Bool) (u n : ℕ) → waiting distances settled u ≡ Some n →
+    (flagged settled u ≡ false) × (distance_map distances u ≡ Some n)
+waits_open distances settled u n waits =
+    elim (cases_Bool (flagged settled u)) [
+      | inl up ↦ absurd (none-some n (sym (ap (λ (t : Bool). if t then None else distance_map distances u) up) ∙ waits))
+      | inr off ↦ (off, sym (ap (λ (t : Bool). if t then None else distance_map distances u) off) ∙ waits)
+    ]
+
+pub waits_from : (distances : List (Option ℕ)) (settled : List Bool) (u n : ℕ) → flagged settled u ≡ false → distance_map distances u ≡ Some n →
+    waiting distances settled u ≡ Some n
+waits_from distances settled u n off known = ap (λ (t : Bool). if t then None else distance_map distances u) off ∙ known
+
+pub within_list : (distances : List (Option ℕ)) (u n : ℕ) → distance_map distances u ≡ Some n → u < length distances
+within_list distances u n known =
+    elim (cases_lt u (length distances)) [
+      | inl less ↦ less
+      | inr past ↦ absurd (none-some n (sym (get_or_past distances u None past) ∙ known))
+    ]
+
+pub one_fewer : (settled : List Bool) (at : ℕ) → at < length settled → flagged settled at ≡ false → unsettled (set settled at true) + 1 ≡ unsettled settled
+one_fewer settled at within off =
+    let f : Bool → ℕ = λ b. if not b then 1 else 0 in
+    let step : unsettled (set settled at true) + f (get_or settled at false) ≡ unsettled settled + 0 = sum_by-set f settled at true false within in
+    let one : f (get_or settled at false) ≡ 1 = ap f off in
+    omega (arith, step, one)
+
+-- the router with the least distance settles
+pub under_way_more : (steps : List Step) (routers owner : ℕ) (old new : List (Option ℕ)) (settled : List Bool) (at n : ℕ) →
+    IsUnderWay steps routers owner old settled → All (IsFit routers) steps → IsNearest (waiting old settled) at n → length new ≡ length old →
+    ((u : ℕ) → IsLeastOf (λ k. (distance_map old u ≡ Some k) ⊎ IsGiven (steps_at Head steps at) n u k) (distance_map new u)) →
+    IsUnderWay steps routers owner new (set settled at true)
+under_way_more steps routers owner old new settled at n is fit nearest same relaxed =
+    let here : (flagged settled at ≡ false) × (distance_map old at ≡ Some n) = waits_open old settled at n nearest.here in
+    let inside : at < length settled = omega (arith, is.whole, is.flags, within_list old at n here.1) in
+    record {
+      whole = same ∙ is.whole;
+      flags = length-set settled at true ∙ is.flags;
+      half = halfway_more steps owner (distance_map old) (distance_map new) (flagged settled) (flagged (set settled at true)) at n is.half here.0 here.1
+          (λ u m off known. nearest.least u m (waits_from old settled u m off known))
+          (get_or-set_same settled at true false inside)
+          (λ u off. get_or-set_other settled at u true false off)
+          relaxed;
+      small = small_more steps (distance_map old) (distance_map new) at n (65535 * routers) (unsettled settled) (unsettled (set settled at true)) is.small here.1
+          (one_fewer settled at inside here.0) (λ k d within. let f : IsFit routers (get_or steps k d) = fit k d within in f.cost) relaxed;
+    }
+
+fit_at : (steps : List Step) (routers at : ℕ) (xs : List Step) → All (IsFit routers) steps → xs ≡ steps_at Head steps at → All (IsFit routers) xs
+fit_at steps routers at xs fit is = subst (All (IsFit routers)) (sym is) (All-filter (λ s. s.head.0 == at) (IsFit routers) steps fit)
+
+-- the steps to a router lead from routers that have a place
+pub tails_within : (steps : List Step) (routers at n : ℕ) (xs : List Step) → All (IsFit routers) steps → xs ≡ steps_at Head steps at → n ≡ routers →
+    All (λ (s : Step). s.tail.0 < n) xs
+tails_within steps routers at n xs fit is size = λ k d within.
+    let f : IsFit routers (get_or xs k d) = fit_at steps routers at xs fit is k d within in omega (arith, f.tail, size)
+
+-- and their costs can be added to any distance so far
+pub sums_within : (steps : List Step) (routers owner at n : ℕ) (distances : List (Option ℕ)) (settled : List Bool) (xs : List Step) → routers < 2 ^ 32 →
+    All (IsFit routers) steps → xs ≡ steps_at Head steps at → IsUnderWay steps routers owner distances settled → IsNearest (waiting distances settled) at n →
+    All (λ (s : Step). n + s.cost < 2 ^ 64) xs
+sums_within steps routers owner at n distances settled xs small fit is under nearest = λ k d within.
+    let f : IsFit routers (get_or xs k d) = fit_at steps routers at xs fit is k d within in
+    let here : (flagged settled at ≡ false) × (distance_map distances at ≡ Some n) = waits_open distances settled at n nearest.here in
+    let low : n + 65535 * unsettled settled ≤ 65535 * routers = under.small at n here.1 in
+    omega (arith, f.cost, low, small)
+
+-- the router that waits has a place
+pub nearest_within : (steps : List Step) (routers owner at n : ℕ) (distances : List (Option ℕ)) (settled : List Bool) →
+    IsUnderWay steps routers owner distances settled → IsNearest (waiting distances settled) at n → at < routers
+nearest_within steps routers owner at n distances settled under nearest =
+    let here : (flagged settled at ≡ false) × (distance_map distances at ≡ Some n) = waits_open distances settled at n nearest.here in
+    omega (arith, under.whole, within_list distances at n here.1)
+
+-- where no router waits the distances are stable
+pub under_way_all : (steps : List Step) (routers owner : ℕ) (distances : List (Option ℕ)) (settled : List Bool) → IsUnderWay steps routers owner distances settled →
+    ((u : ℕ) → waiting distances settled u ≡ None) → IsStableOver steps owner (distance_map distances)
+under_way_all steps routers owner distances settled is none =
+    finished steps owner (distance_map distances) (flagged settled) is.half
+    (λ u m off known. none-some m (sym (none u) ∙ waits_from distances settled u m off known))
+
+none_settled : (routers u : ℕ) → flagged (replicate routers false) u ≡ false
+none_settled routers u =
+    elim (cases_lt u routers) [
+      | inl less ↦ get_or-replicate routers u false false less
+      | inr past ↦ get_or_past (replicate routers false) u false (omega (arith, past, length-replicate routers false))
+    ]
+
+none_known : (routers u : ℕ) → distance_map (replicate routers None) u ≡ None
+none_known routers u =
+    elim (cases_lt u routers) [
+      | inl less ↦ get_or-replicate routers u None None less
+      | inr past ↦ get_or_past (replicate routers None) u None (omega (arith, past, length-replicate {A = Option ℕ} routers None))
+    ]
+
+at_owner_zero : (routers owner : ℕ) → owner < routers → distance_map (set (replicate routers None) owner (Some 0)) owner ≡ Some 0
+at_owner_zero routers owner inside =
+    get_or-set_same (replicate routers None) owner (Some 0) None (omega (arith, inside, length-replicate {A = Option ℕ} routers None))
+
+off_owner_none : (routers owner u : ℕ) → (u ≡ owner → ⊥) → distance_map (set (replicate routers None) owner (Some 0)) u ≡ None
+off_owner_none routers owner u off = get_or-set_other (replicate routers None) owner u (Some 0) None off ∙ none_known routers u
+
+start_small : (routers owner : ℕ) → owner < routers → (u n : ℕ) → distance_map (set (replicate routers None) owner (Some 0)) u ≡ Some n →
+    n + 65535 * unsettled (replicate routers false) ≤ 65535 * routers
+start_small routers owner inside u n known =
+    elim (cases_eq u owner) [
+      | inl at ↦
+          let zero_ : 0 ≡ n = same_Some 0 n (sym (at_owner_zero routers owner inside) ∙ ap (distance_map (set (replicate routers None) owner (Some 0))) (sym at) ∙ known) in
+          let few : unsettled (replicate routers false) ≤ length (replicate routers false) = count_by-le-length not (replicate routers false) in
+          omega (arith, zero_, few, length-replicate routers false)
+      | inr off ↦ absurd (none-some n (sym (off_owner_none routers owner u off) ∙ known))
+    ]
+
+-- at the start
+pub under_way_none : (steps : List Step) (routers owner : ℕ) → owner < routers →
+    IsUnderWay steps routers owner (set (replicate routers None) owner (Some 0)) (replicate routers false)
+under_way_none steps routers owner inside =
+    record {
+      whole = length-set (replicate routers None) owner (Some 0) ∙ length-replicate routers None;
+      flags = length-replicate routers false;
+      half = starting steps owner (distance_map (set (replicate routers None) owner (Some 0))) (flagged (replicate routers false))
+          (at_owner_zero routers owner inside) (off_owner_none routers owner) (none_settled routers);
+      small = λ u n known. start_small routers owner inside u n known;
+    }

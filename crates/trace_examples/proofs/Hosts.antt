@@ -1,0 +1,25 @@
+-- The host networks of the two routers.
+use Rattle.std.proofs.Common.{◌≡◌, ap, refl, sym, subst, arith}
+use Rattle.arc_base.specs.declared.prefix.Prefix.{Prefix}
+use Rattle.net_model.specs.declared.rows.Network.{Network}
+use Rattle.net_laws.specs.Examples.{users_1, users_2, owner_1, owner_2, two_routers}
+use Rattle.route_trace.specs.Routes.{IsHostNetwork}
+use Rattle.route_trace.specs.TraceText.{HasHost}
+
+host_2 : IsHostNetwork two_routers users_2
+host_2 = (1, record { face = owner_2; is_face = (2, omega arith, refl); host = refl; router = refl })
+
+in_host_1 : HasHost two_routers users_1
+in_host_1 = (owner_1, record { is_face = (0, omega arith, refl); lies = λ address inside. inside })
+
+in_host_2 : HasHost two_routers users_2
+in_host_2 = (owner_2, record { is_face = (2, omega arith, refl); lies = λ address inside. inside })
+
+pub is_host_2 : (net : Network) (p : Prefix) → net ≡ two_routers → p ≡ users_2 → IsHostNetwork net p
+is_host_2 net p of_net of_p = subst (λ (n : Network). IsHostNetwork n p) (sym of_net) (subst (IsHostNetwork two_routers) (sym of_p) host_2)
+
+pub has_host_1 : (net : Network) (p : Prefix) → net ≡ two_routers → p ≡ users_1 → HasHost net p
+has_host_1 net p of_net of_p = subst (λ (n : Network). HasHost n p) (sym of_net) (subst (HasHost two_routers) (sym of_p) in_host_1)
+
+pub has_host_2 : (net : Network) (p : Prefix) → net ≡ two_routers → p ≡ users_2 → HasHost net p
+has_host_2 net p of_net of_p = subst (λ (n : Network). HasHost n p) (sym of_net) (subst (HasHost two_routers) (sym of_p) in_host_2)

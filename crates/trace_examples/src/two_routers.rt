@@ -1,0 +1,123 @@
+//! Router r1 with 10.1.0.0/24 and router r2 with 10.2.0.0/24, joined by a link whose ends have cost 1.
+ghost use Rattle.std.specs.Prelude.{◌≡◌, [], IfOk};
+ghost use Rattle.net_laws.specs.Examples.{users_1, users_2, between, face, two_routers};
+
+use arc_base::{Face, List, Memory, Name, Prefix, Router};
+use net_model::{FaceRow, LinkRow, Network, Protocol, RouterRow};
+use std::alloc::Global;
+
+/// 10.1.0.0/24, the host network of the first router.
+pub fn users_1() -> Prefix
+    ensures { result ≡ users_1 }
+{
+    Prefix {
+        addr: 0x0a01_0000,
+        len: 24,
+    }
+}
+
+/// 10.2.0.0/24, the host network of the second router.
+pub fn users_2() -> Prefix
+    ensures { result ≡ users_2 }
+{
+    Prefix {
+        addr: 0x0a02_0000,
+        len: 24,
+    }
+}
+
+/// 10.0.1.0/30, the subnet of the link.
+fn between() -> Prefix
+    ensures { result ≡ between }
+{
+    Prefix {
+        addr: 0x0a00_0100,
+        len: 30,
+    }
+}
+
+/// An interface that is up, runs OSPF and has no lists.
+fn face(
+    alloc: Global,
+    router: u32,
+    name: &[u8],
+    addr: u32,
+    subnet: Prefix,
+    host: Option<Prefix>,
+) -> Result<FaceRow, Memory>
+    ensures { IfOk result (λ row. row ≡ face router name.now addr subnet host) }
+{
+    Ok(FaceRow {
+        router: Router(router),
+        name: Name::make(alloc, name)?,
+        addr: Some(addr),
+        subnet: Some(subnet),
+        host,
+        up: true,
+        enabled: true,
+        told: true,
+        passive: false,
+        cost: 1,
+        bound_in: false,
+        list_in: None,
+        list_out: None,
+    })
+}
+
+fn router(alloc: Global, name: &[u8]) -> Result<RouterRow, Memory>
+    ensures { IfOk result (λ row. row ≡ record { name = name.now; asn = 0; names = [] }) }
+{
+    Ok(RouterRow {
+        name: Name::make(alloc, name)?,
+        asn: 0,
+        names: List::make(alloc),
+    })
+}
+
+fn routers(alloc: Global) -> Result<List<RouterRow>, Memory>
+    ensures { IfOk result (λ rows. rows ≡ two_routers.routers) }
+{
+    let mut rows = List::make(alloc);
+    rows.push(router(alloc, b"r1")?)?;
+    rows.push(router(alloc, b"r2")?)?;
+    Ok(rows)
+}
+
+fn faces(alloc: Global) -> Result<List<FaceRow>, Memory>
+    ensures { IfOk result (λ rows. rows ≡ two_routers.faces) }
+{
+    let owner = b"GigabitEthernet0/0";
+    let end = b"GigabitEthernet0/1";
+    let mut rows = List::make(alloc);
+    rows.push(face(alloc, 0, owner, 0x0a01_0001, users_1(), Some(users_1()))?)?;
+    rows.push(face(alloc, 0, end, 0x0a00_0101, between(), None)?)?;
+    rows.push(face(alloc, 1, owner, 0x0a02_0001, users_2(), Some(users_2()))?)?;
+    rows.push(face(alloc, 1, end, 0x0a00_0102, between(), None)?)?;
+    Ok(rows)
+}
+
+fn links(alloc: Global) -> Result<List<LinkRow>, Memory>
+    ensures { IfOk result (λ rows. rows ≡ two_routers.links) }
+{
+    let mut rows = List::make(alloc);
+    rows.push(LinkRow {
+        a: Face(1),
+        b: Face(3),
+        waypoint: false,
+    })?;
+    Ok(rows)
+}
+
+pub fn two_routers(alloc: Global) -> Result<Network, Memory>
+    ensures { IfOk result (λ net. net ≡ two_routers) }
+{
+    Ok(Network {
+        protocol: Protocol::Ospf,
+        routers: routers(alloc)?,
+        faces: faces(alloc)?,
+        sessions: List::make(alloc),
+        links: links(alloc)?,
+        packet_lists: List::make(alloc),
+        route_lists: List::make(alloc),
+    })
+}
