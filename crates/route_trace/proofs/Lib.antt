@@ -2,7 +2,8 @@ pub mod Least
 pub mod GroupedSteps
 pub mod UnderWay
 pub mod TraceLines
-pub mod Nearest
+pub mod Queue
+pub mod Relaxing
 pub mod Settling
 pub mod StepLists
 pub mod StableSteps

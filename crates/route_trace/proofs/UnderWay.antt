@@ -69,6 +69,17 @@ under_way_more steps routers owner old new settled at n is fit nearest same rela
           (one_fewer settled at inside here.0) (λ k d within. let f : IsFit routers (get_or steps k d) = fit k d within in f.cost) relaxed;
     }
 
+-- the same, as the calls write it
+pub under_way_here : (steps : List Step) (routers owner : ℕ) (old mid new : List (Option ℕ)) (settled s t : List Bool) (at n : ℕ) (xs : List Step) →
+    IsUnderWay steps routers owner old settled → All (IsFit routers) steps → IsNearest (waiting old settled) at n → xs ≡ steps_at Head steps at →
+    mid ≡ old → s ≡ set settled at true → t ≡ s → length new ≡ length mid →
+    ((u : ℕ) → IsLeastOf (λ k. (distance_map mid u ≡ Some k) ⊎ IsGiven xs n u k) (distance_map new u)) → IsUnderWay steps routers owner new t
+under_way_here steps routers owner old mid new settled s t at n xs is fit nearest group same_mid same_s same_t whole relaxed =
+    subst (IsUnderWay steps routers owner new) (sym (same_t ∙ same_s))
+    (under_way_more steps routers owner old new settled at n is fit nearest (whole ∙ ap (λ (ys : List (Option ℕ)). length ys) same_mid)
+    (λ u. subst (λ (ys : List Step). IsLeastOf (λ k. (distance_map old u ≡ Some k) ⊎ IsGiven ys n u k) (distance_map new u)) group
+    (subst (λ (ys : List (Option ℕ)). IsLeastOf (λ k. (distance_map ys u ≡ Some k) ⊎ IsGiven xs n u k) (distance_map new u)) same_mid (relaxed u))))
+
 fit_at : (steps : List Step) (routers at : ℕ) (xs : List Step) → All (IsFit routers) steps → xs ≡ steps_at Head steps at → All (IsFit routers) xs
 fit_at steps routers at xs fit is = subst (All (IsFit routers)) (sym is) (All-filter (λ s. s.head.0 == at) (IsFit routers) steps fit)
 
@@ -102,14 +113,14 @@ under_way_all steps routers owner distances settled is none =
     finished steps owner (distance_map distances) (flagged settled) is.half
     (λ u m off known. none-some m (sym (none u) ∙ waits_from distances settled u m off known))
 
-none_settled : (routers u : ℕ) → flagged (replicate routers false) u ≡ false
+pub none_settled : (routers u : ℕ) → flagged (replicate routers false) u ≡ false
 none_settled routers u =
     elim (cases_lt u routers) [
       | inl less ↦ get_or-replicate routers u false false less
       | inr past ↦ get_or_past (replicate routers false) u false (omega (arith, past, length-replicate routers false))
     ]
 
-none_known : (routers u : ℕ) → distance_map (replicate routers None) u ≡ None
+pub none_known : (routers u : ℕ) → distance_map (replicate routers None) u ≡ None
 none_known routers u =
     elim (cases_lt u routers) [
       | inl less ↦ get_or-replicate routers u None None less

@@ -1,3 +1,4 @@
+pub mod Queue
 pub mod Routes
 pub mod Steps
 pub mod TraceText

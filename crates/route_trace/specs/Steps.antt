@@ -1,5 +1,5 @@
 -- What the calls keep of the usable arcs: a step for each, with its link, its two routers and its cost.
-use Rattle.std.specs.Prelude.{◌≡◌, ℕ, ◌+◌, ◌<◌, ◌≤◌, ◌==◌, ◌&&◌, Bool, false, if◌then◌else◌, Option, Some, None, MatchOption, List, length, filter, map, slice_get, AllPairs, Contains, min, nat_le, Vec}
+use Rattle.std.specs.Prelude.{◌≡◌, ℕ, ◌+◌, ◌<◌, ◌≤◌, ◌==◌, ◌&&◌, Bool, false, if◌then◌else◌, Option, Some, None, MatchOption, List, length, filter, map, slice_get, AllPairs, Contains, min, Vec}
 use Rattle.std.specs.declared.alloc.Global.{Global}
 use Rattle.arc_base.specs.declared.place.Link.{Link}
 use Rattle.arc_base.specs.declared.prefix.Prefix.{Prefix}
@@ -121,9 +121,3 @@ is_hop d router step = (step.tail.0 == router) && attains d step
 -- the links of the steps that lead from the router and attain its distance
 abbrev pub hops_of : List Step → DistanceMap → ℕ → List Link
 hops_of steps d router = map (λ s. s.link) (filter (is_hop d router) steps)
-
--- of the best router so far and another the nearer, where the other waits with a distance
-abbrev pub nearer : Option (ℕ × ℕ) → ℕ → Option ℕ → Option (ℕ × ℕ)
-nearer best router None = best
-nearer None router (Some n) = Some (router, n)
-nearer (Some best) router (Some n) = if nat_le best.1 n then Some best else Some (router, n)

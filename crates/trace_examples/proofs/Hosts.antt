@@ -1,8 +1,10 @@
--- The host networks of the two routers.
-use Rattle.std.proofs.Common.{◌≡◌, ap, refl, sym, subst, arith}
+-- The host networks of the two routers, and of the square.
+use Rattle.std.proofs.Common.{◌≡◌, refl, sym, subst, arith}
 use Rattle.arc_base.specs.declared.prefix.Prefix.{Prefix}
 use Rattle.net_model.specs.declared.rows.Network.{Network}
 use Rattle.net_laws.specs.Examples.{users_1, users_2, owner_1, owner_2, two_routers}
+use Rattle.net_laws.specs.Square.{users_4}
+use Rattle.trace_examples.specs.Square.{square, user_face}
 use Rattle.route_trace.specs.Routes.{IsHostNetwork}
 use Rattle.route_trace.specs.TraceText.{HasHost}
 
@@ -23,3 +25,15 @@ has_host_1 net p of_net of_p = subst (λ (n : Network). HasHost n p) (sym of_net
 
 pub has_host_2 : (net : Network) (p : Prefix) → net ≡ two_routers → p ≡ users_2 → HasHost net p
 has_host_2 net p of_net of_p = subst (λ (n : Network). HasHost n p) (sym of_net) (subst (HasHost two_routers) (sym of_p) in_host_2)
+
+square_host_1 : HasHost square users_1
+square_host_1 = (user_face 0 167837697 users_1, record { is_face = (0, omega arith, refl); lies = λ address inside. inside })
+
+square_host_4 : HasHost square users_4
+square_host_4 = (user_face 3 168034305 users_4, record { is_face = (9, omega arith, refl); lies = λ address inside. inside })
+
+pub from_square : (net : Network) (p : Prefix) → net ≡ square → p ≡ users_1 → HasHost net p
+from_square net p of_net of_p = subst (λ (n : Network). HasHost n p) (sym of_net) (subst (HasHost square) (sym of_p) square_host_1)
+
+pub to_square : (net : Network) (p : Prefix) → net ≡ square → p ≡ users_4 → HasHost net p
+to_square net p of_net of_p = subst (λ (n : Network). HasHost n p) (sym of_net) (subst (HasHost square) (sym of_p) square_host_4)

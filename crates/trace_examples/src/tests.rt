@@ -1,7 +1,13 @@
+ghost use Rattle.std.specs.Prelude.{◌≡◌, length};
+ghost use Rattle.trace_examples.specs.Square.{square};
+
+use crate::square::{square, users_4};
 use crate::two_routers::{two_routers, users_1, users_2};
-use arc_base::{Link, Router};
+use arc_base::{Link, Memory, Router};
 use net_laws::two_routers as laws_on_two_routers;
+use net_model::Network;
 use route_trace::{distances, next_hops, trace_text};
+use std::alloc::Global;
 use std::test::Fail;
 
 #[test]
@@ -35,6 +41,36 @@ fn two_routers_are_traced(rt: HostRuntime) -> Result<(), Fail> {
     assert_eq!(rt;
         down.as_slice(),
         b"trace 10.1.0.0/24 r1 10.2.0.0/24 r2\nr1 none\nr2 0\n".as_slice()
+    );
+    Ok(())
+}
+
+/// The trace across the square, from the users of r1 to those of r4.
+fn trace_across(alloc: Global, net: &Network, down: &[bool]) -> Result<Vec<u8>, Memory>
+    requires square { net.now ≡ square }
+    requires flags { length down.now ≡ 4 }
+{
+    trace_text(alloc, net, down, users_1(), users_4())
+}
+
+#[test]
+fn square_is_traced(rt: HostRuntime) -> Result<(), Fail> {
+    let alloc = rt.alloc();
+    let net = square(alloc)?;
+    let up = trace_across(alloc, &net, &[false, false, false, false])?;
+    assert_eq!(rt;
+        up.as_slice(),
+        b"trace 10.1.0.0/24 r1 10.4.0.0/24 r4\nr1 2 via 1 3\nr2 1 via 2\nr3 1 via 4\nr4 0\n".as_slice()
+    );
+    let one_down = trace_across(alloc, &net, &[false, true, false, false])?;
+    assert_eq!(rt;
+        one_down.as_slice(),
+        b"trace 10.1.0.0/24 r1 10.4.0.0/24 r4\nr1 2 via 3\nr2 3 via 1\nr3 1 via 4\nr4 0\n".as_slice()
+    );
+    let two_down = trace_across(alloc, &net, &[false, true, false, true])?;
+    assert_eq!(rt;
+        two_down.as_slice(),
+        b"trace 10.1.0.0/24 r1 10.4.0.0/24 r4\nr1 none\nr2 none\nr3 none\nr4 0\n".as_slice()
     );
     Ok(())
 }

@@ -37,7 +37,7 @@ fn between() -> Prefix
 }
 
 /// An interface that is up, runs OSPF and has no lists.
-fn face(
+pub fn face(
     alloc: Global,
     router: u32,
     name: &[u8],
@@ -64,7 +64,7 @@ fn face(
     })
 }
 
-fn router(alloc: Global, name: &[u8]) -> Result<RouterRow, Memory>
+pub fn router(alloc: Global, name: &[u8]) -> Result<RouterRow, Memory>
     ensures { IfOk result (λ row. row ≡ record { name = name.now; asn = 0; names = [] }) }
 {
     Ok(RouterRow {

@@ -1,86 +1,14 @@
--- The search for the router that waits with the least distance, and what it offers to the others.
-use Rattle.std.proofs.Common.{◌≡◌, ℕ, ◌+◌, ◌<◌, ◌≤◌, ◌⊎◌, ⊎_elim, inl, inr, Bool, Option, Some, None, List, [], ◌∷◌, ◌++◌, length, take, get_or, set, leb, refl, sym, ◌∙◌, ap, subst, arith}
-use Rattle.std.specs.Prelude.{MatchOption, Contains, if◌then◌else◌}
-use Rattle.std.proofs.lemmas.Bool.{cases_eq, cases_Bool, cases_lt, leb-true, leb-false}
-use Rattle.std.proofs.lemmas.List.{get_or_read, get_or_default, take_more, take_all, get_or_past, get_or-set_same, get_or-set_other}
+-- What the steps to a router that settles offer to the others.
+use Rattle.std.proofs.Common.{◌≡◌, ℕ, ◌+◌, ◌<◌, ◌≤◌, ◌⊎◌, ⊎_elim, inl, inr, Option, Some, None, List, [], ◌∷◌, ◌++◌, length, take, get_or, set, sym, ◌∙◌, ap, subst, arith}
+use Rattle.std.specs.Prelude.{Contains}
+use Rattle.std.proofs.lemmas.Bool.{cases_eq}
+use Rattle.std.proofs.lemmas.List.{get_or_default, take_more, take_all, get_or-set_same, get_or-set_other}
 use Rattle.std.proofs.lemmas.List.Elements.{Contains-push, Contains-push_cases, Contains-append_left}
-use Rattle.std.proofs.lemmas.Option.{none-some, same_Some}
 use Rattle.net_model.specs.Routing.{DistanceMap}
 use Rattle.route_trace.specs.declared.steps.Step.{Step}
-use Rattle.route_trace.specs.Routes.{flagged, distance_map}
-use Rattle.route_trace.specs.Steps.{IsGiven, IsLeastOf, IsNearest, waiting, lesser, nearer}
+use Rattle.route_trace.specs.Routes.{distance_map}
+use Rattle.route_trace.specs.Steps.{IsGiven, IsLeastOf, lesser}
 use Rattle.route_trace.proofs.Least.{same_set, one_more, alone}
-
--- of the routers before this one the best waits with the least distance, or none waits
-abbrev pub IsNearestBelow : DistanceMap → ℕ → Option (ℕ × ℕ) → Type 0
-IsNearestBelow w at best =
-    MatchOption best ((u : ℕ) → u < at → w u ≡ None)
-    (λ found. (w found.0 ≡ Some found.1) × ((u n : ℕ) → u < at → w u ≡ Some n → found.1 ≤ n))
-
-before_or_here : (u at : ℕ) → u < at + 1 → (u < at) ⊎ (u ≡ at)
-before_or_here u at l = elim (cases_lt u at) [ inl less ↦ inl less | inr more ↦ inr (omega arith) ]
-
--- one router more, which waits with this distance or does not
-step : (w : DistanceMap) (at : ℕ) (best : Option (ℕ × ℕ)) (o : Option ℕ) → w at ≡ o → IsNearestBelow w at best → IsNearestBelow w (at + 1) (nearer best at o)
-step w at None None e below = λ u l. elim (before_or_here u at l) [ inl less ↦ below u less | inr here ↦ ap w here ∙ e ]
-step w at (Some b) None e below = (
-  below.0,
-  λ u n l known. elim (before_or_here u at l) [ inl less ↦ below.1 u n less known | inr here ↦ absurd (none-some n (sym e ∙ ap w (sym here) ∙ known)) ],
-)
-step w at None (Some m) e below = (
-  e,
-  λ u n l known. elim (before_or_here u at l) [
-    | inl less ↦ absurd (none-some n (sym (below u less) ∙ known))
-    | inr here ↦ let same : m ≡ n = same_Some m n (sym e ∙ ap w (sym here) ∙ known) in omega (arith, same)
-  ],
-)
-step w at (Some b) (Some m) e below =
-    elim (cases_Bool (leb b.1 m)) [
-      | inl stays ↦
-          subst (λ (t : Bool). IsNearestBelow w (at + 1) (if t then Some b else Some (at, m))) (sym stays) (
-            below.0,
-            λ u n l known. elim (before_or_here u at l) [
-              | inl less ↦ below.1 u n less known
-              | inr here ↦
-                  let same : m ≡ n = same_Some m n (sym e ∙ ap w (sym here) ∙ known) in
-                  let low : b.1 ≤ m = leb-true b.1 m stays in omega (arith, same, low)
-            ],
-          )
-      | inr less_ ↦
-          subst (λ (t : Bool). IsNearestBelow w (at + 1) (if t then Some b else Some (at, m))) (sym less_) (
-            e,
-            λ u n l known. elim (before_or_here u at l) [
-              | inl less ↦
-                  let low : b.1 ≤ n = below.1 u n less known in
-                  let high : m < b.1 = leb-false b.1 m less_ in omega (arith, low, high)
-              | inr here ↦ let same : m ≡ n = same_Some m n (sym e ∙ ap w (sym here) ∙ known) in omega (arith, same)
-            ],
-          )
-    ]
-
-pub nearest_more : (w : DistanceMap) (at : ℕ) (best : Option (ℕ × ℕ)) → IsNearestBelow w at best → IsNearestBelow w (at + 1) (nearer best at (w at))
-nearest_more w at best below = step w at best (w at) refl below
-
--- past the end no router waits
-waits_within : (distances : List (Option ℕ)) (settled : List Bool) (u : ℕ) → length distances ≤ u → waiting distances settled u ≡ None
-waits_within distances settled u past =
-    elim (cases_Bool (flagged settled u)) [
-      | inl up ↦ ap (λ (t : Bool). if t then None else distance_map distances u) up
-      | inr off ↦ ap (λ (t : Bool). if t then None else distance_map distances u) off ∙ get_or_past distances u None past
-    ]
-
-pub nearest_all : (distances : List (Option ℕ)) (settled : List Bool) (n : ℕ) (best : Option (ℕ × ℕ)) → length distances ≤ n →
-    IsNearestBelow (waiting distances settled) n best →
-    MatchOption best ((u : ℕ) → waiting distances settled u ≡ None) (λ found. IsNearest (waiting distances settled) found.0 found.1)
-nearest_all distances settled n None past below =
-    λ u. elim (cases_lt u n) [ inl less ↦ below u less | inr more ↦ waits_within distances settled u (omega (arith, past, more)) ]
-nearest_all distances settled n (Some b) past below = record {
-  here = below.0;
-  least = λ u m known. elim (cases_lt u n) [
-    | inl less ↦ below.1 u m less known
-    | inr more ↦ absurd (none-some m (sym (waits_within distances settled u (omega (arith, past, more))) ∙ known))
-  ];
-}
 
 -- before the first step each distance is its own least
 pub relaxed_none : (d : DistanceMap) (xs : List Step) (from u : ℕ) → IsLeastOf (λ n. (d u ≡ Some n) ⊎ IsGiven (take 0 xs) from u n) (d u)
@@ -145,16 +73,15 @@ relaxed_more was xs i step from now within is inside before u =
           (one_more (λ n. (was u ≡ Some n) ⊎ IsGiven (take i xs) from u n) (distance_map now u) (from + step.cost) (before u)))
     ]
 
--- the same, as the loop reads and writes
-pub relaxed_next : (was : DistanceMap) (xs : List Step) (i : ℕ) (z : Step) (from : ℕ) (now : List (Option ℕ)) (v : ℕ) (x : Option ℕ) → i < length xs →
-    (get_or xs i z).tail.0 < length now → x ≡ get_or now (get_or xs i z).tail.0 x → v ≡ lesser x (from + (get_or xs i z).cost) →
+-- the same, as the loop writes it
+pub relaxed_next : (was : DistanceMap) (xs : List Step) (i : ℕ) (z : Step) (from : ℕ) (now after : List (Option ℕ)) → i < length xs →
+    (get_or xs i z).tail.0 < length now →
+    after ≡ set now (get_or xs i z).tail.0 (Some (lesser (distance_map now (get_or xs i z).tail.0) (from + (get_or xs i z).cost))) →
     ((u : ℕ) → IsLeastOf (λ n. (was u ≡ Some n) ⊎ IsGiven (take i xs) from u n) (distance_map now u)) →
-    (u : ℕ) → IsLeastOf (λ n. (was u ≡ Some n) ⊎ IsGiven (take (i + 1) xs) from u n) (distance_map (set now (get_or xs i z).tail.0 (Some v)) u)
-relaxed_next was xs i z from now v x within inside read is before =
-    let value : v ≡ lesser (get_or now (get_or xs i z).tail.0 None) (from + (get_or xs i z).cost) =
-    is ∙ ap (λ (o : Option ℕ). lesser o (from + (get_or xs i z).cost)) (get_or_read now (get_or xs i z).tail.0 x inside read None) in
-    subst (λ (w : ℕ). (u : ℕ) → IsLeastOf (λ n. (was u ≡ Some n) ⊎ IsGiven (take (i + 1) xs) from u n) (distance_map (set now (get_or xs i z).tail.0 (Some w)) u))
-    (sym value) (relaxed_more was xs i (get_or xs i z) from now within (get_or_default xs i (get_or xs i z) z within) inside before)
+    (u : ℕ) → IsLeastOf (λ n. (was u ≡ Some n) ⊎ IsGiven (take (i + 1) xs) from u n) (distance_map after u)
+relaxed_next was xs i z from now after within inside is before =
+    subst (λ (ys : List (Option ℕ)). (u : ℕ) → IsLeastOf (λ n. (was u ≡ Some n) ⊎ IsGiven (take (i + 1) xs) from u n) (distance_map ys u))
+    (sym is) (relaxed_more was xs i (get_or xs i z) from now within (get_or_default xs i (get_or xs i z) z within) inside before)
 
 -- after the last step all are gone through
 pub relaxed_all : (was : DistanceMap) (xs : List Step) (i from : ℕ) (now : DistanceMap) → length xs ≤ i →
