@@ -1,3 +1,4 @@
 pub mod Readings
 pub mod Names
 pub mod Forms
+pub mod Drafted

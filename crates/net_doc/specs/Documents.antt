@@ -1,38 +1,47 @@
 -- Which document a text is: JSON (RFC 8259), an object whose members have these forms.
-use Rattle.std.specs.Prelude.{◌≡◌, ◌≢◌, ℕ, ◌==◌, ◌≤◌, ◌&&◌, nat_le, Bool, true, false, not, IsFalse, List, [], ◌∷◌, length, codes, bytes_eq, Option, Some, None, option_and_then, if◌then◌else◌, Result, Ok, Err, All, AllPairs}
+use Rattle.std.specs.Prelude.{◌≡◌, ◌≢◌, ℕ, ◌==◌, ◌+◌, ◌≤◌, ◌&&◌, nat_le, nat_lt, Bool, true, false, not, List, [], ◌∷◌, length, codes, bytes_eq, Option, Some, None, option_map, option_and_then, if◌then◌else◌, Result, Ok, Err, All, AllPairs}
 use Rattle.std.specs.List.{list_any}
+use Rattle.std.specs.Option.{option_or}
 use Rattle.std.specs.Str.{is_utf8}
 use Rattle.serde_json.specs.Data.{Data}
-use Rattle.serde_json.specs.Find.{as_str}
+use Rattle.serde_json.specs.Find.{get, as_bool, as_number, as_u64, as_str}
 use Rattle.serde_json.specs.Read.{read}
-use Rattle.arc_base.specs.declared.refusal.Kind.TheVariants.{DocumentForm}
+use Rattle.arc_base.specs.declared.refusal.Kind.TheVariants.{DocumentForm, Limit}
+use Rattle.arc_base.specs.declared.refusal.LimitKind.{LimitKind}
+use Rattle.arc_base.specs.declared.refusal.LimitKind.TheVariants.{Routers, Links, Policies, Failures}
 use Rattle.arc_base.specs.Cuts.{cut_at}
 use Rattle.arc_base.specs.PrefixText.{prefix_of}
 use Rattle.net_model.specs.declared.policies.LinkText.{LinkText}
 use Rattle.net_model.specs.declared.policies.PolicyKind.{PolicyKind}
-use Rattle.net_model.specs.declared.policies.PolicyKind.TheVariants.{Blocked}
+use Rattle.net_model.specs.declared.policies.PolicyKind.TheVariants.{Blocked, Through, Reach}
 use Rattle.net_model.specs.declared.policies.Policy.{Policy}
 use Rattle.net_model.specs.declared.policies.Weights.{Weights}
 use Rattle.net_model.specs.declared.policies.Document.{Document}
 use Rattle.net_doc.specs.declared.fault.Refusal.{Refusal}
 use Rattle.net_doc.specs.declared.fault.NetFault.{NetFault}
 use Rattle.net_doc.specs.declared.fault.NetFault.TheVariants.{Refused, Memory}
-use Rattle.net_doc.specs.Members.{has_only, number_under, text_under, list_under, all_of}
+use Rattle.net_doc.specs.Members.{has_only, number_under, text_under, list_under, all_of, or_default}
 
 -- what a value that is there is read as
 infixl 10 ◌>>=◌
 abbrev ◌>>=◌ : {A B : Type 0} → Option A → (A → Option B) → Option B
 o >>= f = option_and_then f o
 
--- which members a document, a link and a policy have
+-- which members a document, a link, a policy and weights have
 abbrev pub document_members : List (List ℕ)
-document_members = codes "version" ∷ codes "routers" ∷ codes "links" ∷ codes "policies" ∷ []
+document_members = codes "version" ∷ codes "routers" ∷ codes "links" ∷ codes "policies" ∷ codes "weights" ∷ []
 
 abbrev pub link_members : List (List ℕ)
-link_members = codes "a" ∷ codes "b" ∷ []
+link_members = codes "a" ∷ codes "b" ∷ codes "waypoint" ∷ []
 
-abbrev pub policy_members : List (List ℕ)
-policy_members = codes "kind" ∷ codes "from" ∷ codes "to" ∷ []
+-- a policy has the number of failures exactly where it asks that packets reach their destination
+abbrev pub policy_members : PolicyKind → List (List ℕ)
+policy_members Blocked = codes "kind" ∷ codes "from" ∷ codes "to" ∷ []
+policy_members Through = codes "kind" ∷ codes "from" ∷ codes "to" ∷ []
+policy_members (Reach failures) = codes "kind" ∷ codes "from" ∷ codes "to" ∷ codes "failures" ∷ []
+
+abbrev pub weight_members : List (List ℕ)
+weight_members = codes "list" ∷ codes "filter" ∷ codes "session" ∷ []
 
 -- the value, where the test holds
 abbrev pub where_true : {T : Type 0} → Bool → T → Option T
@@ -60,45 +69,72 @@ routers_of d = do
 abbrev pub end_of : List ℕ → Option (List ℕ × List ℕ)
 end_of text = cut_at 58 text
 
--- a link: its two ends; in this version none is a waypoint
+-- whether a link is a waypoint, which it is not where nothing is said
+abbrev pub waypoint_of : Data → Option Bool
+waypoint_of d = or_default false as_bool (get (codes "waypoint") d)
+
+-- a link: its two ends, and whether it is a waypoint
 abbrev pub link_of : Data → Option LinkText
 link_of d = do
   a_text ← text_under (codes "a") d
   a ← end_of a_text
   b_text ← text_under (codes "b") d
   b ← end_of b_text
+  waypoint ← waypoint_of d
   where_true (has_only link_members d)
-      (record { a_router = a.0; a_face = a.1; b_router = b.0; b_face = b.1; waypoint = false })
+      (record { a_router = a.0; a_face = a.1; b_router = b.0; b_face = b.1; waypoint = waypoint })
 
 -- the links
 abbrev pub links_of : Data → Option (List LinkText)
 links_of d = option_and_then (all_of link_of) (list_under (codes "links") d)
 
--- what a policy asks: in this version that its packets are blocked
-abbrev pub kind_of : List ℕ → Option PolicyKind
-kind_of text = where_true (bytes_eq text (codes "blocked")) Blocked
+-- what a policy asks, by the text of its kind and the number of failures, if it has one
+abbrev pub kind_of : List ℕ → Option ℕ → Option PolicyKind
+kind_of text failures =
+    if bytes_eq text (codes "blocked") then Some Blocked
+    else if bytes_eq text (codes "through") then Some Through
+    else if bytes_eq text (codes "reach") then option_map Reach failures
+    else None
 
 -- a policy: what it asks of the packets from one prefix to another
 abbrev pub policy_of : Data → Option Policy
 policy_of d = do
   kind_text ← text_under (codes "kind") d
-  kind ← kind_of kind_text
+  kind ← kind_of kind_text (number_under (codes "failures") d)
   from_text ← text_under (codes "from") d
   from ← prefix_of from_text
   to_text ← text_under (codes "to") d
   to ← prefix_of to_text
-  where_true (has_only policy_members d) (record { kind = kind; from = from; to = to })
+  where_true (has_only (policy_members kind) d) (record { kind = kind; from = from; to = to })
 
--- the policies: in this version exactly one
+-- the policies
 abbrev pub policies_of : Data → Option (List Policy)
-policies_of d = do
-  items ← list_under (codes "policies") d
-  policies ← all_of policy_of items
-  where_true (length policies == 1) policies
+policies_of d = option_and_then (all_of policy_of) (list_under (codes "policies") d)
 
--- what edits cost: in this version a document does not say it, and each costs 1
+-- a weight is from 1 to 16
+abbrev pub weight_from : Data → Option ℕ
+weight_from d = do
+  weight ← option_and_then as_u64 (as_number d)
+  where_true (nat_le 1 weight && nat_le weight 16) weight
+
+-- the weight under the name, which is 1 where nothing is said
+abbrev pub weight_under : List ℕ → Data → Option ℕ
+weight_under name d = or_default 1 weight_from (get name d)
+
+-- what edits cost
+abbrev pub weights_from : Data → Option Weights
+weights_from d = do
+  list ← weight_under (codes "list") d
+  filter ← weight_under (codes "filter") d
+  session ← weight_under (codes "session") d
+  where_true (has_only weight_members d) (record { list = list; filter = filter; session = session })
+
+-- where nothing is said of it, each edit costs 1
 abbrev pub unit_weights : Weights
 unit_weights = record { list = 1; filter = 1; session = 1 }
+
+abbrev pub weights_of : Data → Option Weights
+weights_of d = or_default unit_weights weights_from (get (codes "weights") d)
 
 -- the document that the JSON value is: version 1, with routers, links and policies
 abbrev pub document_from : Data → Option Document
@@ -107,8 +143,9 @@ document_from d = do
   routers ← routers_of d
   links ← links_of d
   policies ← policies_of d
+  weights ← weights_of d
   where_true (version == 1 && has_only document_members d)
-      (record { routers = routers; links = links; policies = policies; weights = unit_weights })
+      (record { routers = routers; links = links; policies = policies; weights = weights })
 
 -- the document that the bytes are: JSON in UTF-8, in which the last of several members of one name counts
 abbrev pub document_of : List ℕ → Option Document
@@ -118,10 +155,45 @@ document_of bytes = option_and_then document_from (if is_utf8 bytes then read by
 abbrev pub form_refusal : Refusal
 form_refusal = record { file = 0; number = 0; kind = DocumentForm }
 
--- the answer is the document that the bytes are, or that they are none; want of memory may come in place of either
+-- a count that passes its limit is refused with the limit's name and the count
+abbrev pub over : LimitKind → ℕ → ℕ → ℕ → Option Refusal
+over what limit number count = if nat_lt limit count then Some (record { file = 0; number = number; kind = Limit what count }) else None
+
+-- a policy speaks of at most 16 failures
+abbrev pub failures_refusal : ℕ → PolicyKind → Option Refusal
+failures_refusal number Blocked = None
+failures_refusal number Through = None
+failures_refusal number (Reach failures) = over Failures 16 number failures
+
+-- the first of the policies, counted from this number on, that speaks of more
+abbrev pub policies_refusal : ℕ → List Policy → Option Refusal
+policies_refusal number [] = None
+policies_refusal number (policy ∷ policies) = option_or (failures_refusal number policy.kind) (policies_refusal (number + 1) policies)
+
+-- the first count of the document that passes its limit: 256 routers, 1,024 links, 256 policies, 16 failures
+unfoldable pub limit_refusal : Document → Option Refusal
+limit_refusal doc =
+    option_or (over Routers 256 0 (length doc.routers))
+    (option_or (over Links 1024 0 (length doc.links))
+    (option_or (over Policies 256 0 (length doc.policies))
+    (policies_refusal 1 doc.policies)))
+
+-- what reading gives: the document that the bytes are, within the limits, or the first refusal
+abbrev pub within_limits : Document → Option Refusal → Result Document Refusal
+within_limits doc None = Ok doc
+within_limits doc (Some refusal) = Err refusal
+
+abbrev pub limited : Option Document → Result Document Refusal
+limited None = Err form_refusal
+limited (Some doc) = within_limits doc (limit_refusal doc)
+
+abbrev pub reading : List ℕ → Result Document Refusal
+reading bytes = limited (document_of bytes)
+
+-- the answer is what reading the bytes gives; want of memory may come in place of it
 abbrev pub ReadsDocument : List ℕ → Result Document NetFault → Type 0
-ReadsDocument bytes (Ok doc) = document_of bytes ≡ Some doc
-ReadsDocument bytes (Err (Refused refusal)) = (document_of bytes ≡ None) × (refusal ≡ form_refusal)
+ReadsDocument bytes (Ok doc) = reading bytes ≡ Ok doc
+ReadsDocument bytes (Err (Refused refusal)) = reading bytes ≡ Err refusal
 ReadsDocument bytes (Err Memory) = Unit {0}
 
 -- a name of a file has 1 to 1,024 bytes
@@ -129,12 +201,26 @@ pub record IsFileName (name : List ℕ) : Type 0 where
   pub some : 1 ≤ length name
   pub few : length name ≤ 1024
 
+-- a policy speaks of at most 16 failures
+abbrev pub HasFewFailures : PolicyKind → Type 0
+HasFewFailures Blocked = Unit {0}
+HasFewFailures Through = Unit {0}
+HasFewFailures (Reach failures) = failures ≤ 16
+
+-- a weight is from 1 to 16
+pub record IsWeight (weight : ℕ) : Type 0 where
+  pub low : 1 ≤ weight
+  pub high : weight ≤ 16
+
 -- what holds of every document that is read
 pub record IsWellFormed (doc : Document) : Type 0 where
   pub some_router : 1 ≤ length doc.routers
   pub names : All IsFileName doc.routers
   pub routers_differ : AllPairs (λ r s. r ≢ s) doc.routers
-  pub no_waypoint : All (λ link. IsFalse link.waypoint) doc.links
-  pub one_policy : length doc.policies ≡ 1
-  pub blocked : All (λ policy. policy.kind ≡ Blocked) doc.policies
-  pub weights : doc.weights ≡ unit_weights
+  pub few_routers : length doc.routers ≤ 256
+  pub few_links : length doc.links ≤ 1024
+  pub few_policies : length doc.policies ≤ 256
+  pub few_failures : All (λ policy. HasFewFailures policy.kind) doc.policies
+  pub list : IsWeight doc.weights.list
+  pub filter : IsWeight doc.weights.filter
+  pub session : IsWeight doc.weights.session

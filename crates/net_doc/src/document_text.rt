@@ -1,12 +1,16 @@
-ghost use Rattle.std.specs.Prelude.{◌≡◌, IfOk};
+ghost use Rattle.std.specs.Prelude.{◌≡◌, ◌≤◌, None, length, map, option_map, All, IfOk, IfErr};
 ghost use Rattle.serde_json.specs.View.{view};
-ghost use Rattle.net_doc.specs.Documents.{ReadsDocument, IsWellFormed, document_from};
+ghost use Rattle.net_doc.specs.Documents.{ReadsDocument, IsWellFormed, HasFewFailures, document_from, document_of, limit_refusal, reading};
+ghost use Rattle.net_doc.specs.Drafts.{kind_meant, policy_meant, document_meant};
 
+use crate::drafts::{Draft, KindText, PolicyText};
 use crate::fault::{NetFault, Refusal};
 use crate::items::{read_links, read_policies, read_routers};
+use crate::limits::limit_refusal;
 use crate::members::{has_only, number_under};
-use arc_base::{Kind, Memory};
-use net_model::{Document, Weights};
+use crate::weights::read_weights;
+use arc_base::{Kind, List, Memory};
+use net_model::{Document, Policy, PolicyKind};
 use serde_json::Value;
 use std::alloc::Global;
 
@@ -16,9 +20,9 @@ const FORM: NetFault = NetFault::Refused(Refusal {
     kind: Kind::DocumentForm,
 });
 
-/// Reads the document. Bytes that are none are refused as `DocumentForm`, at file 0 and number 0.
-///
-/// In this version a document has exactly one policy, of the kind `blocked`, no waypoints and no weights.
+/// Reads the document. Bytes that are none are refused as `DocumentForm`, and a count that passes its limit as `Limit`, of
+/// routers, links, policies and failures, in this order. The file is 0, and the number that of the policy for failures and
+/// else 0.
 pub fn document(alloc: Global, bytes: &[u8]) -> Result<Document, NetFault>
     ensures reads { ReadsDocument bytes.now result }
     ensures well_formed { IfOk result IsWellFormed }
@@ -32,14 +36,21 @@ pub fn document(alloc: Global, bytes: &[u8]) -> Result<Document, NetFault>
             return Err(FORM);
         }
     };
-    read_document(alloc, &value)?.ok_or(FORM)
+    let draft = read_draft(alloc, &value)?.ok_or(FORM)?;
+    if let Some(refusal) = limit_refusal(&draft) {
+        return Err(NetFault::Refused(refusal));
+    }
+    Ok(meant(alloc, draft)?)
 }
 
-fn read_document(alloc: Global, value: &Value) -> Result<Option<Document>, Memory>
-    ensures { IfOk result (λ doc. doc ≡ document_from (view value.now)) }
+fn read_draft(alloc: Global, value: &Value) -> Result<Option<Draft>, Memory>
+    ensures { IfOk result (λ draft. option_map document_meant draft ≡ document_from (view value.now)) }
 {
     if number_under(value, "version") != Some(1)
-        || !has_only(value, &["version", "routers", "links", "policies"])
+        || !has_only(
+            value,
+            &["version", "routers", "links", "policies", "weights"],
+        )
     {
         return Ok(None);
     }
@@ -52,14 +63,52 @@ fn read_document(alloc: Global, value: &Value) -> Result<Option<Document>, Memor
     let Some(policies) = read_policies(alloc, value)? else {
         return Ok(None);
     };
-    Ok(Some(Document {
+    let Some(weights) = read_weights(value) else {
+        return Ok(None);
+    };
+    Ok(Some(Draft {
         routers,
         links,
         policies,
-        weights: Weights {
-            list: 1,
-            filter: 1,
-            session: 1,
-        },
+        weights,
     }))
+}
+
+/// The document that is meant, where no limit is passed.
+fn meant(alloc: Global, draft: Draft) -> Result<Document, Memory>
+    requires { limit_refusal (document_meant draft) ≡ None }
+    ensures { IfOk result (λ doc. doc ≡ document_meant draft) }
+{
+    let mut policies = Vec::new(alloc);
+    for text in &draft.policies {
+        policies.push(policy_meant(text))?;
+    }
+    Ok(Document {
+        routers: draft.routers,
+        links: draft.links,
+        policies: List::of(policies)?,
+        weights: draft.weights,
+    })
+}
+
+fn policy_meant(text: &PolicyText) -> Policy
+    requires { HasFewFailures (kind_meant text.now.kind) }
+    ensures { result ≡ policy_meant text.now }
+{
+    Policy {
+        kind: kind_meant(text.kind),
+        from: text.from,
+        to: text.to,
+    }
+}
+
+fn kind_meant(kind: KindText) -> PolicyKind
+    requires { HasFewFailures (kind_meant kind) }
+    ensures { result ≡ kind_meant kind }
+{
+    match kind {
+        KindText::Blocked => PolicyKind::Blocked,
+        KindText::Through => PolicyKind::Through,
+        KindText::Reach(failures) => PolicyKind::Reach(failures as u32),
+    }
 }

@@ -1,13 +1,15 @@
 //! The routers, the links and the policies of a document.
-ghost use Rattle.std.specs.Prelude.{◌≡◌, option_map, option_and_then, IfOk};
+ghost use Rattle.std.specs.Prelude.{◌≡◌, map, option_map, option_and_then, IfOk};
 ghost use Rattle.serde_json.specs.View.{view, items_view};
-ghost use Rattle.net_doc.specs.Members.{all_of, text_under};
-ghost use Rattle.net_doc.specs.Documents.{router_of, are_different, routers_of, end_of, link_of, links_of, kind_of, policy_of, policies_of};
+ghost use Rattle.net_doc.specs.Members.{all_of, has_only, text_under};
+ghost use Rattle.net_doc.specs.Documents.{router_of, are_different, routers_of, end_of, waypoint_of, link_of, links_of, kind_of, policy_members, policy_of, policies_of};
+ghost use Rattle.net_doc.specs.Drafts.{kind_meant, policy_meant};
 
-use crate::members::{has_only, list_under, text_under};
+use crate::drafts::{KindText, PolicyText};
+use crate::members::{has_only, list_under, number_under, text_under};
 use arc_base::{List, Memory, Name, cut_at, read_prefix};
 use indexmap::IndexSet;
-use net_model::{LinkText, Policy, PolicyKind};
+use net_model::LinkText;
 use serde_json::Value;
 use std::alloc::Global;
 
@@ -82,10 +84,13 @@ pub(crate) fn read_links(alloc: Global, value: &Value) -> Result<Option<List<Lin
 fn read_link(alloc: Global, value: &Value) -> Result<Option<LinkText>, Memory>
     ensures { IfOk result (λ link. link ≡ link_of (view value.now)) }
 {
-    if !has_only(value, &["a", "b"]) {
+    if !has_only(value, &["a", "b", "waypoint"]) {
         return Ok(None);
     }
     let (Some(a), Some(b)) = (read_end(value, "a"), read_end(value, "b")) else {
+        return Ok(None);
+    };
+    let Some(waypoint) = read_waypoint(value) else {
         return Ok(None);
     };
     Ok(Some(LinkText {
@@ -93,8 +98,18 @@ fn read_link(alloc: Global, value: &Value) -> Result<Option<LinkText>, Memory>
         a_face: Name::make(alloc, a.1)?,
         b_router: Name::make(alloc, b.0)?,
         b_face: Name::make(alloc, b.1)?,
-        waypoint: false,
+        waypoint,
     }))
+}
+
+/// Whether the link is a waypoint, which it is not where nothing is said.
+fn read_waypoint(value: &Value) -> Option<bool>
+    ensures { result ≡ waypoint_of (view value.now) }
+{
+    match value.get("waypoint") {
+        Some(flag) => flag.as_bool(),
+        None => Some(false),
+    }
 }
 
 fn read_end<'v>(value: &'v Value, name: &str) -> Option<(&'v [u8], &'v [u8])>
@@ -104,8 +119,8 @@ fn read_end<'v>(value: &'v Value, name: &str) -> Option<(&'v [u8], &'v [u8])>
 }
 
 /// The policies.
-pub(crate) fn read_policies(alloc: Global, value: &Value) -> Result<Option<List<Policy>>, Memory>
-    ensures { IfOk result (λ policies. policies ≡ policies_of (view value.now)) }
+pub(crate) fn read_policies(alloc: Global, value: &Value) -> Result<Option<Vec<PolicyText>>, Memory>
+    ensures { IfOk result (λ policies. option_map (λ policies. map policy_meant policies.items) policies ≡ policies_of (view value.now)) }
 {
     let Some(items) = list_under(value, "policies") else {
         return Ok(None);
@@ -117,30 +132,41 @@ pub(crate) fn read_policies(alloc: Global, value: &Value) -> Result<Option<List<
         };
         policies.push(policy)?;
     }
-    if policies.len() != 1 {
-        return Ok(None);
-    }
-    Ok(Some(List::of(policies)?))
+    Ok(Some(policies))
 }
 
-fn read_policy(value: &Value) -> Option<Policy>
-    ensures { result ≡ policy_of (view value.now) }
+fn read_policy(value: &Value) -> Option<PolicyText>
+    ensures { option_map policy_meant result ≡ policy_of (view value.now) }
 {
-    if !has_only(value, &["kind", "from", "to"]) {
-        return None;
+    let kind = read_kind(
+        text_under(value, "kind")?,
+        number_under(value, "failures"),
+    )?;
+    let from = read_prefix(text_under(value, "from")?.as_bytes())?;
+    let to = read_prefix(text_under(value, "to")?.as_bytes())?;
+    if has_policy_members(value, kind) {
+        Some(PolicyText { kind, from, to })
+    } else {
+        None
     }
-    Some(Policy {
-        kind: read_kind(text_under(value, "kind")?)?,
-        from: read_prefix(text_under(value, "from")?.as_bytes())?,
-        to: read_prefix(text_under(value, "to")?.as_bytes())?,
-    })
 }
 
-fn read_kind(text: &str) -> Option<PolicyKind>
-    ensures { result ≡ kind_of text.now }
+fn has_policy_members(value: &Value, kind: KindText) -> bool
+    ensures { result ≡ has_only (policy_members (kind_meant kind)) (view value.now) }
+{
+    match kind {
+        KindText::Blocked | KindText::Through => has_only(value, &["kind", "from", "to"]),
+        KindText::Reach(_) => has_only(value, &["kind", "from", "to", "failures"]),
+    }
+}
+
+fn read_kind(text: &str, failures: Option<u64>) -> Option<KindText>
+    ensures { option_map kind_meant result ≡ kind_of text.now failures }
 {
     match text {
-        "blocked" => Some(PolicyKind::Blocked),
+        "blocked" => Some(KindText::Blocked),
+        "through" => Some(KindText::Through),
+        "reach" => Some(KindText::Reach(failures?)),
         _ => None,
     }
 }

@@ -3,12 +3,15 @@
 #![tactic(auto)]
 
 mod document_text;
+mod drafts;
 mod fault;
 mod items;
 pub mod laws;
+mod limits;
 mod members;
 #[cfg(test)]
 mod tests;
+mod weights;
 
 pub use document_text::document;
 pub use fault::{NetFault, Refusal};

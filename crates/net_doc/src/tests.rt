@@ -1,6 +1,11 @@
 use crate::{NetFault, Refusal, document};
-use arc_base::{Kind, Prefix};
+use arc_base::{Kind, LimitKind, Prefix};
+use net_model::PolicyKind;
 use std::test::Fail;
+
+const WHOLE: &str = r#"{"version": 1, "routers": ["r1.cfg"], "links": [{"a": "r1:Ethernet0", "b": "r2:Ethernet0", "waypoint": true}],
+    "policies": [{"kind": "reach", "from": "10.1.0.0/24", "to": "10.2.0.0/24", "failures": 16},
+    {"kind": "through", "from": "10.1.0.0/24", "to": "10.2.0.0/24"}], "weights": {"filter": 16}}"#;
 
 const GOOD: &str =
     r#"{"version": 1, "routers": ["r1.cfg", "r2.cfg"], "links": [{"a": "r1:Ethernet0:1", "b": "r2:Ethernet0"}],
@@ -20,14 +25,82 @@ fn a_document_is_read(rt: HostRuntime) -> Result<(), Fail> {
 }
 
 #[test]
-fn a_real_version_is_refused(rt: HostRuntime) -> Result<(), Fail> {
-    let text = r#"{"version": 1.0, "routers": ["r1.cfg"], "links": [],
-        "policies": [{"kind": "blocked", "from": "10.1.0.0/24", "to": "10.2.0.0/24"}]}"#;
-    let refused = NetFault::Refused(Refusal {
-        file: 0,
-        number: 0,
-        kind: Kind::DocumentForm,
-    });
-    assert_eq!(rt; document(rt.alloc(), text.as_bytes()).err(), Some(refused));
+fn all_members_are_read(rt: HostRuntime) -> Result<(), Fail> {
+    let doc = document(rt.alloc(), WHOLE.as_bytes())?;
+    let link = doc.links.get(0).ok_or("a link")?;
+    assert!(rt; link.waypoint);
+    let reach = doc.policies.get(0).ok_or("a policy")?;
+    assert_eq!(rt; reach.kind, PolicyKind::Reach(16));
+    let through = doc.policies.get(1).ok_or("a second policy")?;
+    assert_eq!(rt; through.kind, PolicyKind::Through);
+    assert_eq!(rt; doc.weights.filter, 16);
+    assert_eq!(rt; doc.weights.session, 1);
+    Ok(())
+}
+
+// The form of the whole document comes before the limits, and the number is the policy's.
+const REFUSED: [(&str, u32, Kind); 9] = [
+    (
+        r#"{"version": 1, "routers": ["r1.cfg"], "links": [], "policies": [
+        {"kind": "reach", "from": "10.1.0.0/24", "to": "10.2.0.0/24", "failures": 0},
+        {"kind": "reach", "from": "10.1.0.0/24", "to": "10.2.0.0/24", "failures": 18446744073709551615}]}"#,
+        2,
+        Kind::Limit(LimitKind::Failures, 18_446_744_073_709_551_615),
+    ),
+    (
+        r#"{"version": 1, "routers": ["r1.cfg"], "links": [], "policies": [
+        {"kind": "reach", "from": "10.1.0.0/24", "to": "10.2.0.0/24", "failures": 17}], "weights": 1}"#,
+        0,
+        Kind::DocumentForm,
+    ),
+    (
+        r#"{"version": 1, "routers": ["r1.cfg"], "links": [], "policies": [
+        {"kind": "blocked", "from": "10.1.0.0/24", "to": "10.2.0.0/24", "failures": 1}]}"#,
+        0,
+        Kind::DocumentForm,
+    ),
+    (
+        r#"{"version": 1, "routers": ["r1.cfg"], "links": [], "policies": [
+        {"kind": "reach", "from": "10.1.0.0/24", "to": "10.2.0.0/24"}]}"#,
+        0,
+        Kind::DocumentForm,
+    ),
+    (
+        r#"{"version": 1, "routers": ["r1.cfg"], "links": [], "policies": [], "weights": {"list": 0}}"#,
+        0,
+        Kind::DocumentForm,
+    ),
+    (
+        r#"{"version": 1, "routers": ["r1.cfg"], "links": [], "policies": [], "weights": {"list": 17}}"#,
+        0,
+        Kind::DocumentForm,
+    ),
+    (
+        r#"{"version": 1, "routers": ["r1.cfg"], "links": [], "policies": [], "weights": {"lists": 1}}"#,
+        0,
+        Kind::DocumentForm,
+    ),
+    (
+        r#"{"version": 1, "routers": ["r1.cfg"], "links": [{"a": "r1:Ethernet0", "b": "r2"}], "policies": []}"#,
+        0,
+        Kind::DocumentForm,
+    ),
+    (
+        r#"{"version": 1.0, "routers": ["r1.cfg"], "links": [], "policies": []}"#,
+        0,
+        Kind::DocumentForm,
+    ),
+];
+
+#[test]
+fn documents_are_refused(rt: HostRuntime) -> Result<(), Fail> {
+    for (text, number, kind) in REFUSED {
+        let refused = NetFault::Refused(Refusal {
+            file: 0,
+            number,
+            kind,
+        });
+        assert_eq!(rt; document(rt.alloc(), text.as_bytes()).err(), Some(refused));
+    }
     Ok(())
 }
