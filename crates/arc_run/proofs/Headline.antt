@@ -31,13 +31,13 @@ all_rest : {X : Type 0} (P : X → Type 0) (x : X) (xs : List X) → All P (x �
 all_rest P x xs all k d within = all (suc k) d (omega arith)
 
 -- right verdicts are all yes exactly where the network meets all policies
-decide : (net : Network) → IsValid net → (policies : List Policy) (verdicts : List Verdict) → AllZip (IsVerdictOn net) policies verdicts → (list_all is_yes verdicts ≡ true) ↔ All (Meets net) policies
-decide net valid [] [] judged = (λ t k d within. absurd (omega arith), λ all. refl)
-decide net valid [] (v ∷ vs) judged = absurd judged
-decide net valid (p ∷ ps) [] judged = absurd judged
-decide net valid (p ∷ ps) (v ∷ vs) judged =
+decide : (net : Network) → IsValid net → (document policies : List Policy) (verdicts : List Verdict) → AllZip (IsVerdictOn net document) policies verdicts → (list_all is_yes verdicts ≡ true) ↔ All (Meets net) policies
+decide net valid document [] [] judged = (λ t k d within. absurd (omega arith), λ all. refl)
+decide net valid document [] (v ∷ vs) judged = absurd judged
+decide net valid document (p ∷ ps) [] judged = absurd judged
+decide net valid document (p ∷ ps) (v ∷ vs) judged =
     let here = right_verdicts_decide net valid p v judged.0.right in
-    let rest = decide net valid ps vs judged.1 in (
+    let rest = decide net valid document ps vs judged.1 in (
       λ t. let both = and_parts _ _ t in all_cons (Meets net) p ps (here.0 both.0) (rest.0 both.1),
       λ all. and_from _ _ (here.1 (all zero p (omega arith))) (rest.1 (all_rest (Meets net) p ps all)),
     )
@@ -63,7 +63,8 @@ told_yes document files d done is_zero = record {
   doc = done.doc;
   net = done.net;
   input = done.input;
-  meets = (decide done.net done.valid done.doc.policies done.verdicts done.judged).0 (yes_from_status _ (sym done.status ∙ is_zero));
+  classes = done.classes;
+  meets = (decide done.net done.valid done.doc.policies done.doc.policies done.verdicts done.judged).0 (yes_from_status _ (sym done.status ∙ is_zero));
 }
 
 told_no : (document : List ℕ) (files : Files) (d : Done) → IsVerified document files d → d.status ≡ 1 → SaysNo document files
@@ -71,8 +72,9 @@ told_no document files d done is_one = record {
   doc = done.doc;
   net = done.net;
   input = done.input;
+  classes = done.classes;
   breaks = λ meets.
-      let is_zero : verdicts_status done.verdicts ≡ 0 = status_when_yes done.verdicts ((decide done.net done.valid done.doc.policies done.verdicts done.judged).1 meets) in
+      let is_zero : verdicts_status done.verdicts ≡ 0 = status_when_yes done.verdicts ((decide done.net done.valid done.doc.policies done.doc.policies done.verdicts done.judged).1 meets) in
       omega (arith, is_zero, done.status, is_one);
 }
 

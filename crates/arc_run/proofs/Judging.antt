@@ -1,18 +1,30 @@
 -- Verdicts on the policies of a document, one after another.
-use Rattle.std.proofs.Common.{◌≡◌, ℕ, ◌+◌, ◌<◌, List, [], ◌∷◌, ◌++◌, length, take, get_or, subst, sym, arith}
+use Rattle.std.proofs.Common.{◌≡◌, ℕ, ◌+◌, ◌<◌, ◌⊎◌, inl, inr, refl, List, [], ◌∷◌, ◌++◌, length, take, get_or, subst, sym, arith}
 use Rattle.std.proofs.lemmas.List.{take_more}
 use Rattle.std.proofs.lemmas.Option.{slice_get_within, get_or_from_slice_get, slice_get-get_or}
-use Rattle.std.specs.Prelude.{Option, Some, None, IfSome, slice_get, All}
+use Rattle.std.specs.Prelude.{Option, Some, None, IfSome, slice_get, All, Ok, Err}
 use Rattle.std.specs.Option.{ForSome}
 use Rattle.std.specs.List.{AllZip}
-use Rattle.net_model.specs.declared.lists.PacketList.{PacketList}
 use Rattle.net_model.specs.declared.policies.Policy.{Policy}
 use Rattle.net_model.specs.declared.rows.Network.{Network}
 use Rattle.net_model.specs.declared.verdicts.Verdict.{Verdict}
-use Rattle.net_model.specs.Packets.{subject}
-use Rattle.net_model.specs.Witnesses.{IsRight, IsUniform}
-use Rattle.net_build.specs.PlainNetwork.{HasTwoEnds}
-use Rattle.verdicts.specs.Judged.{HasEnds, AreUniform, IsFixed}
+use Rattle.net_model.specs.Witnesses.{IsRight}
+use Rattle.net_model.specs.declared.policies.PolicyKind.{PolicyKind}
+use Rattle.net_model.specs.declared.policies.PolicyKind.TheVariants.{Blocked, Through, Reach}
+use Rattle.arc_base.specs.declared.refusal.Kind.TheVariants.{Limit}
+use Rattle.arc_base.specs.declared.refusal.LimitKind.TheVariants.{Classes}
+use Rattle.arc_outside.specs.Files.{Files}
+use Rattle.net_doc.specs.Documents as documents
+use Rattle.verdicts.specs.Fixed.{IsFixed}
+use Rattle.verdicts.specs.Judged.{HasFewFailures}
+use Rattle.arc_run.specs.declared.inputs.Input.{Input}
+use Rattle.arc_run.specs.declared.outcome.Stop.{Stop}
+use Rattle.arc_run.specs.declared.outcome.Stop.TheVariants as stops
+use Rattle.arc_run.specs.declared.words.Command.TheVariants.{Verify}
+use Rattle.arc_run.specs.Counts.{HasManyClasses, CountsClasses}
+use Rattle.arc_run.specs.Inputs.{ReadsInput}
+use Rattle.arc_run.specs.Outcomes.{Answers}
+use Rattle.arc_run.specs.Refusals.{refusal_of}
 use Rattle.arc_run.specs.Verifies.{IsVerdictOn}
 
 -- what holds of each item holds of the one at a place
@@ -36,17 +48,41 @@ zip_more {A} {B} R (x ∷ xs) ys k y within before next =
     subst Q (sym (take_more (x ∷ xs) k x within)) (zip_push R (take k (x ∷ xs)) ys (get_or (x ∷ xs) k x) y before (subst P is next))
 
 -- a verdict that is right and is the one that is fixed
-pub verdict_on : (net : Network) (policy : Option Policy) (v : Verdict) → IfSome policy (λ p. IsRight net p v) → IfSome policy (λ p. IsFixed net p v) → IfSome policy (λ p. IsVerdictOn net p v)
-verdict_on net None v right fixed = tt
-verdict_on net (Some policy) v right fixed = record { right = right; fixed = fixed }
+pub verdict_on : (net : Network) (policies : List Policy) (policy : Option Policy) (v : Verdict) → IfSome policy (λ p. IsRight net p v) → IfSome policy (λ p. IsFixed net policies p v) → IfSome policy (λ p. IsVerdictOn net policies p v)
+verdict_on net policies None v right fixed = tt
+verdict_on net policies (Some policy) v right fixed = record { right = right; fixed = fixed }
 
--- a network of router files without lists has no list that answers packets of one class in two ways
-pub no_lists_uniform : (net : Network) (policies : List Policy) → net.packet_lists ≡ [] → All (λ policy. AreUniform net (subject policy)) policies
-no_lists_uniform net policies none k d within =
-    let none_there : (xs : List PacketList) → xs ≡ [] → All (λ l. IsUniform l.entries (subject (get_or policies k d))) xs =
-    λ xs e. subst (λ (ls : List PacketList). All (λ l. IsUniform l.entries (subject (get_or policies k d))) ls) (sym e) (λ i l inside. absurd (omega arith)) in
-    none_there net.packet_lists none
+-- policies of a document that is read speak of few failures
+few_of : (kind : PolicyKind) → documents.HasFewFailures kind → HasFewFailures kind
+few_of Blocked few = tt
+few_of Through few = tt
+few_of (Reach failures) few = few
 
--- two different ends are ends
-pub ends_of_two : (net : Network) (policies : List Policy) → All (HasTwoEnds net) policies → All (λ policy. HasEnds net (subject policy)) policies
-ends_of_two net policies two k d within = let here = two k d within in record { ends = here.ends; are_ends = here.are_ends }
+pub all_few : (policies : List Policy) → All (λ policy. documents.HasFewFailures policy.kind) policies → All (λ policy. HasFewFailures policy.kind) policies
+all_few policies few k d within = few_of (get_or policies k d).kind (few k d within)
+
+-- what counting the classes came to
+pub too_many : (document : List ℕ) (net : Network) (policies : List Policy) (count : ℕ) (stop : Stop) → HasManyClasses net policies count → (stop ≡ stops.Memory) ⊎ (stop ≡ stops.Refused (refusal_of document 0 (Limit Classes count))) → CountsClasses document net policies (Err stop)
+too_many document net policies count stop many (inl memory) =
+    let P : Stop → Type 0 = λ s. CountsClasses document net policies (Err s) in
+    subst P (sym memory) tt
+too_many document net policies count stop many (inr is) =
+    let P : Stop → Type 0 = λ s. CountsClasses document net policies (Err s) in
+    subst P (sym is) (count, many, refl)
+
+-- a document that is refused for its classes
+pub classes_stopped : (held : Option Files) (document : List ℕ) (input : Input) (stop : Stop) → IfSome held (λ files. ReadsInput document files (Ok input)) → CountsClasses document input.net input.doc.policies (Err stop) → Answers (Verify document) held (Err stop)
+classes_stopped None document input (stops.Refused r) told counted = tt
+classes_stopped None document input stops.Memory told counted = tt
+classes_stopped None document input stops.Failed told counted = tt
+classes_stopped (Some files) document input (stops.Refused r) told counted = inr (record { doc = input.doc; net = input.net; input = told; count = counted.0; many = counted.1; told = counted.2 })
+classes_stopped (Some files) document input stops.Memory told counted = tt
+classes_stopped (Some files) document input stops.Failed told counted = tt
+
+pub input_stopped : (held : Option Files) (document : List ℕ) (stop : Stop) → IfSome held (λ files. ReadsInput document files (Err stop)) → Answers (Verify document) held (Err stop)
+input_stopped None document (stops.Refused r) told = tt
+input_stopped None document stops.Memory told = tt
+input_stopped None document stops.Failed told = tt
+input_stopped (Some files) document (stops.Refused r) told = inl told
+input_stopped (Some files) document stops.Memory told = tt
+input_stopped (Some files) document stops.Failed told = tt

@@ -1,3 +1,5 @@
+pub mod ClassCounts
+pub mod DocumentCauses
 pub mod LinkNumbers
 pub mod DownFlags
 pub mod Told

@@ -25,7 +25,8 @@ use Rattle.arc_run.specs.Headline.{HasTrace, HasNoTrace, TellsTrace}
 use Rattle.arc_run.specs.Inputs.{HoldsInput, ReadsInput, IsFit}
 use Rattle.arc_run.specs.Outcomes.{Answers, IsDefined, status_of}
 use Rattle.arc_run.specs.Runs.{Runs}
-use Rattle.arc_run.specs.Traces.{first_above, down_flags, refusal_of, IsTraceRefusal, IsTraced}
+use Rattle.arc_run.specs.Refusals.{refusal_of}
+use Rattle.arc_run.specs.Traces.{first_above, down_flags, IsTraceRefusal, IsTraced}
 use Rattle.arc_run.proofs.Determined.{determined}
 
 -- what a test of the numbers told

@@ -14,13 +14,15 @@ use Rattle.arc_run.specs.Refusals.{bytes_at}
 use Rattle.arc_run.specs.declared.words.TraceWords.{TraceWords}
 use Rattle.arc_run.specs.Traces.{first_above, IsTraceRefusal}
 use Rattle.arc_run.specs.Lrats.{lrat_refusal}
+use Rattle.arc_run.specs.Counts.{HasFewClasses, IsJudgingRefusal}
 use Rattle.arc_run.specs.Inputs.{HoldsDocument, HoldsInput, IsInputRefusal}
 
--- the document and its files have a network, and it meets every policy under every set of failed links
+-- the document and its files have a network, its policies do not have too many classes, and it meets every policy under every set of failed links
 pub record SaysYes (document : List ℕ) (files : Files) : Type 0 where
   pub doc : Document
   pub net : Network
   pub input : HoldsInput document files doc net
+  pub classes : HasFewClasses net doc.policies
   pub meets : MeetsDocument net doc
 
 -- they have a network, and it breaks a policy under some set of failed links
@@ -28,12 +30,13 @@ pub record SaysNo (document : List ℕ) (files : Files) : Type 0 where
   pub doc : Document
   pub net : Network
   pub input : HoldsInput document files doc net
+  pub classes : HasFewClasses net doc.policies
   pub breaks : ¬ MeetsDocument net doc
 
--- they have no network, and there is a first reason for it
+-- they have no network, or their policies too many classes, and there is a first reason for it
 pub record SaysRefused (document : List ℕ) (files : Files) : Type 0 where
   pub refusal : FileRefusal
-  pub refused : IsInputRefusal document files refusal
+  pub refused : IsJudgingRefusal document files refusal
 
 -- Which of the three it is, the status tells: 0 for yes, 1 for no, and 5 for refused.
 pub record TellsExactly (document : List ℕ) (status : ℕ) (files : Files) : Type 0 where
@@ -46,8 +49,9 @@ pub record TellsExactly (document : List ℕ) (status : ℕ) (files : Files) : T
 pub record IsDetermined (document : List ℕ) (files : Files) : Type 0 where
   pub one_document : (doc other : Document) → HoldsDocument document files doc → HoldsDocument document files other → doc ≡ other
   pub one_network : (doc : Document) (net other : Network) → HoldsInput document files doc net → HoldsInput document files doc other → net ≡ other
-  pub one_refusal : (r s : FileRefusal) → IsInputRefusal document files r → IsInputRefusal document files s → r ≡ s
+  pub one_refusal : (r s : FileRefusal) → IsJudgingRefusal document files r → IsJudgingRefusal document files s → r ≡ s
   pub not_both : (doc : Document) (net : Network) (r : FileRefusal) → HoldsInput document files doc net → IsInputRefusal document files r → ⊥
+  pub few_not_both : (doc : Document) (net : Network) (r : FileRefusal) → HoldsInput document files doc net → HasFewClasses net doc.policies → IsJudgingRefusal document files r → ⊥
 
 -- the document and its files have a network with these links, and the prefixes lie in two different host networks of it
 pub record HasTrace (words : TraceWords) (files : Files) : Type 0 where

@@ -6,10 +6,10 @@ use Rattle.net_model.specs.declared.rows.Network.{Network}
 use Rattle.net_doc.specs.declared.fault.Refusal.{Refusal}
 use Rattle.net_doc.specs.declared.fault.NetFault.TheVariants as faults
 use Rattle.net_doc.specs.Documents.{ReadsDocument}
-use Rattle.net_model.specs.declared.policies.PolicyKind.TheVariants.{Blocked}
 use Rattle.net_model.specs.Packets.{subject}
+use Rattle.net_model.specs.Forwarding.{HasEnds}
 use Rattle.net_model.specs.Validity.{IsValid}
-use Rattle.verdicts.specs.Judged.{HasEnds, AreUniform}
+use Rattle.verdicts.specs.Judged.{HasFewFailures}
 use Rattle.net_build.specs.Networks.{BuildsNetwork}
 use Rattle.arc_run.specs.declared.outcome.FileRefusal.{FileRefusal}
 use Rattle.arc_run.specs.declared.outcome.Reason.TheVariants as reasons
@@ -90,6 +90,5 @@ ReadsInput document files (Err stops.Failed) = Unit {0}
 -- the policies can be judged over the network
 pub record IsFit (input : Input) : Type 0 where
   pub valid : IsValid input.net
-  pub blocked : All (λ policy. policy.kind ≡ Blocked) input.doc.policies
   pub ends : All (λ policy. HasEnds input.net (subject policy)) input.doc.policies
-  pub uniform : All (λ policy. AreUniform input.net (subject policy)) input.doc.policies
+  pub failures : All (λ policy. HasFewFailures policy.kind) input.doc.policies

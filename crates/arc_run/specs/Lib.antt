@@ -2,6 +2,7 @@ pub mod Words
 pub mod Refusals
 pub mod Reading
 pub mod Inputs
+pub mod Counts
 pub mod Verifies
 pub mod Traces
 pub mod Lrats

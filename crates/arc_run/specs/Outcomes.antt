@@ -13,14 +13,14 @@ use Rattle.arc_run.specs.declared.outcome.Stop.{Stop}
 use Rattle.arc_run.specs.declared.outcome.Stop.TheVariants as stops
 use Rattle.arc_run.specs.Words.{usage}
 use Rattle.arc_run.specs.Refusals.{refusal_line}
-use Rattle.arc_run.specs.Inputs.{IsInputRefusal}
+use Rattle.arc_run.specs.Counts.{IsJudgingRefusal}
 use Rattle.arc_run.specs.Verifies.{IsVerified}
 use Rattle.arc_run.specs.Traces.{IsTraceRefusal, IsTraced}
 use Rattle.arc_run.specs.Lrats.{lrat_refusal, IsJudged}
 
 -- the first refusal of a command
 abbrev pub IsRefusal : Command → Files → FileRefusal → Type 0
-IsRefusal (Verify document) files r = IsInputRefusal document files r
+IsRefusal (Verify document) files r = IsJudgingRefusal document files r
 IsRefusal (Trace words) files r = IsTraceRefusal words files r
 IsRefusal (Lrat cnf proof) files r = lrat_refusal cnf proof files ≡ Some r
 

@@ -13,10 +13,14 @@ use Rattle.arc_run.specs.declared.outcome.Reason.TheVariants as reasons
 abbrev pub bytes_at : Files → List ℕ → List ℕ
 bytes_at files name = unwrap_or (files name) []
 
+-- the refusal of a file for a kind of reason, at a number
+abbrev pub refusal_of : List ℕ → ℕ → Kind → FileRefusal
+refusal_of name number kind = record { name = name; number = number; reason = reasons.Kind kind }
+
 -- the refusal of a file: it is missing, or it has more bytes than the limit says
 abbrev pub refusal_within : ℕ → List ℕ → Option (List ℕ) → Option FileRefusal
-refusal_within limit name None = Some (record { name = name; number = 0; reason = reasons.Kind kinds.Missing })
-refusal_within limit name (Some bytes) = if nat_lt limit (length bytes) then Some (record { name = name; number = 0; reason = reasons.Kind kinds.TooLong }) else None
+refusal_within limit name None = Some (refusal_of name 0 kinds.Missing)
+refusal_within limit name (Some bytes) = if nat_lt limit (length bytes) then Some (refusal_of name 0 kinds.TooLong) else None
 
 abbrev pub read_refusal : ℕ → Files → List ℕ → Option FileRefusal
 read_refusal limit files name = refusal_within limit name (files name)

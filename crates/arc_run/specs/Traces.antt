@@ -1,7 +1,6 @@
 -- The command `trace DOC FROM TO`.
 use Rattle.std.specs.Prelude.{◌≡◌, ℕ, ◌+◌, ◌==◌, ◌⊎◌, nat_lt, Bool, List, [], map, length, Option, Some, None}
 use Rattle.std.specs.List.{find, list_any, range_with_len}
-use Rattle.arc_base.specs.declared.refusal.Kind.{Kind}
 use Rattle.arc_base.specs.declared.refusal.Kind.TheVariants.{LinkFace, Endpoint}
 use Rattle.arc_outside.specs.Files.{Files}
 use Rattle.net_model.specs.declared.policies.Document.{Document}
@@ -12,8 +11,8 @@ use Rattle.route_trace.specs.Routes.{flagged}
 use Rattle.route_trace.specs.TraceText.{IsTrace}
 use Rattle.arc_run.specs.declared.outcome.Done.{Done}
 use Rattle.arc_run.specs.declared.outcome.FileRefusal.{FileRefusal}
-use Rattle.arc_run.specs.declared.outcome.Reason.TheVariants as reasons
 use Rattle.arc_run.specs.declared.words.TraceWords.{TraceWords}
+use Rattle.arc_run.specs.Refusals.{refusal_of}
 use Rattle.arc_run.specs.Inputs.{HoldsInput, IsInputRefusal}
 
 -- the first of the numbers that is above the number of links
@@ -23,10 +22,6 @@ first_above links numbers = find (λ n. nat_lt links n) numbers
 -- for each of so many links whether it is down: whether its number, counted from 1, is among these
 abbrev pub down_flags : ℕ → List ℕ → List Bool
 down_flags links numbers = map (λ place. list_any (λ n. n == place + 1) numbers) (range_with_len 0 links)
-
--- a refusal of the document for its words
-abbrev pub refusal_of : List ℕ → ℕ → Kind → FileRefusal
-refusal_of document number kind = record { name = document; number = number; reason = reasons.Kind kind }
 
 -- a link that is to be down is none of the network's
 pub record RefusesLink (words : TraceWords) (files : Files) (r : FileRefusal) : Type 0 where

@@ -1,12 +1,13 @@
 //! Files that are read and written.
-ghost use Rattle.std.specs.Prelude.{◌≡◌, ◌+◌, ◌-◌, ◌^◌, ◌<◌, ◌≤◌, ◌⊎◌, All, length, IfOk, IfErr, IfSome, IsErrOf, OnOk, OnErr};
+ghost use Rattle.std.specs.Prelude.{◌≡◌, ◌+◌, ◌-◌, ◌^◌, ◌<◌, ◌≤◌, All, length, IfOk, IfErr, IfSome, IsErrOf, OnOk, OnErr};
 ghost use Rattle.arc_outside.specs.Causes.{Rose};
 ghost use Rattle.arc_outside.specs.Files.{WhereTold};
 ghost use Rattle.arc_run.specs.Outcomes.{HasStopCause};
 ghost use Rattle.arc_run.specs.Runs.{WereWritten, FailsWithin};
 ghost use Rattle.arc_run.specs.Reading.{ReadsFile, ReadsRouters};
 
-use crate::outcome::{FileRefusal, Reason, Stop};
+use crate::outcome::Stop;
+use crate::refusals::refused;
 use arc_base::{Kind, List, Memory, Name};
 use arc_outside::{Fault, ReadAll, Store, read_all};
 use std::alloc::Global;
@@ -36,24 +37,10 @@ pub fn read_file<S: Store>(
 {
     match read_all(alloc, store, name, limit) {
         Ok(bytes) => Ok(bytes),
-        Err(ReadAll::TooLong) => Err(refused(alloc, name, Kind::TooLong)),
-        Err(ReadAll::Fault(Fault::Missing)) => Err(refused(alloc, name, Kind::Missing)),
+        Err(ReadAll::TooLong) => Err(refused(alloc, name, 0, Kind::TooLong)),
+        Err(ReadAll::Fault(Fault::Missing)) => Err(refused(alloc, name, 0, Kind::Missing)),
         Err(ReadAll::Fault(Fault::Failed)) => Err(Stop::Failed),
         Err(ReadAll::Fault(Fault::Memory)) => Err(Stop::Memory),
-    }
-}
-
-// The refusal of a file as a whole.
-fn refused(alloc: Global, name: &Name, kind: Kind) -> Stop
-    ensures { (result ≡ Stop.Memory) ⊎ (result ≡ Stop.Refused (record { name = name.now; number = 0; reason = Reason.Kind kind })) }
-{
-    match Name::make(alloc, name.bytes()) {
-        Ok(name) => Stop::Refused(FileRefusal {
-            name,
-            number: 0,
-            reason: Reason::Kind(kind),
-        }),
-        Err(Memory) => Stop::Memory,
     }
 }
 

@@ -1,10 +1,24 @@
-//! The line that tells a refusal.
-ghost use Rattle.std.specs.Prelude.{◌≡◌, ◌++◌, IfOk, OnOk};
-ghost use Rattle.arc_run.specs.Refusals.{count_word, kind_words, reason_words, refusal_line};
+//! Refusals, and the line that tells one.
+ghost use Rattle.std.specs.Prelude.{◌≡◌, ◌⊎◌, ◌++◌, IfOk, OnOk};
+ghost use Rattle.arc_run.specs.Refusals.{count_word, kind_words, reason_words, refusal_line, refusal_of};
 
-use crate::outcome::{FileRefusal, Reason};
-use arc_base::{Kind, LimitKind};
+use crate::outcome::{FileRefusal, Reason, Stop};
+use arc_base::{Kind, LimitKind, Memory, Name};
 use std::alloc::{AllocError, Global};
+
+/// The refusal of a file for this, at a number.
+pub fn refused(alloc: Global, file: &Name, number: u32, kind: Kind) -> Stop
+    ensures { (result ≡ Stop.Memory) ⊎ (result ≡ Stop.Refused (refusal_of file.now number kind)) }
+{
+    match Name::make(alloc, file.bytes()) {
+        Ok(name) => Stop::Refused(FileRefusal {
+            name,
+            number,
+            reason: Reason::Kind(kind),
+        }),
+        Err(Memory) => Stop::Memory,
+    }
+}
 
 fn count_word(what: LimitKind) -> &'static [u8]
     ensures { result.now ≡ count_word what }

@@ -12,6 +12,25 @@ const PAIR: &[u8] = br#"{"version": 1, "routers": ["r1.cfg", "r2.cfg"],
 const ONE: &[u8] = br#"{"version": 1, "routers": ["r1.cfg"], "links": [],
  "policies": [{"kind": "blocked", "from": "10.1.0.0/24", "to": "10.2.0.0/24"}]}"#;
 
+// Packets reach each host network of the two from the other, while no link fails; and while one does.
+const PAIR_REACH: &[u8] = br#"{"version": 1, "routers": ["r1.cfg", "r2.cfg"],
+ "links": [{"a": "r1:GigabitEthernet0/1", "b": "r2:GigabitEthernet0/1", "waypoint": true}],
+ "policies": [{"kind": "reach", "from": "10.1.0.0/24", "to": "10.2.0.0/24", "failures": 0},
+ {"kind": "reach", "from": "10.2.0.0/24", "to": "10.1.0.0/24", "failures": 0},
+ {"kind": "reach", "from": "10.1.0.0/24", "to": "10.2.0.0/24", "failures": 1},
+ {"kind": "through", "from": "10.1.0.0/24", "to": "10.2.0.0/24"}]}"#;
+
+const ONE_OF_EACH: &[u8] = br#"{"version": 1, "routers": ["r1.cfg"], "links": [],
+ "policies": [{"kind": "reach", "from": "10.1.0.0/24", "to": "10.2.0.0/24", "failures": 16},
+ {"kind": "through", "from": "10.1.0.0/24", "to": "10.2.0.0/24"},
+ {"kind": "blocked", "from": "10.1.0.0/24", "to": "10.2.0.0/24"}]}"#;
+
+const NO_POLICY: &[u8] =
+    br#"{"version": 1, "routers": ["r1.cfg"], "links": [], "policies": [], "weights": {"list": 2}}"#;
+
+const MANY_FAILURES: &[u8] = br#"{"version": 1, "routers": ["r1.cfg"], "links": [],
+ "policies": [{"kind": "reach", "from": "10.1.0.0/24", "to": "10.2.0.0/24", "failures": 17}]}"#;
+
 const R1: &[u8] =
     b"hostname r1\n!\ninterface GigabitEthernet0/0\n ip address 10.1.0.1 255.255.255.0\n!\n\
 interface GigabitEthernet0/1\n ip address 10.0.1.1 255.255.255.252\n!\n\
@@ -91,7 +110,7 @@ const VERIFY: &[&[u8]] = &[b"verify", b"net.json"];
 
 const LRAT: &[&[u8]] = &[b"lrat", b"f.cnf", b"proof"];
 
-const ROWS: [Row; 22] = [
+const ROWS: [Row; 26] = [
     // the two routers are not blocked from each other
     Row {
         files: &[(b"net.json", PAIR), (b"r1.cfg", R1), (b"r2.cfg", R2)],
@@ -116,6 +135,34 @@ const ROWS: [Row; 22] = [
         words: VERIFY,
         text: b"arc-report 1\n1 blocked no 1\nwalk 10.1.0.0/24 10.2.0.0/24\nend\n",
         code: 1,
+    },
+    // each kind of policy over one link, which is a waypoint
+    Row {
+        files: &[(b"net.json", PAIR_REACH), (b"r1.cfg", R1), (b"r2.cfg", R2)],
+        words: VERIFY,
+        text: b"arc-report 1\n1 reach yes 1\npath 1\n2 reach yes 1\npath 1\n3 reach no 2\ncut 1\nside r1\n\
+4 through yes 1\nclosed 10.1.0.0/24 10.2.0.0/24 r1\nend\n",
+        code: 1,
+    },
+    // each kind within one router: no path is needed
+    Row {
+        files: &[(b"net.json", ONE_OF_EACH), (b"r1.cfg", R1_TWO_NETWORKS)],
+        words: VERIFY,
+        text: b"arc-report 1\n1 reach yes 0\n2 through no 1\nwalk 10.1.0.0/24 10.2.0.0/24\n3 blocked no 1\n\
+walk 10.1.0.0/24 10.2.0.0/24\nend\n",
+        code: 1,
+    },
+    Row {
+        files: &[(b"net.json", NO_POLICY), (b"r1.cfg", R1)],
+        words: VERIFY,
+        text: b"arc-report 1\nend\n",
+        code: 0,
+    },
+    Row {
+        files: &[(b"net.json", MANY_FAILURES), (b"r1.cfg", R1)],
+        words: VERIFY,
+        text: b"refused net.json 1 limit failures 17\n",
+        code: 5,
     },
     Row {
         files: &[

@@ -1,12 +1,13 @@
 //! The command `trace DOC FROM TO`.
-ghost use Rattle.std.specs.Prelude.{◌≡◌, ◌⊎◌, ◌≤◌, None, length, option_copied, IfOk, IfErr};
+ghost use Rattle.std.specs.Prelude.{◌≡◌, ◌≤◌, None, length, option_copied, IfOk, IfErr};
 ghost use Rattle.arc_outside.specs.Causes.{Rose};
 ghost use Rattle.net_model.specs.Validity.{IsValid};
 ghost use Rattle.arc_run.specs.Outcomes.{Answers, HasStopCause};
-ghost use Rattle.arc_run.specs.Traces.{first_above, down_flags, refusal_of};
+ghost use Rattle.arc_run.specs.Traces.{first_above, down_flags};
 
 use crate::inputs::read_input;
-use crate::outcome::{Done, FileRefusal, Reason, Stop};
+use crate::outcome::{Done, Stop};
+use crate::refusals::refused;
 use crate::words::{Command, TraceWords};
 use arc_base::{Kind, List, Memory, Name};
 use arc_outside::Store;
@@ -33,20 +34,6 @@ fn down_flags(alloc: Global, links: u32, numbers: &[u32]) -> Result<Vec<bool>, A
         }
     }
     Ok(flags)
-}
-
-// The refusal of the document for its words.
-fn refused(alloc: Global, document: &Name, number: u32, kind: Kind) -> Stop
-    ensures { (result ≡ Stop.Memory) ⊎ (result ≡ Stop.Refused (refusal_of document.now number kind)) }
-{
-    match Name::make(alloc, document.bytes()) {
-        Ok(name) => Stop::Refused(FileRefusal {
-            name,
-            number,
-            reason: Reason::Kind(kind),
-        }),
-        Err(Memory) => Stop::Memory,
-    }
 }
 
 /// Traces packets from the one prefix to the other, with these links down.

@@ -3,24 +3,41 @@ ghost use Rattle.std.specs.Prelude.{◌≡◌, ◌≤◌, length, IfOk, IfErr};
 ghost use Rattle.std.specs.List.{AllZip, list_all};
 ghost use Rattle.arc_outside.specs.Causes.{Rose};
 ghost use Rattle.net_model.specs.Witnesses.{is_yes};
+ghost use Rattle.arc_run.specs.Counts.{CountsClasses};
 ghost use Rattle.arc_run.specs.Inputs.{IsFit};
 ghost use Rattle.arc_run.specs.Outcomes.{Answers, HasStopCause};
 ghost use Rattle.arc_run.specs.Verifies.{IsVerdictOn, verdicts_status};
 
 use crate::inputs::{Input, read_input};
 use crate::outcome::{Done, Stop};
+use crate::refusals::refused;
 use crate::words::Command;
-use arc_base::{List, Memory, Name};
+use arc_base::{Kind, LimitKind, List, Memory, Name};
 use arc_outside::Store;
 use net_model::Verdict;
 use policy_report::report;
 use std::alloc::Global;
+use traffic_classes::{ClassFault, all_classes};
 use verdicts::judge;
 
-// The verdict on each policy of the document, in order.
+// Counts the traffic classes of the policies, or refuses the document for too many.
+fn count_classes(alloc: Global, document: &Name, input: &Input) -> Result<(), Stop>
+    ensures { CountsClasses document.now input.now.net input.now.doc.policies result }
+{
+    match all_classes(alloc, &input.net, &input.doc.policies) {
+        Ok(_) => Ok(()),
+        Err(ClassFault::TooMany(count)) => {
+            let kind = Kind::Limit(LimitKind::Classes, count);
+            Err(refused(alloc, document, 0, kind))
+        }
+        Err(ClassFault::Memory) => Err(Stop::Memory),
+    }
+}
+
+// The verdict on each policy of the document, in order. Once all classes are few, no policy has too many.
 fn judge_all(alloc: Global, input: &Input) -> Result<List<Verdict>, Memory>
     requires { IsFit input.now }
-    ensures { IfOk result (AllZip (IsVerdictOn input.now.net) input.now.doc.policies) }
+    ensures { IfOk result (AllZip (IsVerdictOn input.now.net input.now.doc.policies) input.now.doc.policies) }
 {
     let mut verdicts = List::make(alloc);
     for which in 0..input.doc.policies.len() {
@@ -66,6 +83,10 @@ pub fn verify<S: Store>(alloc: Global, document: &Name, store: &mut S) -> Result
         Ok(input) => input,
         Err(stop) => return Err(stop),
     };
+    match count_classes(alloc, document, &input) {
+        Ok(()) => {}
+        Err(stop) => return Err(stop),
+    }
     let verdicts = match judge_all(alloc, &input) {
         Ok(verdicts) => verdicts,
         Err(Memory) => return Err(Stop::Memory),

@@ -19,7 +19,8 @@ use Rattle.net_model.specs.declared.rows.LinkRow.{LinkRow}
 use Rattle.net_model.specs.declared.rows.RouterRow.{RouterRow}
 use Rattle.net_model.specs.declared.rows.Protocol.{Protocol}
 use Rattle.net_model.specs.declared.rows.Network.{Network}
-use Rattle.net_model.specs.Forwarding.{LiesInHostOf}
+use Rattle.net_model.specs.Forwarding.{HasEnds}
+use Rattle.net_model.specs.Packets.{subject}
 use Rattle.net_model.specs.Validity.{IsValid, IsValidFace, IsValidLink, IsValidSession, AreSessionsApart, IsValidPacketList, IsValidRouteList, AreLinksApart, IsLinkEnd, IsPlace, IsName, IsFaceName, FitsProtocol}
 use Rattle.net_model.proofs.Arcs.{one_item}
 use Rattle.net_build.specs.declared.kinds.FaceKind.{FaceKind}
@@ -33,7 +34,6 @@ use Rattle.net_build.specs.Named.{AreNamesRight}
 use Rattle.net_build.specs.Rows.{IsFaceRow, IsLinkRow, IsSubnet, IsHostNetwork, IsEnd, AreRows, router_row, host_len}
 use Rattle.net_build.specs.Conditions.{JoinsFaces, HostnamesDiffer, KeepsLimits, FitsSubnets, HaveOneSubnet, OverlapsNowhere, HasEndpoints}
 use Rattle.net_build.specs.Claims.{SharesSubnet}
-use Rattle.net_build.specs.PlainNetwork.{HasTwoEnds}
 use Rattle.net_build.proofs.Cases.{at_true}
 use Rattle.net_build.proofs.Distinct.{Contains-at, AllPairs-back, AllPairs-between}
 use Rattle.net_build.proofs.FewFaces.{counts, few_sites, sum_zip}
@@ -269,9 +269,9 @@ module _ (doc : Document) (plain : List PlainFile) (net : Network) (k : AreKnown
     protocol = subst (λ (p : Protocol). FitsProtocol p net) (sym k.rows.protocol) k.rows.sessions;
   }
 
--- the end points of a policy are two interfaces
-pub two_ends_of : (net : Network) → IsValid net → (policy : Policy) → HasEndpoints net policy.from policy.to → HasTwoEnds net policy
-two_ends_of net is_valid policy h =
+-- the end points of a policy are two different host networks
+pub ends_of : (net : Network) → IsValid net → (policy : Policy) → HasEndpoints net policy.from policy.to → HasEnds net (subject policy)
+ends_of net is_valid policy h =
     let to : (p : Prefix) × (h.to.face.host ≡ Some p) × IsInside policy.to p = some_of h.to.face.host (IsInside policy.to) h.to.lies in
     record {
       ends = record { source = h.from.face; target = h.to.face; to = to.0 };
@@ -282,8 +282,9 @@ two_ends_of net is_valid policy h =
         host = to.1;
         to = to.2;
       };
-      apart = λ same. h.apart (one_host net is_valid policy.from h.source h.target h.from
-          (record { face = h.to.face; at_place = h.to.at_place; lies = subst (λ (f : FaceRow). LiesInHostOf policy.from f) same h.from.lies }));
+      apart = λ same.
+          let P : Option Prefix → Type 0 = λ o. IsSomeAnd o (IsInside policy.from) in
+          h.apart (one_host net is_valid policy.from h.source h.target h.from (record { face = h.to.face; at_place = h.to.at_place; lies = subst P same h.from.lies }));
     }
 
 -- what the tests and the rows say

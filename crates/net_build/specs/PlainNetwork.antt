@@ -1,10 +1,7 @@
 -- The network of a document and its plain files.
-use Rattle.std.specs.Prelude.{◌≡◌, ◌≢◌, List, All}
+use Rattle.std.specs.Prelude.{◌≡◌, List, All}
 use Rattle.net_model.specs.declared.policies.Document.{Document}
-use Rattle.net_model.specs.declared.policies.Policy.{Policy}
 use Rattle.net_model.specs.declared.rows.Network.{Network}
-use Rattle.net_model.specs.Packets.{subject}
-use Rattle.net_model.specs.Forwarding.{Ends, AreEnds}
 use Rattle.plain_files.specs.declared.plain.PlainFile.{PlainFile}
 use Rattle.net_build.specs.Sites.{full_names}
 use Rattle.net_build.specs.Rows.{AreRows}
@@ -23,12 +20,6 @@ pub record IsNetworkOfPlain (doc : Document) (plain : List PlainFile) (net : Net
   pub adjacency_form : All HasOneType doc.links
   pub endpoint : All (λ policy. HasEndpoints net policy.from policy.to) doc.policies
   pub limit : KeepsLimits doc plain
-
--- the policy's prefixes lie in the host networks of two different interfaces
-pub record HasTwoEnds (net : Network) (policy : Policy) : Type 0 where
-  pub ends : Ends
-  pub are_ends : AreEnds net (subject policy) ends
-  pub apart : ends.source ≢ ends.target
 
 -- a document and plain files have one network at most
 abbrev pub HasOneNetwork : Type 0

@@ -5,7 +5,9 @@ ghost use Rattle.plain_files.specs.Plain.{IsWellFormed};
 ghost use Rattle.net_build.specs.Rows.{AreRows};
 ghost use Rattle.net_build.specs.Named.{AreNamesRight};
 ghost use Rattle.net_build.specs.Conditions.{KeepsLimits};
-ghost use Rattle.net_build.specs.PlainNetwork.{IsNetworkOfPlain, HasTwoEnds};
+ghost use Rattle.net_model.specs.Packets.{subject};
+ghost use Rattle.net_model.specs.Forwarding.{HasEnds};
+ghost use Rattle.net_build.specs.PlainNetwork.{IsNetworkOfPlain};
 
 use crate::conditions::{has_one_area, hostnames_differ, keeps_limits};
 use crate::endpoints::all_have_endpoints;
@@ -66,7 +68,7 @@ pub fn assemble(
     ensures valid { IfOk result (λ found. IfSome found IsValid) }
     ensures sessions { IfOk result (λ found. IfSome found (λ net. net.sessions ≡ [])) }
     ensures packet_lists { IfOk result (λ found. IfSome found (λ net. net.packet_lists ≡ [])) }
-    ensures ends { IfOk result (λ found. IfSome found (λ net. All (HasTwoEnds net) doc.now.policies)) }
+    ensures ends { IfOk result (λ found. IfSome found (λ net. All (λ policy. HasEnds net (subject policy)) doc.now.policies)) }
 {
     if !keeps_limits(doc, plain) {
         return Ok(None);

@@ -4,7 +4,8 @@ ghost use Rattle.net_model.specs.declared.rows.Network.{Network};
 ghost use Rattle.net_model.specs.Validity.{IsValid};
 ghost use Rattle.plain_files.specs.Plain.{IsWellFormed};
 ghost use Rattle.net_build.specs.Networks.{AreRead, BuildsNetwork, IsNetworkOf, IsUnknownLine, KnowsLines};
-ghost use Rattle.net_build.specs.PlainNetwork.{HasTwoEnds};
+ghost use Rattle.net_model.specs.Packets.{subject};
+ghost use Rattle.net_model.specs.Forwarding.{HasEnds};
 
 use crate::assembly::assemble;
 use arc_base::{Kind, List, Memory, Name};
@@ -60,7 +61,7 @@ fn find(alloc: Global, doc: &Document, files: &[Name]) -> Result<Option<Network>
         (IsNetworkOf doc.now files.now)) }
     ensures valid { IfOk result (λ found. IfSome found IsValid) }
     ensures packet_lists { IfOk result (λ found. IfSome found (λ net. net.packet_lists ≡ [])) }
-    ensures ends { IfOk result (λ found. IfSome found (λ net. All (HasTwoEnds net) doc.now.policies)) }
+    ensures ends { IfOk result (λ found. IfSome found (λ net. All (λ policy. HasEnds net (subject policy)) doc.now.policies)) }
 {
     match read_plain(alloc, files)? {
         Some(plain) => assemble(alloc, doc, &plain),
@@ -77,7 +78,7 @@ pub fn network(alloc: Global, doc: &Document, files: &List<Name>) -> Result<Netw
     ensures answer { BuildsNetwork doc.now files.now result }
     ensures valid { IfOk result IsValid }
     ensures packet_lists { IfOk result (λ net. net.packet_lists ≡ []) }
-    ensures ends { IfOk result (λ net. All (HasTwoEnds net) doc.now.policies) }
+    ensures ends { IfOk result (λ net. All (λ policy. HasEnds net (subject policy)) doc.now.policies) }
 {
     match unknown(files.slice()) {
         Some(refusal) => return Err(NetFault::Refused(refusal)),

@@ -1,5 +1,5 @@
 -- What a text that is a document holds, and what is answered of one.
-use Rattle.std.proofs.Common.{◌≡◌, ◌≢◌, ℕ, ◌+◌, ◌<◌, ◌≤◌, nat_lt, lt-ltb, true≢false, inl, inr, cond, codes, if◌then◌else◌, Bool, true, false, List, [], ◌∷◌, length, Option, Some, None, option_and_then, Result, Ok, Err, IfOk, refl, sym, ap, subst, ◌∙◌, arith}
+use Rattle.std.proofs.Common.{◌≡◌, ◌≢◌, ℕ, ◌+◌, ◌≤◌, nat_lt, lt-ltb, true≢false, inl, inr, cond, codes, if◌then◌else◌, Bool, true, false, List, [], ◌∷◌, length, Option, Some, None, option_and_then, Ok, Err, refl, sym, ap, subst, ◌∙◌, arith}
 use Rattle.std.proofs.lemmas.Bool.{and_parts, leb-true, cases_lt}
 use Rattle.std.proofs.lemmas.List.Elements.{All-from_recursion}
 use Rattle.std.proofs.lemmas.Option.{same_Some}
@@ -20,10 +20,9 @@ use Rattle.net_model.specs.declared.policies.Weights.{Weights}
 use Rattle.net_model.specs.declared.policies.Policy.{Policy}
 use Rattle.net_model.specs.declared.policies.Document.{Document}
 use Rattle.net_doc.specs.declared.fault.NetFault.{NetFault}
-use Rattle.net_doc.specs.declared.fault.NetFault.TheVariants.{Refused}
 use Rattle.net_doc.specs.declared.fault.Refusal.{Refusal}
 use Rattle.net_doc.specs.Members.{all_of, list_under, number_under, or_default}
-use Rattle.net_doc.specs.Documents.{router_of, routers_of, links_of, policies_of, weight_from, weight_under, weights_from, weights_of, unit_weights, document_from, document_of, form_refusal, over, failures_refusal, policies_refusal, limit_refusal, within_limits, limited, reading, ReadsDocument, IsFileName, IsWeight, HasFewFailures, IsWellFormed}
+use Rattle.net_doc.specs.Documents.{router_of, routers_of, links_of, policies_of, weight_from, weight_under, weights_from, weights_of, unit_weights, document_from, document_of, form_refusal, over, failures_refusal, policies_refusal, limit_refusal, within_limits, limited, reading, IsFileName, IsWeight, HasFewFailures, IsWellFormed}
 use Rattle.net_doc.proofs.Names.{AllPairs-different}
 
 -- where each form that reads has a property, so have all items

@@ -2,3 +2,4 @@ pub mod Readings
 pub mod Names
 pub mod Forms
 pub mod Drafted
+pub mod Refused

@@ -1,11 +1,12 @@
 -- Which document a text is: JSON (RFC 8259), an object whose members have these forms.
-use Rattle.std.specs.Prelude.{◌≡◌, ◌≢◌, ℕ, ◌==◌, ◌+◌, ◌≤◌, ◌&&◌, nat_le, nat_lt, Bool, true, false, not, List, [], ◌∷◌, length, codes, bytes_eq, Option, Some, None, option_map, option_and_then, if◌then◌else◌, Result, Ok, Err, All, AllPairs}
+use Rattle.std.specs.Prelude.{◌≡◌, ◌≢◌, ◌⊎◌, ℕ, ◌==◌, ◌+◌, ◌≤◌, ◌&&◌, nat_le, nat_lt, Bool, true, false, not, List, [], ◌∷◌, length, codes, bytes_eq, Option, Some, None, option_map, option_and_then, if◌then◌else◌, Result, Ok, Err, All, AllPairs}
 use Rattle.std.specs.List.{list_any}
 use Rattle.std.specs.Option.{option_or}
 use Rattle.std.specs.Str.{is_utf8}
 use Rattle.serde_json.specs.Data.{Data}
 use Rattle.serde_json.specs.Find.{get, as_bool, as_number, as_u64, as_str}
 use Rattle.serde_json.specs.Read.{read}
+use Rattle.arc_base.specs.declared.refusal.Kind.{Kind}
 use Rattle.arc_base.specs.declared.refusal.Kind.TheVariants.{DocumentForm, Limit}
 use Rattle.arc_base.specs.declared.refusal.LimitKind.{LimitKind}
 use Rattle.arc_base.specs.declared.refusal.LimitKind.TheVariants.{Routers, Links, Policies, Failures}
@@ -224,3 +225,7 @@ pub record IsWellFormed (doc : Document) : Type 0 where
   pub list : IsWeight doc.weights.list
   pub filter : IsWeight doc.weights.filter
   pub session : IsWeight doc.weights.session
+
+-- a text is refused for its form, or for a count that passes its limit
+abbrev pub IsFormOrLimit : Kind → Type 0
+IsFormOrLimit kind = (kind ≡ DocumentForm) ⊎ ((what : LimitKind) × (count : ℕ) × (kind ≡ Limit what count))

@@ -1,5 +1,5 @@
 -- Documents as they are written, before the number of failures of a policy is known to be within its limit.
-use Rattle.std.specs.Prelude.{ℕ, map, Vec}
+use Rattle.std.specs.Prelude.{map}
 use Rattle.net_model.specs.declared.policies.PolicyKind.{PolicyKind}
 use Rattle.net_model.specs.declared.policies.PolicyKind.TheVariants as kinds
 use Rattle.net_model.specs.declared.policies.Policy.{Policy}

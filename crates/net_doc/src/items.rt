@@ -138,10 +138,7 @@ pub(crate) fn read_policies(alloc: Global, value: &Value) -> Result<Option<Vec<P
 fn read_policy(value: &Value) -> Option<PolicyText>
     ensures { option_map policy_meant result ≡ policy_of (view value.now) }
 {
-    let kind = read_kind(
-        text_under(value, "kind")?,
-        number_under(value, "failures"),
-    )?;
+    let kind = read_kind(text_under(value, "kind")?, number_under(value, "failures"))?;
     let from = read_prefix(text_under(value, "from")?.as_bytes())?;
     let to = read_prefix(text_under(value, "to")?.as_bytes())?;
     if has_policy_members(value, kind) {

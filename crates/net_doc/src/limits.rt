@@ -9,8 +9,11 @@ use arc_base::{Kind, LimitKind};
 
 /// How many routers, links and policies a document may have, and how many failures a policy may speak of.
 const ROUTERS: u64 = 256;
+
 const LINKS: u64 = 1024;
+
 const POLICIES: u64 = 256;
+
 const FAILURES: u64 = 16;
 
 /// The first count that passes its limit.

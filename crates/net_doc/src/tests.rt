@@ -3,7 +3,8 @@ use arc_base::{Kind, LimitKind, Prefix};
 use net_model::PolicyKind;
 use std::test::Fail;
 
-const WHOLE: &str = r#"{"version": 1, "routers": ["r1.cfg"], "links": [{"a": "r1:Ethernet0", "b": "r2:Ethernet0", "waypoint": true}],
+const WHOLE: &str =
+    r#"{"version": 1, "routers": ["r1.cfg"], "links": [{"a": "r1:Ethernet0", "b": "r2:Ethernet0", "waypoint": true}],
     "policies": [{"kind": "reach", "from": "10.1.0.0/24", "to": "10.2.0.0/24", "failures": 16},
     {"kind": "through", "from": "10.1.0.0/24", "to": "10.2.0.0/24"}], "weights": {"filter": 16}}"#;
 

@@ -1,9 +1,11 @@
-pub mod NewVisits
-pub mod Readings
+pub mod Lists
 pub mod Ways
-pub mod Hops
-pub mod Classes
 pub mod Walks
 pub mod ClosedSides
-pub mod Policies
-pub mod ExampleNetwork
+pub mod Reached
+pub mod Firsts
+pub mod Passing
+pub mod Pushes
+pub mod Clear
+pub mod Cuts
+pub mod Verdicts

@@ -1,50 +1,57 @@
--- Which policies can be judged, and which of the right verdicts is given.
-use Rattle.std.specs.Prelude.{◌≡◌, ℕ, Bool, List, [], ◌∷◌, All}
+-- Which policies can be judged, and what is found of their classes.
+use Rattle.std.specs.Prelude.{ℕ, ◌<◌, ◌≤◌, List, All}
 use Rattle.net_model.specs.declared.policies.Class.{Class}
-use Rattle.net_model.specs.declared.policies.Policy.{Policy}
 use Rattle.net_model.specs.declared.policies.PolicyKind.{PolicyKind}
-use Rattle.net_model.specs.declared.policies.PolicyKind.TheVariants.{Blocked}
+use Rattle.net_model.specs.declared.policies.PolicyKind.TheVariants.{Through, Reach}
 use Rattle.net_model.specs.declared.rows.Network.{Network}
 use Rattle.net_model.specs.declared.verdicts.Verdict.{Verdict}
-use Rattle.net_model.specs.declared.verdicts.Verdict.TheVariants.{Closed, Paths, Walk, Denied, Cut, Refused}
-use Rattle.net_model.specs.Packets.{subject}
-use Rattle.net_model.specs.Forwarding.{Ends, AreEnds}
-use Rattle.net_model.specs.Witnesses.{IsUniform, IsOn, IsClosed, IsRightBlocking}
+use Rattle.net_model.specs.declared.verdicts.Verdict.TheVariants.{Walk}
+use Rattle.net_model.specs.Forwarding.{Ends}
+use Rattle.net_model.specs.Witnesses.{IsRightWalk, IsRightReach, IsRightFor}
+use Rattle.class_graph.specs.declared.modes.Mode.{Mode}
+use Rattle.class_graph.specs.declared.modes.Mode.TheVariants.{Permitted, PermittedOffWaypoint}
+use Rattle.class_graph.specs.Classes.{AreUniform}
+use Rattle.verdicts.specs.declared.fault.JudgeFault.{JudgeFault}
+use Rattle.verdicts.specs.declared.fault.JudgeFault.TheVariants.{TooMany, Memory}
+use Rattle.verdicts.specs.declared.blocking.ClassAnswer.{ClassAnswer}
+use Rattle.verdicts.specs.declared.blocking.ClassAnswer.TheVariants as answers
+use Rattle.verdicts.specs.Fixed.{IsFirstAfter, HasClosedSide, IsLeastClosed, IsFixedBlocking, IsFixedReach, IsFixedFor}
 
--- the class's two prefixes lie in host networks of the network
-pub record HasEnds (net : Network) (class : Class) : Type 0 where
-  pub ends : Ends
-  pub are_ends : AreEnds net class ends
+-- a policy of this kind speaks of at most 16 failures
+abbrev pub HasFewFailures : PolicyKind → Type 0
+HasFewFailures (Reach k) = k ≤ 16
+HasFewFailures _ = Unit {0}
 
--- each packet list of the network gives one answer to all packets of the class
-abbrev pub AreUniform : Network → Class → Type 0
-AreUniform net class = All (λ l. IsUniform l.entries class) net.packet_lists
+-- a fault of too many classes names a number that the fact holds of, and that is above 4,096
+abbrev pub CountsMore : (ℕ → Type 0) → JudgeFault → Type 0
+CountsMore P (TooMany count) = P count × (4096 < count)
+CountsMore P Memory = Unit {0}
 
--- the side is closed, and every closed side holds its routers
-pub record IsLeastClosed (net : Network) (ends : Ends) (kind : PolicyKind) (class : Class) (side : List Bool) : Type 0 where
-  pub closed : IsClosed net ends kind class side
-  pub least : (other : List Bool) → IsClosed net ends kind class other → (router : ℕ) → IsOn side router → IsOn other router
+-- the arcs over which a walk may break a policy of this kind, of those that permit packets
+abbrev pub mode_of : PolicyKind → Mode
+mode_of Through = PermittedOffWaypoint
+mode_of _ = Permitted
 
--- the least closed side of the whole class, or a walk of the whole class
-abbrev pub IsOfWhole : Network → Ends → PolicyKind → Class → Verdict → Type 0
-IsOfWhole net ends kind whole (Closed []) = ⊥
-IsOfWhole net ends kind whole (Closed (shown ∷ [])) = (shown.class ≡ whole) × IsLeastClosed net ends kind whole shown.side
-IsOfWhole net ends kind whole (Closed (shown ∷ other ∷ more)) = ⊥
-IsOfWhole net ends kind whole (Walk class path) = class ≡ whole
-IsOfWhole net ends kind whole (Paths paths) = ⊥
-IsOfWhole net ends kind whole (Denied class) = ⊥
-IsOfWhole net ends kind whole (Cut links side) = ⊥
-IsOfWhole net ends kind whole (Refused p link) = ⊥
+-- the answer for a class: its least closed side, or a right walk
+abbrev pub IsClassAnswer : Network → Ends → PolicyKind → Class → ClassAnswer → Type 0
+IsClassAnswer net ends kind class (answers.Closed side) = IsLeastClosed net ends kind class side
+IsClassAnswer net ends kind class (answers.Walk path) = IsRightWalk net ends kind class class path
 
--- the verdict is the one that is given: one closed side, the least of the policy's whole class, or a walk of that class
-pub record IsFixed (net : Network) (policy : Policy) (v : Verdict) : Type 0 where
-  pub ends : Ends
-  pub are_ends : AreEnds net (subject policy) ends
-  pub whole : IsOfWhole net ends policy.kind (subject policy) v
+-- the answer for all classes: the least closed side of each, or a right walk of the first class that has no closed side
+abbrev pub IsBlockingAnswer : Network → Ends → PolicyKind → List Class → Verdict → Type 0
+IsBlockingAnswer net ends kind classes (Walk class path) = IsFirstAfter (HasClosedSide net ends kind) classes class × IsRightWalk net ends kind class class path
+IsBlockingAnswer net ends kind classes v = IsFixedBlocking net ends kind classes v
 
--- the verdict is right for the blocked class, and the one that is given
-pub record IsVerdict (net : Network) (class : Class) (v : Verdict) : Type 0 where
-  pub ends : Ends
-  pub are_ends : AreEnds net class ends
-  pub right : IsRightBlocking net ends Blocked class v
-  pub whole : IsOfWhole net ends Blocked class v
+-- each packet list of the network is uniform on each of the classes
+abbrev pub AreAllUniform : Network → List Class → Type 0
+AreAllUniform net classes = All (AreUniform net) classes
+
+-- the verdict on a reach policy is right, and the one that is given
+pub record IsReachVerdict (net : Network) (ends : Ends) (k : ℕ) (whole : Class) (classes : List Class) (v : Verdict) : Type 0 where
+  pub right : IsRightReach net ends k whole v
+  pub fixed : IsFixedReach net ends whole classes v
+
+-- the verdict is right, and the one that is given
+pub record IsVerdict (net : Network) (ends : Ends) (kind : PolicyKind) (whole : Class) (classes : List Class) (v : Verdict) : Type 0 where
+  pub right : IsRightFor net ends kind whole v
+  pub fixed : IsFixedFor net ends kind whole classes v

@@ -1,5 +1,4 @@
+pub mod Fixed
 pub mod Judged
-pub mod Steps
-pub mod Closures
-pub mod Visits
-pub mod Example
+pub mod Sides
+pub mod Reaching

@@ -1,22 +1,28 @@
-ghost use Rattle.std.specs.Prelude.{◌≡◌, ◌<◌, [], ◌∷◌, length, slice_get, ◌↔◌, IsTrue, IfOk, IfErr, IfSome};
+ghost use Rattle.std.specs.Prelude.{◌≡◌, ◌<◌, ◌≤◌, length, slice_get, Some, IfOk, IfErr, IfSome};
 ghost use Rattle.std.specs.Option.{ForSome};
+ghost use Rattle.net_model.specs.declared.policies.Class.{Class as AnyClass};
 ghost use Rattle.net_model.specs.Packets.{subject};
 ghost use Rattle.net_model.specs.Validity.{IsValid};
+ghost use Rattle.net_model.specs.Forwarding.{Ends, HasEnds};
 ghost use Rattle.net_model.specs.Witnesses.{IsRight};
-ghost use Rattle.net_model.specs.declared.policies.PolicyKind.{PolicyKind};
-ghost use Rattle.verdicts.specs.Closures.{IsDelivered};
-ghost use Rattle.verdicts.specs.Judged.{HasEnds, AreUniform, IsFixed, IsVerdict};
+ghost use Rattle.class_graph.specs.Hosts.{IsHostPair, HasHostPair};
+ghost use Rattle.traffic_classes.specs.Classes.{AreClasses, HasClasses};
+ghost use Rattle.traffic_classes.specs.Parts.{MakeUp};
+ghost use Rattle.verdicts.specs.Fixed.{IsFixed};
+ghost use Rattle.verdicts.specs.Judged.{HasFewFailures, CountsMore, AreAllUniform, IsVerdict};
 
-use crate::adjacency::{ClassGraph, class_graph};
-use crate::closure::Closure;
+use crate::blocking::judge_blocking;
 use crate::fault::JudgeFault;
+use crate::reach::judge_reach;
 use arc_base::{List, Memory};
-use net_model::{Class, ClassSide, LinkPath, Network, Policy, Verdict};
+use class_graph::{HostPair, host_pair};
+use net_model::{Class, Network, Policy, PolicyKind, Verdict};
 use std::alloc::Global;
+use traffic_classes::{ClassFault, classes};
 
 /// The verdict on the policy at a place, counted from 0.
 ///
-/// One search from the source over the routed arcs decides for all sets of failed links at once.
+/// It looks at each traffic class of the policy once, and at no set of failed links.
 pub fn judge(
     alloc: Global,
     net: &Network,
@@ -25,17 +31,39 @@ pub fn judge(
 ) -> Result<Verdict, JudgeFault>
     requires valid { IsValid net.now }
     requires place { which < length policies.now }
-    requires blocked { ForSome (slice_get policies.now which) (λ p. p.kind ≡ PolicyKind.Blocked) }
     requires ends { ForSome (slice_get policies.now which) (λ p. HasEnds net.now (subject p)) }
-    requires uniform { ForSome (slice_get policies.now which) (λ p. AreUniform net.now (subject p)) }
+    requires failures { ForSome (slice_get policies.now which) (λ p. HasFewFailures p.kind) }
     ensures right { IfOk result (λ v. IfSome (slice_get policies.now which) (λ p. IsRight net.now p v)) }
-    ensures fixed { IfOk result (λ v. IfSome (slice_get policies.now which) (λ p. IsFixed net.now p v)) }
-    ensures only_memory { IfErr result (λ e. e ≡ JudgeFault.Memory) }
+    ensures fixed { IfOk result (λ v. IfSome (slice_get policies.now which) (λ p. IsFixed net.now policies.now p v)) }
+    ensures many { IfErr result (CountsMore (λ count. IfSome (slice_get policies.now which) (λ p. HasClasses net.now policies.now p count))) }
 {
     match policies.get(which) {
-        Some(policy) => Ok(judge_class(alloc, net, class_of(policy))?),
+        Some(policy) => judge_policy(alloc, net, policies, which, policy),
         None => unreachable!(),
     }
+}
+
+/// The verdict on the policy, which stands at this place.
+fn judge_policy(
+    alloc: Global,
+    net: &Network,
+    policies: &List<Policy>,
+    which: u32,
+    policy: &Policy,
+) -> Result<Verdict, JudgeFault>
+    requires valid { IsValid net.now }
+    requires at_place { slice_get policies.now which ≡ Some policy.now }
+    requires place { which < length policies.now }
+    requires ends { HasEnds net.now (subject policy.now) }
+    requires failures { HasFewFailures policy.now.kind }
+    ensures right { IfOk result (IsRight net.now policy.now) }
+    ensures fixed { IfOk result (IsFixed net.now policies.now policy.now) }
+    ensures many { IfErr result (CountsMore (λ count. IfSome (slice_get policies.now which) (λ p. HasClasses net.now policies.now p count))) }
+{
+    let parts = classes_of(alloc, net, policies, which)?;
+    let pair = host_pair(alloc, net, class_of(policy))?;
+    let verdict = judge_classes(alloc, net, &pair, &parts, policy.kind)?;
+    Ok(verdict)
 }
 
 /// All packets that the policy speaks of.
@@ -48,36 +76,43 @@ fn class_of(policy: &Policy) -> Class
     }
 }
 
-/// Whether the class is blocked, with the witness.
-fn judge_class(alloc: Global, net: &Network, class: Class) -> Result<Verdict, Memory>
-    requires valid { IsValid net.now }
-    requires ends { HasEnds net.now class }
-    requires uniform { AreUniform net.now class }
-    ensures { IfOk result (IsVerdict net.now class) }
+/// The traffic classes of the policy at a place.
+fn classes_of(
+    alloc: Global,
+    net: &Network,
+    policies: &List<Policy>,
+    which: u32,
+) -> Result<List<Class>, JudgeFault>
+    requires { which < length policies.now }
+    ensures classes { IfOk result (λ cs. IfSome (slice_get policies.now which) (λ p. AreClasses net.now policies.now p cs)) }
+    ensures parts { IfOk result (λ cs. IfSome (slice_get policies.now which) (λ p. MakeUp net.now (subject p) cs)) }
+    ensures few { IfOk result (λ cs. length cs ≤ 4096) }
+    ensures many { IfErr result (CountsMore (λ count. IfSome (slice_get policies.now which) (λ p. HasClasses net.now policies.now p count))) }
 {
-    let graph = class_graph(alloc, net, class)?;
-    let closure = Closure::of(alloc, &graph.adjacency, graph.start())?;
-    if is_delivered(&graph, &closure) {
-        let links = closure.way_to(alloc, graph.target)?;
-        return Ok(Verdict::Walk(class, LinkPath { links }));
+    match classes(alloc, net, policies, which) {
+        Ok(parts) => Ok(parts),
+        Err(ClassFault::TooMany(count)) => Err(JudgeFault::TooMany(count)),
+        Err(ClassFault::Memory) => Err(JudgeFault::Memory),
     }
-    let side = closure.side(alloc)?;
-    Ok(Verdict::Closed(one_side(alloc, class, side)?))
 }
 
-/// Whether steps lead a packet from where it enters to where it leaves.
-fn is_delivered(graph: &ClassGraph, closure: &Closure) -> bool
-    requires { graph.now.target.0 < length closure.now.seen.items }
-    ensures { IsTrue result ↔ IsDelivered graph.now closure.now }
+/// The verdict on a policy of this kind with these classes.
+fn judge_classes(
+    alloc: Global,
+    net: &Network,
+    pair: &HostPair,
+    parts: &List<Class>,
+    kind: PolicyKind,
+) -> Result<Verdict, Memory>
+    requires valid { IsValid net.now }
+    requires pair { HasHostPair net.now pair.now }
+    requires uniform { AreAllUniform net.now parts.now }
+    requires failures { HasFewFailures kind }
+    ensures { IfOk result (λ v. (ends : Ends) (whole : AnyClass) → IsHostPair net.now ends pair.now → MakeUp net.now whole parts.now → IsVerdict net.now ends kind whole parts.now v) }
 {
-    graph.leaves && closure.reaches(graph.target)
-}
-
-/// The side of one class alone.
-fn one_side(alloc: Global, class: Class, side: List<bool>) -> Result<List<ClassSide>, Memory>
-    ensures { IfOk result (λ sides. sides ≡ record { class = class; side = side } ∷ []) }
-{
-    let mut sides = List::make(alloc);
-    sides.push(ClassSide { class, side })?;
-    Ok(sides)
+    match kind {
+        PolicyKind::Blocked => judge_blocking(alloc, net, pair, parts, kind),
+        PolicyKind::Through => judge_blocking(alloc, net, pair, parts, kind),
+        PolicyKind::Reach(failures) => judge_reach(alloc, net, pair, parts, failures),
+    }
 }

@@ -1,12 +1,14 @@
-//! Answers policies, each with a witness that shows the answer. That one network is blocked from another
-//! is decided for all sets of failed links at once: what counts is how far the packets get over the
-//! routed arcs whose lists permit them.
+//! Answers policies, each with a witness that shows the answer, and decides for all sets of failed links at once. For a blocked
+//! or through policy what counts is how far the packets of each class get over the routed arcs that permit them. For a reach
+//! policy it is how many paths there are of which no two share a link, or the cut that rules them out.
 #![tactic(auto)]
 
-mod adjacency;
-mod closure;
+mod blocking;
+mod denials;
 mod fault;
 mod judgement;
+mod reach;
+mod sides;
 #[cfg(test)]
 mod tests;
 

@@ -1,7 +1,7 @@
 ghost use Rattle.std.specs.Prelude.{◌≡◌, ◌∷◌, [], true, IfOk, codes};
 ghost use Rattle.arc_base.specs.Addresses.{AreDisjoint};
-ghost use Rattle.net_model.specs.declared.policies.PolicyKind.{PolicyKind};
-ghost use Rattle.verdicts.specs.Example.{users, link_end, two_routers, router};
+ghost use Rattle.verdicts.specs.Judged.{HasFewFailures};
+ghost use Rattle.class_graph.specs.Example.{users, link_end, two_routers, router};
 
 use crate::{JudgeFault, judge};
 use arc_base::{Face, Link, List, Memory, Name, Prefix, Router};
@@ -100,51 +100,51 @@ fn network(alloc: Global, enabled: bool, here: Prefix, there: Prefix) -> Result<
     })
 }
 
-fn policy(alloc: Global, from: Prefix, to: Prefix) -> Result<List<Policy>, Memory>
-    ensures { IfOk result (λ policies. policies ≡ record { kind = PolicyKind.Blocked; from = from; to = to } ∷ []) }
+fn policy(alloc: Global, kind: PolicyKind, from: Prefix, to: Prefix) -> Result<List<Policy>, Memory>
+    ensures { IfOk result (λ policies. policies ≡ record { kind = kind; from = from; to = to } ∷ []) }
 {
     let mut policies = List::make(alloc);
-    policies.push(Policy {
-        kind: PolicyKind::Blocked,
-        from,
-        to,
-    })?;
+    policies.push(Policy { kind, from, to })?;
     Ok(policies)
 }
 
 /// The verdict on a policy from the one host network to the other.
-fn across(alloc: Global, enabled: bool, here: Prefix, there: Prefix) -> Result<Verdict, JudgeFault>
-    requires { AreDisjoint here there }
+fn across(
+    alloc: Global,
+    enabled: bool,
+    kind: PolicyKind,
+    here: Prefix,
+    there: Prefix,
+) -> Result<Verdict, JudgeFault>
+    requires disjoint { AreDisjoint here there }
+    requires few { HasFewFailures kind }
 {
     let net = network(alloc, enabled, here, there)?;
-    let policies = policy(alloc, here, there)?;
+    let policies = policy(alloc, kind, here, there)?;
     judge(alloc, &net, &policies, 0)
 }
 
-/// The verdict on a policy within the first host network.
-fn within(alloc: Global, here: Prefix, there: Prefix) -> Result<Verdict, JudgeFault>
-    requires { AreDisjoint here there }
-{
-    let net = network(alloc, true, here, there)?;
-    let policies = policy(alloc, here, here)?;
-    judge(alloc, &net, &policies, 0)
-}
-
-/// The links of a walk.
+/// The links of a walk, of the first path or of a cut.
 fn links(verdict: &Verdict) -> Option<&[Link]> {
     match verdict {
         Verdict::Walk(_, path) => Some(path.links.slice()),
+        Verdict::Cut(links, _) => Some(links.slice()),
+        Verdict::Paths(paths) => match paths.get(0) {
+            Some(path) => Some(path.links.slice()),
+            None => None,
+        },
         _ => None,
     }
 }
 
-/// The one closed side.
+/// The first closed side, or the side of a cut.
 fn side(verdict: &Verdict) -> Option<&[bool]> {
     match verdict {
         Verdict::Closed(sides) => match sides.get(0) {
             Some(shown) => Some(shown.side.slice()),
             None => None,
         },
+        Verdict::Cut(_, side) => Some(side.slice()),
         _ => None,
     }
 }
@@ -156,11 +156,16 @@ fn two_routers_are_judged(rt: HostRuntime) -> Result<(), Fail> {
     let here = Prefix::new(0x0a01_0000, 24).expect(&rt, "10.1.0.0/24");
     let there = Prefix::new(0x0a02_0000, 24).expect(&rt, "10.2.0.0/24");
     assert!(rt; here.disjoint(&there));
-    let reached = across(alloc, true, here, there)?;
-    assert!(rt; links(&reached) == Some([Link(0)].as_slice()));
-    let blocked = across(alloc, false, here, there)?;
-    assert!(rt; side(&blocked) == Some([true, false].as_slice()));
-    let local = within(alloc, here, there)?;
-    assert!(rt; links(&local) == Some([].as_slice()));
+    let walk = across(alloc, true, PolicyKind::Blocked, here, there)?;
+    assert!(rt; links(&walk) == Some([Link(0)].as_slice()));
+    let off = across(alloc, true, PolicyKind::Through, here, there)?;
+    assert!(rt; links(&off) == Some([Link(0)].as_slice()));
+    let closed = across(alloc, false, PolicyKind::Blocked, here, there)?;
+    assert!(rt; side(&closed) == Some([true, false].as_slice()));
+    let path = across(alloc, true, PolicyKind::Reach(0), here, there)?;
+    assert!(rt; links(&path) == Some([Link(0)].as_slice()));
+    let cut = across(alloc, true, PolicyKind::Reach(1), here, there)?;
+    assert!(rt; links(&cut) == Some([Link(0)].as_slice()));
+    assert!(rt; side(&cut) == Some([true, false].as_slice()));
     Ok(())
 }

@@ -9,15 +9,15 @@ use Rattle.arc_run.proofs.verifying.judge_all.Goals as goal
 pub judge-requires-clause-ends : goal.judge-requires-clause-ends
 judge-requires-clause-ends c = at_place _ _ _ c.requires.ends
 
-pub judge-requires-clause-uniform : goal.judge-requires-clause-uniform
-judge-requires-clause-uniform c = at_place _ _ _ c.requires.uniform
+pub judge-requires-clause-failures : goal.judge-requires-clause-failures
+judge-requires-clause-failures c = at_place _ _ _ c.requires.failures
 
 pub loop-which-preserved : goal.loop-which-preserved
 loop-which-preserved c =
     let pushed : c.push.new.self ≡ c.loop-which.verdicts ++ c.in-Ok.verdict ∷ [] = c.in_ok-push-in-Ok.ensures.ok in
-    let on = verdict_on c.args.input.now.net (slice_get c.args.input.now.doc.policies c.loop-which.which) c.in-Ok.verdict c.in-Ok.ensures.right c.in-Ok.ensures.fixed in
+    let on = verdict_on c.args.input.now.net c.args.input.now.doc.policies (slice_get c.args.input.now.doc.policies c.loop-which.which) c.in-Ok.verdict c.in-Ok.ensures.right c.in-Ok.ensures.fixed in
     record {
-      judged = subst (λ (vs : List Verdict). AllZip (IsVerdictOn c.args.input.now.net) (take (c.loop-which.which + 1) c.args.input.now.doc.policies) vs) (sym pushed)
-          (zip_more (IsVerdictOn c.args.input.now.net) c.args.input.now.doc.policies c.loop-which.verdicts c.loop-which.which c.in-Ok.verdict (omega arith) c.loop-which.invariant.judged on);
+      judged = subst (λ (vs : List Verdict). AllZip (IsVerdictOn c.args.input.now.net c.args.input.now.doc.policies) (take (c.loop-which.which + 1) c.args.input.now.doc.policies) vs) (sym pushed)
+          (zip_more (IsVerdictOn c.args.input.now.net c.args.input.now.doc.policies) c.args.input.now.doc.policies c.loop-which.verdicts c.loop-which.which c.in-Ok.verdict (omega arith) c.loop-which.invariant.judged on);
       count = omega (arith, ap length pushed, length-append c.loop-which.verdicts (c.in-Ok.verdict ∷ []), c.loop-which.invariant.count);
     }

@@ -5,6 +5,6 @@ use Rattle.arc_run.proofs.verifying.judge_all.Given as goal
 
 abbrev pub invariant-loop-which : goal.invariant-loop-which
 invariant-loop-which l = record {
-  judged : AllZip (IsVerdictOn l.input.net) (take l.which l.input.doc.policies) l.verdicts;
+  judged : AllZip (IsVerdictOn l.input.net l.input.doc.policies) (take l.which l.input.doc.policies) l.verdicts;
   count : length l.verdicts ≡ l.which;
 }

@@ -7,11 +7,12 @@ use Rattle.net_model.specs.declared.rows.Network.{Network}
 use Rattle.net_model.specs.Validity.{IsValid}
 use Rattle.net_build.specs.Named.{AreNamesRight}
 use Rattle.net_build.specs.Conditions.{FitsSubnets, OverlapsNowhere, HasEndpoints}
-use Rattle.net_build.specs.PlainNetwork.{HasTwoEnds}
+use Rattle.net_model.specs.Forwarding.{HasEnds}
+use Rattle.net_model.specs.Packets.{subject}
 use Rattle.net_build.proofs.Cases.{at_true, at_false}
 use Rattle.net_build.proofs.Named.{full_names_distinct, no_face_twice}
 use Rattle.net_build.proofs.SameRows.{same_rows}
-use Rattle.net_build.proofs.ValidNetwork.{AreKnown, links_apart, subnets_known, links_share, valid, two_ends_of, known_from}
+use Rattle.net_build.proofs.ValidNetwork.{AreKnown, links_apart, subnets_known, links_share, valid, ends_of, known_from}
 use Rattle.net_build.proofs.assembly.assemble.Goals as goal
 
 pub returns-in-None-clause-exact : goal.returns-in-None-clause-exact
@@ -97,5 +98,5 @@ returns-clause-ends c =
     c.if-not-keeps_limits.false c.in_ok-differ.ensures c.if-not-differ.false c.in_ok-net.ensures.names c.in_ok-net.ensures.rows c.in-Some.is in
     let clear : OverlapsNowhere c.in-Some.net = at_true _ _ _ c.if-not-clear.false c.in_ok-clear.ensures in
     let is_valid : IsValid c.in-Some.net = valid c.args.doc.now c.args.plain.now c.in-Some.net k clear in
-    All-weaker (λ policy. HasEndpoints c.in-Some.net policy.from policy.to) (HasTwoEnds c.in-Some.net) (two_ends_of c.in-Some.net is_valid) c.args.doc.now.policies
+    All-weaker (λ policy. HasEndpoints c.in-Some.net policy.from policy.to) (λ policy. HasEnds c.in-Some.net (subject policy)) (ends_of c.in-Some.net is_valid) c.args.doc.now.policies
     (c.all_have_endpoints.ensures.0 c.if-not-all_have_endpoints.false)

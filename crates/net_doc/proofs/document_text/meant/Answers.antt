@@ -9,7 +9,7 @@ pub policy_meant-requires : goal.policy_meant-requires
 policy_meant-requires c =
     let i = c.loop-text.text-index in
     let at : get_or c.args.draft.policies.items i c.text-item.result ≡ c.text-item.result =
-        ap (λ (ts : List PolicyText). get_or ts i c.text-item.result) (sym c.deref-text-items.ensures.value) ∙ sym c.text-item.is in
+    ap (λ (ts : List PolicyText). get_or ts i c.text-item.result) (sym c.deref-text-items.ensures.value) ∙ sym c.text-item.is in
     let P : PolicyText → Type 0 = λ t. HasFewFailures (kind_meant t.kind) in
     let within : i < length c.args.draft.policies.items = omega (arith, c.loop-text-test.true, ap length c.deref-text-items.ensures.value) in
     subst P at (few_at c.args.draft i c.text-item.result c.requires within)

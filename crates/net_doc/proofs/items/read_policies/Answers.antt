@@ -1,4 +1,4 @@
-use Rattle.std.proofs.Common.{◌≡◌, ◌∙◌, sym, ap, option_and_then}
+use Rattle.std.proofs.Common.{◌∙◌, sym, ap, option_and_then}
 use Rattle.serde_json.specs.View.{view}
 use Rattle.serde_json.specs.declared.value.Value.{Value}
 use Rattle.net_doc.specs.Members.{all_of}
@@ -15,4 +15,4 @@ returns-in_default-read_policy c =
 pub loop-item-preserved : goal.loop-item-preserved
 loop-item-preserved c =
     policies_next c.in-Some.items.now c.loop-item.item-index c.item-item.result c.loop-item.policies.items c.push.new.self.items c.in-Some-read_policy.policy c.loop-item-test.true c.loop-item.invariant
-        (c.in-Some-read_policy.ensures ∙ ap (λ (v : Value). policy_of (view v)) c.item-item.is) c.in_ok-push.ensures.items
+    (c.in-Some-read_policy.ensures ∙ ap (λ (v : Value). policy_of (view v)) c.item-item.is) c.in_ok-push.ensures.items

@@ -1,0 +1,7 @@
+pub mod Classes
+pub mod Answers
+pub mod Hosts
+pub mod Graphs
+pub mod Building
+pub mod Denials
+pub mod Example

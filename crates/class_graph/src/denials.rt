@@ -1,0 +1,66 @@
+ghost use Rattle.std.specs.Prelude.{◌↔◌, ℕ, IsTrue, IfOk, IfSome, IfNone, MatchOption};
+ghost use Rattle.net_model.specs.Tables.{AreRoutedLinks};
+ghost use Rattle.class_graph.specs.Classes.{AreUniform};
+ghost use Rattle.class_graph.specs.Hosts.{HasHostPair};
+ghost use Rattle.class_graph.specs.Denials.{IsLeastDenied, IsDeniedNowhere, IsDeniedBy, IsDeniedOver, IsLeastDeniedBy};
+
+use crate::answers::{arc_allows, list_answers};
+use crate::arcs::leads;
+use crate::hosts::HostPair;
+use arc_base::{Link, List, Memory};
+use net_model::{Class, Network};
+use std::alloc::Global;
+
+/// The first link over which an arc is routed that denies the class.
+pub fn denied_link(
+    alloc: Global,
+    net: &Network,
+    pair: &HostPair,
+    class: Class,
+) -> Result<Option<Link>, Memory>
+    requires pair { HasHostPair net.now pair.now }
+    requires uniform { AreUniform net.now class }
+    ensures { IfOk result (λ found. MatchOption found (IsDeniedNowhere net.now pair.now.to class) (λ link. IsLeastDenied net.now pair.now.to class link.0)) }
+{
+    let answers = list_answers(alloc, net, class)?;
+    Ok(denied_by(net, pair, &answers))
+}
+
+/// The first link over which an arc is routed that denies the packets, where this is what lists answer.
+fn denied_by(net: &Network, pair: &HostPair, answers: &List<bool>) -> Option<Link>
+    requires { AreRoutedLinks net.now pair.now.to pair.now.routed }
+    ensures found { IfSome result (λ link. IsLeastDeniedBy net.now pair.now.to answers.now link.0) }
+    ensures none { IfNone result ((link : ℕ) → ¬ IsDeniedBy net.now pair.now.to answers.now link) }
+{
+    for place in 0..net.links.len() {
+        if denies(net, pair, answers, Link(place), true)
+            || denies(net, pair, answers, Link(place), false)
+        {
+            return Some(Link(place));
+        }
+    }
+    None
+}
+
+/// Whether the link's arc in this direction is routed, and does not permit the packets.
+fn denies(net: &Network, pair: &HostPair, answers: &List<bool>, link: Link, from_a: bool) -> bool
+    requires { AreRoutedLinks net.now pair.now.to pair.now.routed }
+    ensures { IsTrue result ↔ IsDeniedOver net.now pair.now.to answers.now link.0 from_a }
+{
+    let Some(flags) = pair.routed.get(link.0) else {
+        return false;
+    };
+    let Some(row) = net.links.get(link.0) else {
+        return false;
+    };
+    let Some(tail) = net.faces.get(row.tail(from_a).0) else {
+        return false;
+    };
+    let Some(head) = net.faces.get(row.head(from_a).0) else {
+        return false;
+    };
+    if !leads(flags, from_a) {
+        return false;
+    }
+    !arc_allows(answers, tail, head)
+}

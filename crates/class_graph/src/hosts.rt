@@ -1,0 +1,130 @@
+ghost use Rattle.std.specs.Prelude.{◌≡◌, ◌↔◌, IsTrue, IfOk};
+ghost use Rattle.net_model.specs.declared.lists.Packet.{Packet as AnyPacket};
+ghost use Rattle.net_model.specs.Packets.{IsOf};
+ghost use Rattle.net_model.specs.Forwarding.{Ends, HasEnds, LiesInHostOf, Enters, Leaves};
+ghost use Rattle.class_graph.specs.Classes.{AreUniform};
+ghost use Rattle.class_graph.specs.Answers.{Allows};
+ghost use Rattle.class_graph.specs.Hosts.{end_in, end_out, IsOpenTo, Admits, IsHostPair, IsHostPairOf, LiesInSomeHost, IsOwner};
+
+use crate::answers::{allows, first_packet};
+use arc_base::{List, ListId, Memory, Prefix, Router};
+use net_model::{Class, FaceRow, Network, Packet, RoutedLink};
+use std::alloc::Global;
+
+/// An interface at which packets enter or leave: its router, whether it is up, and the list that they meet there.
+#[derive(Clone, Copy, Debug)]
+pub struct End {
+    pub router: Router,
+    pub up: bool,
+    pub list: Option<ListId>,
+}
+
+/// What all classes from one host network to another share.
+#[derive(Debug, Drop)]
+pub struct HostPair {
+    /// Where packets enter.
+    pub source: End,
+    /// Where packets leave.
+    pub target: End,
+    /// The host network that they are routed to.
+    pub to: Prefix,
+    /// For each link, whether its arcs are routed there.
+    pub routed: List<RoutedLink>,
+}
+
+impl End {
+    /// Whether the interface is up, and its list answers yes.
+    pub(crate) fn is_open(&self, answers: &List<bool>) -> bool
+        ensures { IsTrue result ↔ IsOpenTo answers.now self.now }
+    {
+        self.up && allows(answers, self.list)
+    }
+
+    /// Whether the interface is up, and its list permits the packet.
+    fn admits(&self, net: &Network, packet: Packet) -> bool
+        ensures { IsTrue result ↔ Admits net.now self.now packet }
+    {
+        self.up && net.list_permits(self.list, packet)
+    }
+}
+
+impl HostPair {
+    /// Whether the packets of a class enter and leave.
+    pub fn lets_through(&self, net: &Network, class: Class) -> bool
+        requires { AreUniform net.now class }
+        ensures { (ends : Ends) → IsHostPair net.now ends self.now → IsTrue result ↔ ((p : AnyPacket) → IsOf class p → Enters net.now ends p × Leaves net.now ends p) }
+    {
+        self.admits(net, first_packet(class))
+    }
+
+    /// Whether both interfaces are up, and their lists permit the packet.
+    fn admits(&self, net: &Network, packet: Packet) -> bool
+        ensures { IsTrue result ↔ (Admits net.now self.now.source packet × Admits net.now self.now.target packet) }
+    {
+        self.source.admits(net, packet) && self.target.admits(net, packet)
+    }
+}
+
+/// The interface in whose host network the prefix lies.
+fn owner(net: &Network, prefix: Prefix) -> &FaceRow
+    requires { LiesInSomeHost net.now prefix }
+    ensures { IsOwner net.now prefix result.now }
+{
+    match net.host_of(prefix) {
+        Some(face) => match net.faces.get(face.0) {
+            Some(row) => row,
+            None => unreachable!(),
+        },
+        None => unreachable!(),
+    }
+}
+
+/// The host network of the interface.
+fn host(face: &FaceRow, prefix: Prefix) -> Prefix
+    requires { LiesInHostOf prefix face.now }
+    ensures { face.now.host ≡ Some result }
+{
+    match face.host {
+        Some(host) => host,
+        None => unreachable!(),
+    }
+}
+
+/// What the class shares with all classes between the same two host networks.
+pub fn host_pair(alloc: Global, net: &Network, class: Class) -> Result<HostPair, Memory>
+    requires ends { HasEnds net.now class }
+    ensures { IfOk result (IsHostPairOf net.now class) }
+{
+    let source = owner(net, class.from);
+    let target = owner(net, class.to);
+    let to = host(target, class.to);
+    let routed = net.routed_links(alloc, to)?;
+    Ok(HostPair {
+        source: entrance(source),
+        target: exit(target),
+        to,
+        routed,
+    })
+}
+
+/// The interface as one at which packets enter.
+fn entrance(face: &FaceRow) -> End
+    ensures { result ≡ end_in face.now }
+{
+    End {
+        router: face.router,
+        up: face.up,
+        list: face.list_in,
+    }
+}
+
+/// The interface as one at which packets leave.
+fn exit(face: &FaceRow) -> End
+    ensures { result ≡ end_out face.now }
+{
+    End {
+        router: face.router,
+        up: face.up,
+        list: face.list_out,
+    }
+}

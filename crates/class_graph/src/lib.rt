@@ -1,0 +1,19 @@
+//! The graph of a traffic class: its nodes are the routers, and its arcs those of the network over which the class's packets
+//! may go, whichever links fail. Lists are answered once for each class, and which arcs are routed is found once for all
+//! classes between two host networks.
+#![tactic(auto)]
+
+mod answers;
+mod arcs;
+mod building;
+mod denials;
+mod hosts;
+mod modes;
+#[cfg(test)]
+mod tests;
+
+pub use answers::{first_packet, list_answers};
+pub use building::{ClassGraph, build, build_between, routed_graph};
+pub use denials::denied_link;
+pub use hosts::{End, HostPair, host_pair};
+pub use modes::Mode;

@@ -1,0 +1,11 @@
+pub mod Cuts
+pub mod Ends
+pub mod KnownWords
+pub mod LineSteps
+pub mod OneList
+pub mod OpenBanners
+pub mod OpenBlocks
+pub mod Rows
+pub mod Slices
+pub mod WordCuts
+pub mod WordSpans

@@ -1,0 +1,11 @@
+pub mod Answers
+pub mod Candidates
+pub mod Faults
+pub mod Formed
+pub mod Holding
+pub mod Known
+pub mod NameForms
+pub mod SamePrefix
+pub mod Trials
+pub mod Units
+pub mod WordLists

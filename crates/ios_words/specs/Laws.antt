@@ -1,0 +1,31 @@
+-- What the answers of the language's rows mean, in plain words.
+use Rattle.std.specs.Prelude.{◌≡◌, ◌≢◌, ℕ, ◌↔◌, List, Contains, IsTrue, IsFalse, Result, Err}
+use Rattle.ios_lines.specs.declared.line.Line.{Line}
+use Rattle.ios_words.specs.declared.commands.Command.{Command}
+use Rattle.ios_words.specs.declared.commands.Command.TheVariants as commands
+use Rattle.ios_words.specs.declared.kinds.BlockKind.{BlockKind}
+use Rattle.ios_words.specs.declared.kinds.WordFault.{WordFault}
+use Rattle.ios_words.specs.declared.kinds.WordFault.TheVariants as faults
+use Rattle.ios_words.specs.Commands.{completes, is_extended_block, line_words, Reads, IsUnknown, IsAnswer}
+use Rattle.ios_words.specs.Language.{rows, inert_in}
+use Rattle.ios_words.specs.Readings.{matches}
+use Rattle.ios_words.specs.Rows.{Rule}
+
+-- whether the row matches the line with every word in a block of this kind
+abbrev pub Completes : List ℕ → Line → BlockKind → Rule → Type 0
+Completes text line within rule = IsTrue (completes (is_extended_block within) (line_words text line) rule)
+
+-- a line reads as one command, or is unknown, or has one faulty word, and no two of these
+abbrev pub AnswersAreOne : Type 0
+AnswersAreOne =
+    (text : List ℕ) (line : Line) (within : BlockKind) (a b : Result Command WordFault) → IsAnswer text line within a → IsAnswer text line within b → a ≢ Err faults.Memory → b ≢ Err faults.Memory → a ≡ b
+
+-- a line is unknown exactly where no row of its block matches it
+abbrev pub UnknownMatchesNone : Type 0
+UnknownMatchesNone =
+    (text : List ℕ) (line : Line) (within : BlockKind) → IsUnknown text line within ↔ ((rule : Rule) → Contains (rows within) rule → IsFalse (matches (line_words text line) rule))
+
+-- a line that an inert row of its block matches with every word is inert, whatever row matches it too
+abbrev pub InertCounts : Type 0
+InertCounts =
+    (text : List ℕ) (line : Line) (within : BlockKind) (rule : Rule) (command : Command) → Contains (inert_in within) rule → Completes text line within rule → Reads text line within command → command ≡ commands.Inert

@@ -1,0 +1,17 @@
+pub mod Candidates
+pub mod Commands
+pub mod Forms
+pub mod FoundValues
+pub mod Language
+pub mod Laws
+pub mod Meanings
+pub mod Names
+pub mod Numbers
+pub mod Prefixes
+pub mod Readings
+pub mod Rows
+pub mod Spans
+pub mod Trials
+pub mod Units
+pub mod Values
+pub mod Views

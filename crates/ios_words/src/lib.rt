@@ -1,0 +1,28 @@
+//! The words of a router file's lines: which row of the language a line matches, and what it says by that row. The
+//! language is a table of rows, and a line is read by one matcher over it. A line that no row matches is unknown, and one
+//! that none matches with every word has a faulty word, which is told by its place.
+#![tactic(auto)]
+
+mod block_rows;
+mod commands;
+mod found;
+mod interface_rows;
+mod interpreting;
+mod kinds;
+pub mod laws;
+mod matching;
+mod meaning;
+mod names;
+mod numbers;
+mod prefixes;
+mod reading;
+mod rows;
+#[cfg(test)]
+mod tests;
+mod top_rows;
+mod trying;
+mod words;
+
+pub use commands::{AreaText, Command, PacketText, RouteText};
+pub use interpreting::command;
+pub use kinds::{BlockKind, WordFault};

@@ -1,0 +1,151 @@
+//! Names as router files write them.
+ghost use Rattle.std.specs.Prelude.{◌≡◌};
+ghost use Rattle.std.specs.Char.{is_ascii_digit};
+ghost use Rattle.std.specs.List.{list_all, list_any};
+ghost use Rattle.ios_words.specs.Names.{is_name_byte, is_name, is_unit, is_of_kind, is_face_name, face_kinds};
+ghost use Rattle.ios_words.specs.Units.{next, ends};
+
+// The most bytes that a name has.
+const MOST_BYTES: usize = 64;
+
+/// Whether a word has the form of a name: 1 to 64 letters, digits, `-`, `_` and `.`.
+pub(crate) fn is_name(word: &[u8]) -> bool
+    ensures { result ≡ is_name word.now }
+{
+    if word.is_empty() {
+        return false;
+    }
+    if word.len() > MOST_BYTES {
+        return false;
+    }
+    are_name_bytes(word)
+}
+
+fn are_name_bytes(word: &[u8]) -> bool
+    ensures { result ≡ list_all is_name_byte word.now }
+{
+    word.iter().all(|byte| is_name_byte(*byte))
+}
+
+fn is_name_byte(byte: u8) -> bool
+    ensures { result ≡ is_name_byte byte }
+{
+    byte.is_ascii_digit()
+        || (65 <= byte && byte <= 90)
+        || (97 <= byte && byte <= 122)
+        || byte == 45
+        || byte == 95
+        || byte == 46
+}
+
+/// Whether a word is the name of an interface: a known kind and its numbers, at most 64 bytes in all.
+pub(crate) fn is_face_name(word: &[u8]) -> bool
+    ensures { result ≡ is_face_name word.now }
+{
+    if word.len() > MOST_BYTES {
+        return false;
+    }
+    is_of_some_kind(word)
+}
+
+// Whether a word is a known kind and then numbers joined by slashes.
+fn is_of_some_kind(word: &[u8]) -> bool
+    ensures { result ≡ list_any (is_of_kind word.now) face_kinds }
+{
+    if is_of_kind(word, b"Ethernet") {
+        return true;
+    }
+    if is_of_kind(word, b"FastEthernet") {
+        return true;
+    }
+    if is_of_kind(word, b"GigabitEthernet") {
+        return true;
+    }
+    if is_of_kind(word, b"TenGigabitEthernet") {
+        return true;
+    }
+    if is_of_kind(word, b"Serial") {
+        return true;
+    }
+    is_of_kind(word, b"Loopback")
+}
+
+// Whether a word is this kind and then numbers joined by slashes.
+fn is_of_kind(word: &[u8], kind: &[u8]) -> bool
+    ensures { result ≡ is_of_kind word.now kind.now }
+{
+    if word.len() < kind.len() {
+        return false;
+    }
+    let (front, unit) = word.split_at(kind.len());
+    front == kind && is_unit(unit)
+}
+
+// What stands before a byte of numbers joined by slashes.
+#[derive(Clone, Copy, Debug, PartialEq, Eq)]
+enum Before {
+    /// Nothing, or a slash.
+    Start,
+    /// A number's first digit, which is a zero.
+    Zero,
+    /// A digit of another number.
+    Digit,
+}
+
+// Whether a text is decimal numbers joined by slashes.
+fn is_unit(text: &[u8]) -> bool
+    ensures { result ≡ is_unit text.now }
+{
+    let mut before = Before::Start;
+    for byte in text {
+        match next(before, *byte) {
+            Some(after) => before = after,
+            None => return false,
+        }
+    }
+    ends(before)
+}
+
+// What stands before the next byte, where this one may stand here.
+fn next(before: Before, byte: u8) -> Option<Before>
+    ensures { result ≡ next before byte }
+{
+    match before {
+        Before::Start => {
+            if byte == b'0' {
+                Some(Before::Zero)
+            } else if byte.is_ascii_digit() {
+                Some(Before::Digit)
+            } else {
+                None
+            }
+        }
+        Before::Zero => {
+            if byte == b'/' {
+                Some(Before::Start)
+            } else {
+                None
+            }
+        }
+        Before::Digit => {
+            if byte == b'/' {
+                Some(Before::Start)
+            } else if byte.is_ascii_digit() {
+                Some(Before::Digit)
+            } else {
+                None
+            }
+        }
+    }
+}
+
+// Whether the numbers may end here.
+fn ends(before: Before) -> bool
+    ensures { result ≡ ends before }
+{
+    match before {
+        Before::Start => false,
+        Before::Zero => true,
+        Before::Digit => true,
+    }
+}

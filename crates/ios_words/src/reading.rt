@@ -1,0 +1,320 @@
+//! What the words of a line give by a row that matches them, or which of them is faulty.
+ghost use Rattle.std.specs.Prelude.{◌≡◌};
+ghost use Rattle.ios_words.specs.Readings.{fault_at};
+
+use crate::found::Found;
+use crate::kinds::{Flaw, WordFault};
+use crate::prefixes::holding;
+use crate::rows::{Form, Part};
+use crate::words::Words;
+
+/// Where a line is read.
+#[derive(Clone, Copy, Debug)]
+pub(crate) struct Reader<'a> {
+    /// The words that are left.
+    pub(crate) words: Words<'a>,
+    /// How many came before them.
+    pub(crate) taken: u32,
+    /// What those gave.
+    pub(crate) found: Found<'a>,
+}
+
+impl<'a> Reader<'a> {
+    ghost use Rattle.std.specs.Prelude.{◌≡◌, ◌+◌, ◌*◌, ◌^◌, ◌<◌, ◌≤◌, Bool, map, length, codes, IfOk};
+    ghost use Rattle.ios_words.specs.Readings.{place, this_word, verdict, passed, stands_alone, alone, any, width, side, as_source, step, read_parts, finish, start};
+    ghost use Rattle.ios_words.specs.Rows.{Source, piece_of};
+    ghost use Rattle.ios_words.specs.Views.{words_of, state_of, next_state, line_values};
+
+    /// A line that is to be read in a block, extended or not.
+    pub(crate) fn start(words: Words<'a>, extended: bool) -> Reader<'a>
+        ensures state { state_of result ≡ start extended (words_of words.entry) }
+        ensures taken { result.taken ≡ 0 }
+    {
+        Reader {
+            words,
+            taken: 0,
+            found: Found::nothing(extended),
+        }
+    }
+
+    /// Reads these parts.
+    pub(crate) fn read_parts(self, parts: &[Part]) -> Result<Reader<'a>, WordFault>
+        requires few { length parts.now ≤ 100 }
+        requires first { self.taken ≡ 0 }
+        ensures state { next_state result ≡ read_parts (map piece_of parts.now) (state_of self.entry) }
+        ensures taken { IfOk result (λ reader. reader.taken ≤ 1000) }
+    {
+        let mut reader = self;
+        for part in parts {
+            match reader.step(*part) {
+                Ok(next) => reader = next,
+                Err(fault) => return Err(fault),
+            }
+        }
+        Ok(reader)
+    }
+
+    /// What the line gives, where no word is left.
+    pub(crate) fn finish(self) -> Result<Found<'a>, WordFault>
+        requires { self.taken ≤ 1000 }
+        ensures { line_values result ≡ finish (next_state (Ok self.entry)) }
+    {
+        match self.words.split() {
+            Some(_) => Err(WordFault::BadWord(self.taken + 1)),
+            None => Ok(self.found),
+        }
+    }
+
+    // Reads a part.
+    fn step(self, part: Part) -> Result<Reader<'a>, WordFault>
+        requires { self.taken ≤ 1000 }
+        ensures state { next_state result ≡ step (piece_of part) (state_of self.entry) }
+        ensures taken { IfOk result (λ reader. reader.taken ≤ self.entry.taken + 2) }
+    {
+        match part {
+            Part::Word(word) => self.this_word(word),
+            Part::Verdict => self.verdict(),
+            Part::Place(form) => self.place(form),
+            Part::Option(word, form) => {
+                if self.words.begin_with(word) {
+                    self.passed().place(form)
+                } else {
+                    Ok(self)
+                }
+            }
+            Part::Flag(word) => {
+                if self.words.begin_with(word) {
+                    Ok(self.passed())
+                } else {
+                    Ok(self)
+                }
+            }
+            Part::EntryNumber => {
+                if self.words.begin_entry() {
+                    Ok(self)
+                } else {
+                    self.place(Form::Order(2147483647))
+                }
+            }
+            Part::Protocol => {
+                if self.found.extended {
+                    self.this_word(b"ip")
+                } else {
+                    Ok(self)
+                }
+            }
+            Part::Source => self.source(),
+            Part::Destination => {
+                if self.found.extended {
+                    self.side(true)
+                } else {
+                    Ok(self)
+                }
+            }
+            Part::Anything => Ok(Reader {
+                words: self.words.none(),
+                ..self
+            }),
+        }
+    }
+
+    // Reads a word of the form.
+    fn place(self, form: Form) -> Result<Reader<'a>, WordFault>
+        requires { self.taken ≤ 2000 }
+        ensures state { next_state result ≡ place form (state_of self.entry) }
+        ensures taken { IfOk result (λ reader. reader.taken ≤ self.entry.taken + 1) }
+    {
+        let here = self.taken + 1;
+        match self.words.split() {
+            Some((word, words)) => match self.found.with(form, word) {
+                Ok(found) => Ok(Reader {
+                    words,
+                    taken: here,
+                    found,
+                }),
+                Err(flaw) => Err(fault_at(here, flaw)),
+            },
+            None => Err(WordFault::BadWord(here)),
+        }
+    }
+
+    // Reads this word.
+    fn this_word(self, word: &[u8]) -> Result<Reader<'a>, WordFault>
+        requires { self.taken ≤ 2000 }
+        ensures state { next_state result ≡ this_word word.now (state_of self.entry) }
+        ensures taken { IfOk result (λ reader. reader.taken ≤ self.entry.taken + 1) }
+    {
+        let taken = self.taken + 1;
+        match self.words.split() {
+            Some((first, words)) => {
+                if first == word {
+                    Ok(Reader {
+                        words,
+                        taken,
+                        found: self.found,
+                    })
+                } else {
+                    Err(WordFault::BadWord(taken))
+                }
+            }
+            None => Err(WordFault::BadWord(taken)),
+        }
+    }
+
+    // Reads `permit` or `deny`.
+    fn verdict(self) -> Result<Reader<'a>, WordFault>
+        requires { self.taken ≤ 2000 }
+        ensures state { next_state result ≡ verdict (state_of self.entry) }
+        ensures taken { IfOk result (λ reader. reader.taken ≤ self.entry.taken + 1) }
+    {
+        let taken = self.taken + 1;
+        match self.words.split() {
+            Some((word, words)) => {
+                if word == b"permit".as_slice() {
+                    Ok(Reader {
+                        words,
+                        taken,
+                        found: Found {
+                            permit: true,
+                            ..self.found
+                        },
+                    })
+                } else if word == b"deny".as_slice() {
+                    Ok(Reader {
+                        words,
+                        taken,
+                        found: Found {
+                            permit: false,
+                            ..self.found
+                        },
+                    })
+                } else {
+                    Err(WordFault::BadWord(taken))
+                }
+            }
+            None => Err(WordFault::BadWord(taken)),
+        }
+    }
+
+    // Passes over the next word.
+    fn passed(self) -> Reader<'a>
+        requires { self.taken ≤ 2000 }
+        ensures state { state_of result ≡ passed (state_of self.entry) }
+        ensures taken { result.taken ≡ self.entry.taken + 1 }
+    {
+        Reader {
+            words: self.words.rest(),
+            taken: self.taken + 1,
+            found: self.found,
+        }
+    }
+
+    // Reads where the packets of an entry come from.
+    fn source(self) -> Result<Reader<'a>, WordFault>
+        requires { self.taken ≤ 1000 }
+        ensures state { next_state result ≡ step Source (state_of self.entry) }
+        ensures taken { IfOk result (λ reader. reader.taken ≤ self.entry.taken + 2) }
+    {
+        match self.side(self.found.extended) {
+            Ok(reader) => Ok(reader.as_source()),
+            Err(fault) => Err(fault),
+        }
+    }
+
+    // The side that was read is where packets come from.
+    fn as_source(self) -> Reader<'a>
+        ensures state { Ok (state_of result) ≡ as_source (state_of self.entry) }
+        ensures taken { result.taken ≡ self.entry.taken }
+    {
+        Reader {
+            words: self.words,
+            taken: self.taken,
+            found: Found {
+                from: self.found.to,
+                to: holding(0, 0),
+                ..self.found
+            },
+        }
+    }
+
+    // Reads one side of an entry.
+    fn side(self, extended: bool) -> Result<Reader<'a>, WordFault>
+        requires { self.taken ≤ 1000 }
+        ensures state { next_state result ≡ side extended (state_of self.entry) }
+        ensures taken { IfOk result (λ reader. reader.taken ≤ self.entry.taken + 2) }
+    {
+        if self.words.begin_with(b"any") {
+            return Ok(self.any());
+        }
+        if self.words.begin_with(b"host") {
+            return self.passed().place(Form::Host);
+        }
+        match self.place(Form::Address) {
+            Ok(reader) => reader.width(extended),
+            Err(fault) => Err(fault),
+        }
+    }
+
+    // Passes over the word that stands for all addresses.
+    fn any(self) -> Reader<'a>
+        requires { self.taken ≤ 1000 }
+        ensures state { state_of result ≡ any (state_of self.entry) }
+        ensures taken { result.taken ≡ self.entry.taken + 1 }
+    {
+        Reader {
+            words: self.words.rest(),
+            taken: self.taken + 1,
+            found: Found {
+                to: holding(0, 0),
+                ..self.found
+            },
+        }
+    }
+
+    // Reads the wildcard of an address, or takes it for one host where it may stand alone.
+    fn width(self, extended: bool) -> Result<Reader<'a>, WordFault>
+        requires { self.taken ≤ 1001 }
+        ensures state { next_state result ≡ width extended (state_of self.entry) }
+        ensures taken { IfOk result (λ reader. reader.taken ≤ self.entry.taken + 1) }
+    {
+        if !extended && self.stands_alone() {
+            return Ok(self.alone());
+        }
+        self.place(Form::Wildcard)
+    }
+
+    // Whether no wildcard follows.
+    fn stands_alone(self) -> bool
+        ensures { result ≡ stands_alone (words_of self.entry.words) }
+    {
+        match self.words.split() {
+            Some((word, _)) => word == b"log".as_slice(),
+            None => true,
+        }
+    }
+
+    // The address stands for itself alone.
+    fn alone(self) -> Reader<'a>
+        ensures state { state_of result ≡ alone (state_of self.entry) }
+        ensures taken { result.taken ≡ self.entry.taken }
+    {
+        Reader {
+            words: self.words,
+            taken: self.taken,
+            found: Found {
+                to: holding(self.found.address, 32),
+                ..self.found
+            },
+        }
+    }
+}
+
+// What a flaw of the word at this place says of the line.
+fn fault_at(place: u32, flaw: Flaw) -> WordFault
+    ensures { result ≡ fault_at place flaw }
+{
+    match flaw {
+        Flaw::Amiss => WordFault::BadWord(place),
+        Flaw::Scattered => WordFault::WildcardNotPrefix,
+    }
+}

@@ -1,0 +1,11 @@
+pub mod Items
+pub mod Ranges
+pub mod Splits
+pub mod HalvesLeaves
+pub mod OneList
+pub mod Growing
+pub mod Pairs
+pub mod Uniform
+pub mod MakingUp
+pub mod Sameness
+pub mod Unions

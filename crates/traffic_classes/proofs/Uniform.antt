@@ -1,0 +1,80 @@
+-- A list gives one answer to all packets of a class that none of its entries splits.
+use Rattle.std.proofs.Common.{◌≡◌, ℕ, ◌&&◌, inl, inr, Bool, true, false, cond, Option, Some, List, [], ◌∷◌, IsTrue, refl, sym, ◌∙◌, ap}
+use Rattle.std.specs.Prelude.{Contains, map}
+use Rattle.std.specs.List.{find, flat_map}
+use Rattle.std.specs.Option.{option_map_or}
+use Rattle.std.proofs.lemmas.Bool.{false≢true}
+use Rattle.std.proofs.lemmas.List.Elements.{Contains-append_left}
+use Rattle.arc_base.specs.Addresses.{holds, Holds}
+use Rattle.arc_base.specs.declared.prefix.Prefix.{Prefix}
+use Rattle.net_model.specs.declared.lists.Packet.{Packet}
+use Rattle.net_model.specs.declared.lists.PacketEntry.{PacketEntry}
+use Rattle.net_model.specs.declared.lists.PacketList.{PacketList}
+use Rattle.net_model.specs.declared.policies.Class.{Class}
+use Rattle.net_model.specs.declared.policies.Policy.{Policy}
+use Rattle.net_model.specs.declared.rows.Network.{Network}
+use Rattle.net_model.specs.Lists.{matches, permits}
+use Rattle.net_model.specs.Packets.{IsOf}
+use Rattle.net_model.specs.Witnesses.{IsUniform}
+use Rattle.traffic_classes.specs.Leaves.{IsSplit}
+use Rattle.traffic_classes.specs.Classes.{source_marks, destination_marks}
+use Rattle.traffic_classes.specs.Parts.{IsUniformFor}
+use Rattle.traffic_classes.proofs.Items.{Contains-head, Contains-tail, Contains-map, Contains-piece, All-from}
+use Rattle.traffic_classes.proofs.Ranges.{nested}
+
+same_test : (b c : Bool) → (IsTrue b → IsTrue c) → (IsTrue c → IsTrue b) → b ≡ c
+same_test true true f g = refl
+same_test true false f g = absurd (false≢true (f refl))
+same_test false true f g = absurd (false≢true (g refl))
+same_test false false f g = refl
+
+-- a mark that does not lie strictly inside a prefix holds all of its addresses, or none
+holds_on : (marks : List Prefix) (mark p : Prefix) → Contains marks mark → ¬ IsSplit marks p → (a b : ℕ) → Holds p a → Holds p b → Holds mark a → Holds mark b
+holds_on marks mark p there unsplit a b in_a in_b h =
+    elim (nested p mark a in_a h) [
+      | inl inside ↦ inside b in_b
+      | inr strict ↦ absurd (unsplit (record { mark = mark; one = there; inside = strict }))
+    ]
+
+pub holds_alike : (marks : List Prefix) (mark p : Prefix) → Contains marks mark → ¬ IsSplit marks p → (a b : ℕ) → Holds p a → Holds p b → holds mark a ≡ holds mark b
+holds_alike marks mark p there unsplit a b in_a in_b =
+    same_test (holds mark a) (holds mark b) (holds_on marks mark p there unsplit a b in_a in_b) (holds_on marks mark p there unsplit b a in_b in_a)
+
+one_more : (e : PacketEntry) (b c : Bool) → b ≡ c → (x y : Option PacketEntry) → option_map_or (λ (z : PacketEntry). z.permit) x false ≡ option_map_or (λ (z : PacketEntry). z.permit) y false →
+    option_map_or (λ (z : PacketEntry). z.permit) (cond b (Some e) x) false ≡ option_map_or (λ (z : PacketEntry). z.permit) (cond c (Some e) y) false
+one_more e true true same x y h = refl
+one_more e true false same x y h = absurd (false≢true (sym same))
+one_more e false true same x y h = absurd (false≢true same)
+one_more e false false same x y h = h
+
+abbrev froms : PacketList → List Prefix
+froms l = map (λ (e : PacketEntry). e.from) l.entries
+
+abbrev tos : PacketList → List Prefix
+tos l = map (λ (e : PacketEntry). e.to) l.entries
+
+module _ (sources destinations : List Prefix) (class : Class) (from : ¬ IsSplit sources class.from) (to : ¬ IsSplit destinations class.to) (p q : Packet) (of_p : IsOf class p) (of_q : IsOf class q) where
+  match_alike : (e : PacketEntry) → Contains sources e.from → Contains destinations e.to → matches p e ≡ matches q e
+  match_alike e in_from in_to =
+      ap (λ (b : Bool). b && holds e.to p.to) (holds_alike sources e.from class.from in_from from p.from q.from (of_p.0) (of_q.0)) ∙
+      ap (λ (b : Bool). holds e.from q.from && b) (holds_alike destinations e.to class.to in_to to p.to q.to (of_p.1) (of_q.1))
+
+  pub found_alike : (es : List PacketEntry) → ((e : PacketEntry) → Contains es e → Contains sources e.from × Contains destinations e.to) → permits es p ≡ permits es q
+  found_alike [] h = refl
+  found_alike (e ∷ es) h =
+      let here = h e (Contains-head e es) in
+      one_more e (matches p e) (matches q e) (match_alike e (here.0) (here.1)) (find (matches p) es) (find (matches q) es)
+      (found_alike es (λ x k. h x (Contains-tail e x es k)))
+
+-- each packet list is uniform on a class that no mark splits
+pub uniform_on : (net : Network) (policies : List Policy) (class : Class) → ¬ IsSplit (source_marks net policies) class.from → ¬ IsSplit (destination_marks net policies) class.to →
+    IsUniformFor net class
+uniform_on net policies class from to =
+    All-from (λ (l : PacketList). IsUniform l.entries class) net.packet_lists
+    (λ l in_lists p q of_p of_q. found_alike (source_marks net policies) (destination_marks net policies) class from to p q of_p of_q l.entries
+    (λ e in_entries. (
+      Contains-append_left (flat_map froms net.packet_lists) (map (λ (y : Policy). y.from) policies) e.from
+          (Contains-piece froms net.packet_lists l e.from in_lists (Contains-map (λ (x : PacketEntry). x.from) l.entries e in_entries)),
+      Contains-append_left (flat_map tos net.packet_lists) (map (λ (y : Policy). y.to) policies) e.to
+          (Contains-piece tos net.packet_lists l e.to in_lists (Contains-map (λ (x : PacketEntry). x.to) l.entries e in_entries)),
+    )))

@@ -1,0 +1,72 @@
+use Rattle.std.proofs.Common.{◌≡◌, ◌≤◌, ◌*◌, ◌+◌, ℕ, List, length, take, subst, sym, refl, ap, ◌∙◌, arith}
+use Rattle.std.specs.Prelude.{count_by, fold}
+use Rattle.std.proofs.lemmas.Result.{err_from_is_err_and}
+use Rattle.arc_base.specs.declared.prefix.Prefix.{Prefix}
+use Rattle.net_model.specs.declared.policies.Class.{Class}
+use Rattle.net_model.specs.declared.policies.Policy.{Policy}
+use Rattle.net_model.specs.declared.rows.Network.{Network}
+use Rattle.traffic_classes.specs.Leaves.{AreLeaves}
+use Rattle.traffic_classes.specs.Classes.{source_marks, destination_marks, all_pairs, AreClasses}
+use Rattle.traffic_classes.specs.AllClasses.{AreAllClasses, FirstHaveMore, with_class, lies_off}
+use Rattle.traffic_classes.proofs.Pairs.{length-pairs}
+use Rattle.traffic_classes.proofs.Unions.{next_classes, next_count, next_have, counts_more, tell_apart}
+use Rattle.std.proofs.lemmas.List.{take_all}
+use Rattle.traffic_classes.specs.Parts.{TellApart}
+use Rattle.traffic_classes.proofs.classing.all_classes.Goals as goal
+
+made : (net : Network) (policies : List Policy) (policy : Policy) (ms ns ss ds : List Prefix) → ms ≡ source_marks net policies → ns ≡ destination_marks net policies →
+    AreLeaves ms policy.from ss → AreLeaves ns policy.to ds → AreClasses net policies policy (all_pairs ss ds)
+made net policies policy ms ns ss ds e f one two = record {
+  sources = ss;
+  destinations = ds;
+  sources_are = subst (λ (m : List Prefix). AreLeaves m policy.from ss) e one;
+  destinations_are = subst (λ (m : List Prefix). AreLeaves m policy.to ds) f two;
+  pairs = refl;
+}
+
+pub returns-in_err-add-clause-many : goal.returns-in_err-add-clause-many
+returns-in_err-add-clause-many c =
+    let are : AreClasses c.args.net.now c.args.policies.now c.policy-item.result (all_pairs c.in_ok-leaves.leaves.sources c.in_ok-leaves.leaves.destinations) =
+    made c.args.net.now c.args.policies.now c.policy-item.result c.in_ok-marks.marks.sources.items c.in_ok-marks.marks.destinations.items
+    c.in_ok-leaves.leaves.sources c.in_ok-leaves.leaves.destinations
+    c.in_ok-marks.ensures.sources c.in_ok-marks.ensures.destinations c.in_ok-leaves.ensures.sources c.in_ok-leaves.ensures.destinations in
+    let P : ℕ → Type 0 = λ n. n ≡ length c.in_ok-leaves.leaves.sources * length c.in_ok-leaves.leaves.destinations + count_by (lies_off c.policy-item.result) c.loop-policy.found.classes.items in
+    let have : (n : ℕ) → P n → FirstHaveMore c.args.net.now c.args.policies.now n =
+    λ n said. next_have c.args.net.now c.args.policies.now c.slice-policy-items.result.now c.loop-policy.policy-index c.policy-item.result
+    c.slice-policy-items.ensures.items c.loop-policy-test.true c.policy-item.is c.loop-policy.found.classes.items
+    (all_pairs c.in_ok-leaves.leaves.sources c.in_ok-leaves.leaves.destinations) c.loop-policy.invariant.are are n c.loop-policy.invariant.few
+    (said ∙ ap (λ (x : ℕ). x + count_by (lies_off c.policy-item.result) c.loop-policy.found.classes.items)
+    (sym (length-pairs c.in_ok-leaves.leaves.sources c.in_ok-leaves.leaves.destinations))) in
+    let p = err_from_is_err_and c.from_residual-in_err-add.result c.from_residual-in_err-add.ensures.1 in
+    rw (p.1, p.2) (counts_more P (FirstHaveMore c.args.net.now c.args.policies.now) have c.in_err-add.field-0.0 c.in_err-add.ensures.many)
+
+pub loop-policy-preserved : goal.loop-policy-preserved
+loop-policy-preserved c =
+    let are : AreClasses c.args.net.now c.args.policies.now c.policy-item.result (all_pairs c.in_ok-leaves.leaves.sources c.in_ok-leaves.leaves.destinations) =
+    made c.args.net.now c.args.policies.now c.policy-item.result c.in_ok-marks.marks.sources.items c.in_ok-marks.marks.destinations.items
+    c.in_ok-leaves.leaves.sources c.in_ok-leaves.leaves.destinations
+    c.in_ok-marks.ensures.sources c.in_ok-marks.ensures.destinations c.in_ok-leaves.ensures.sources c.in_ok-leaves.ensures.destinations in
+    let number : length (fold with_class c.loop-policy.found.classes.items (all_pairs c.in_ok-leaves.leaves.sources c.in_ok-leaves.leaves.destinations)) ≡
+    length (all_pairs c.in_ok-leaves.leaves.sources c.in_ok-leaves.leaves.destinations) + count_by (lies_off c.policy-item.result) c.loop-policy.found.classes.items =
+    next_count c.args.net.now c.args.policies.now c.slice-policy-items.result.now c.loop-policy.policy-index c.policy-item.result
+    c.slice-policy-items.ensures.items c.loop-policy-test.true c.policy-item.is c.loop-policy.found.classes.items
+    (all_pairs c.in_ok-leaves.leaves.sources c.in_ok-leaves.leaves.destinations) c.loop-policy.invariant.are are in
+    let same : length c.add.new.self.classes.items ≡ length (fold with_class c.loop-policy.found.classes.items (all_pairs c.in_ok-leaves.leaves.sources c.in_ok-leaves.leaves.destinations)) =
+    ap (λ (l : List Class). length l) c.in_ok-add.ensures.added in
+    record {
+      indexed = c.in_ok-add.ensures.indexed;
+      are = subst (λ (l : List Class). AreAllClasses c.args.net.now c.args.policies.now (take (c.loop-policy.policy-index + 1) c.args.policies.now) l) (sym c.in_ok-add.ensures.added)
+          (next_classes c.args.net.now c.args.policies.now c.slice-policy-items.result.now c.loop-policy.policy-index c.policy-item.result
+          c.slice-policy-items.ensures.items c.loop-policy-test.true c.policy-item.is c.loop-policy.found.classes.items
+          (all_pairs c.in_ok-leaves.leaves.sources c.in_ok-leaves.leaves.destinations) c.loop-policy.invariant.are are);
+      few = omega (arith, number, same, c.in_ok-add.ensures.few, length-pairs c.in_ok-leaves.leaves.sources c.in_ok-leaves.leaves.destinations);
+    }
+
+pub returns-clause-parts : goal.returns-clause-parts
+returns-clause-parts c =
+    let gone : length c.args.policies.now ≤ c.loop-policy.policy-index = omega (arith, ap (λ (l : List Policy). length l) c.slice-policy-items.ensures.items, c.loop-policy-test.false) in
+    let all : AreAllClasses c.args.net.now c.args.policies.now c.args.policies.now c.loop-policy.found.classes.items =
+    subst (λ (l : List Policy). AreAllClasses c.args.net.now c.args.policies.now l c.loop-policy.found.classes.items)
+    (take_all c.loop-policy.policy-index c.args.policies.now gone) c.loop-policy.invariant.are in
+    subst (λ (l : List Class). TellApart c.args.net.now c.args.policies.now l) (sym c.in_ok-of.ensures.ok)
+    (tell_apart c.args.net.now c.args.policies.now c.loop-policy.found.classes.items all)

@@ -1,0 +1,9 @@
+use Rattle.std.proofs.Common.{◌≡◌, ◌++◌, map, take}
+use Rattle.net_model.specs.declared.lists.PacketEntry.{PacketEntry}
+use Rattle.traffic_classes.proofs.marks.Marks.add_entries.Given as goal
+
+abbrev pub invariant-loop-entry : goal.invariant-loop-entry
+invariant-loop-entry l = record {
+  sources : l.self.sources.items ≡ l.initial.self.sources.items ++ map (λ (e : PacketEntry). e.from) (take l.entry-index l.entries);
+  destinations : l.self.destinations.items ≡ l.initial.self.destinations.items ++ map (λ (e : PacketEntry). e.to) (take l.entry-index l.entries);
+}

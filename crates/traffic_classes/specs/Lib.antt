@@ -1,0 +1,6 @@
+pub mod Leaves
+pub mod Halves
+pub mod Classes
+pub mod AllClasses
+pub mod Parts
+pub mod Laws

@@ -1,0 +1,57 @@
+ghost use Rattle.std.specs.Prelude.{◌<◌, ◌≤◌, length, slice_get, IfOk, IfErr, IfSome};
+ghost use Rattle.net_model.specs.Packets.{subject};
+ghost use Rattle.traffic_classes.specs.Classes.{AreClasses, HasClasses, CountsMore};
+ghost use Rattle.traffic_classes.specs.AllClasses.{AreAllClasses, FirstHaveMore};
+ghost use Rattle.traffic_classes.specs.Parts.{MakeUp, TellApart};
+
+use crate::fault::ClassFault;
+use crate::found::Found;
+use crate::marks::Marks;
+use crate::policy_leaves::Leaves;
+use arc_base::List;
+use net_model::{Class, Network, Policy};
+use std::alloc::Global;
+
+/// The traffic classes of the policy at a place, counted from 0: all pairs of a leaf of its source prefix and a leaf of its
+/// destination prefix, for each source in rising order of addresses.
+pub fn classes(
+    alloc: Global,
+    net: &Network,
+    policies: &List<Policy>,
+    which: u32,
+) -> Result<List<Class>, ClassFault>
+    requires { which < length policies.now }
+    ensures classes { IfOk result (λ cs. IfSome (slice_get policies.now which) (λ p. AreClasses net.now policies.now p cs)) }
+    ensures parts { IfOk result (λ cs. IfSome (slice_get policies.now which) (λ p. MakeUp net.now (subject p) cs)) }
+    ensures few { IfOk result (λ cs. length cs ≤ 4096) }
+    ensures many { IfErr result (CountsMore (λ count. IfSome (slice_get policies.now which) (λ p. HasClasses net.now policies.now p count))) }
+{
+    match policies.get(which) {
+        Some(policy) => {
+            let marks = Marks::of(alloc, net, policies)?;
+            let leaves = Leaves::of(alloc, &marks, policy)?;
+            Ok(leaves.few_pairs(alloc)?)
+        }
+        None => unreachable!(),
+    }
+}
+
+/// The traffic classes of all policies, each once, in the order in which they first stand in the policies' lists.
+pub fn all_classes(
+    alloc: Global,
+    net: &Network,
+    policies: &List<Policy>,
+) -> Result<List<Class>, ClassFault>
+    ensures classes { IfOk result (AreAllClasses net.now policies.now policies.now) }
+    ensures parts { IfOk result (TellApart net.now policies.now) }
+    ensures few { IfOk result (λ cs. length cs ≤ 4096) }
+    ensures many { IfErr result (CountsMore (FirstHaveMore net.now policies.now)) }
+{
+    let marks = Marks::of(alloc, net, policies)?;
+    let mut found = Found::none(alloc);
+    for policy in policies.slice() {
+        let leaves = Leaves::of(alloc, &marks, policy)?;
+        found.add(policy, &leaves)?;
+    }
+    Ok(List::of(found.classes)?)
+}

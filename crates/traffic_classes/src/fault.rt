@@ -1,0 +1,27 @@
+use arc_base::Memory;
+use thiserror::Error;
+
+/// The greatest number of traffic classes.
+pub const LIMIT: u64 = 4096;
+
+/// Why there are no traffic classes.
+#[derive(Clone, Copy, Debug, PartialEq, Eq, Error)]
+pub enum ClassFault {
+    /// There are so many, more than 4,096.
+    #[error("{0} traffic classes are too many")]
+    TooMany(u64),
+    /// Want of memory.
+    #[error("out of memory")]
+    Memory,
+}
+
+impl From<Memory> for ClassFault {
+    ghost use Rattle.std.specs.Prelude.{◌≡◌};
+    ghost use Rattle.traffic_classes.specs.declared.fault.ClassFault.TheVariants as faults;
+
+    ghost from_gives = { λ _ e. e ≡ faults.Memory };
+
+    fn from(_error: Memory) -> ClassFault {
+        ClassFault::Memory
+    }
+}

@@ -1,0 +1,17 @@
+//! The traffic classes of policies: the parts of a policy's packets that no packet list tells apart. They are found by
+//! halving a policy's two prefixes wherever a mark, a prefix of a list's entry or of a policy, lies inside. Each class can
+//! then be judged by any one of its packets.
+#![tactic(auto)]
+
+mod classing;
+mod fault;
+mod found;
+mod halving;
+pub mod laws;
+mod marks;
+mod policy_leaves;
+#[cfg(test)]
+mod tests;
+
+pub use classing::{all_classes, classes};
+pub use fault::ClassFault;

@@ -1,0 +1,91 @@
+ghost use Rattle.std.specs.Prelude.{◌≡◌, ◌<◌, ◌↔◌, length, IsTrue, IfOk, IsSome, None, slice_index_or};
+ghost use Rattle.net_model.specs.Validity.{IsValid};
+ghost use Rattle.net_model.specs.Forwarding.{Ends};
+ghost use Rattle.net_model.specs.Tables.{AreRoutedLinks};
+ghost use Rattle.class_graph.specs.Classes.{AreUniform};
+ghost use Rattle.class_graph.specs.Hosts.{IsHostPair, HasHostPair};
+ghost use Rattle.verdicts.specs.Judged.{mode_of, IsClassAnswer, IsBlockingAnswer, AreAllUniform};
+
+use crate::sides::{reached_from_source, side_of};
+use arc_base::{List, Memory};
+use class_graph::{ClassGraph, HostPair, Mode, build_between};
+use graph_flow::Closure;
+use net_model::{Class, ClassSide, LinkPath, Network, PolicyKind, Verdict};
+use std::alloc::Global;
+
+/// Whether a class is kept from its target, and the witness.
+#[derive(Debug, Drop)]
+pub(crate) enum ClassAnswer {
+    /// It is: its packets do not get off this side.
+    Closed(List<bool>),
+    /// It is not: its packets get there over this path.
+    Walk(LinkPath),
+}
+
+/// The verdict on a blocked or through policy with these classes.
+pub(crate) fn judge_blocking(
+    alloc: Global,
+    net: &Network,
+    pair: &HostPair,
+    classes: &List<Class>,
+    kind: PolicyKind,
+) -> Result<Verdict, Memory>
+    requires valid { IsValid net.now }
+    requires pair { HasHostPair net.now pair.now }
+    requires uniform { AreAllUniform net.now classes.now }
+    ensures { IfOk result (λ v. (ends : Ends) → IsHostPair net.now ends pair.now → IsBlockingAnswer net.now ends kind classes.now v) }
+{
+    let mut sides = List::make(alloc);
+    for class in classes.slice() {
+        let answer = judge_class(alloc, net, pair, *class, kind)?;
+        match answer {
+            ClassAnswer::Closed(side) => sides.push(ClassSide {
+                class: *class,
+                side,
+            })?,
+            ClassAnswer::Walk(path) => return Ok(Verdict::Walk(*class, path)),
+        }
+    }
+    Ok(Verdict::Closed(sides))
+}
+
+/// Over which arcs a walk may break a policy of this kind.
+fn mode_of(kind: PolicyKind) -> Mode
+    ensures { result ≡ mode_of kind }
+{
+    match kind {
+        PolicyKind::Through => Mode::PermittedOffWaypoint,
+        _ => Mode::Permitted,
+    }
+}
+
+/// How far the packets of one class get.
+fn judge_class(
+    alloc: Global,
+    net: &Network,
+    pair: &HostPair,
+    class: Class,
+    kind: PolicyKind,
+) -> Result<ClassAnswer, Memory>
+    requires valid { IsValid net.now }
+    requires pair { HasHostPair net.now pair.now }
+    requires uniform { AreUniform net.now class }
+    ensures { IfOk result (λ a. (ends : Ends) → IsHostPair net.now ends pair.now → IsClassAnswer net.now ends kind class a) }
+{
+    let graph = build_between(alloc, net, pair, class, mode_of(kind))?;
+    let closure = reached_from_source(alloc, &graph)?;
+    if is_delivered(&graph, &closure) {
+        let path = closure.path(alloc, graph.target.0)?;
+        return Ok(ClassAnswer::Walk(LinkPath { links: path.links }));
+    }
+    let side = side_of(alloc, &closure, net.routers.len())?;
+    Ok(ClassAnswer::Closed(side))
+}
+
+/// Whether the packets get to where they leave, and do.
+fn is_delivered(graph: &ClassGraph, closure: &Closure) -> bool
+    requires { graph.now.target.0 < length closure.now }
+    ensures { IsTrue result ↔ (IsTrue graph.now.leaves × IsSome (slice_index_or closure.now graph.now.target.0 None)) }
+{
+    graph.leaves && closure.reached(graph.target.0)
+}

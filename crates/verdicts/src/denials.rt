@@ -1,0 +1,61 @@
+ghost use Rattle.std.specs.Prelude.{◌≡◌, ◌↔◌, length, IsTrue, IfOk, IfSome, IfNone};
+ghost use Rattle.net_model.specs.Forwarding.{Ends};
+ghost use Rattle.class_graph.specs.Hosts.{IsHostPair, HasHostPair};
+ghost use Rattle.verdicts.specs.Judged.{AreAllUniform};
+ghost use Rattle.verdicts.specs.Reaching.{IsFirstDenial, lower_of, IsFirstKeptOut, AllPass};
+
+use arc_base::{Link, List, Memory};
+use class_graph::{HostPair, denied_link};
+use net_model::{Class, Network};
+use std::alloc::Global;
+
+/// A link with a class that it denies.
+#[derive(Clone, Copy, Debug)]
+pub(crate) struct Denial {
+    pub link: Link,
+    pub class: Class,
+}
+
+/// The first link that denies some of the classes, with the first of these.
+pub(crate) fn first_denial(
+    alloc: Global,
+    net: &Network,
+    pair: &HostPair,
+    classes: &List<Class>,
+) -> Result<Option<Denial>, Memory>
+    requires pair { HasHostPair net.now pair.now }
+    requires uniform { AreAllUniform net.now classes.now }
+    ensures { IfOk result (IsFirstDenial net.now pair.now.to classes.now (length classes.now)) }
+{
+    let mut best = None;
+    for class in classes.slice() {
+        let found = denied_link(alloc, net, pair, *class)?;
+        best = lower(best, found, *class);
+    }
+    Ok(best)
+}
+
+/// The denial at the lower link, and at one link the earlier denial.
+fn lower(best: Option<Denial>, found: Option<Link>, class: Class) -> Option<Denial>
+    ensures { result ≡ lower_of best found class }
+{
+    let Some(link) = found else { return best };
+    match best {
+        Some(denial) if denial.link.0 <= link.0 => Some(denial),
+        _ => Some(Denial { link, class }),
+    }
+}
+
+/// The first class of which not each packet enters and leaves.
+pub(crate) fn first_kept_out(net: &Network, pair: &HostPair, classes: &List<Class>) -> Option<Class>
+    requires { AreAllUniform net.now classes.now }
+    ensures found { IfSome result (λ class. (ends : Ends) → IsHostPair net.now ends pair.now → IsFirstKeptOut net.now ends classes.now class) }
+    ensures none { IfNone result ((ends : Ends) → IsHostPair net.now ends pair.now → AllPass net.now ends classes.now (length classes.now)) }
+{
+    for class in classes.slice() {
+        if !pair.lets_through(net, *class) {
+            return Some(*class);
+        }
+    }
+    None
+}
