@@ -9,6 +9,8 @@ pub mod RoutersRead
 pub mod Judging
 pub mod Finishing
 pub mod Determined
+pub mod OneHost
+pub mod TraceOnce
 pub mod Traced
 pub mod Refuting
 pub mod Headline

@@ -28,6 +28,7 @@ use Rattle.arc_run.specs.Runs.{Runs}
 use Rattle.arc_run.specs.Refusals.{refusal_of}
 use Rattle.arc_run.specs.Traces.{first_above, down_flags, IsTraceRefusal, IsTraced}
 use Rattle.arc_run.proofs.Determined.{determined}
+use Rattle.arc_run.proofs.TraceOnce.{trace_once}
 
 -- what a test of the numbers told
 pub none_from : (links count : ℕ) (numbers tested : List ℕ) → None ≡ first_above count tested → count ≡ links → tested ≡ numbers → first_above links numbers ≡ None
@@ -143,3 +144,19 @@ tells_trace {held = held} command runs words trace below =
     let P : ℕ → Type 0 = λ n. IfSome held (TellsTrace words n) in
     let Q : Option Command → Type 0 = λ c. IsDefined c held end.outcome in
     subst P (sym end.status_is) (told held end.outcome words (subst Q trace end.leaves.defined))
+
+-- a trace is one
+same_done : (d e : Done) → d.text ≡ e.text → d.writes ≡ e.writes → d.status ≡ e.status → d ≡ e
+same_done d e texts writes statuses =
+    ap (λ (t : List ℕ). record { text = t; writes = d.writes; status = d.status }) texts
+    ∙ ap (λ (w : List (List ℕ × List ℕ)). record { text = e.text; writes = w; status = d.status }) writes
+    ∙ ap (λ (n : ℕ). record { text = e.text; writes = e.writes; status = n }) statuses
+
+pub traced_once : (words : TraceWords) (files : Files) (done other : Done) → IsTraced words files done → IsTraced words files other → done ≡ other
+traced_once words files done other t s =
+    let has : HasTrace words files = record { doc = s.doc; net = s.net; input = s.input; links = s.links; ends = s.ends } in
+    let nets : t.net ≡ s.net = one_input words files has t.doc t.net t.input in
+    let P : Network → Type 0 = λ n. IsTrace n (flagged (down_flags (length n.links) words.down)) words.from words.to done.text in
+    let texts : done.text ≡ other.text =
+    trace_once s.net s.valid (flagged (down_flags (length s.net.links) words.down)) words.from words.to done.text other.text (subst P nets t.text) s.text in
+    same_done done other texts (t.writes ∙ sym s.writes) (t.status ∙ sym s.status)

@@ -1,0 +1,142 @@
+-- A network, failed links and two prefixes have one trace.
+use Rattle.std.proofs.Common.{◌≡◌, ℕ, zero, suc, ◌+◌, ◌<◌, ◌≤◌, ◌⊎◌, inl, inr, Bool, List, [], ◌∷◌, ◌++◌, length, get_or, map, refl, sym, ◌∙◌, ap, subst, arith}
+use Rattle.std.proofs.lemmas.Bool.{cases_lt}
+use Rattle.std.proofs.lemmas.List.{same_lists, get_or_default, get_or-map, length-map}
+use Rattle.std.proofs.lemmas.List.Kept.{AllPairs-from_increasing}
+use Rattle.std.proofs.lemmas.Option.{slice_get-get_or}
+use Rattle.std.specs.Prelude.{Option, Some, None, slice_get, AllPairs, Contains, ◌↔◌}
+use Rattle.std.specs.List.{flat_map, range_with_len}
+use Rattle.std.specs.List.Sorted.{IsStrictlyIncreasing}
+use Rattle.arc_base.specs.declared.place.Link.{Link}
+use Rattle.arc_base.specs.declared.prefix.Prefix.{Prefix}
+use Rattle.net_model.specs.declared.rows.FaceRow.{FaceRow}
+use Rattle.net_model.specs.declared.rows.Network.{Network}
+use Rattle.net_model.specs.Forwarding.{IsHostOf}
+use Rattle.net_model.specs.Routing.{FailureSet, IsStable}
+use Rattle.net_model.specs.Validity.{IsValid}
+use Rattle.net_laws.proofs.StableMaps.{one_stable_map}
+use Rattle.arc_run.proofs.OneHost.{one_host}
+use Rattle.route_trace.specs.Routes.{distance_map, Owns, AreDistances, AreNextHops}
+use Rattle.route_trace.specs.TraceText.{router_name, route_line, route_lines, trace_head, trace_text, IsHostFace, IsTrace}
+
+-- rising lists with the same items are one
+first_or_later : (k : Link) (ks : List Link) (l : Link) → Contains (k ∷ ks) l → (k ≡ l) ⊎ Contains ks l
+first_or_later k ks l (zero, within, is) = inl is
+first_or_later k ks l (suc i, within, is) = inr (i, omega (arith, within), is)
+
+first_in : (k : Link) (ks : List Link) → Contains (k ∷ ks) k
+first_in k ks = (zero, omega arith, refl)
+
+later_in : (k : Link) (ks : List Link) (l : Link) → Contains ks l → Contains (k ∷ ks) l
+later_in k ks l (i, within, is) = (suc i, omega (arith, within), is)
+
+abbrev IsRising : List Link → Type 0
+IsRising ks = AllPairs (λ k l. k.0 < l.0) ks
+
+first_below : (k : Link) (ks : List Link) (l : Link) → IsRising (k ∷ ks) → Contains ks l → k.0 < l.0
+first_below k ks l rising (i, within, is) =
+    let P : Link → Type 0 = λ m. k.0 < m.0 in
+    subst P is (rising zero (suc i) l (omega arith) (omega (arith, within)))
+
+rest_rises : (k : Link) (ks : List Link) → IsRising (k ∷ ks) → IsRising ks
+rest_rises k ks rising i j d below within = rising (suc i) (suc j) d (omega (arith, below)) (omega (arith, within))
+
+same_link : (k l : Link) → k.0 ≡ l.0 → k ≡ l
+same_link k l e = ap (λ (n : ℕ). record { 0 = n }) e
+
+not_empty : (l : Link) → Contains [] l → ⊥
+not_empty l (i, within, is) = omega (arith, within)
+
+rising_once : (ks ls : List Link) → IsRising ks → IsRising ls → ((l : Link) → Contains ks l → Contains ls l) → ((l : Link) → Contains ls l → Contains ks l) → ks ≡ ls
+rising_once [] [] ks_rise ls_rise to from = refl
+rising_once [] (l ∷ ls) ks_rise ls_rise to from = absurd (not_empty l (from l (first_in l ls)))
+rising_once (k ∷ ks) [] ks_rise ls_rise to from = absurd (not_empty k (to k (first_in k ks)))
+rising_once (k ∷ ks) (l ∷ ls) ks_rise ls_rise to from =
+    let here : k ≡ l = first (first_or_later l ls k (to k (first_in k ks))) (first_or_later k ks l (from l (first_in l ls))) in
+    let rest : ks ≡ ls = rising_once ks ls (rest_rises k ks ks_rise) (rest_rises l ls ls_rise) (λ m inside. forth m inside (first_or_later l ls m (to m (later_in k ks m inside)))) (λ m inside. back m inside (first_or_later k ks m (from m (later_in l ls m inside)))) in
+    ap (λ (m : Link). m ∷ ks) here ∙ ap (λ (ms : List Link). l ∷ ms) rest
+  where
+    first : (l ≡ k) ⊎ Contains ls k → (k ≡ l) ⊎ Contains ks l → k ≡ l
+    first (inl same) other = sym same
+    first (inr above) (inl same) = same
+    first (inr above) (inr below) = absurd (omega (arith, first_below l ls k ls_rise above, first_below k ks l ks_rise below))
+
+    numbers : k.0 ≡ l.0
+    numbers = ap (λ (m : Link). m.0) (first (first_or_later l ls k (to k (first_in k ks))) (first_or_later k ks l (from l (first_in l ls))))
+
+    forth : (m : Link) → Contains ks m → (l ≡ m) ⊎ Contains ls m → Contains ls m
+    forth m inside (inl same) = absurd (omega (arith, first_below k ks m ks_rise inside, ap (λ (x : Link). x.0) same, numbers))
+    forth m inside (inr there) = there
+
+    back : (m : Link) → Contains ls m → (k ≡ m) ⊎ Contains ks m → Contains ks m
+    back m inside (inl same) = absurd (omega (arith, first_below l ls m ls_rise inside, ap (λ (x : Link). x.0) same, numbers))
+    back m inside (inr there) = there
+
+rises : (ks : List Link) → IsStrictlyIncreasing (map (λ (l : Link). l.0) ks) → IsRising ks
+rises ks increasing i j d below within =
+    let f : Link → ℕ = λ l. l.0 in
+    let count : length (map f ks) ≡ length ks = length-map ks f in
+    let pair = AllPairs-from_increasing (map f ks) increasing i j d.0 below (omega (arith, within, count)) in
+    omega (arith, pair, get_or-map f ks i d d.0 (omega (arith, below, within)), get_or-map f ks j d d.0 within)
+
+module _ (net : Network) (valid : IsValid net) (failed : FailureSet) where
+  hops_once : (to : Prefix) (ds : List (Option ℕ)) (u : ℕ) (ks ls : List Link) → AreNextHops net to failed (distance_map ds) u ks → AreNextHops net to failed (distance_map ds) u ls → ks ≡ ls
+  hops_once to ds u ks ls these those =
+      rising_once ks ls (rises ks these.rising) (rises ls those.rising) (λ l inside. (those.each l).1 ((these.each l).0 inside)) (λ l inside. (these.each l).1 ((those.each l).0 inside))
+
+  distances_once : (to : Prefix) (owner : ℕ) (ds es : List (Option ℕ)) → Owns net to owner → AreDistances net to failed ds → AreDistances net to failed es → ds ≡ es
+  distances_once to owner ds es owns these those =
+      same_lists ds es (these.whole ∙ sym those.whole) (λ k d within.
+      get_or_default ds k d None within
+      ∙ one_stable_map net valid to owner failed (distance_map ds) (distance_map es) (these.stable owner owns) (those.stable owner owns) k (omega (arith, within, these.whole))
+      ∙ get_or_default es k None d (omega (arith, within, these.whole, those.whole)))
+
+  same_face : (o : Option FaceRow) (f g : FaceRow) → o ≡ Some f → o ≡ Some g → f ≡ g
+  same_face o f g e h = cc
+
+  at_place : (p : Prefix) (face : FaceRow) (host : IsHostFace net p face) → slice_get net.faces host.is_face.0 ≡ Some face
+  at_place p face host = slice_get-get_or net.faces host.is_face.0 face host.is_face.1 ∙ ap Some host.is_face.2
+
+  face_once : (p : Prefix) (f g : FaceRow) → IsHostFace net p f → IsHostFace net p g → f ≡ g
+  face_once p f g this that =
+      let i = this.is_face.0 in
+      let j = that.is_face.0 in
+      let at_i : IsHostOf net p i = record { face = f; at_place = at_place p f this; lies = this.lies } in
+      let at_j : IsHostOf net p j = record { face = g; at_place = at_place p g that; lies = that.lies } in
+      let same : i ≡ j = one_host net valid p i j at_i at_j in
+      same_face (slice_get net.faces j) f g (ap (slice_get net.faces) (sym same) ∙ at_place p f this) (at_place p g that)
+
+  -- functions that agree on a range give one text
+  pieces_once : (f g : ℕ → List ℕ) (a n : ℕ) → ((u : ℕ) → a ≤ u → u < a + n → f u ≡ g u) → flat_map f (range_with_len a n) ≡ flat_map g (range_with_len a n)
+  pieces_once f g a zero same = refl
+  pieces_once f g a (suc n) same =
+      ap (λ (t : List ℕ). t ++ flat_map f (range_with_len (a + 1) n)) (same a (omega arith) (omega arith))
+      ∙ ap (λ (t : List ℕ). g a ++ t) (pieces_once f g (a + 1) n (λ u low high. same u (omega (arith, low)) (omega (arith, high))))
+
+  same_host : (o : Option Prefix) (p q : Prefix) → o ≡ Some p → o ≡ Some q → p ≡ q
+  same_host o p q e h = cc
+
+  lines_once : (to : Prefix) (ds : List (Option ℕ)) (hops more : ℕ → List Link) → ((u : ℕ) → u < length net.routers → AreNextHops net to failed (distance_map ds) u (hops u)) → ((u : ℕ) → u < length net.routers → AreNextHops net to failed (distance_map ds) u (more u)) →
+      route_lines net ds hops (length net.routers) ≡ route_lines net ds more (length net.routers)
+  lines_once to ds hops more these those =
+      pieces_once (λ u. route_line (router_name net u) (distance_map ds u) (hops u)) (λ u. route_line (router_name net u) (distance_map ds u) (more u)) 0 (length net.routers)
+      (λ u low high. ap (λ (ls : List Link). route_line (router_name net u) (distance_map ds u) ls) (hops_once to ds u (hops u) (more u) (these u (omega (arith, high))) (those u (omega (arith, high)))))
+
+  pub trace_once : (from to : Prefix) (text other : List ℕ) → IsTrace net failed from to text → IsTrace net failed from to other → text ≡ other
+  trace_once from to text other t s =
+      let sources : t.source ≡ s.source = face_once from t.source s.source t.is_source s.is_source in
+      let targets : t.target ≡ s.target = face_once to t.target s.target t.is_target s.is_target in
+      let hosts : t.host ≡ s.host = same_host s.target.host t.host s.host (ap (λ (f : FaceRow). f.host) (sym targets) ∙ t.host_is) s.host_is in
+      let owns : Owns net t.host t.target.router.0 = record { face = t.target; is_face = t.is_target.is_face; host = t.host_is; router = refl } in
+      let P : Prefix → Type 0 = λ p. AreDistances net p failed s.distances in
+      let distances : t.distances ≡ s.distances = distances_once t.host t.target.router.0 t.distances s.distances owns t.are_distances (subst P (sym hosts) s.are_distances) in
+      let Q : Prefix → Type 0 = λ p. (u : ℕ) → u < length net.routers → AreNextHops net p failed (distance_map s.distances) u (s.hops u) in
+      let R : List (Option ℕ) → Type 0 = λ ds. (u : ℕ) → u < length net.routers → AreNextHops net t.host failed (distance_map ds) u (s.hops u) in
+      let others : (u : ℕ) → u < length net.routers → AreNextHops net t.host failed (distance_map t.distances) u (s.hops u) = subst R (sym distances) (subst Q (sym hosts) s.are_hops) in
+      let lines : route_lines net t.distances t.hops (length net.routers) ≡ route_lines net t.distances s.hops (length net.routers) = lines_once t.host t.distances t.hops s.hops t.are_hops others in
+      t.text_is
+      ∙ ap (λ (f : FaceRow). trace_text net from f to t.target t.distances t.hops) sources
+      ∙ ap (λ (f : FaceRow). trace_text net from s.source to f t.distances t.hops) targets
+      ∙ ap (λ (ls : List ℕ). trace_head from (router_name net s.source.router.0) to (router_name net s.target.router.0) ++ ls) lines
+      ∙ ap (λ (ds : List (Option ℕ)). trace_text net from s.source to s.target ds s.hops) distances
+      ∙ sym s.text_is

@@ -1,0 +1,13 @@
+pub mod Halves
+pub mod Nesting
+pub mod Matches
+pub mod Readings
+pub mod OneCase
+pub mod RoutedArcs
+pub mod Following
+pub mod FollowingOnce
+pub mod Repeats
+pub mod UniformClasses
+pub mod CarryingWalks
+pub mod Rising
+pub mod ExampleNetwork

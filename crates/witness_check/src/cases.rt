@@ -1,0 +1,83 @@
+ghost use Rattle.std.specs.Prelude.{◌≡◌, ◌↔◌, ℕ, IsTrue, Any, Contains};
+ghost use Rattle.net_model.specs.Packets.{subject};
+ghost use Rattle.net_model.specs.Routing.{Tells};
+ghost use Rattle.net_model.specs.Forwarding.{AreEnds, HasEnds, IsHostOf, LiesInHostOf};
+ghost use Rattle.witness_check.specs.Cases.{ends_of, IsTold};
+
+use arc_base::Prefix;
+use net_model::{Class, FaceRow, Network, Policy};
+
+/// What a witness is judged against: the network, and where the policy's packets would enter and leave it.
+#[derive(Clone, Copy)]
+pub(crate) struct Case<'a> {
+    pub(crate) net: &'a Network,
+    /// The interface at which the packets enter.
+    pub(crate) source: &'a FaceRow,
+    /// The interface at which they leave.
+    pub(crate) target: &'a FaceRow,
+    /// The host network that they are routed to.
+    pub(crate) to: Prefix,
+    /// Whether that host network is told, so that this is asked once and not for each link.
+    pub(crate) told: bool,
+    /// All packets of the policy.
+    pub(crate) whole: Class,
+}
+
+/// The interface in whose host network the prefix lies.
+fn owner(net: &Network, prefix: Prefix) -> &FaceRow
+    requires { (place : ℕ) × IsHostOf net.now prefix place }
+    ensures one { Contains net.now.faces result.now }
+    ensures lies { LiesInHostOf prefix result.now }
+{
+    match net.host_of(prefix) {
+        Some(face) => match net.faces.get(face.0) {
+            Some(row) => row,
+            None => unreachable!(),
+        },
+        None => unreachable!(),
+    }
+}
+
+/// The host network of the interface.
+fn host(face: &FaceRow, prefix: Prefix) -> Prefix
+    requires { LiesInHostOf prefix face.now }
+    ensures { face.now.host ≡ Some result }
+{
+    match face.host {
+        Some(host) => host,
+        None => unreachable!(),
+    }
+}
+
+impl Case<'_> {
+    /// The case of a policy.
+    pub(crate) fn of<'a>(net: &'a Network, policy: &Policy) -> Case<'a>
+        requires { HasEnds net.now (subject policy.now) }
+        ensures net { result.net.now ≡ net.now }
+        ensures whole { result.whole ≡ subject policy.now }
+        ensures ends { AreEnds net.now (subject policy.now) (ends_of result) }
+        ensures told { IsTold result }
+    {
+        let source = owner(net, policy.from);
+        let target = owner(net, policy.to);
+        let to = host(target, policy.to);
+        Case {
+            net,
+            source,
+            target,
+            to,
+            told: net.is_told(to),
+            whole: Class {
+                from: policy.from,
+                to: policy.to,
+            },
+        }
+    }
+
+    /// Whether the packets enter and leave at one router.
+    pub(crate) fn is_local(&self) -> bool
+        ensures { IsTrue result ↔ (self.now.source.now.router.0 ≡ self.now.target.now.router.0) }
+    {
+        self.source.router.0 == self.target.router.0
+    }
+}

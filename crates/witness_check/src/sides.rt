@@ -1,0 +1,182 @@
+ghost use Rattle.std.specs.Prelude.{◌≡◌, ◌↔◌, ◌^◌, ◌<◌, ◌≤◌, IsTrue, All, AllPairs, length, sum_by};
+ghost use Rattle.arc_base.specs.Addresses.{size};
+ghost use Rattle.net_model.specs.Packets.{ShareNoPacket, packets};
+ghost use Rattle.net_model.specs.Witnesses.{IsUniform, IsRightClosed};
+ghost use Rattle.witness_check.specs.Answers.{first_packet};
+ghost use Rattle.witness_check.specs.Cases.{IsTold, ends_of, arc_of, EachOver, EachRouted};
+ghost use Rattle.witness_check.specs.Sides.{HoldsSource, SparesTarget, Stands, Keeps, KeepsEach};
+
+use crate::answers::{answer, first_packet};
+use crate::arcs::RoutedArc;
+use crate::boxes::share_none;
+use crate::cases::Case;
+use crate::cuts::is_on;
+use crate::packets::lies_in;
+use crate::trails::may_break;
+use arc_base::{Link, Prefix};
+use net_model::{Class, ClassSide, Network, PacketList, PolicyKind};
+
+/// The number of the prefix's addresses.
+fn size(p: Prefix) -> u64
+    ensures size { result ≡ size p }
+    ensures fits { result ≤ 2 ^ 32 }
+{
+    1u64 << (32 - p.len)
+}
+
+/// The number of the class's packets.
+fn packets(class: Class) -> u128
+    ensures packets { result ≡ packets class }
+    ensures fits { result ≤ 2 ^ 64 }
+{
+    u128::from(size(class.from)) * u128::from(size(class.to))
+}
+
+/// The number of packets of all the classes.
+fn packets_of_all(sides: &[ClassSide]) -> u128
+    requires { length sides.now < 2 ^ 32 }
+    ensures { result ≡ sum_by (λ c. packets c.class) sides.now }
+{
+    let mut sum = 0;
+    for shown in sides {
+        sum += packets(shown.class);
+    }
+    sum
+}
+
+/// Whether the class shares no packet with any of these.
+fn is_apart(class: Class, others: &[ClassSide]) -> bool
+    ensures { IsTrue result ↔ All (λ other. ShareNoPacket class other.class) others.now }
+{
+    others.iter().all(|other| share_none(class, other.class))
+}
+
+/// Whether no two of the classes share a packet.
+fn are_apart(sides: &[ClassSide]) -> bool
+    ensures { IsTrue result ↔ AllPairs (λ c d. ShareNoPacket c.class d.class) sides.now }
+{
+    for (place, shown) in sides.iter().enumerate() {
+        if !is_apart(shown.class, &sides[place + 1..]) {
+            return false;
+        }
+    }
+    true
+}
+
+/// Whether the list gives the same answer to all packets of the class.
+fn is_uniform(list: &PacketList, class: Class) -> bool
+    ensures { IsTrue result ↔ IsUniform list.now.entries class }
+{
+    answer(list, class).is_some()
+}
+
+/// Whether each packet list of the network is uniform on the class.
+fn are_uniform(net: &Network, class: Class) -> bool
+    ensures { IsTrue result ↔ All (λ l. IsUniform l.entries class) net.now.packet_lists }
+{
+    net.packet_lists
+        .slice()
+        .iter()
+        .all(|list| is_uniform(list, class))
+}
+
+impl Case<'_> {
+    /// Whether the side holds the source, or the class's packet of first addresses does not enter.
+    fn holds_source(&self, shown: &ClassSide) -> bool
+        ensures { IsTrue result ↔ HoldsSource self.now.net.now (ends_of self.now) shown.now }
+    {
+        is_on(&shown.side, self.source.router) || !self.enters(first_packet(shown.class))
+    }
+
+    /// Whether the side does not hold the target, or the class's packet of first addresses does not leave.
+    fn spares_target(&self, shown: &ClassSide) -> bool
+        ensures { IsTrue result ↔ SparesTarget self.now.net.now (ends_of self.now) shown.now }
+    {
+        !is_on(&shown.side, self.target.router) || !self.leaves(first_packet(shown.class))
+    }
+
+    /// Whether the class is a part of the policy on which the lists are uniform, and the side has a flag for each router, holds
+    /// the source if its packets enter, and the target only if none leaves.
+    fn stands(&self, shown: &ClassSide) -> bool
+        ensures { IsTrue result ↔ Stands self.now.net.now (ends_of self.now) self.now.whole shown.now }
+    {
+        lies_in(shown.class, self.whole)
+            && shown.side.len() == self.net.routers.len()
+            && self.holds_source(shown)
+            && self.spares_target(shown)
+            && are_uniform(self.net, shown.class)
+    }
+
+    /// Whether each of the sides stands so.
+    fn each_stands(&self, sides: &[ClassSide]) -> bool
+        ensures { IsTrue result ↔ All (Stands self.now.net.now (ends_of self.now) self.now.whole) sides.now }
+    {
+        sides.iter().all(|shown| self.stands(shown))
+    }
+
+    /// Whether the arc does not leave the side, or does not permit the class's packet of first addresses.
+    fn keeps(&self, arc: &RoutedArc<'_>, shown: &ClassSide) -> bool
+        ensures { IsTrue result ↔ Keeps self.now.net.now (arc_of arc.now) shown.now }
+    {
+        if !is_on(&shown.side, arc.tail.router) || is_on(&shown.side, arc.head.router) {
+            return true;
+        }
+        let p = first_packet(shown.class);
+        !self.net.list_permits(arc.tail.list_out, p) || !self.net.list_permits(arc.head.list_in, p)
+    }
+
+    /// Whether the arc may not break the policy, or keeps to each of the sides.
+    fn keeps_or_spares(&self, kind: PolicyKind, sides: &[ClassSide], arc: &RoutedArc<'_>) -> bool
+        ensures { IsTrue result ↔ KeepsEach self.now.net.now kind sides.now (arc_of arc.now) }
+    {
+        !may_break(kind, arc) || self.keeps_each(arc, sides)
+    }
+
+    /// Whether the arc of the link in one direction, if it is routed and may break the policy, keeps to each of the sides.
+    fn keeps_over(&self, kind: PolicyKind, sides: &[ClassSide], link: Link, from_a: bool) -> bool
+        requires { IsTold self.now }
+        ensures { IsTrue result ↔ EachOver self.now.net.now self.now.to link.0 from_a (KeepsEach self.now.net.now kind sides.now) }
+    {
+        match self.routed_arc(link, from_a) {
+            Some(arc) => self.keeps_or_spares(kind, sides, &arc),
+            None => true,
+        }
+    }
+
+    /// Whether the arc keeps to each of the sides.
+    fn keeps_each(&self, arc: &RoutedArc<'_>, sides: &[ClassSide]) -> bool
+        ensures { IsTrue result ↔ All (Keeps self.now.net.now (arc_of arc.now)) sides.now }
+    {
+        sides.iter().all(|shown| self.keeps(arc, shown))
+    }
+
+    /// Whether each routed arc that may break the policy keeps to each of the sides.
+    fn each_keeps(&self, kind: PolicyKind, sides: &[ClassSide]) -> bool
+        requires { IsTold self.now }
+        ensures { IsTrue result ↔ EachRouted self.now.net.now self.now.to (KeepsEach self.now.net.now kind sides.now) }
+    {
+        for place in 0..self.net.links.len() {
+            if !self.keeps_over(kind, sides, Link(place), true)
+                || !self.keeps_over(kind, sides, Link(place), false)
+            {
+                return false;
+            }
+        }
+        true
+    }
+
+    /// Whether the closed sides are right: their classes make up the policy, and no packet of a class gets off its side.
+    pub(crate) fn are_right_sides(&self, kind: PolicyKind, sides: &[ClassSide]) -> bool
+        requires told { IsTold self.now }
+        requires few { length sides.now < 2 ^ 32 }
+        ensures { IsTrue result ↔ IsRightClosed self.now.net.now (ends_of self.now) kind self.now.whole sides.now }
+    {
+        if packets_of_all(sides) != packets(self.whole) {
+            return false;
+        }
+        if !are_apart(sides) {
+            return false;
+        }
+        self.each_stands(sides) && self.each_keeps(kind, sides)
+    }
+}
