@@ -1,0 +1,14 @@
+pub mod Values
+pub mod Pieces
+pub mod Least
+pub mod Falls
+pub mod Opened
+pub mod Numbered
+pub mod Steps
+pub mod PartLists
+pub mod Keys
+pub mod Grouping
+pub mod StandLists
+pub mod Unique
+pub mod Whole
+pub mod OneAnswer

@@ -1,0 +1,35 @@
+-- The answers of `config`, from those of its parts.
+use Rattle.std.proofs.Common.{◌≡◌, ℕ, ◌≤◌, List, inl, inr, refl, subst}
+use Rattle.std.specs.Prelude.{Err}
+use Rattle.arc_base.specs.declared.refusal.Kind.TheVariants.{DuplicateBlock, SequenceNotRising}
+use Rattle.ios_lines.specs.declared.line.Lines.{Lines}
+use Rattle.ios_config.specs.declared.commands.FileCommand.{FileCommand}
+use Rattle.ios_config.specs.declared.settings.Config.{Config}
+use Rattle.ios_config.specs.declared.fault.ConfigFault.{ConfigFault}
+use Rattle.ios_config.specs.declared.fault.ConfigFault.TheVariants.{Refused, Memory}
+use Rattle.ios_config.specs.Commands.{AreCommandsOf, IsFaultOf}
+use Rattle.ios_config.specs.Configs.{IsConfigOf, IsRefused, Configures}
+use Rattle.ios_config.specs.Rising.{IsNotRising, NumbersRise, IsFirstNotRising}
+use Rattle.ios_config.specs.Texts.{config_of}
+use Rattle.ios_config.specs.Twice.{StandOnce, IsFirstDuplicate}
+
+-- the first line that is no command
+pub refused_line : (text : List ℕ) (lines : Lines) (fault : ConfigFault) → IsFaultOf text lines fault → Configures text lines (Err fault)
+refused_line text lines (Refused line kind) is = inl is
+refused_line text lines Memory is = tt
+
+module _ (text : List ℕ) (lines : Lines) (cs : List FileCommand) (read : AreCommandsOf text lines cs) where
+  -- the first block or list that stands twice
+  pub refused_twice : (line : ℕ) → IsFirstDuplicate cs line → IsRefused text lines line DuplicateBlock
+  refused_twice line is = inr (inl (refl, record { commands = cs; read = read; duplicate = is }))
+
+  -- the first entry whose number does not rise
+  pub refused_falls : (config : Config) (line : ℕ) → StandOnce cs → config ≡ config_of cs →
+      (IsNotRising config.lists line × ((other : ℕ) → IsNotRising config.lists other → line ≤ other)) → IsRefused text lines line SequenceNotRising
+  refused_falls config line once set least =
+      let first : IsFirstNotRising config.lists line = record { falls = least.0; first = least.1 } in
+      inr (inr (refl, record { commands = cs; read = read; once = once; falls = subst (λ (c : Config). IsFirstNotRising c.lists line) set first }))
+
+  -- and else the settings
+  pub is_config : (config : Config) → StandOnce cs → config ≡ config_of cs → NumbersRise config.lists → IsConfigOf text lines config
+  is_config config once set rising = record { commands = cs; read = read; once = once; rising = rising; set = set }

@@ -1,0 +1,8 @@
+use Rattle.std.proofs.Common.{◌≡◌, take}
+use Rattle.std.specs.List.{flat_map}
+use Rattle.ios_config.specs.Seen.{group_list}
+use Rattle.ios_config.specs.Texts.{list_of}
+use Rattle.ios_config.proofs.configs.lists.Given as goal
+
+abbrev pub invariant-loop-group : goal.invariant-loop-group
+invariant-loop-group l = l.found.items ≡ flat_map list_of (group_list (take l.group-index l.groups))

@@ -1,0 +1,12 @@
+pub mod Commands
+pub mod Values
+pub mod Groups
+pub mod Texts
+pub mod Twice
+pub mod Rising
+pub mod Configs
+pub mod Seen
+pub mod Updates
+pub mod Least
+pub mod Reading
+pub mod Laws
