@@ -3,6 +3,7 @@
 //! set of its addresses.
 #![tactic(auto)]
 
+mod certificate;
 mod cut;
 pub mod laws;
 mod list;
@@ -16,6 +17,7 @@ mod span;
 #[cfg(test)]
 mod tests;
 
+pub use certificate::CertKind;
 pub use cut::cut_at;
 pub use list::List;
 pub use memory::Memory;

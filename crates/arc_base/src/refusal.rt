@@ -49,8 +49,6 @@ pub enum Kind {
     OutputName,
     /// A line of an edit file names no edit, or one that was named before.
     EditLine,
-    /// The input asks for what this version does not do yet.
-    NotBuilt,
 }
 
 /// What is counted against a limit.

@@ -1,22 +1,18 @@
 -- Files have one document and network, or one refusal.
-use Rattle.std.proofs.Common.{◌≡◌, ℕ, ◌+◌, ◌<◌, ◌⊎◌, inl, inr, List, [], length, take, get_or, sym, ◌∙◌, ap, subst, arith}
-use Rattle.std.proofs.lemmas.Option.{slice_get_within, get_or_from_slice_get}
-use Rattle.std.proofs.lemmas.List.{length-take, get_or-take}
-use Rattle.std.proofs.lemmas.Bool.{cases_lt}
-use Rattle.std.specs.Prelude.{Option, Some, None, Result, Ok, Err, slice_get}
+use Rattle.std.proofs.Common.{◌≡◌, ℕ, inl, inr, List, [], sym, ◌∙◌, ap, subst}
+use Rattle.std.specs.Prelude.{Option, Some, None, Result, Ok, Err}
 use Rattle.arc_outside.specs.Files.{Files}
 use Rattle.net_model.specs.declared.policies.Document.{Document}
 use Rattle.net_model.specs.declared.rows.Network.{Network}
 use Rattle.net_doc.specs.declared.fault.Refusal.{Refusal}
 use Rattle.net_doc.specs.Documents.{reading}
-use Rattle.plain_files.specs.Known.{first_unknown}
-use Rattle.net_build.specs.Networks.{KnowsLines, IsUnknownLine, IsNotBuilt, IsNetworkOf}
-use Rattle.net_build.proofs.TextsRead.{one_network_of}
+use Rattle.net_build.specs.Networks.{IsFirstRefusal}
+use Rattle.net_build.proofs.OneAnswer as answers
 use Rattle.arc_run.specs.declared.outcome.FileRefusal.{FileRefusal}
 use Rattle.arc_run.specs.Inputs.{HoldsDocument, HoldsFiles, HoldsInput, RefusesDocument, RefusesFile, RefusesNetwork, IsInputRefusal, contents, named}
 use Rattle.arc_run.specs.Refusals.{refusal_of, read_refusal, first_refusal, bytes_at, document_limit, routers_limit}
 use Rattle.net_model.specs.Policies.{MeetsDocument}
-use Rattle.arc_base.specs.declared.refusal.Kind.TheVariants.{UnknownLine, Limit}
+use Rattle.arc_base.specs.declared.refusal.Kind.TheVariants.{Limit}
 use Rattle.arc_base.specs.declared.refusal.LimitKind.TheVariants.{Classes}
 use Rattle.arc_run.specs.Counts.{HasFewClasses, HasManyClasses, IsJudgingRefusal}
 use Rattle.arc_run.proofs.ClassCounts.{one_count, few_or_many}
@@ -39,53 +35,12 @@ one_err r x y e f = cc
 ok_or_err : (r : Result Document Refusal) (x : Document) (y : Refusal) → r ≡ Ok x → r ≡ Err y → ⊥
 ok_or_err r x y e f = absurd (cc)
 
--- a text with an unknown line is none of texts without one
-known_at : (files : List (List ℕ)) (place : ℕ) (text : List ℕ) (line : ℕ) → slice_get files place ≡ Some text → first_unknown text ≡ Some line → KnowsLines files → ⊥
-known_at files place text line at_place unknown known =
-    let here : first_unknown (get_or files place text) ≡ None = known place text (slice_get_within files place text at_place) in
-    no_value (first_unknown text) line unknown (ap first_unknown (sym (get_or_from_slice_get files place text text at_place)) ∙ here)
-
-not_before : (files : List (List ℕ)) (i j : ℕ) (text : List ℕ) (line : ℕ) → slice_get files i ≡ Some text → first_unknown text ≡ Some line → KnowsLines (take j files) → i < j → ⊥
-not_before files i j text line at_place unknown known below =
-    let within : i < length (take j files) = omega (arith, length-take j files, slice_get_within files i text at_place, below) in
-    let same : get_or (take j files) i text ≡ text = get_or-take j files i text below ∙ get_or_from_slice_get files i text text at_place in
-    no_value (first_unknown text) line unknown (ap first_unknown (sym same) ∙ known i text within)
-
-refusal_at : ℕ → ℕ → Refusal
-refusal_at place line = record { file = place + 1; number = line; kind = UnknownLine }
-
-unknown_once : (files : List (List ℕ)) (r s : Refusal) → IsUnknownLine files r → IsUnknownLine files s → r ≡ s
-unfolding refusal_at
-unknown_once files r s u v =
-    elim (cases_lt u.place v.place) [
-      | inl below ↦ absurd (not_before files u.place v.place u.text u.line u.at_place u.unknown v.earlier below)
-      | inr above ↦ elim (cases_lt v.place u.place) [
-        | inl below ↦ absurd (not_before files v.place u.place v.text v.line v.at_place v.unknown u.earlier below)
-        | inr above' ↦
-            let places : u.place ≡ v.place = omega arith in
-            let texts : u.text ≡ v.text = one_value (slice_get files v.place) u.text v.text (ap (slice_get files) (sym places) ∙ u.at_place) v.at_place in
-            let lines : u.line ≡ v.line = one_value (first_unknown v.text) u.line v.line (ap first_unknown (sym texts) ∙ u.unknown) v.unknown in
-            u.told ∙ ap (λ (p : ℕ). refusal_at p u.line) places ∙ ap (refusal_at v.place) lines ∙ sym v.told
-      ]
-    ]
-
--- the refusals of a network that is not built are one
-network_refused_once : (doc : Document) (files : List (List ℕ)) (r s : Refusal) → IsUnknownLine files r ⊎ IsNotBuilt doc files r → IsUnknownLine files s ⊎ IsNotBuilt doc files s → r ≡ s
-network_refused_once doc files r s (inl u) (inl v) = unknown_once files r s u v
-network_refused_once doc files r s (inl u) (inr v) = absurd (known_at files u.place u.text u.line u.at_place u.unknown v.known)
-network_refused_once doc files r s (inr u) (inl v) = absurd (known_at files v.place v.text v.line v.at_place v.unknown u.known)
-network_refused_once doc files r s (inr u) (inr v) = u.told ∙ sym v.told
-
-not_refused : (doc : Document) (files : List (List ℕ)) (net : Network) (r : Refusal) → KnowsLines files → IsNetworkOf doc files net → IsUnknownLine files r ⊎ IsNotBuilt doc files r → ⊥
-not_refused doc files net r known network (inl u) = known_at files u.place u.text u.line u.at_place u.unknown known
-not_refused doc files net r known network (inr u) = u.none net network
-
 module _ (document : List ℕ) (files : Files) where
   one_document : (doc other : Document) → HoldsDocument document files doc → HoldsDocument document files other → doc ≡ other
   one_document doc other h k = one_ok (reading (bytes_at files document)) doc other h.read k.read
 
   one_network : (doc : Document) (net other : Network) → HoldsInput document files doc net → HoldsInput document files doc other → net ≡ other
-  one_network doc net other h k = one_network_of doc (contents files doc) net other h.network.1 k.network.1
+  one_network doc net other h k = answers.one_network doc (contents files doc) net other h.network k.network
 
   -- the stages of the refusals, and what each says of the ones before
   document_none : (doc : Document) (r : FileRefusal) → HoldsDocument document files doc → RefusesDocument document files r → ⊥
@@ -109,15 +64,15 @@ module _ (document : List ℕ) (files : Files) where
   network_once : (r s : FileRefusal) → RefusesNetwork document files r → RefusesNetwork document files s → r ≡ s
   network_once r s u v =
       let same : u.doc ≡ v.doc = one_document u.doc v.doc u.files_are.document_is v.files_are.document_is in
-      let P : Document → Type 0 = λ d. IsUnknownLine (contents files d) u.refusal ⊎ IsNotBuilt d (contents files d) u.refusal in
-      let once : u.refusal ≡ v.refusal = network_refused_once v.doc (contents files v.doc) u.refusal v.refusal (subst P same u.refused) v.refused in
+      let P : Document → Type 0 = λ d. IsFirstRefusal d (contents files d) u.refusal in
+      let once : u.refusal ≡ v.refusal = answers.one_refusal v.doc (contents files v.doc) u.refusal v.refusal (subst P same u.refused) v.refused in
       u.is_named ∙ ap (λ (d : Document). named document d.routers u.refusal) same ∙ ap (named document v.doc.routers) once ∙ sym v.is_named
 
   network_none : (doc : Document) (net : Network) (r : FileRefusal) → HoldsInput document files doc net → RefusesNetwork document files r → ⊥
   network_none doc net r h u =
       let same : u.doc ≡ doc = one_document u.doc doc u.files_are.document_is h.files_are.document_is in
-      let P : Document → Type 0 = λ d. IsUnknownLine (contents files d) u.refusal ⊎ IsNotBuilt d (contents files d) u.refusal in
-      not_refused doc (contents files doc) net u.refusal h.network.0 h.network.1 (subst P same u.refused)
+      let P : Document → Type 0 = λ d. IsFirstRefusal d (contents files d) u.refusal in
+      answers.network_or_refused doc (contents files doc) net u.refusal h.network (subst P same u.refused)
 
   -- a file that is held is not refused as one that is not
   held_none : (r : FileRefusal) → read_refusal document_limit files document ≡ None → read_refusal document_limit files document ≡ Some r → ⊥

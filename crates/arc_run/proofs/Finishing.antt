@@ -2,7 +2,7 @@
 use Rattle.std.proofs.Common.{◌≡◌, ℕ, ◌<◌, ◌≤◌, ◌⊎◌, inl, inr, List, length, take, refl, sym, ◌∙◌, subst, arith}
 use Rattle.std.specs.Prelude.{Option, Some, None, IsSome}
 use Rattle.arc_outside.specs.Files.{Files, WhereTold}
-use Rattle.arc_run.specs.declared.words.Command.{Command}
+use Rattle.command_words.specs.declared.commands.Command.{Command}
 use Rattle.arc_run.specs.declared.outcome.Outcome.{Outcome}
 use Rattle.arc_run.specs.declared.outcome.Outcome.TheVariants as outcomes
 use Rattle.arc_run.specs.Outcomes.{IsDefined, HasOutcomeCause, text_of, writes_of, status_of}

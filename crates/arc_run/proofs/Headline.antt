@@ -12,8 +12,8 @@ use Rattle.net_model.specs.Policies.{Meets}
 use Rattle.net_model.specs.Validity.{IsValid}
 use Rattle.net_model.specs.Witnesses.{is_yes}
 use Rattle.net_laws.proofs.RightVerdicts.{right_verdicts_decide}
-use Rattle.arc_run.specs.declared.words.Command.{Command}
-use Rattle.arc_run.specs.declared.words.Command.TheVariants.{Verify}
+use Rattle.command_words.specs.declared.commands.Command.{Command}
+use Rattle.command_words.specs.declared.commands.Command.TheVariants.{Verify}
 use Rattle.arc_run.specs.declared.outcome.Outcome.{Outcome}
 use Rattle.arc_run.specs.declared.outcome.Outcome.TheVariants as outcomes
 use Rattle.arc_run.specs.Outcomes.{IsDefined, status_of}

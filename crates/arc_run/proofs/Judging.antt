@@ -20,7 +20,7 @@ use Rattle.verdicts.specs.Judged.{HasFewFailures}
 use Rattle.arc_run.specs.declared.inputs.Input.{Input}
 use Rattle.arc_run.specs.declared.outcome.Stop.{Stop}
 use Rattle.arc_run.specs.declared.outcome.Stop.TheVariants as stops
-use Rattle.arc_run.specs.declared.words.Command.TheVariants.{Verify}
+use Rattle.command_words.specs.declared.commands.Command.TheVariants.{Verify}
 use Rattle.arc_run.specs.Counts.{HasManyClasses, CountsClasses}
 use Rattle.arc_run.specs.Inputs.{ReadsInput}
 use Rattle.arc_run.specs.Outcomes.{Answers}

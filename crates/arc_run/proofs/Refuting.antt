@@ -11,8 +11,8 @@ use Rattle.proof_check.specs.declared.rejections.Outcome.{Outcome as Judgement}
 use Rattle.proof_check.specs.declared.rejections.Outcome.TheVariants.{Accepted, Rejected}
 use Rattle.proof_check.specs.Knowledge.{start}
 use Rattle.proof_check.specs.Outcomes.{log_outcome, IsRefutation}
-use Rattle.arc_run.specs.declared.words.Command.{Command}
-use Rattle.arc_run.specs.declared.words.Command.TheVariants.{Lrat}
+use Rattle.command_words.specs.declared.commands.Command.{Command}
+use Rattle.command_words.specs.declared.commands.Command.TheVariants.{Lrat}
 use Rattle.arc_run.specs.declared.outcome.Done.{Done}
 use Rattle.arc_run.specs.declared.outcome.FileRefusal.{FileRefusal}
 use Rattle.arc_run.specs.declared.outcome.Outcome.{Outcome}

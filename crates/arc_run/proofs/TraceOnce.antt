@@ -1,10 +1,9 @@
 -- A network, failed links and two prefixes have one trace.
-use Rattle.std.proofs.Common.{◌≡◌, ℕ, zero, suc, ◌+◌, ◌<◌, ◌≤◌, ◌⊎◌, inl, inr, Bool, List, [], ◌∷◌, ◌++◌, length, get_or, map, refl, sym, ◌∙◌, ap, subst, arith}
-use Rattle.std.proofs.lemmas.Bool.{cases_lt}
+use Rattle.std.proofs.Common.{◌≡◌, ℕ, zero, suc, ◌+◌, ◌<◌, ◌≤◌, List, ◌++◌, length, map, refl, sym, ◌∙◌, ap, subst, arith}
 use Rattle.std.proofs.lemmas.List.{same_lists, get_or_default, get_or-map, length-map}
 use Rattle.std.proofs.lemmas.List.Kept.{AllPairs-from_increasing}
 use Rattle.std.proofs.lemmas.Option.{slice_get-get_or}
-use Rattle.std.specs.Prelude.{Option, Some, None, slice_get, AllPairs, Contains, ◌↔◌}
+use Rattle.std.specs.Prelude.{Option, Some, None, slice_get, AllPairs}
 use Rattle.std.specs.List.{flat_map, range_with_len}
 use Rattle.std.specs.List.Sorted.{IsStrictlyIncreasing}
 use Rattle.arc_base.specs.declared.place.Link.{Link}
@@ -12,67 +11,20 @@ use Rattle.arc_base.specs.declared.prefix.Prefix.{Prefix}
 use Rattle.net_model.specs.declared.rows.FaceRow.{FaceRow}
 use Rattle.net_model.specs.declared.rows.Network.{Network}
 use Rattle.net_model.specs.Forwarding.{IsHostOf}
-use Rattle.net_model.specs.Routing.{FailureSet, IsStable}
+use Rattle.net_model.specs.Routing.{FailureSet}
 use Rattle.net_model.specs.Validity.{IsValid}
 use Rattle.net_laws.proofs.StableMaps.{one_stable_map}
-use Rattle.arc_run.proofs.OneHost.{one_host}
-use Rattle.route_trace.specs.Routes.{distance_map, Owns, AreDistances, AreNextHops}
+use Rattle.net_build.specs.Ordered.{AreInOrder}
+use Rattle.net_build.proofs.Hosts.{one_host}
+use Rattle.net_build.proofs.InOrder.{ordered_once}
+use Rattle.route_trace.specs.Routes.{distance_map, Owns, AreDistances, IsNextHop, AreNextHops}
 use Rattle.route_trace.specs.TraceText.{router_name, route_line, route_lines, trace_head, trace_text, IsHostFace, IsTrace}
 
--- rising lists with the same items are one
-first_or_later : (k : Link) (ks : List Link) (l : Link) → Contains (k ∷ ks) l → (k ≡ l) ⊎ Contains ks l
-first_or_later k ks l (zero, within, is) = inl is
-first_or_later k ks l (suc i, within, is) = inr (i, omega (arith, within), is)
+-- the links stand in the order of their numbers
+abbrev IsLower : Link → Link → Type 0
+IsLower k l = k.0 < l.0
 
-first_in : (k : Link) (ks : List Link) → Contains (k ∷ ks) k
-first_in k ks = (zero, omega arith, refl)
-
-later_in : (k : Link) (ks : List Link) (l : Link) → Contains ks l → Contains (k ∷ ks) l
-later_in k ks l (i, within, is) = (suc i, omega (arith, within), is)
-
-abbrev IsRising : List Link → Type 0
-IsRising ks = AllPairs (λ k l. k.0 < l.0) ks
-
-first_below : (k : Link) (ks : List Link) (l : Link) → IsRising (k ∷ ks) → Contains ks l → k.0 < l.0
-first_below k ks l rising (i, within, is) =
-    let P : Link → Type 0 = λ m. k.0 < m.0 in
-    subst P is (rising zero (suc i) l (omega arith) (omega (arith, within)))
-
-rest_rises : (k : Link) (ks : List Link) → IsRising (k ∷ ks) → IsRising ks
-rest_rises k ks rising i j d below within = rising (suc i) (suc j) d (omega (arith, below)) (omega (arith, within))
-
-same_link : (k l : Link) → k.0 ≡ l.0 → k ≡ l
-same_link k l e = ap (λ (n : ℕ). record { 0 = n }) e
-
-not_empty : (l : Link) → Contains [] l → ⊥
-not_empty l (i, within, is) = omega (arith, within)
-
-rising_once : (ks ls : List Link) → IsRising ks → IsRising ls → ((l : Link) → Contains ks l → Contains ls l) → ((l : Link) → Contains ls l → Contains ks l) → ks ≡ ls
-rising_once [] [] ks_rise ls_rise to from = refl
-rising_once [] (l ∷ ls) ks_rise ls_rise to from = absurd (not_empty l (from l (first_in l ls)))
-rising_once (k ∷ ks) [] ks_rise ls_rise to from = absurd (not_empty k (to k (first_in k ks)))
-rising_once (k ∷ ks) (l ∷ ls) ks_rise ls_rise to from =
-    let here : k ≡ l = first (first_or_later l ls k (to k (first_in k ks))) (first_or_later k ks l (from l (first_in l ls))) in
-    let rest : ks ≡ ls = rising_once ks ls (rest_rises k ks ks_rise) (rest_rises l ls ls_rise) (λ m inside. forth m inside (first_or_later l ls m (to m (later_in k ks m inside)))) (λ m inside. back m inside (first_or_later k ks m (from m (later_in l ls m inside)))) in
-    ap (λ (m : Link). m ∷ ks) here ∙ ap (λ (ms : List Link). l ∷ ms) rest
-  where
-    first : (l ≡ k) ⊎ Contains ls k → (k ≡ l) ⊎ Contains ks l → k ≡ l
-    first (inl same) other = sym same
-    first (inr above) (inl same) = same
-    first (inr above) (inr below) = absurd (omega (arith, first_below l ls k ls_rise above, first_below k ks l ks_rise below))
-
-    numbers : k.0 ≡ l.0
-    numbers = ap (λ (m : Link). m.0) (first (first_or_later l ls k (to k (first_in k ks))) (first_or_later k ks l (from l (first_in l ls))))
-
-    forth : (m : Link) → Contains ks m → (l ≡ m) ⊎ Contains ls m → Contains ls m
-    forth m inside (inl same) = absurd (omega (arith, first_below k ks m ks_rise inside, ap (λ (x : Link). x.0) same, numbers))
-    forth m inside (inr there) = there
-
-    back : (m : Link) → Contains ls m → (k ≡ m) ⊎ Contains ks m → Contains ks m
-    back m inside (inl same) = absurd (omega (arith, first_below l ls m ls_rise inside, ap (λ (x : Link). x.0) same, numbers))
-    back m inside (inr there) = there
-
-rises : (ks : List Link) → IsStrictlyIncreasing (map (λ (l : Link). l.0) ks) → IsRising ks
+rises : (ks : List Link) → IsStrictlyIncreasing (map (λ (l : Link). l.0) ks) → AllPairs IsLower ks
 rises ks increasing i j d below within =
     let f : Link → ℕ = λ l. l.0 in
     let count : length (map f ks) ≡ length ks = length-map ks f in
@@ -82,7 +34,9 @@ rises ks increasing i j d below within =
 module _ (net : Network) (valid : IsValid net) (failed : FailureSet) where
   hops_once : (to : Prefix) (ds : List (Option ℕ)) (u : ℕ) (ks ls : List Link) → AreNextHops net to failed (distance_map ds) u ks → AreNextHops net to failed (distance_map ds) u ls → ks ≡ ls
   hops_once to ds u ks ls these those =
-      rising_once ks ls (rises ks these.rising) (rises ls those.rising) (λ l inside. (those.each l).1 ((these.each l).0 inside)) (λ l inside. (these.each l).1 ((those.each l).0 inside))
+      let IsHop : Link → Type 0 = IsNextHop net to failed (distance_map ds) u in
+      let in_order : (ms : List Link) → AreNextHops net to failed (distance_map ds) u ms → AreInOrder IsLower IsHop ms = λ ms hops. record { order = rises ms hops.rising; just = hops.each } in
+      ordered_once IsLower IsHop (λ k l is other before after. omega (arith, before, after)) ks ls (in_order ks these) (in_order ls those)
 
   distances_once : (to : Prefix) (owner : ℕ) (ds es : List (Option ℕ)) → Owns net to owner → AreDistances net to failed ds → AreDistances net to failed es → ds ≡ es
   distances_once to owner ds es owns these those =

@@ -7,7 +7,7 @@ use Rattle.arc_base.specs.declared.prefix.Prefix.{Prefix}
 use Rattle.arc_outside.specs.Files.{Files}
 use Rattle.net_model.specs.declared.policies.Document.{Document}
 use Rattle.net_model.specs.declared.rows.Network.{Network}
-use Rattle.net_build.specs.Conditions.{HasEndpoints}
+use Rattle.net_build.specs.Addressing.{HasEndpoints}
 use Rattle.route_trace.specs.Routes.{flagged}
 use Rattle.net_model.specs.Forwarding.{IsHostOf}
 use Rattle.route_trace.specs.TraceText.{IsTrace, HasHost}
@@ -18,9 +18,9 @@ use Rattle.arc_run.specs.declared.outcome.Outcome.{Outcome}
 use Rattle.arc_run.specs.declared.outcome.Outcome.TheVariants as outcomes
 use Rattle.arc_run.specs.declared.outcome.Stop.{Stop}
 use Rattle.arc_run.specs.declared.outcome.Stop.TheVariants as stops
-use Rattle.arc_run.specs.declared.words.Command.{Command}
-use Rattle.arc_run.specs.declared.words.Command.TheVariants.{Trace}
-use Rattle.arc_run.specs.declared.words.TraceWords.{TraceWords}
+use Rattle.command_words.specs.declared.commands.Command.{Command}
+use Rattle.command_words.specs.declared.commands.Command.TheVariants.{Trace}
+use Rattle.command_words.specs.declared.commands.TraceWords.{TraceWords}
 use Rattle.arc_run.specs.Headline.{HasTrace, HasNoTrace, TellsTrace}
 use Rattle.arc_run.specs.Inputs.{HoldsInput, ReadsInput, IsFit}
 use Rattle.arc_run.specs.Outcomes.{Answers, IsDefined, status_of}

@@ -1,21 +1,31 @@
 -- What the statuses of the commands say, in the words of the subject.
 use Rattle.std.specs.Prelude.{◌≡◌, ◌↔◌, ◌⊎◌, ℕ, Bool, List, length, Some, None, Ok}
+use Rattle.std.specs.List.{AllZip}
 use Rattle.arc_outside.specs.Files.{Files}
 use Rattle.net_model.specs.declared.policies.Document.{Document}
 use Rattle.net_model.specs.declared.rows.Network.{Network}
 use Rattle.net_model.specs.Policies.{MeetsDocument}
-use Rattle.net_build.specs.Conditions.{HasEndpoints}
+use Rattle.net_build.specs.Addressing.{HasEndpoints}
+use Rattle.net_model.specs.declared.policies.Policy.{Policy}
+use Rattle.net_model.specs.declared.verdicts.Verdict.{Verdict}
+use Rattle.net_model.specs.Forwarding.{Ends, AreEnds}
+use Rattle.net_model.specs.Packets.{subject}
+use Rattle.net_laws.specs.Laws.{Says}
+use Rattle.report_check.specs.Outcomes.{IsReport}
 use Rattle.cnf_types.specs.declared.clauses.Formula.{Formula}
 use Rattle.cnf_types.specs.Dimacs.{reading}
 use Rattle.cnf_types.specs.Formulas.{Satisfies}
 use Rattle.proof_check.specs.Outcomes.{IsRefutation}
+use Rattle.arc_run.specs.declared.outcome.Done.{Done}
 use Rattle.arc_run.specs.declared.outcome.FileRefusal.{FileRefusal}
-use Rattle.arc_run.specs.Refusals.{bytes_at}
-use Rattle.arc_run.specs.declared.words.TraceWords.{TraceWords}
+use Rattle.arc_run.specs.Refusals.{bytes_at, read_refusal}
+use Rattle.command_words.specs.declared.commands.TraceWords.{TraceWords}
 use Rattle.arc_run.specs.Traces.{first_above, IsTraceRefusal}
-use Rattle.arc_run.specs.Lrats.{lrat_refusal}
+use Rattle.arc_run.specs.Lrats.{lrat_refusal, proof_limit}
+use Rattle.arc_run.specs.Checks.{IsCheckRefusal}
 use Rattle.arc_run.specs.Counts.{HasFewClasses, IsJudgingRefusal}
 use Rattle.arc_run.specs.Inputs.{HoldsDocument, HoldsInput, IsInputRefusal}
+use Rattle.arc_run.specs.Verifies.{IsVerified}
 
 -- the document and its files have a network, its policies do not have too many classes, and it meets every policy under every set of failed links
 pub record SaysYes (document : List ℕ) (files : Files) : Type 0 where
@@ -72,6 +82,45 @@ pub record TellsTrace (words : TraceWords) (status : ℕ) (files : Files) : Type
   pub refused_exactly : (status ≡ 5) ↔ HasNoTrace words files
   pub nothing_else : (status ≡ 0) ⊎ (status ≡ 5)
 
+-- what a verdict says of its policy is true: a yes that the network meets it, a no that what it asks does not hold, a refusal
+-- that it is not clear
+pub record IsTrueOf (net : Network) (policy : Policy) (v : Verdict) : Type 0 where
+  pub ends : Ends
+  pub are_ends : AreEnds net (subject policy) ends
+  pub says : Says net ends (subject policy) policy.kind v
+
+-- the document and its files have a network, and the certificate is a report on it whose verdicts are right, one for each
+-- policy in order; so each of them is true
+pub record IsAccepted (document certificate : List ℕ) (files : Files) : Type 0 where
+  pub doc : Document
+  pub net : Network
+  pub input : HoldsInput document files doc net
+  pub held : read_refusal proof_limit files certificate ≡ None
+  pub classes : HasFewClasses net doc.policies
+  pub report : IsReport net doc (bytes_at files certificate)
+  pub are_true : AllZip (IsTrueOf net) doc.policies report.verdicts
+
+-- they have a network, and the certificate is no such report
+pub record IsRejected (document certificate : List ℕ) (files : Files) : Type 0 where
+  pub doc : Document
+  pub net : Network
+  pub input : HoldsInput document files doc net
+  pub held : read_refusal proof_limit files certificate ≡ None
+  pub classes : HasFewClasses net doc.policies
+  pub no_report : ¬ IsReport net doc (bytes_at files certificate)
+
+-- they have no network, or the certificate is missing or too long, and there is a first reason for it
+pub record IsUnchecked (document certificate : List ℕ) (files : Files) : Type 0 where
+  pub refusal : FileRefusal
+  pub refused : IsCheckRefusal document certificate files refusal
+
+-- Which of the three it is, the status tells: 0 for accepted, 1 for rejected, and 5 for refused.
+pub record TellsCheck (document certificate : List ℕ) (status : ℕ) (files : Files) : Type 0 where
+  pub accepted_exactly : (status ≡ 0) ↔ IsAccepted document certificate files
+  pub rejected_exactly : (status ≡ 1) ↔ IsRejected document certificate files
+  pub refused_exactly : (status ≡ 5) ↔ IsUnchecked document certificate files
+  pub nothing_else : (status ≡ 0) ⊎ ((status ≡ 1) ⊎ (status ≡ 5))
+
 -- the formula and the proof are held, and the proof is an accepted log for the formula that adds the empty clause; so no
 -- assignment satisfies the formula
 pub record IsRefuted (cnf proof : List ℕ) (files : Files) : Type 0 where
@@ -99,3 +148,8 @@ pub record TellsRefutation (cnf proof : List ℕ) (status : ℕ) (files : Files)
   pub rejected_exactly : (status ≡ 1) ↔ IsNotRefuted cnf proof files
   pub refused_exactly : (status ≡ 5) ↔ IsLratRefused cnf proof files
   pub nothing_else : (status ≡ 0) ⊎ ((status ≡ 1) ⊎ (status ≡ 5))
+
+-- the text that `verify` put, held under a name, is an accepted certificate over the same files
+abbrev pub VerifiedIsAccepted : Type 0
+VerifiedIsAccepted = (document certificate : List ℕ) (files : Files) (done : Done) → IsVerified document files done →
+    files certificate ≡ Some done.text → read_refusal proof_limit files certificate ≡ None → IsAccepted document certificate files

@@ -10,7 +10,7 @@ use Rattle.net_model.specs.Packets.{subject}
 use Rattle.net_model.specs.Forwarding.{HasEnds}
 use Rattle.net_model.specs.Validity.{IsValid}
 use Rattle.verdicts.specs.Judged.{HasFewFailures}
-use Rattle.net_build.specs.Networks.{BuildsNetwork}
+use Rattle.net_build.specs.Networks.{IsNetworkOf, IsFirstRefusal}
 use Rattle.arc_run.specs.declared.outcome.FileRefusal.{FileRefusal}
 use Rattle.arc_run.specs.declared.outcome.Reason.TheVariants as reasons
 use Rattle.arc_run.specs.declared.outcome.Stop.{Stop}
@@ -44,7 +44,7 @@ pub record HoldsFiles (document : List ℕ) (files : Files) (doc : Document) : T
 -- and this is the network of the document and the files
 pub record HoldsInput (document : List ℕ) (files : Files) (doc : Document) (net : Network) : Type 0 where
   pub files_are : HoldsFiles document files doc
-  pub network : BuildsNetwork doc (contents files doc) (Ok net)
+  pub network : IsNetworkOf doc (contents files doc) net
 
 -- the name holds no document, and this is why
 pub record RefusesDocument (document : List ℕ) (files : Files) (r : FileRefusal) : Type 0 where
@@ -64,14 +64,18 @@ pub record RefusesNetwork (document : List ℕ) (files : Files) (r : FileRefusal
   pub doc : Document
   pub files_are : HoldsFiles document files doc
   pub refusal : Refusal
-  pub refused : BuildsNetwork doc (contents files doc) (Err (faults.Refused refusal))
+  pub refused : IsFirstRefusal doc (contents files doc) refusal
   pub is_named : r ≡ named document doc.routers refusal
+
+-- its router files, or the network of the document and them, are refused
+abbrev pub IsFilesRefusal : List ℕ → Files → FileRefusal → Type 0
+IsFilesRefusal document files r = RefusesFile document files r ⊎ RefusesNetwork document files r
 
 -- The first refusal: the document is missing or too long; it has a wrong form; a router file is missing or too long; or the
 -- document and the files have no network.
 abbrev pub IsInputRefusal : List ℕ → Files → FileRefusal → Type 0
 IsInputRefusal document files r =
-    (read_refusal document_limit files document ≡ Some r) ⊎ (RefusesDocument document files r ⊎ (RefusesFile document files r ⊎ RefusesNetwork document files r))
+    (read_refusal document_limit files document ≡ Some r) ⊎ (RefusesDocument document files r ⊎ IsFilesRefusal document files r)
 
 -- what reading the document answers
 abbrev pub ReadsDocumentAt : List ℕ → Files → Result Document Stop → Type 0
@@ -79,6 +83,13 @@ ReadsDocumentAt document files (Ok doc) = HoldsDocument document files doc
 ReadsDocumentAt document files (Err (stops.Refused r)) = (read_refusal document_limit files document ≡ Some r) ⊎ RefusesDocument document files r
 ReadsDocumentAt document files (Err stops.Memory) = Unit {0}
 ReadsDocumentAt document files (Err stops.Failed) = Unit {0}
+
+-- what reading the router files of a document that is held answers
+abbrev pub ReadsFiles : List ℕ → Files → Result Input Stop → Type 0
+ReadsFiles document files (Ok input) = HoldsInput document files input.doc input.net
+ReadsFiles document files (Err (stops.Refused r)) = IsFilesRefusal document files r
+ReadsFiles document files (Err stops.Memory) = Unit {0}
+ReadsFiles document files (Err stops.Failed) = Unit {0}
 
 -- what reading the input answers
 abbrev pub ReadsInput : List ℕ → Files → Result Input Stop → Type 0

@@ -9,3 +9,4 @@ pub mod Lrats
 pub mod Outcomes
 pub mod Runs
 pub mod Headline
+pub mod Checks

@@ -2,8 +2,8 @@
 use Rattle.std.specs.Prelude.{◌≡◌, ℕ, ◌≤◌, List, [], Option, Some, None, Result, Ok, Err}
 use Rattle.arc_base.specs.declared.refusal.Kind.TheVariants.{Missing}
 use Rattle.arc_outside.specs.Files.{Files}
-use Rattle.arc_run.specs.declared.words.Command.{Command}
-use Rattle.arc_run.specs.declared.words.Command.TheVariants.{Verify, Trace, Lrat}
+use Rattle.command_words.specs.declared.commands.Command.{Command}
+use Rattle.command_words.specs.declared.commands.Command.TheVariants.{Verify, Trace, Lrat, Check}
 use Rattle.arc_run.specs.declared.outcome.Done.{Done}
 use Rattle.arc_run.specs.declared.outcome.FileRefusal.{FileRefusal}
 use Rattle.arc_run.specs.declared.outcome.Reason.TheVariants as reasons
@@ -17,17 +17,20 @@ use Rattle.arc_run.specs.Counts.{IsJudgingRefusal}
 use Rattle.arc_run.specs.Verifies.{IsVerified}
 use Rattle.arc_run.specs.Traces.{IsTraceRefusal, IsTraced}
 use Rattle.arc_run.specs.Lrats.{lrat_refusal, IsJudged}
+use Rattle.arc_run.specs.Checks.{IsCheckRefusal, IsChecked}
 
 -- the first refusal of a command
 abbrev pub IsRefusal : Command → Files → FileRefusal → Type 0
 IsRefusal (Verify document) files r = IsJudgingRefusal document files r
 IsRefusal (Trace words) files r = IsTraceRefusal words files r
 IsRefusal (Lrat cnf proof) files r = lrat_refusal cnf proof files ≡ Some r
+IsRefusal (Check document certificate) files r = IsCheckRefusal document certificate files r
 
 -- what a command may answer where it is not refused
 abbrev pub IsAnswer : Command → Files → Done → Type 0
 IsAnswer (Verify document) files done = IsVerified document files done
 IsAnswer (Trace words) files done = IsTraced words files done
+IsAnswer (Check document certificate) files done = IsChecked document certificate files done
 IsAnswer (Lrat cnf proof) files done = IsJudged cnf proof files done
 
 -- the text of an outcome, the files that it writes in order, and its status

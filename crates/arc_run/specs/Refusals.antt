@@ -86,7 +86,6 @@ kind_words kinds.Endpoint = codes "endpoint"
 kind_words (kinds.Limit what count) = codes "limit " ++ count_word what ++ codes " " ++ decimal count
 kind_words kinds.OutputName = codes "output-name"
 kind_words kinds.EditLine = codes "edit-line"
-kind_words kinds.NotBuilt = codes "not-built"
 
 -- the words for the reason of a refusal
 abbrev pub reason_words : Reason → List ℕ

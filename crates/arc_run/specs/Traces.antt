@@ -6,12 +6,12 @@ use Rattle.arc_outside.specs.Files.{Files}
 use Rattle.net_model.specs.declared.policies.Document.{Document}
 use Rattle.net_model.specs.declared.rows.Network.{Network}
 use Rattle.net_model.specs.Validity.{IsValid}
-use Rattle.net_build.specs.Conditions.{HasEndpoints}
+use Rattle.net_build.specs.Addressing.{HasEndpoints}
 use Rattle.route_trace.specs.Routes.{flagged}
 use Rattle.route_trace.specs.TraceText.{IsTrace}
 use Rattle.arc_run.specs.declared.outcome.Done.{Done}
 use Rattle.arc_run.specs.declared.outcome.FileRefusal.{FileRefusal}
-use Rattle.arc_run.specs.declared.words.TraceWords.{TraceWords}
+use Rattle.command_words.specs.declared.commands.TraceWords.{TraceWords}
 use Rattle.arc_run.specs.Refusals.{refusal_of}
 use Rattle.arc_run.specs.Inputs.{HoldsInput, IsInputRefusal}
 

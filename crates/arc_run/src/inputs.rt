@@ -2,7 +2,7 @@
 ghost use Rattle.std.specs.Prelude.{◌≡◌, ◌⊎◌, ◌≤◌, IfOk, IfErr, IfSome};
 ghost use Rattle.arc_outside.specs.Causes.{Rose};
 ghost use Rattle.net_doc.specs.Documents.{IsWellFormed};
-ghost use Rattle.arc_run.specs.Inputs.{name_of, named, IsFit, ReadsDocumentAt, ReadsInput};
+ghost use Rattle.arc_run.specs.Inputs.{name_of, named, HoldsDocument, IsFit, ReadsDocumentAt, ReadsFiles, ReadsInput};
 ghost use Rattle.arc_run.specs.Outcomes.{HasStopCause};
 
 use crate::files::{DOCUMENT_LIMIT, read_file, read_routers};
@@ -48,8 +48,8 @@ fn named(alloc: Global, document: &Name, routers: &List<Name>, refusal: Refusal)
     }
 }
 
-// Reads the document, or refuses it.
-fn read_document<S: Store>(alloc: Global, name: &Name, store: &mut S) -> Result<Document, Stop>
+/// Reads the document, or refuses it.
+pub fn read_document<S: Store>(alloc: Global, name: &Name, store: &mut S) -> Result<Document, Stop>
     ensures told { IfSome (S.held store.old) (λ files. ReadsDocumentAt name.now files result) }
     ensures well_formed { IfOk result IsWellFormed }
     ensures same { S.held store.new ≡ S.held store.old }
@@ -68,6 +68,35 @@ fn read_document<S: Store>(alloc: Global, name: &Name, store: &mut S) -> Result<
     }
 }
 
+/// Reads the router files that the document names, and builds their network; or answers the first refusal.
+pub fn read_files<S: Store>(
+    alloc: Global,
+    name: &Name,
+    doc: Document,
+    store: &mut S,
+) -> Result<Input, Stop>
+    requires { IsWellFormed doc }
+    ensures told { IfSome (S.held store.old) (λ files. HoldsDocument name.now files doc → ReadsFiles name.now files result) }
+    ensures fit { IfOk result IsFit }
+    ensures same { S.held store.new ≡ S.held store.old }
+    ensures cause { IfErr result (HasStopCause (Rose (S.faults store.old) (S.faults store.new)) (Rose (S.absences store.old) (S.absences store.new))) }
+    ensures faults { S.faults store.old ≤ S.faults store.new }
+    ensures absences { S.absences store.old ≤ S.absences store.new }
+{
+    let files = match read_routers(alloc, store, doc.routers.slice()) {
+        Ok(files) => files,
+        Err(stop) => return Err(stop),
+    };
+    match network(alloc, &doc, &files) {
+        Ok(built) => Ok(Input {
+            doc,
+            net: built.net,
+        }),
+        Err(NetFault::Refused(refusal)) => Err(named(alloc, name, &doc.routers, refusal)),
+        Err(NetFault::Memory) => Err(Stop::Memory),
+    }
+}
+
 /// Reads the document and the router files, and builds their network; or answers the first refusal.
 pub fn read_input<S: Store>(alloc: Global, name: &Name, store: &mut S) -> Result<Input, Stop>
     ensures told { IfSome (S.held store.old) (λ files. ReadsInput name.now files result) }
@@ -77,17 +106,8 @@ pub fn read_input<S: Store>(alloc: Global, name: &Name, store: &mut S) -> Result
     ensures faults { S.faults store.old ≤ S.faults store.new }
     ensures absences { S.absences store.old ≤ S.absences store.new }
 {
-    let doc = match read_document(alloc, name, store) {
-        Ok(doc) => doc,
-        Err(stop) => return Err(stop),
-    };
-    let files = match read_routers(alloc, store, doc.routers.slice()) {
-        Ok(files) => files,
-        Err(stop) => return Err(stop),
-    };
-    match network(alloc, &doc, &files) {
-        Ok(net) => Ok(Input { doc, net }),
-        Err(NetFault::Refused(refusal)) => Err(named(alloc, name, &doc.routers, refusal)),
-        Err(NetFault::Memory) => Err(Stop::Memory),
+    match read_document(alloc, name, store) {
+        Ok(doc) => read_files(alloc, name, doc, store),
+        Err(stop) => Err(stop),
     }
 }

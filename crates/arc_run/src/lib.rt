@@ -3,6 +3,7 @@
 //! there is no answer.
 #![tactic(auto)]
 
+mod checking;
 mod ending;
 mod files;
 mod inputs;
@@ -16,10 +17,9 @@ mod tests;
 mod top;
 mod tracing;
 mod verifying;
-mod words;
 
+pub use command_words::{Command, TraceWords};
 pub use inputs::Input;
 pub use outcome::{Done, FileRefusal, Outcome, Reason, Status, Stop};
 pub use surely::run_surely;
 pub use top::run;
-pub use words::{Command, TraceWords};

@@ -6,18 +6,18 @@ ghost use Rattle.arc_run.specs.Outcomes.{Answers, HasStopCause};
 
 use crate::files::read_file;
 use crate::outcome::{Done, FileRefusal, Reason, Stop};
-use crate::words::Command;
 use arc_base::{Kind, List, Memory, Name};
 use arc_outside::Store;
 use cnf_types::{CnfFault, Formula, formula};
+use command_words::Command;
 use proof_check::{Outcome, Rejection, StepFault, check_log};
 use std::alloc::{AllocError, Global};
 
 // How many bytes a formula may have.
 const CNF_LIMIT: u64 = 268_435_456;
 
-// How many bytes a proof may have.
-const PROOF_LIMIT: u64 = 1_099_511_627_776;
+/// How many bytes a proof or a certificate may have.
+pub const PROOF_LIMIT: u64 = 1_099_511_627_776;
 
 fn fault_line(fault: CnfFault) -> u32
     ensures { result ≡ fault_line fault }

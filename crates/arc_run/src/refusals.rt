@@ -76,7 +76,6 @@ fn kind_words(alloc: Global, kind: Kind) -> Result<Vec<u8>, AllocError>
         Kind::Endpoint => b"endpoint",
         Kind::OutputName => b"output-name",
         Kind::EditLine => b"edit-line",
-        Kind::NotBuilt => b"not-built",
     };
     Vec::from_slice(alloc, word)
 }

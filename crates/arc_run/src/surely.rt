@@ -1,6 +1,6 @@
 //! A run where nothing outside fails.
 ghost use Rattle.arc_outside.specs.Causes.{Rose};
-ghost use Rattle.arc_run.specs.Words.{command_of};
+ghost use Rattle.command_words.specs.Commands.{command_of};
 ghost use Rattle.arc_run.specs.Runs.{Runs};
 
 use crate::outcome::Status;

@@ -1,19 +1,20 @@
 //! The top call.
 ghost use Rattle.std.specs.Prelude.{◌≡◌, ◌⊎◌, ◌<◌, ◌≤◌, List, ℕ, Some, None, IfSome, IfOk, IfErr, IsErrOf};
 ghost use Rattle.arc_outside.specs.Causes.{Rose};
-ghost use Rattle.arc_run.specs.Headline.{TellsExactly, TellsTrace, TellsRefutation};
-ghost use Rattle.arc_run.specs.Words.{command_of};
+ghost use Rattle.arc_run.specs.Headline.{TellsExactly, TellsTrace, TellsCheck, TellsRefutation};
+ghost use Rattle.command_words.specs.Commands.{command_of};
 ghost use Rattle.arc_run.specs.Outcomes.{Answers, HasStopCause, IsDefined, HasOutcomeCause};
 ghost use Rattle.arc_run.specs.Runs.{Runs};
 
+use crate::checking::check;
 use crate::ending::finish;
 use crate::lrat_check::lrat;
 use crate::outcome::{Done, Outcome, Status, Stop};
 use crate::tracing::trace;
 use crate::verifying::verify;
-use crate::words::{Command, TraceWords, read_words};
 use arc_base::Name;
 use arc_outside::{Sink, Store};
+use command_words::{Command, TraceWords, read_words};
 use std::alloc::Global;
 
 // Why a run has no outcome.
@@ -35,6 +36,7 @@ fn answer<S: Store>(alloc: Global, command: &Command, store: &mut S) -> Result<D
         Command::Verify(document) => verify(alloc, document, store),
         Command::Trace(words) => trace(alloc, words, store),
         Command::Lrat(cnf, proof) => lrat(alloc, cnf, proof, store),
+        Command::Check(document, certificate) => check(alloc, document, certificate, store),
     }
 }
 
@@ -100,6 +102,12 @@ pub fn run<S: Store, K: Sink>(alloc: Global, words: &[Name], store: &mut S, out:
     // the links and the prefixes, and 5 exactly where they are refused.
     ensures traced { (trace : TraceWords) → command_of words.now ≡ Some (Command.Trace trace) →
         result.code < 6 → IfSome (S.held store.old) (TellsTrace trace result.code) }
+
+    // Where `check` ends with a status below 6, that is 0 exactly where the certificate is a report with one block for each
+    // policy of the document in order, each with a right verdict over the network of the files, and then each verdict is true;
+    // 1 exactly where they have a network and it is no such report, and 5 exactly where they are refused.
+    ensures checked { (document certificate : List ℕ) → command_of words.now ≡ Some (Command.Check document certificate) →
+        result.code < 6 → IfSome (S.held store.old) (TellsCheck document certificate result.code) }
 
     // Where `lrat` ends with a status below 6, that is 0 exactly where the proof is an accepted log for the formula that adds
     // the empty clause, and then no assignment satisfies the formula; 1 exactly where it is none, and 5 exactly where the

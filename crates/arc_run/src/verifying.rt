@@ -11,17 +11,17 @@ ghost use Rattle.arc_run.specs.Verifies.{IsVerdictOn, verdicts_status};
 use crate::inputs::{Input, read_input};
 use crate::outcome::{Done, Stop};
 use crate::refusals::refused;
-use crate::words::Command;
 use arc_base::{Kind, LimitKind, List, Memory, Name};
 use arc_outside::Store;
+use command_words::Command;
 use net_model::Verdict;
 use policy_report::report;
 use std::alloc::Global;
 use traffic_classes::{ClassFault, all_classes};
 use verdicts::judge;
 
-// Counts the traffic classes of the policies, or refuses the document for too many.
-fn count_classes(alloc: Global, document: &Name, input: &Input) -> Result<(), Stop>
+/// Counts the traffic classes of the policies, or refuses the document for too many.
+pub fn count_classes(alloc: Global, document: &Name, input: &Input) -> Result<(), Stop>
     ensures { CountsClasses document.now input.now.net input.now.doc.policies result }
 {
     match all_classes(alloc, &input.net, &input.doc.policies) {

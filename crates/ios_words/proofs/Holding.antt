@@ -3,7 +3,7 @@ use Rattle.std.proofs.Common.{◌≡◌, ℕ, ◌-◌, ◌/◌, ◌%◌, ◌^◌
 use Rattle.std.proofs.Math.Nat.{mul-mod_left}
 use Rattle.arc_base.specs.declared.prefix.Prefix.{Prefix}
 use Rattle.ios_words.specs.Prefixes.{cleared, holding, small}
-use Rattle.ios_words.proofs.SamePrefix.{same_prefix}
+use Rattle.arc_base.proofs.SamePrefix.{same_prefix}
 
 pub cleared-small : (rest addr : ℕ) → cleared rest addr < 2 ^ 32
 cleared-small rest addr = small rest addr

@@ -5,7 +5,6 @@ pub mod Formed
 pub mod Holding
 pub mod Known
 pub mod NameForms
-pub mod SamePrefix
 pub mod Trials
 pub mod Units
 pub mod WordLists

@@ -17,7 +17,7 @@ record HostIn (net : Network) (place : ℕ) (face : FaceRow) (p : Prefix) : Type
   pub subnet_is : face.subnet ≡ Some subnet
   pub lies : IsInside p subnet
 
-some_host : (o : Option Prefix) (p : Prefix) → IsSomeAnd o (IsInside p) → (h : Prefix) × (o ≡ Some h) × IsInside p h
+pub some_host : (o : Option Prefix) (p : Prefix) → IsSomeAnd o (IsInside p) → (h : Prefix) × (o ≡ Some h) × IsInside p h
 some_host None p lies = absurd lies
 some_host (Some h) p lies = (h, refl, lies)
 

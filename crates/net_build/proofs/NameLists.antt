@@ -1,13 +1,15 @@
 -- Lists of names, as loops make them.
-use Rattle.std.proofs.Common.{◌≡◌, ℕ, ◌+◌, ◌<◌, ◌≤◌, List, [], ◌∷◌, ◌++◌, length, get_or, take, drop, refl, sym, ◌∙◌, ap, subst, arith, Bool, true, false, MatchBool}
+use Rattle.std.proofs.Common.{◌≡◌, ℕ, ◌+◌, ◌<◌, List, [], ◌∷◌, ◌++◌, length, get_or, take, drop, refl, sym, ◌∙◌, ap, subst, arith, Bool, true, false, MatchBool, ◌⊎◌, inl, inr}
 use Rattle.std.specs.Prelude.{AllPairs, Contains, map}
 use Rattle.std.specs.List.{flat_map, enumerate_from}
-use Rattle.std.proofs.lemmas.List.{take-append-drop, drop_more, map-append, length-take-le, append_assoc, map_more, take_more, take_all, append-nil}
+use Rattle.std.proofs.lemmas.List.{take-append-drop, drop_more, map-append, length-take-le, append_assoc, map_more, take_more, append-nil}
 use Rattle.std.proofs.lemmas.List.Concat.{flat_map-append}
-use Rattle.plain_files.specs.declared.plain.PlainFile.{PlainFile}
-use Rattle.plain_files.specs.declared.plain.PlainFace.{PlainFace}
-use Rattle.net_build.specs.Sites.{AreDistinct, FullName, sites, sites_of, full_name, full_names}
-use Rattle.net_build.specs.Names.{file_names}
+use Rattle.std.proofs.lemmas.List.Elements.{Contains-append_left, Contains-append_cases}
+use Rattle.arc_base.proofs.Items.{Contains-cases, Contains-none}
+use Rattle.ios_config.specs.declared.settings.Config.{Config}
+use Rattle.ios_config.specs.declared.settings.FaceText.{FaceText}
+use Rattle.net_build.specs.Sites.{FullName, sites, sites_of, host_name, full_name, full_names}
+use Rattle.net_build.specs.Names.{AreDistinct, file_names}
 use Rattle.net_build.proofs.Distinct.{AllPairs-front, AreDistinct-twice, AreDistinct-push}
 
 -- a list around one of its items
@@ -31,13 +33,6 @@ mapped_twice f before now xs i x h e is there distinct =
     sym (append_assoc before (map f (take i xs)) (f x ∷ map f (drop (i + 1) xs))) in
     AreDistinct-twice (before ++ map f (take i xs)) (f x) (map f (drop (i + 1) xs)) (subst (λ l. Contains l (f x)) is there) (subst AreDistinct whole distinct)
 
--- one more piece of a flat map
-pub pieces_more : {X Y : Type 0} (f : X → List Y) (now next : List Y) (xs : List X) (i : ℕ) (x : X) → i < length xs → x ≡ get_or xs i x →
-    now ≡ flat_map f (take i xs) → next ≡ now ++ f x → next ≡ flat_map f (take (i + 1) xs)
-pieces_more f now next xs i x h e is grown =
-    grown ∙ ap (λ l. l ++ f x) is ∙ ap (λ l. flat_map f (take i xs) ++ l) (sym (append-nil (f x))) ∙
-    sym (flat_map-append f (take i xs) (x ∷ [])) ∙ ap (λ y. flat_map f (take i xs ++ y ∷ [])) e ∙ ap (flat_map f) (sym (take_more xs i x h))
-
 -- what holds of all pairs of the whole holds of those up to a piece
 pub pieces_front : {X Y : Type 0} (R : Y → Y → Type 0) (f : X → List Y) (now : List Y) (xs : List X) (i : ℕ) (x : X) → i < length xs → x ≡ get_or xs i x →
     now ≡ flat_map f (take i xs) → AllPairs R (flat_map f xs) → AllPairs R (now ++ f x)
@@ -47,17 +42,13 @@ pieces_front R f now xs i x h e is all =
     ap (λ l. l ++ (f x ++ flat_map f (drop (i + 1) xs))) (sym is) ∙ sym (append_assoc now (f x) (flat_map f (drop (i + 1) xs))) in
     AllPairs-front R (now ++ f x) (flat_map f (drop (i + 1) xs)) (subst (AllPairs R) whole all)
 
--- all pieces
-pub pieces_all : {X Y : Type 0} (f : X → List Y) (now : List Y) (xs : List X) (i : ℕ) → length xs ≤ i → now ≡ flat_map f (take i xs) → now ≡ flat_map f xs
-pieces_all f now xs i h is = is ∙ ap (flat_map f) (take_all i xs h)
-
 -- the names of the interfaces of one file
-names_of_file : (n : ℕ) (file : PlainFile) (faces : List PlainFace) →
-    map full_name (map (λ (face : PlainFace). record { router = n; file = file; face = face }) faces) ≡ map (λ face. (file.hostname, face.name)) faces
+names_of_file : (n : ℕ) (file : Config) (faces : List FaceText) →
+    map full_name (map (λ (face : FaceText). record { router = n; config = file; face = face }) faces) ≡ map (λ face. (host_name file, face.name)) faces
 names_of_file n file [] = refl
-names_of_file n file (face ∷ faces) = ap (λ l. (file.hostname, face.name) ∷ l) (names_of_file n file faces)
+names_of_file n file (face ∷ faces) = ap (λ l. (host_name file, face.name) ∷ l) (names_of_file n file faces)
 
-names_from : (n : ℕ) (plain : List PlainFile) → map full_name (flat_map sites_of (enumerate_from n plain)) ≡ flat_map file_names plain
+names_from : (n : ℕ) (plain : List Config) → map full_name (flat_map sites_of (enumerate_from n plain)) ≡ flat_map file_names plain
 names_from n [] = refl
 names_from n (file ∷ plain) =
     map-append full_name (sites_of (n, file)) (flat_map sites_of (enumerate_from (n + 1) plain)) ∙
@@ -65,7 +56,7 @@ names_from n (file ∷ plain) =
     ap (λ l. file_names file ++ l) (names_from (n + 1) plain)
 
 -- the full names of all interfaces, file by file
-pub full_names-by_file : (plain : List PlainFile) → full_names plain ≡ flat_map file_names plain
+pub full_names-by_file : (plain : List Config) → full_names plain ≡ flat_map file_names plain
 full_names-by_file plain = names_from 0 plain
 
 -- two more names, where the first is new
@@ -79,7 +70,24 @@ two_more old mid next a b true distinct lacks grown said =
 two_more old mid next a b false distinct lacks grown said =
     λ all. AreDistinct-twice mid b [] said (subst (λ (l : List FullName). AreDistinct l) (sym (ap (λ l. l ++ b ∷ []) grown ∙ append_assoc old (a ∷ []) (b ∷ []))) all)
 
-sites_from-push : (n : ℕ) (plain : List PlainFile) (file : PlainFile) →
+-- two more names, where they differ
+pub two_free : (old mid next : List FullName) (a b : FullName) (new : Bool) → (a ≡ b → ⊥) → ¬ Contains old a → mid ≡ old ++ a ∷ [] →
+    MatchBool new ((¬ Contains mid b) × (next ≡ mid ++ b ∷ [])) (Contains mid b) →
+    MatchBool new ((¬ Contains old a) × (¬ Contains old b) × (next ≡ old ++ (a ∷ b ∷ []))) (Contains old a ⊎ Contains old b)
+two_free old mid next a b true differ lacks grown said = (
+  lacks,
+  λ there. said.0 (subst (λ (l : List FullName). Contains l b) (sym grown) (Contains-append_left old (a ∷ []) b there)),
+  said.1 ∙ ap (λ l. l ++ b ∷ []) grown ∙ append_assoc old (a ∷ []) (b ∷ []),
+)
+two_free old mid next a b false differ lacks grown said = elim (Contains-append_cases old (a ∷ []) b (subst (λ (l : List FullName). Contains l b) grown said)) [
+  | inl before ↦ inr before
+  | inr now ↦ elim (Contains-cases a b [] now) [
+    | inl same ↦ absurd (differ same)
+    | inr none ↦ absurd (Contains-none b none)
+  ]
+]
+
+sites_from-push : (n : ℕ) (plain : List Config) (file : Config) →
     flat_map sites_of (enumerate_from n (plain ++ file ∷ [])) ≡ flat_map sites_of (enumerate_from n plain) ++ sites_of (n + length plain, file)
 sites_from-push n [] file = append-nil (sites_of (n, file)) ∙ ap (λ m. sites_of (m, file)) (omega arith)
 sites_from-push n (f ∷ plain) file =
@@ -88,7 +96,7 @@ sites_from-push n (f ∷ plain) file =
     sym (append_assoc (sites_of (n, f)) (flat_map sites_of (enumerate_from (n + 1) plain)) (sites_of (n + length (f ∷ plain), file)))
 
 -- the interfaces of one more file
-pub sites-more : (plain : List PlainFile) (n : ℕ) (file : PlainFile) → n < length plain → file ≡ get_or plain n file →
+pub sites-more : (plain : List Config) (n : ℕ) (file : Config) → n < length plain → file ≡ get_or plain n file →
     sites (take (n + 1) plain) ≡ sites (take n plain) ++ sites_of (n, file)
 sites-more plain n file h e =
     let long : 0 + length (take n plain) ≡ n = omega (arith, length-take-le n plain (omega arith)) in

@@ -1,75 +1,90 @@
--- Full names are distinct exactly where hostnames and the names in each file are.
-use Rattle.std.proofs.Common.{◌≡◌, zero, suc, ◌≤◌, ◌*◌, List, [], ◌∷◌, ◌++◌, length, get_or, sym, ◌∙◌, ap, subst, arith}
-use Rattle.std.specs.Prelude.{All, AllPairs, Contains}
-use Rattle.std.specs.List.{flat_map}
-use Rattle.std.proofs.lemmas.List.{length-map, length-append}
-use Rattle.std.proofs.lemmas.List.Elements.{All-append, All-cons, Contains-get_or}
-use Rattle.std.proofs.lemmas.List.Kept.{AllPairs-cons}
-use Rattle.plain_files.specs.declared.plain.PlainFile.{PlainFile}
-use Rattle.plain_files.specs.declared.plain.PlainFace.{PlainFace}
-use Rattle.net_build.specs.Sites.{AreDistinct, FullName, full_names}
-use Rattle.net_build.specs.Names.{file_names}
-use Rattle.net_build.specs.Conditions.{NamesNoFaceTwice, HostnamesDiffer}
-use Rattle.net_build.proofs.Distinct.{AllPairs-front, AllPairs-back}
-use Rattle.net_build.proofs.NameLists.{full_names-by_file}
-use Rattle.net_build.proofs.Pieces.{Contains-head, Contains-tail, from_map, from_piece, AllPairs-map, AllPairs-unmap}
+-- Routers with names, file by file.
+use Rattle.std.proofs.Common.{◌≡◌, ℕ, zero, suc, ◌+◌, ◌<◌, Option, Some, None, List, [], ◌∷◌, ◌++◌, length, get_or, take, refl, sym, ◌∙◌, ap, subst, arith}
+use Rattle.std.specs.Prelude.{IsSome, IsSomeAnd, MatchOption, Any, All, Contains, map}
+use Rattle.std.specs.Option.{option_map_or}
+use Rattle.ios_config.specs.declared.settings.Config.{Config}
+use Rattle.ios_config.specs.declared.settings.Setting.{Setting}
+use Rattle.std.proofs.lemmas.Bool.{false≢true}
+use Rattle.std.proofs.lemmas.List.{take_more, map-append}
+use Rattle.std.proofs.lemmas.List.Elements.{All-contains, All-push}
+use Rattle.net_build.specs.Reasons.{IsLeast}
+use Rattle.net_build.specs.Sites.{host_name}
+use Rattle.arc_base.proofs.Items.{from_map}
+use Rattle.net_build.specs.Routers.{NamesRouter, HasNoOwnName}
 
-abbrev Differ : FullName → FullName → Type 0
-Differ x y = x ≡ y → ⊥
+-- the file gives its router a name
+abbrev pub IsNamed : Config → Type 0
+IsNamed config = IsSome config.hostname
 
--- a fact of all pairs of two lists, and between them
-pub AllPairs-append : {X : Type 0} (R : X → X → Type 0) (xs ys : List X) → AllPairs R xs → AllPairs R ys → ((x y : X) → Contains xs x → Contains ys y → R x y) → AllPairs R (xs ++ ys)
-AllPairs-append R [] ys one two between = two
-AllPairs-append R (x ∷ xs) ys one two between =
-    AllPairs-cons R x (xs ++ ys)
-    (All-append (R x) xs ys (λ k d l. one zero (suc k) d (omega arith) (omega arith)) (λ k d l. between x (get_or ys k d) (Contains-head x xs) (Contains-get_or ys k d l)))
-    (AllPairs-append R xs ys (λ i j d l m. one (suc i) (suc j) d (omega arith) (omega arith)) two (λ a b in_xs in_ys. between a b (Contains-tail x a xs in_xs) in_ys))
-
-file_distinct : (file : PlainFile) → NamesNoFaceTwice file → AreDistinct (file_names file)
-file_distinct file once =
-    AllPairs-map Differ (λ (face : PlainFace). (file.hostname, face.name)) file.faces (λ i j d l m e. once i j d l m (ap (λ (n : FullName). n.1) e))
-
-file_once : (file : PlainFile) → AreDistinct (file_names file) → NamesNoFaceTwice file
-file_once file distinct i j d l m e =
-    AllPairs-unmap Differ (λ (face : PlainFace). (file.hostname, face.name)) file.faces distinct i j d l m (λ k. (file.hostname, e k))
-
-hostname_of : (file : PlainFile) (name : FullName) → Contains (file_names file) name → file.hostname ≡ name.0
-hostname_of file name there =
-    let face : (face : PlainFace) × Contains file.faces face × ((file.hostname, face.name) ≡ name) = from_map (λ (face : PlainFace). (file.hostname, face.name)) file.faces name there in
-    ap (λ (n : FullName). n.0) face.2
-
-names_distinct : (plain : List PlainFile) → HostnamesDiffer plain → All NamesNoFaceTwice plain → AreDistinct (flat_map file_names plain)
-names_distinct [] hosts once = λ i j d l m. absurd (omega (arith, m))
-names_distinct (file ∷ plain) hosts once =
-    AllPairs-append Differ (file_names file) (flat_map file_names plain) (file_distinct file (once zero file (omega arith)))
-    (names_distinct plain (λ i j d l m. hosts (suc i) (suc j) d (omega arith) (omega arith)) (λ k d l. once (suc k) d (omega arith)))
-    (λ x y in_file in_rest e.
-    let other : (g : PlainFile) × Contains plain g × Contains (file_names g) y = from_piece file_names plain y in_rest in
-    differs other.0 other.1 (hostname_of file x in_file ∙ ap (λ (n : FullName). n.0) e ∙ sym (hostname_of other.0 y other.2)))
+-- the name is among those of the routers exactly where one of them is given it
+pub among : (name : List ℕ) (configs : List Config) → Any (NamesRouter name) configs → Contains (map host_name configs) name
+among name [] (k, x, l, e, p) = absurd (omega (arith, l))
+among name (c ∷ configs) (zero, x, l, e, p) = (0, omega arith, gives c (subst (λ (d : Config). NamesRouter name d) (sym e) p))
   where
-    differs : (g : PlainFile) → Contains plain g → file.hostname ≡ g.hostname → ⊥
-    differs g (k, l, is) e = hosts zero (suc k) g (omega arith) (omega arith) (e ∙ ap (λ (f : PlainFile). f.hostname) (sym is))
+    gives : (c : Config) → NamesRouter name c → host_name c ≡ name
+    gives c h = by c.hostname h
+      where
+        by : (o : Option Setting) → IsSomeAnd o (λ s. s.name ≡ name) → option_map_or (λ (s : Setting). s.name) o [] ≡ name
+        by None h = absurd h
+        by (Some s) h = h
+among name (c ∷ configs) (suc k, x, l, e, p) =
+    let later : Contains (map host_name configs) name = among name configs (k, x, omega (arith, l), e, p) in
+    (suc later.0, omega (arith, later.1), later.2)
 
-names_once : (plain : List PlainFile) → AreDistinct (flat_map file_names plain) → All NamesNoFaceTwice plain
-names_once [] distinct = λ k d l. absurd (omega (arith, l))
-names_once (file ∷ plain) distinct =
-    All-cons NamesNoFaceTwice file plain (file_once file (AllPairs-front Differ (file_names file) (flat_map file_names plain) distinct))
-    (names_once plain (AllPairs-back Differ (file_names file) (flat_map file_names plain) distinct))
+-- what is the name of a file that has one is its router's name
+pub named_so : (config : Config) (name : List ℕ) → IsNamed config → host_name config ≡ name → NamesRouter name config
+named_so config name is same = by config.hostname is same
+  where
+    by : (o : Option Setting) → IsSome o → option_map_or (λ (s : Setting). s.name) o [] ≡ name → IsSomeAnd o (λ s. s.name ≡ name)
+    by None is same = absurd (false≢true is)
+    by (Some s) is same = same
 
-pub full_names_distinct : (plain : List PlainFile) → HostnamesDiffer plain → All NamesNoFaceTwice plain → AreDistinct (full_names plain)
-full_names_distinct plain hosts once = subst (λ (l : List FullName). AreDistinct l) (sym (full_names-by_file plain)) (names_distinct plain hosts once)
+-- and the other way round, where each has a name
+pub from_among : (name : List ℕ) (configs : List Config) → All IsNamed configs → Contains (map host_name configs) name → Any (NamesRouter name) configs
+from_among name configs named there =
+    let found : (config : Config) × Contains configs config × (host_name config ≡ name) = from_map host_name configs name there in
+    (found.1.0, found.0, found.1.1, found.1.2, named_so found.0 name (All-contains IsNamed configs found.0 named found.1) found.2)
 
-pub no_face_twice : (plain : List PlainFile) → AreDistinct (full_names plain) → All NamesNoFaceTwice plain
-no_face_twice plain distinct = names_once plain (subst (λ (l : List FullName). AreDistinct l) (full_names-by_file plain) distinct)
+-- what the addition of a name says
+abbrev pub AddsName : List (List ℕ) → List (List ℕ) → Option Setting → Option ℕ → Type 0
+AddsName old new given found = MatchOption found
+    (IsSomeAnd given (λ s. (¬ Contains old s.name) × (new ≡ old ++ s.name ∷ [])))
+    (λ line. MatchOption given (line ≡ 0) (λ s. (line ≡ s.line) × Contains old s.name))
 
-few_names : (plain : List PlainFile) → All (λ file. length file.faces ≤ 256) plain → length (flat_map file_names plain) ≤ 256 * length plain
-few_names [] few = omega arith
-few_names (file ∷ plain) few =
-    let name : PlainFace → FullName = λ face. (file.hostname, face.name) in
-    let here : length file.faces ≤ 256 = few zero file (omega arith) in
-    let rest : length (flat_map file_names plain) ≤ 256 * length plain = few_names plain (λ k d l. few (suc k) d (omega arith)) in
-    omega (arith, length-append (file_names file) (flat_map file_names plain), length-map file.faces name, here, rest)
+module _ (items : List Config) (n : ℕ) (config : Config) (within : n < length items) (is : config ≡ get_or items n config) (old new : List (List ℕ))
+    (names : old ≡ map host_name (take n items)) (named : All IsNamed (take n items)) where
+  grown : take (n + 1) items ≡ take n items ++ config ∷ []
+  grown = take_more items n config within ∙ ap (λ (c : Config). take n items ++ c ∷ []) (sym is)
 
--- how many interfaces there are at most
-pub few_full_names : (plain : List PlainFile) → length plain ≤ 256 → All (λ file. length file.faces ≤ 256) plain → length (full_names plain) ≤ 65536
-few_full_names plain few faces = omega (arith, ap (λ (l : List FullName). length l) (full_names-by_file plain), few_names plain faces)
+  pub names_more : AddsName old new config.hostname None → new ≡ map host_name (take (n + 1) items)
+  names_more adds = by config.hostname refl adds ∙ sym (ap (map host_name) grown ∙ map-append host_name (take n items) (config ∷ []))
+    where
+      by : (o : Option Setting) → config.hostname ≡ o → AddsName old new o None → new ≡ map host_name (take n items) ++ host_name config ∷ []
+      by None e adds = absurd adds
+      by (Some s) e adds =
+          let is_name : s.name ≡ host_name config = ap (λ (o : Option Setting). option_map_or (λ (s : Setting). s.name) o []) (sym e) in
+          adds.1 ∙ ap (λ (l : List (List ℕ)). l ++ s.name ∷ []) names ∙ ap (λ (name : List ℕ). map host_name (take n items) ++ name ∷ []) is_name
+
+  pub named_more : AddsName old new config.hostname None → All IsNamed (take (n + 1) items)
+  named_more adds = subst (λ (l : List Config). All IsNamed l) (sym grown) (All-push IsNamed (take n items) config named (by config.hostname adds))
+    where
+      by : (o : Option Setting) → AddsName old new o None → IsSome o
+      by None adds = absurd adds
+      by (Some s) adds = refl
+
+  pub own_name : AddsName old new config.hostname None → (line : ℕ) → ¬ HasNoOwnName items n config line
+  own_name adds line bad = by config.hostname adds bad
+    where
+      by : (o : Option Setting) → AddsName old new o None → ¬ MatchOption o (line ≡ 0) (λ s. (line ≡ s.line) × Any (NamesRouter s.name) (take n items))
+      by None adds bad = absurd adds
+      by (Some s) adds bad = adds.0 (subst (λ (l : List (List ℕ)). Contains l s.name) (sym names) (among s.name (take n items) bad.1))
+
+  pub other_name : (line : ℕ) → AddsName old new config.hostname (Some line) → IsLeast (HasNoOwnName items n config) line
+  other_name line adds = by config.hostname adds
+    where
+      by : (o : Option Setting) → AddsName old new o (Some line) → IsLeast (λ m. MatchOption o (m ≡ 0) (λ s. (m ≡ s.line) × Any (NamesRouter s.name) (take n items))) line
+      by None adds = record { has = adds; least = λ m bad. omega (arith, adds, bad) }
+      by (Some s) adds = record {
+        has = (adds.0, from_among s.name (take n items) named (subst (λ (l : List (List ℕ)). Contains l s.name) names adds.1));
+        least = λ m bad. omega (arith, adds.0, bad.0);
+      }

@@ -1,237 +1,237 @@
--- The claims are at peace exactly where no interfaces overlap.
-use Rattle.std.proofs.Common.{◌≡◌, ◌≢◌, ℕ, zero, suc, ◌<◌, ◌⊎◌, inl, inr, Bool, true, false, MatchBool, List, [], ◌∷◌, length, get_or, Option, Some, refl, sym, ◌∙◌, ap, subst, arith}
-use Rattle.std.specs.Prelude.{All, AllPairs, IfSome, slice_get}
-use Rattle.std.proofs.lemmas.Bool.Decides.{eqb_tells}
-use Rattle.std.proofs.lemmas.List.Elements.{All-get_or}
-use Rattle.std.proofs.lemmas.Option.{slice_get_within, slice_get-get_or, get_or_from_slice_get, same_Some}
+-- The claims of interfaces are at peace exactly where no interfaces overlap.
+use Rattle.std.proofs.Common.{◌≡◌, ◌≢◌, ℕ, zero, suc, ◌<◌, ◌≤◌, ◌⊎◌, inl, inr, Bool, true, false, MatchBool, Option, Some, None, List, [], ◌∷◌, ◌++◌, ◌+◌, length, get_or, take, refl, sym, ◌∙◌, ap, subst, arith}
+use Rattle.std.specs.Prelude.{AllPairs, IfSome, slice_get, option_map}
+use Rattle.std.specs.List.{cons_option}
+use Rattle.std.proofs.lemmas.Bool.{cases_lt}
+use Rattle.std.proofs.lemmas.List.{get_or_default, append-nil}
+use Rattle.std.proofs.lemmas.List.Elements.{Contains-append_left, Contains-append_right, Contains-append_cases}
+use Rattle.std.proofs.lemmas.List.Quantifiers.{all_pairs_push}
+use Rattle.std.proofs.lemmas.Option.{slice_get_within, slice_get-get_or, get_or_from_slice_get, none-some, same_Some}
 use Rattle.arc_base.specs.Addresses.{AreDisjoint}
 use Rattle.arc_base.specs.declared.prefix.Prefix.{Prefix}
 use Rattle.net_model.specs.declared.rows.FaceRow.{FaceRow}
 use Rattle.net_model.specs.declared.rows.LinkRow.{LinkRow}
 use Rattle.net_model.specs.declared.rows.Network.{Network}
-use Rattle.net_model.specs.Validity.{AreLinksApart, AreLinked, AreApart}
-use Rattle.net_model.proofs.Arcs.{one_item}
+use Rattle.net_model.specs.Validity.{AreLinked, AreApart, EndsAt}
 use Rattle.net_build.specs.declared.claims.Claim.{Claim}
-use Rattle.net_build.specs.Claims.{AreOwners, IsClaim, SharesSubnet, AreAtPeace, OwnersAgree}
-use Rattle.net_build.specs.Conditions.{OverlapsNowhere}
-use Rattle.net_build.proofs.Peace.{either_way, turn_peace}
+use Rattle.net_build.specs.Claims.{ArePartners, AreAtPeace, AreOfPartners, IsClaimOf, AreClaimsOf, ClearBelow, claim_of}
+use Rattle.arc_base.proofs.Items.{Contains-head, Contains-cases, Contains-none}
 
--- of a list of links that are apart, those at two places are
-pub apart_at : (links : List LinkRow) → AllPairs AreLinksApart links → (m n : ℕ) (l r : LinkRow) → m ≢ n → slice_get links m ≡ Some l → slice_get links n ≡ Some r → AreLinksApart l r
-apart_at links apart m n l r differ at_l at_r =
-    subst (λ (x : LinkRow). AreLinksApart l x) (get_or_from_slice_get links n r l at_r)
-    (subst (λ (x : LinkRow). AreLinksApart x (get_or links n l)) (get_or_from_slice_get links m l l at_l)
-    (either_way AreLinksApart turn links apart m n l differ (slice_get_within links m l at_l) (slice_get_within links n r at_r)))
-  where
-    turn : (x y : LinkRow) → AreLinksApart x y → AreLinksApart y x
-    turn x y h = (λ e. h.0 (sym e), λ e. h.2 (sym e), λ e. h.1 (sym e), λ e. h.3 (sym e))
+taken : {X : Type 0} (xs : List X) (n i : ℕ) (x : X) → i < n → slice_get xs i ≡ Some x → slice_get (take n xs) i ≡ Some x
+taken [] n i x h at = absurd (none-some x at)
+taken (y ∷ xs) zero i x h at = absurd (omega (arith, h))
+taken (y ∷ xs) (suc n) zero x h at = at
+taken (y ∷ xs) (suc n) (suc i) x h at = taken xs n i x (omega arith) at
 
--- a place in a list holds an item
-pub item_at : {X : Type 0} (xs : List X) (k : ℕ) → k < length xs → (x : X) × (slice_get xs k ≡ Some x)
-item_at [] k h = absurd (omega (arith, h))
-item_at (x ∷ xs) zero h = (x, refl)
-item_at (x ∷ xs) (suc k) h = item_at xs k (omega arith)
+untaken : {X : Type 0} (xs : List X) (n i : ℕ) (x : X) → slice_get (take n xs) i ≡ Some x → (i < n) × (slice_get xs i ≡ Some x)
+untaken [] zero i x at = absurd (none-some x at)
+untaken [] (suc n) i x at = absurd (none-some x at)
+untaken (y ∷ xs) zero i x at = absurd (none-some x at)
+untaken (y ∷ xs) (suc n) zero x at = (omega arith, at)
+untaken (y ∷ xs) (suc n) (suc i) x at = let r = untaken xs n i x at in (omega (arith, r.0), r.1)
 
--- what is known of the claims
-pub record AreClaims (net : Network) (owners : List ℕ) (claims : List Claim) : Type 0 where
-  pub shared : All (SharesSubnet net) net.links
-  pub apart : AllPairs AreLinksApart net.links
-  pub owners_long : length owners ≡ length net.faces
-  pub are_owners : AreOwners (length net.links) net.links owners
-  pub claims_long : length claims ≡ length net.faces
-  pub each : (k owner : ℕ) (face : FaceRow) (claim : Claim) → slice_get net.faces k ≡ Some face → slice_get owners k ≡ Some owner →
-      slice_get claims k ≡ Some claim → IsClaim face owner claim
+pub turn_linked : (net : Network) (i j : ℕ) → AreLinked net i j → AreLinked net j i
+turn_linked net i j (m, link, within, read, ends) = (m, link, within, read, (ends.1, ends.0))
 
--- the claim of the interface at a place
-record ClaimAt (owners : List ℕ) (claims : List Claim) (i : ℕ) (f : FaceRow) : Type 0 where
-  pub owner : ℕ
-  pub claim : Claim
-  pub owner_at : slice_get owners i ≡ Some owner
-  pub claim_at : slice_get claims i ≡ Some claim
-  pub subnet : f.subnet ≡ Some claim.subnet
-  pub owner_is : claim.owner ≡ owner
+-- subnets that are disjoint make interfaces apart, and the other way round
+apart_from : (f g : FaceRow) (p q : Prefix) → f.subnet ≡ Some p → g.subnet ≡ Some q → AreDisjoint p q → AreApart f g
+apart_from f g p q f_is g_is disjoint =
+    let inner : IfSome g.subnet (AreDisjoint p) = subst (λ (o : Option Prefix). IfSome o (AreDisjoint p)) (sym g_is) disjoint in
+    subst (λ (o : Option Prefix). IfSome o (λ x. IfSome g.subnet (AreDisjoint x))) (sym f_is) inner
 
-module _ (net : Network) (owners : List ℕ) (claims : List Claim) (known : AreClaims net owners claims) where
-  shares : (k : ℕ) (link : LinkRow) → slice_get net.links k ≡ Some link → SharesSubnet net link
-  shares k link at =
-      subst (λ (l : LinkRow). SharesSubnet net l) (get_or_from_slice_get net.links k link link at)
-      (All-get_or (SharesSubnet net) net.links k link (slice_get_within net.links k link at) known.shared)
+from_apart : (f g : FaceRow) (p q : Prefix) → f.subnet ≡ Some p → g.subnet ≡ Some q → AreApart f g → AreDisjoint p q
+from_apart f g p q f_is g_is apart =
+    let inner : IfSome g.subnet (AreDisjoint p) = subst (λ (o : Option Prefix). IfSome o (λ x. IfSome g.subnet (AreDisjoint x))) f_is apart in
+    subst (λ (o : Option Prefix). IfSome o (AreDisjoint p)) g_is inner
 
-  claim_of : (i : ℕ) (f : FaceRow) (e : Claim) → slice_get net.faces i ≡ Some f → ClaimAt owners claims i f
-  claim_of i f e at =
-      let within : i < length net.faces = slice_get_within net.faces i f at in
-      let owner_at : slice_get owners i ≡ Some (get_or owners i 0) = slice_get-get_or owners i 0 (omega (arith, known.owners_long, within)) in
-      let claim_at : slice_get claims i ≡ Some (get_or claims i e) = slice_get-get_or claims i e (omega (arith, known.claims_long, within)) in
-      let is : IsClaim f (get_or owners i 0) (get_or claims i e) = known.each i (get_or owners i 0) f (get_or claims i e) at owner_at claim_at in
-      record { owner = get_or owners i 0; claim = get_or claims i e; owner_at = owner_at; claim_at = claim_at; subnet = is.subnet; owner_is = is.owner_is }
+module _ (net : Network) (partners : List ℕ) (are : ArePartners (length net.links) net.links partners) where
+  partner_linked : (i j : ℕ) → i ≢ j → slice_get partners i ≡ Some j → AreLinked net i j
+  partner_linked i j differ at = elim (are.elsewhere i j at) [
+    | inl own ↦ absurd (differ (sym own))
+    | inr (m, link, h, at_link, ends) ↦ (m, link, slice_get_within net.links m link at_link, get_or_from_slice_get net.links m link link at_link, both link ends)
+  ]
+    where
+      both : (link : LinkRow) → ((link.a.0 ≡ i) × (link.b.0 ≡ j)) ⊎ ((link.b.0 ≡ i) × (link.a.0 ≡ j)) → EndsAt link i × EndsAt link j
+      both link (inl e) = (inl e.0, inr e.1)
+      both link (inr e) = (inr e.0, inl e.1)
 
-  -- interfaces of one owner are linked
-  owned_linked : (i j o : ℕ) → i ≢ j → slice_get owners i ≡ Some o → slice_get owners j ≡ Some o → AreLinked net i j
-  owned_linked i j o differ at_i at_j =
-      elim (known.are_owners.elsewhere i o at_i) [
-        | inl own_i ↦ elim (known.are_owners.elsewhere j o at_j) [
-          | inl own_j ↦ absurd (differ (sym own_i ∙ own_j))
-          | inr l ↦ (l.0, l.1, l.2, get_or_from_slice_get net.links l.0 l.1 l.1 l.3, (inl (l.5 ∙ own_i), inr l.4))
-        ]
-        | inr l ↦ elim (known.are_owners.elsewhere j o at_j) [
-          | inl own_j ↦ (l.0, l.1, l.2, get_or_from_slice_get net.links l.0 l.1 l.1 l.3, (inr l.4, inl (l.5 ∙ own_j)))
-          | inr r ↦ elim (eqb_tells l.0 r.0) [
-            | inl same ↦
-                let one : l.1 ≡ r.1 = one_item net.links r.0 l.1 r.1 (subst (λ (k : ℕ). slice_get net.links k ≡ Some l.1) same.1 l.3) r.3 in
-                absurd (differ (sym l.4 ∙ ap (λ (x : LinkRow). x.b.0) one ∙ r.4))
-            | inr other ↦ absurd ((apart_at net.links known.apart l.0 r.0 l.1 r.1 other.1 l.3 r.3).0 (l.5 ∙ sym r.5))
+  linked_partner : (i j : ℕ) → i ≢ j → AreLinked net i j → slice_get partners i ≡ Some j
+  linked_partner i j differ (m, link, within, read, (at_i, at_j)) = by at_i at_j
+    where
+      at_link : slice_get net.links m ≡ Some link
+      at_link = slice_get-get_or net.links m link within ∙ ap Some read
+
+      by : EndsAt link i → EndsAt link j → slice_get partners i ≡ Some j
+      by (inl x) (inl y) = absurd (differ (sym x ∙ y))
+      by (inl x) (inr y) = subst (λ (k : ℕ). slice_get partners k ≡ Some j) x (are.at_a m link within at_link ∙ ap Some y)
+      by (inr x) (inl y) = subst (λ (k : ℕ). slice_get partners k ≡ Some j) x (are.at_b m link within at_link ∙ ap Some y)
+      by (inr x) (inr y) = absurd (differ (sym x ∙ y))
+
+  module _ (n : ℕ) (claims : List Claim) (known : AreClaimsOf (take n net.faces) partners claims) where
+    claim_at : (a : ℕ) (d : Claim) → a < length claims → IsClaimOf (take n net.faces) partners (get_or claims a d)
+    claim_at a d l = known.each (get_or claims a d) (a, l, get_or_default claims a (get_or claims a d) d l)
+
+    pub of_partners : AreOfPartners claims
+    of_partners a b d l m =
+        let x : IsClaimOf (take n net.faces) partners (get_or claims a d) = claim_at a d (omega arith) in
+        let y : IsClaimOf (take n net.faces) partners (get_or claims b d) = claim_at b d m in
+        let differ : (get_or claims a d).place ≢ (get_or claims b d).place = known.apart a b d l m in (
+          differ,
+          λ e. back (get_or claims a d) (get_or claims b d) x y differ e,
+          λ e. back (get_or claims b d) (get_or claims a d) y x (λ same. differ (sym same)) e,
+        )
+      where
+        back : (x y : Claim) → IsClaimOf (take n net.faces) partners x → IsClaimOf (take n net.faces) partners y → x.place ≢ y.place → x.partner ≡ y.place → y.partner ≡ x.place
+        back x y of_x of_y differ e =
+            let linked : AreLinked net x.place y.place = partner_linked x.place y.place differ (of_x.partner ∙ ap Some e) in
+            same_Some y.partner x.place (sym of_y.partner ∙ linked_partner y.place x.place (λ same. differ (sym same)) (turn_linked net x.place y.place linked))
+
+    -- what is between two interfaces is between their claims
+    to_peace : (x y : Claim) → IsClaimOf (take n net.faces) partners x → IsClaimOf (take n net.faces) partners y → x.place ≢ y.place → ClearBelow net n → AreAtPeace x y
+    to_peace x y of_x of_y differ clear = elim (cases_lt x.place y.place) [
+      | inl lower ↦ elim (clear x.place y.place of_x.face of_y.face lower in_y.0 in_x.1 in_y.1) [
+        | inl linked ↦ inl (same_Some x.partner y.place (sym of_x.partner ∙ linked_partner x.place y.place differ linked))
+        | inr apart ↦ inr (from_apart of_x.face of_y.face x.subnet y.subnet of_x.subnet of_y.subnet apart)
+      ]
+      | inr not_lower ↦
+          let higher : y.place < x.place = omega_from not_lower in
+          elim (clear y.place x.place of_y.face of_x.face higher in_x.0 in_y.1 in_x.1) [
+            | inl linked ↦ inl (same_Some x.partner y.place (sym of_x.partner ∙ linked_partner x.place y.place differ (turn_linked net y.place x.place linked)))
+            | inr apart ↦
+                let disjoint : AreDisjoint y.subnet x.subnet = from_apart of_y.face of_x.face y.subnet x.subnet of_y.subnet of_x.subnet apart in
+                inr (λ address in_x in_y. disjoint address in_y in_x)
           ]
+    ]
+      where
+        in_x : (x.place < n) × (slice_get net.faces x.place ≡ Some of_x.face)
+        in_x = untaken net.faces n x.place of_x.face of_x.at_place
+
+        in_y : (y.place < n) × (slice_get net.faces y.place ≡ Some of_y.face)
+        in_y = untaken net.faces n y.place of_y.face of_y.at_place
+
+        omega_from : y.place ≤ x.place → y.place < x.place
+        omega_from h = elim (cases_lt y.place x.place) [
+          | inl lower ↦ lower
+          | inr other ↦ absurd (differ (omega (arith, h, other)))
         ]
-      ]
 
-  -- the interface at the end a of a link owns itself
-  a_owns : (k : ℕ) (link : LinkRow) → slice_get net.links k ≡ Some link → slice_get owners link.a.0 ≡ Some link.a.0
-  a_owns k link at =
-      let s : SharesSubnet net link = shares k link at in
-      let within : link.a.0 < length net.faces = slice_get_within net.faces link.a.0 s.a s.a_is in
-      let read : slice_get owners link.a.0 ≡ Some (get_or owners link.a.0 0) = slice_get-get_or owners link.a.0 0 (omega (arith, known.owners_long, within)) in
-      elim (known.are_owners.elsewhere link.a.0 (get_or owners link.a.0 0) read) [
-        | inl own ↦ read ∙ ap Some own
-        | inr l ↦ elim (eqb_tells k l.0) [
-          | inl same ↦
-              let one : link ≡ l.1 = one_item net.links l.0 link l.1 (subst (λ (m : ℕ). slice_get net.links m ≡ Some link) same.1 at) l.3 in
-              absurd (s.places (sym l.4 ∙ ap (λ (x : LinkRow). x.b.0) (sym one)))
-          | inr other ↦ absurd ((apart_at net.links known.apart k l.0 link l.1 other.1 at l.3).1 (sym l.4))
+    pub peace_from_clear : ClearBelow net n → AllPairs AreAtPeace claims
+    peace_from_clear clear a b d l m = to_peace (get_or claims a d) (get_or claims b d) (claim_at a d (omega arith)) (claim_at b d m) (known.apart a b d l m) clear
+
+    -- what is between two claims is between their interfaces
+    from_peace : (x y : Claim) (f g : FaceRow) → IsClaimOf (take n net.faces) partners x → x.place ≢ y.place → f.subnet ≡ Some x.subnet → g.subnet ≡ Some y.subnet → AreAtPeace x y → AreLinked net x.place y.place ⊎ AreApart f g
+    from_peace x y f g of_x differ f_is g_is (inl partner) = inl (partner_linked x.place y.place differ (of_x.partner ∙ ap Some partner))
+    from_peace x y f g of_x differ f_is g_is (inr disjoint) = inr (apart_from f g x.subnet y.subnet f_is g_is disjoint)
+
+    pub clear_from_peace : AllPairs AreAtPeace claims → ClearBelow net n
+    clear_from_peace peace i j f g lower below at_f at_g = by f.subnet g.subnet refl refl
+      where
+        whole : (p q : Prefix) → f.subnet ≡ Some p → g.subnet ≡ Some q → AreLinked net i j ⊎ AreApart f g
+        whole p q f_is g_is =
+            let x = known.all i f p (taken net.faces n i f (omega (arith, lower, below)) at_f) f_is in
+            let y = known.all j g q (taken net.faces n j g below at_g) g_is in
+            let of_x : IsClaimOf (take n net.faces) partners x.0 = known.each x.0 x.1 in
+            let of_y : IsClaimOf (take n net.faces) partners y.0 = known.each y.0 y.1 in
+            let x_face : slice_get net.faces i ≡ Some of_x.face = subst (λ (k : ℕ). slice_get net.faces k ≡ Some of_x.face) x.2 (untaken net.faces n x.0.place of_x.face of_x.at_place).1 in
+            let y_face : slice_get net.faces j ≡ Some of_y.face = subst (λ (k : ℕ). slice_get net.faces k ≡ Some of_y.face) y.2 (untaken net.faces n y.0.place of_y.face of_y.at_place).1 in
+            let f_sub : f.subnet ≡ Some x.0.subnet = subst (λ (r : FaceRow). r.subnet ≡ Some x.0.subnet) (same_Some of_x.face f (sym x_face ∙ at_f)) of_x.subnet in
+            let g_sub : g.subnet ≡ Some y.0.subnet = subst (λ (r : FaceRow). r.subnet ≡ Some y.0.subnet) (same_Some of_y.face g (sym y_face ∙ at_g)) of_y.subnet in
+            let differ : x.0.place ≢ y.0.place = λ e. omega (arith, x.2, y.2, e, lower) in
+            elim (cases_lt x.1.0 y.1.0) [
+              | inl before ↦
+                  let pair : AreAtPeace x.0 y.0 =
+                  subst (λ (c : Claim). AreAtPeace x.0 c) (get_or_default claims y.1.0 x.0 y.0 y.1.1 ∙ y.1.2) (subst (λ (c : Claim). AreAtPeace c (get_or claims y.1.0 x.0)) x.1.2 (peace x.1.0 y.1.0 x.0 before y.1.1)) in
+                  moved x.0 y.0 x.2 y.2 (from_peace x.0 y.0 f g of_x differ f_sub g_sub pair)
+              | inr not_before ↦ elim (cases_lt y.1.0 x.1.0) [
+                | inl after ↦
+                    let pair : AreAtPeace y.0 x.0 =
+                    subst (λ (c : Claim). AreAtPeace y.0 c) (get_or_default claims x.1.0 y.0 x.0 x.1.1 ∙ x.1.2) (subst (λ (c : Claim). AreAtPeace c (get_or claims x.1.0 y.0)) y.1.2 (peace y.1.0 x.1.0 y.0 after x.1.1)) in
+                    turned x.0 y.0 x.2 y.2 (from_peace y.0 x.0 g f of_y (λ e. differ (sym e)) g_sub f_sub pair)
+                | inr same ↦
+                    let one : x.1.0 ≡ y.1.0 = omega (arith, not_before, same) in
+                    absurd (differ (ap (λ (c : Claim). c.place) (sym x.1.2 ∙ ap (λ (k : ℕ). get_or claims k x.0) one ∙ get_or_default claims y.1.0 x.0 y.0 y.1.1 ∙ y.1.2)))
+              ]
+            ]
+          where
+            moved : (x y : Claim) → x.place ≡ i → y.place ≡ j → AreLinked net x.place y.place ⊎ AreApart f g → AreLinked net i j ⊎ AreApart f g
+            moved x y at_i at_j (inl linked) = inl (subst (λ (k : ℕ). AreLinked net k j) at_i (subst (λ (k : ℕ). AreLinked net x.place k) at_j linked))
+            moved x y at_i at_j (inr apart) = inr apart
+
+            turned : (x y : Claim) → x.place ≡ i → y.place ≡ j → AreLinked net y.place x.place ⊎ AreApart g f → AreLinked net i j ⊎ AreApart f g
+            turned x y at_i at_j (inl linked) = inl (subst (λ (k : ℕ). AreLinked net k j) at_i (subst (λ (k : ℕ). AreLinked net x.place k) at_j (turn_linked net y.place x.place linked)))
+            turned x y at_i at_j (inr apart) = inr (turn_apart apart)
+              where
+                turn_apart : AreApart g f → AreApart f g
+                turn_apart apart = apart_from f g _ _ f_is g_is (λ address in_p in_q. from_apart g f _ _ g_is f_is apart address in_q in_p)
+
+        by : (o r : Option Prefix) → f.subnet ≡ o → g.subnet ≡ r → AreLinked net i j ⊎ AreApart f g
+        by None r f_is g_is = inr (subst (λ (o : Option Prefix). IfSome o (λ x. IfSome g.subnet (AreDisjoint x))) (sym f_is) tt)
+        by (Some p) None f_is g_is =
+            let inner : IfSome g.subnet (AreDisjoint p) = subst (λ (o : Option Prefix). IfSome o (AreDisjoint p)) (sym g_is) tt in
+            inr (subst (λ (o : Option Prefix). IfSome o (λ x. IfSome g.subnet (AreDisjoint x))) (sym f_is) inner)
+        by (Some p) (Some q) f_is g_is = whole p q f_is g_is
+
+    -- the answer on the claims is that on the interfaces
+    pub clear_by_claims : (answer : Bool) → MatchBool answer (AllPairs AreAtPeace claims) (¬ AllPairs AreAtPeace claims) → MatchBool answer (ClearBelow net n) (¬ ClearBelow net n)
+    clear_by_claims true peace = clear_from_peace peace
+    clear_by_claims false war = λ clear. war (peace_from_clear clear)
+
+-- one more interface
+pub claims_more : (faces : List FaceRow) (partners : List ℕ) (claims next : List Claim) (n partner : ℕ) (face : FaceRow) → n < length faces → face ≡ get_or faces n face → slice_get partners n ≡ Some partner →
+    AreClaimsOf (take n faces) partners claims → next ≡ claims ++ cons_option (claim_of face n partner) [] → AreClaimsOf (take (n + 1) faces) partners next
+claims_more faces partners claims next n partner face within is at_partner old grown = by face.subnet refl
+  where
+    now : slice_get (take (n + 1) faces) n ≡ Some face
+    now = taken faces (n + 1) n face (omega arith) (slice_get-get_or faces n face within ∙ ap Some (sym is))
+
+    earlier : (place : ℕ) (f : FaceRow) → slice_get (take n faces) place ≡ Some f → slice_get (take (n + 1) faces) place ≡ Some f
+    earlier place f at = let r = untaken faces n place f at in taken faces (n + 1) place f (omega (arith, r.0)) r.1
+
+    -- an old claim is one of the interfaces with one more
+    kept : (claim : Claim) → IsClaimOf (take n faces) partners claim → IsClaimOf (take (n + 1) faces) partners claim
+    kept claim of = record { face = of.face; at_place = earlier claim.place of.face of.at_place; subnet = of.subnet; partner = of.partner }
+
+    -- an interface with one more is one of those before, or the last
+    which : (place : ℕ) (f : FaceRow) → slice_get (take (n + 1) faces) place ≡ Some f → (slice_get (take n faces) place ≡ Some f) ⊎ ((place ≡ n) × (f ≡ face))
+    which place f at =
+        let r = untaken faces (n + 1) place f at in
+        elim (cases_lt place n) [
+          | inl lower ↦ inl (taken faces n place f lower r.1)
+          | inr higher ↦
+              let same : place ≡ n = omega (arith, r.0, higher) in
+              inr (same, same_Some f face (sym (subst (λ (k : ℕ). slice_get faces k ≡ Some f) same r.1) ∙ (slice_get-get_or faces n face within ∙ ap Some (sym is))))
         ]
-      ]
 
-  -- linked interfaces have one owner
-  linked_owned : (i j : ℕ) → i ≢ j → AreLinked net i j → (o : ℕ) × (slice_get owners i ≡ Some o) × (slice_get owners j ≡ Some o)
-  linked_owned i j differ (k, link, within, read, ends) =
-      let at : slice_get net.links k ≡ Some link = slice_get-get_or net.links k link within ∙ ap Some read in
-      let at_a : slice_get owners link.a.0 ≡ Some link.a.0 = a_owns k link at in
-      let at_b : slice_get owners link.b.0 ≡ Some link.a.0 = known.are_owners.at_end k link within at in
-      elim ends.0 [
-        | inl a_i ↦ elim ends.1 [
-          | inl a_j ↦ absurd (differ (sym a_i ∙ a_j))
-          | inr b_j ↦ (link.a.0, subst (λ (n : ℕ). slice_get owners n ≡ Some link.a.0) a_i at_a, subst (λ (n : ℕ). slice_get owners n ≡ Some link.a.0) b_j at_b)
-        ]
-        | inr b_i ↦ elim ends.1 [
-          | inl a_j ↦ (link.a.0, subst (λ (n : ℕ). slice_get owners n ≡ Some link.a.0) b_i at_b, subst (λ (n : ℕ). slice_get owners n ≡ Some link.a.0) a_j at_a)
-          | inr b_j ↦ absurd (differ (sym b_i ∙ b_j))
-        ]
-      ]
-
-  -- linked interfaces have one subnet
-  linked_subnet : (i j : ℕ) (f g : FaceRow) → i ≢ j → slice_get net.faces i ≡ Some f → slice_get net.faces j ≡ Some g → AreLinked net i j → f.subnet ≡ g.subnet
-  linked_subnet i j f g differ at_i at_j (k, link, within, read, ends) =
-      let at : slice_get net.links k ≡ Some link = slice_get-get_or net.links k link within ∙ ap Some read in
-      let s : SharesSubnet net link = shares k link at in
-      let face_is = λ (n m : ℕ) (x y : FaceRow) (e : n ≡ m) (p : slice_get net.faces n ≡ Some x) (q : slice_get net.faces m ≡ Some y).
-      one_item net.faces m x y (subst (λ (l : ℕ). slice_get net.faces l ≡ Some x) e p) q in
-      elim ends.0 [
-        | inl a_i ↦ elim ends.1 [
-          | inl a_j ↦ absurd (differ (sym a_i ∙ a_j))
-          | inr b_j ↦
-              ap (λ (x : FaceRow). x.subnet) (sym (face_is link.a.0 i s.a f a_i s.a_is at_i)) ∙ s.one_subnet ∙ ap (λ (x : FaceRow). x.subnet) (face_is link.b.0 j s.b g b_j s.b_is at_j)
-        ]
-        | inr b_i ↦ elim ends.1 [
-          | inl a_j ↦
-              ap (λ (x : FaceRow). x.subnet) (sym (face_is link.b.0 i s.b f b_i s.b_is at_i)) ∙ sym s.one_subnet ∙ ap (λ (x : FaceRow). x.subnet) (face_is link.a.0 j s.a g a_j s.a_is at_j)
-          | inr b_j ↦ absurd (differ (sym b_i ∙ b_j))
-        ]
-      ]
-
-  -- the interfaces at two places, with their claims
-  record Two (i j : ℕ) (d : Claim) : Type 0 where
-    pub f : FaceRow
-    pub g : FaceRow
-    pub f_at : slice_get net.faces i ≡ Some f
-    pub g_at : slice_get net.faces j ≡ Some g
-    pub of_f : ClaimAt owners claims i f
-    pub of_g : ClaimAt owners claims j g
-    pub f_claim : get_or claims i d ≡ of_f.claim
-    pub g_claim : get_or claims j d ≡ of_g.claim
-
-  two : (faces : (k : ℕ) → k < length net.faces → (f : FaceRow) × (slice_get net.faces k ≡ Some f)) (i j : ℕ) (d : Claim) → i < length claims → j < length claims → Two i j d
-  two faces i j d l m =
-      let f : (f : FaceRow) × (slice_get net.faces i ≡ Some f) = faces i (omega (arith, known.claims_long, l)) in
-      let g : (g : FaceRow) × (slice_get net.faces j ≡ Some g) = faces j (omega (arith, known.claims_long, m)) in
-      let of_f : ClaimAt owners claims i f.0 = claim_of i f.0 d f.1 in
-      let of_g : ClaimAt owners claims j g.0 = claim_of j g.0 d g.1 in
-      record {
-        f = f.0;
-        g = g.0;
-        f_at = f.1;
-        g_at = g.1;
-        of_f = of_f;
-        of_g = of_g;
-        f_claim = get_or_from_slice_get claims i of_f.claim d of_f.claim_at;
-        g_claim = get_or_from_slice_get claims j of_g.claim d of_g.claim_at;
-      }
-
-  -- claims of one owner are to one subnet
-  pub owners_agree : OwnersAgree claims
-  owners_agree i j d l m same =
-      let t : Two i j d = two (item_at net.faces) i j d (omega arith) m in
-      let differ : i ≢ j = λ e. omega (arith, e, l) in
-      let owner : t.of_f.owner ≡ t.of_g.owner =
-      sym t.of_f.owner_is ∙ ap (λ (c : Claim). c.owner) (sym t.f_claim) ∙ same ∙ ap (λ (c : Claim). c.owner) t.g_claim ∙ t.of_g.owner_is in
-      let linked : AreLinked net i j = owned_linked i j t.of_g.owner differ (t.of_f.owner_at ∙ ap Some owner) t.of_g.owner_at in
-      ap (λ (c : Claim). c.subnet) t.f_claim ∙
-      same_Some t.of_f.claim.subnet t.of_g.claim.subnet (sym t.of_f.subnet ∙ linked_subnet i j t.f t.g differ t.f_at t.g_at linked ∙ t.of_g.subnet) ∙
-      ap (λ (c : Claim). c.subnet) (sym t.g_claim)
-
-  -- where all claims are at peace, no interfaces overlap
-  pub clear_from_peace : AllPairs AreAtPeace claims → OverlapsNowhere net
-  clear_from_peace peace i j f g at_i at_j differ =
-      let of_f : ClaimAt owners claims i f = claim_of i f (first_claim i f at_i).0 at_i in
-      let of_g : ClaimAt owners claims j g = claim_of j g (first_claim i f at_i).0 at_j in
-      let between : AreAtPeace of_f.claim of_g.claim =
-      subst (λ (y : Claim). AreAtPeace of_f.claim y) (get_or_from_slice_get claims j of_g.claim (first_claim i f at_i).0 of_g.claim_at)
-      (subst (λ (x : Claim). AreAtPeace x (get_or claims j (first_claim i f at_i).0)) (get_or_from_slice_get claims i of_f.claim (first_claim i f at_i).0 of_f.claim_at)
-      (either_way AreAtPeace turn_peace claims peace i j (first_claim i f at_i).0 differ (slice_get_within claims i of_f.claim of_f.claim_at) (slice_get_within claims j of_g.claim of_g.claim_at))) in
-      elim between [
-        | inl same ↦
-            let owner : of_f.owner ≡ of_g.owner = sym of_f.owner_is ∙ same ∙ of_g.owner_is in
-            inl (owned_linked i j of_g.owner differ (of_f.owner_at ∙ ap Some owner) of_g.owner_at)
-        | inr disjoint ↦
-            let P : Prefix → Type 0 = λ p. IfSome g.subnet (AreDisjoint p) in
-            let inner : IfSome g.subnet (AreDisjoint of_f.claim.subnet) = subst (λ (o : Option Prefix). IfSome o (AreDisjoint of_f.claim.subnet)) (sym of_g.subnet) disjoint in
-            inr (subst (λ (o : Option Prefix). IfSome o P) (sym of_f.subnet) inner)
-      ]
-    where
-      first_claim : (k : ℕ) (face : FaceRow) → slice_get net.faces k ≡ Some face → (c : Claim) × (slice_get claims k ≡ Some c)
-      first_claim k face at = item_at claims k (omega (arith, known.claims_long, slice_get_within net.faces k face at))
-
-  -- where no interfaces overlap, all claims are at peace
-  pub peace_from_clear : OverlapsNowhere net → AllPairs AreAtPeace claims
-  peace_from_clear clear i j d l m =
-      let t : Two i j d = two (item_at net.faces) i j d (omega arith) m in
-      let differ : i ≢ j = λ e. omega (arith, e, l) in
-      let between : AreAtPeace t.of_f.claim t.of_g.claim = peace_of i j t.f t.g differ t.f_at t.g_at t.of_f t.of_g (clear i j t.f t.g t.f_at t.g_at differ) in
-      subst (λ (y : Claim). AreAtPeace (get_or claims i d) y) (sym t.g_claim) (subst (λ (x : Claim). AreAtPeace x t.of_g.claim) (sym t.f_claim) between)
-    where
-      peace_of : (i j : ℕ) (f g : FaceRow) → i ≢ j → slice_get net.faces i ≡ Some f → slice_get net.faces j ≡ Some g →
-          (of_f : ClaimAt owners claims i f) (of_g : ClaimAt owners claims j g) → AreLinked net i j ⊎ AreApart f g → AreAtPeace of_f.claim of_g.claim
-      peace_of i j f g differ at_i at_j of_f of_g (inl linked) =
-          let o : (o : ℕ) × (slice_get owners i ≡ Some o) × (slice_get owners j ≡ Some o) = linked_owned i j differ linked in
-          inl (of_f.owner_is ∙ same_Some of_f.owner o.0 (sym of_f.owner_at ∙ o.1) ∙ sym (same_Some of_g.owner o.0 (sym of_g.owner_at ∙ o.2)) ∙ sym of_g.owner_is)
-      peace_of i j f g differ at_i at_j of_f of_g (inr apart) =
-          let P : Prefix → Type 0 = λ p. IfSome g.subnet (AreDisjoint p) in
-          let inner : IfSome g.subnet (AreDisjoint of_f.claim.subnet) = subst (λ (o : Option Prefix). IfSome o P) of_f.subnet apart in
-          inr (subst (λ (o : Option Prefix). IfSome o (AreDisjoint of_f.claim.subnet)) of_g.subnet inner)
-
-  -- the answer on the claims is that on the interfaces
-  pub clear_by_claims : (answer : Bool) → MatchBool answer (AllPairs AreAtPeace claims) (¬ AllPairs AreAtPeace claims) → MatchBool answer (OverlapsNowhere net) (¬ OverlapsNowhere net)
-  clear_by_claims true peace = clear_from_peace peace
-  clear_by_claims false war = λ clear. war (peace_from_clear clear)
-
--- what the functions that make the claims say of them
-pub claims_known : (net : Network) (owners passed : List ℕ) (claims : List Claim) → All (SharesSubnet net) net.links → AllPairs AreLinksApart net.links →
-    length owners ≡ length net.faces → AreOwners (length net.links) net.links owners → passed ≡ owners → length claims ≡ length net.faces →
-    ((k owner : ℕ) (face : FaceRow) (claim : Claim) → slice_get net.faces k ≡ Some face → slice_get passed k ≡ Some owner → slice_get claims k ≡ Some claim → IsClaim face owner claim) →
-    AreClaims net owners claims
-claims_known net owners passed claims shared apart owners_long are_owners same claims_long each = record {
-  shared = shared;
-  apart = apart;
-  owners_long = owners_long;
-  are_owners = are_owners;
-  claims_long = claims_long;
-  each = λ k owner face claim at_face at_owner at_claim. each k owner face claim at_face (ap (λ (l : List ℕ). slice_get l k) same ∙ at_owner) at_claim;
-}
+    by : (o : Option Prefix) → face.subnet ≡ o → AreClaimsOf (take (n + 1) faces) partners next
+    by None none =
+        let same : next ≡ claims = grown ∙ ap (λ (p : Option Prefix). claims ++ cons_option (option_map (λ (q : Prefix). record { subnet = q; place = n; partner = partner }) p) []) none ∙ append-nil claims in
+        subst (λ (l : List Claim). AreClaimsOf (take (n + 1) faces) partners l) (sym same) (record {
+          each = λ claim there. kept claim (old.each claim there);
+          all = λ place f p at sub. elim (which place f at) [
+            | inl before ↦ old.all place f p before sub
+            | inr last ↦ absurd (none-some p (sym none ∙ ap (λ (r : FaceRow). r.subnet) (sym last.1) ∙ sub))
+          ];
+          apart = old.apart;
+        })
+    by (Some q) some =
+        let claim : Claim = record { subnet = q; place = n; partner = partner } in
+        let same : next ≡ claims ++ claim ∷ [] = grown ∙ ap (λ (p : Option Prefix). claims ++ cons_option (option_map (λ (q : Prefix). record { subnet = q; place = n; partner = partner }) p) []) some in
+        let of_claim : IsClaimOf (take (n + 1) faces) partners claim = record { face = face; at_place = now; subnet = some; partner = at_partner } in
+        subst (λ (l : List Claim). AreClaimsOf (take (n + 1) faces) partners l) (sym same) (record {
+          each = λ c there. elim (Contains-append_cases claims (claim ∷ []) c there) [
+            | inl before ↦ kept c (old.each c before)
+            | inr last ↦ elim (Contains-cases claim c [] last) [
+              | inl is_c ↦ subst (λ (x : Claim). IsClaimOf (take (n + 1) faces) partners x) is_c of_claim
+              | inr none ↦ absurd (Contains-none c none)
+            ]
+          ];
+          all = λ place f p at sub. elim (which place f at) [
+            | inl before ↦
+                let r = old.all place f p before sub in
+                (r.0, Contains-append_left claims (claim ∷ []) r.0 r.1, r.2)
+            | inr last ↦ (claim, Contains-append_right claims (claim ∷ []) claim (Contains-head claim []), sym last.0)
+          ];
+          apart = all_pairs_push (λ (x : Claim) (y : Claim). x.place ≢ y.place) claims claim old.apart (λ k d l e.
+              let of = old.each (get_or claims k d) (k, l, get_or_default claims k (get_or claims k d) d l) in
+              omega (arith, (untaken faces n (get_or claims k d).place of.face of.at_place).0, e));
+        })

@@ -1,56 +1,67 @@
--- Sorted claims of which neighbours are at peace are all at peace.
-use Rattle.std.proofs.Common.{◌≡◌, ◌≢◌, ℕ, zero, suc, ◌+◌, ◌-◌, ◌<◌, ◌≤◌, ◌⊎◌, inl, inr, List, length, get_or, set, refl, sym, ◌∙◌, ap, subst, arith, Bool, true, false, MatchBool, IsTrue, ◌↔◌}
+-- Sorted claims of which each is at peace with the next two are all at peace.
+use Rattle.std.proofs.Common.{◌≡◌, ◌≢◌, ℕ, ◌+◌, ◌<◌, ◌≤◌, ◌⊎◌, inl, inr, List, length, get_or, set, refl, sym, ◌∙◌, ap, subst, arith, Bool, true, false, MatchBool, IsTrue, ◌↔◌}
 use Rattle.std.specs.Prelude.{AllPairs}
-use Rattle.std.specs.List.{AllAdjacentBelow, swap}
+use Rattle.std.specs.List.{swap}
 use Rattle.std.specs.List.Sorted.{IsNonDecreasingBy, IsPermutation}
 use Rattle.std.proofs.lemmas.Bool.{cases_lt, false≢true}
 use Rattle.std.proofs.lemmas.Bool.Decides.{eqb_tells}
 use Rattle.std.proofs.lemmas.List.{get_or-set_same, get_or-set_other, length-set}
 use Rattle.std.proofs.lemmas.List.Edits.{length-swap, swap_is}
 use Rattle.std.proofs.lemmas.List.Sorted.{IsPermutation-keeps, IsPermutation-sym}
-use Rattle.arc_base.specs.declared.prefix.Prefix.{Prefix}
 use Rattle.net_build.specs.declared.claims.Claim.{Claim}
-use Rattle.net_build.specs.Claims.{AreAtPeace, OwnersAgree}
+use Rattle.net_build.specs.Claims.{AreAtPeace, AreOfPartners}
+use Rattle.net_build.specs.Sorting.{ArePacked}
 use Rattle.net_build.proofs.Ranges.{past, disjoint_from_order, order_from_disjoint}
 
--- the claims are one owner's to one subnet, or the one ends before the other begins
-abbrev Apart : Claim → Claim → Type 0
-Apart x z = ((x.owner ≡ z.owner) × (x.subnet ≡ z.subnet)) ⊎ (past x.subnet ≤ z.subnet.addr)
-
-one_step : (x y z : Claim) → (y.owner ≡ z.owner → y.subnet ≡ z.subnet) → y.subnet.addr ≤ z.subnet.addr → Apart x y → AreAtPeace y z → Apart x z
-one_step x y z agree order (inr before) next = inr (omega (arith, before, order))
-one_step x y z agree order (inl same) (inl owner) = inl (same.0 ∙ owner, same.1 ∙ agree owner)
-one_step x y z agree order (inl same) (inr disjoint) =
-    let after : past y.subnet ≤ z.subnet.addr = order_from_disjoint y.subnet z.subnet order disjoint in
-    inr (subst (λ (p : Prefix). past p ≤ z.subnet.addr) (sym same.1) after)
-
-abbrev addr_of : Claim → ℕ
+abbrev pub addr_of : Claim → ℕ
 addr_of claim = claim.subnet.addr
 
-far : (xs : List Claim) → IsNonDecreasingBy addr_of xs → AllAdjacentBelow AreAtPeace xs (length xs) → OwnersAgree xs →
-    (i n j : ℕ) (d : Claim) → j ≡ i + n → j < length xs → Apart (get_or xs i d) (get_or xs j d)
-far xs sorted next agree i zero j d e l =
-    let same : get_or xs i d ≡ get_or xs j d = ap (λ k. get_or xs k d) (omega arith) in
-    inl (ap (λ (c : Claim). c.owner) same, ap (λ (c : Claim). c.subnet) same)
-far xs sorted next agree i (suc n) j d e l =
-    let m_in : i + n < length xs = omega arith in
-    let before : Apart (get_or xs i d) (get_or xs (i + n) d) = far xs sorted next agree i n (i + n) d refl m_in in
-    let more : i + n + 1 < length xs = omega arith in
-    let here : i + n + 1 ≡ j = omega arith in
-    subst (λ (k : ℕ). Apart (get_or xs i d) (get_or xs k d)) here
-    (one_step (get_or xs i d) (get_or xs (i + n) d) (get_or xs (i + n + 1) d) (agree (i + n) (i + n + 1) d (omega arith) more)
-    (sorted (i + n) (i + n + 1) d (omega arith) more) before (next (i + n) d more))
+-- two claims are of two interfaces, and the one is the other's partner both ways
+abbrev pub OfPartners : Claim → Claim → Type 0
+OfPartners x y = (x.place ≢ y.place) × (x.partner ≡ y.place → y.partner ≡ x.place) × (y.partner ≡ x.place → x.partner ≡ y.place)
 
-peace_from : (x y : Claim) → Apart x y → AreAtPeace x y
-peace_from x y (inl same) = inl same.0
-peace_from x y (inr before) = inr (disjoint_from_order x.subnet y.subnet before)
+-- a claim that begins inside another one is that of its partner, or the other ends before it
+early : (x y : Claim) → x.subnet.addr ≤ y.subnet.addr → y.subnet.addr < past x.subnet → AreAtPeace x y → x.partner ≡ y.place
+early x y order inside (inl partner) = partner
+early x y order inside (inr disjoint) = absurd (omega (arith, inside, order_from_disjoint x.subnet y.subnet order disjoint))
 
-pub all_at_peace : (xs : List Claim) → IsNonDecreasingBy addr_of xs → OwnersAgree xs → AllAdjacentBelow AreAtPeace xs (length xs) → AllPairs AreAtPeace xs
-all_at_peace xs sorted agree next i j d l m =
-    peace_from (get_or xs i d) (get_or xs j d) (far xs sorted next agree i (j - i) j d (omega arith) m)
+module _ (xs : List Claim) (sorted : IsNonDecreasingBy addr_of xs) (partners : AreOfPartners xs) (packed : ArePacked xs) where
+  at_peace : (i j : ℕ) (d : Claim) → i < j → j < length xs → AreAtPeace (get_or xs i d) (get_or xs j d)
+  at_peace i j d l m = elim (eqb_tells (get_or xs i d).partner (get_or xs j d).place) [
+    | inl partner ↦ inl partner.1
+    | inr other ↦ elim (cases_lt (get_or xs j d).subnet.addr (past (get_or xs i d).subnet)) [
+      | inr after ↦ inr (disjoint_from_order (get_or xs i d).subnet (get_or xs j d).subnet after)
+      | inl inside ↦ elim (cases_lt (i + 1) j) [
+        | inr next ↦
+            let same : j ≡ i + 1 = omega (arith, l, next) in
+            packed i j d l (omega (arith, same)) m
+        | inl further ↦
+            let in_1 : i + 1 < length xs = omega (arith, further, m) in
+            let in_2 : i + 2 < length xs = omega (arith, further, m) in
+            let before_1 : (get_or xs (i + 1) d).subnet.addr ≤ (get_or xs j d).subnet.addr = sorted (i + 1) j d (omega (arith, further)) m in
+            let before_2 : (get_or xs (i + 2) d).subnet.addr ≤ (get_or xs j d).subnet.addr = by_two further in
+            let first : (get_or xs i d).partner ≡ (get_or xs (i + 1) d).place =
+            early (get_or xs i d) (get_or xs (i + 1) d) (sorted i (i + 1) d (omega arith) in_1) (omega (arith, before_1, inside)) (packed i (i + 1) d (omega arith) (omega arith) in_1) in
+            let second : (get_or xs i d).partner ≡ (get_or xs (i + 2) d).place =
+            early (get_or xs i d) (get_or xs (i + 2) d) (sorted i (i + 2) d (omega arith) in_2) (omega (arith, before_2, inside)) (packed i (i + 2) d (omega arith) (omega arith) in_2) in
+            absurd ((partners (i + 1) (i + 2) d (omega arith) in_2).0 (sym first ∙ second))
+      ]
+    ]
+  ]
+    where
+      by_two : i + 1 < j → (get_or xs (i + 2) d).subnet.addr ≤ (get_or xs j d).subnet.addr
+      by_two further = elim (cases_lt (i + 2) j) [
+        | inl later ↦ sorted (i + 2) j d (omega (arith, later)) m
+        | inr here ↦
+            let same : i + 2 ≡ j = omega (arith, further, here) in
+            subst (λ (k : ℕ). (get_or xs (i + 2) d).subnet.addr ≤ (get_or xs k d).subnet.addr) same (omega arith)
+      ]
 
-pub neighbours_at_peace : (xs : List Claim) → AllPairs AreAtPeace xs → AllAdjacentBelow AreAtPeace xs (length xs)
-neighbours_at_peace xs all k d l = all k (k + 1) d (omega arith) l
+  pub all_at_peace : AllPairs AreAtPeace xs
+  all_at_peace i j d l m = at_peace i j d l m
+
+pub packed_from_peace : (xs : List Claim) → AllPairs AreAtPeace xs → ArePacked xs
+packed_from_peace xs all i j d l close m = all i j d l m
 
 -- where an item of a list after a swap stood before
 abbrev How : ℕ → ℕ → ℕ → ℕ → Type 0
@@ -128,18 +139,29 @@ pub AllPairs-permutation : {X : Type 0} (R : X → X → Type 0) → ((x y : X) 
 AllPairs-permutation R turn xs ys moved all =
     IsPermutation-keeps xs (AllPairs R) all (λ l i j in_i in_j h. swapped R turn l i j in_i in_j h) ys moved
 
-pub turn_peace : (x y : Claim) → AreAtPeace x y → AreAtPeace y x
-turn_peace x y (inl same) = inl (sym same)
-turn_peace x y (inr disjoint) = inr (λ a in_y in_x. disjoint a in_x in_y)
+-- claims at peace of which the one is the other's partner both ways
+abbrev AtPeaceBothWays : Claim → Claim → Type 0
+AtPeaceBothWays x y = AreAtPeace x y × OfPartners x y
 
-turn_agree : (x y : Claim) → (x.owner ≡ y.owner → x.subnet ≡ y.subnet) → y.owner ≡ x.owner → y.subnet ≡ x.subnet
-turn_agree x y agree e = sym (agree (sym e))
+turn_partners : (x y : Claim) → OfPartners x y → OfPartners y x
+turn_partners x y h = (λ e. h.0 (sym e), h.2, h.1)
+
+turn_both : (x y : Claim) → AtPeaceBothWays x y → AtPeaceBothWays y x
+turn_both x y (peace, partners) = (turned peace, turn_partners x y partners)
+  where
+    turned : AreAtPeace x y → AreAtPeace y x
+    turned (inl partner) = inl (partners.1 partner)
+    turned (inr disjoint) = inr (λ a in_y in_x. disjoint a in_x in_y)
 
 -- the answer on the neighbours of the sorted claims is that on all pairs
-pub peace_by_sorting : (xs ys : List Claim) (answer : Bool) → IsPermutation xs ys → IsNonDecreasingBy addr_of ys → OwnersAgree xs →
-    (IsTrue answer ↔ AllAdjacentBelow AreAtPeace ys (length ys)) → MatchBool answer (AllPairs AreAtPeace xs) (¬ AllPairs AreAtPeace xs)
-peace_by_sorting xs ys true moved sorted agree says =
-    let agree_sorted : OwnersAgree ys = AllPairs-permutation (λ (x : Claim) (y : Claim). x.owner ≡ y.owner → x.subnet ≡ y.subnet) turn_agree xs ys moved agree in
-    AllPairs-permutation AreAtPeace turn_peace ys xs (IsPermutation-sym xs ys moved) (all_at_peace ys sorted agree_sorted (says.0 refl))
-peace_by_sorting xs ys false moved sorted agree says =
-    λ all. false≢true (says.1 (neighbours_at_peace ys (AllPairs-permutation AreAtPeace turn_peace xs ys moved all)))
+pub peace_by_sorting : (xs ys : List Claim) (answer : Bool) → IsPermutation xs ys → IsNonDecreasingBy addr_of ys → AreOfPartners xs → (IsTrue answer ↔ ArePacked ys) →
+    MatchBool answer (AllPairs AreAtPeace xs) (¬ AllPairs AreAtPeace xs)
+peace_by_sorting xs ys true moved sorted partners says =
+    let partners_sorted : AreOfPartners ys = AllPairs-permutation OfPartners turn_partners xs ys moved partners in
+    let peace_sorted : AllPairs AreAtPeace ys = all_at_peace ys sorted partners_sorted (says.0 refl) in
+    let both : AllPairs AtPeaceBothWays xs = AllPairs-permutation AtPeaceBothWays turn_both ys xs (IsPermutation-sym xs ys moved) (λ i j d l m. (peace_sorted i j d l m, partners_sorted i j d l m)) in
+    λ i j d l m. (both i j d l m).0
+peace_by_sorting xs ys false moved sorted partners says =
+    λ all.
+    let both : AllPairs AtPeaceBothWays ys = AllPairs-permutation AtPeaceBothWays turn_both xs ys moved (λ i j d l m. (all i j d l m, partners i j d l m)) in
+    false≢true (says.1 (packed_from_peace ys (λ i j d l m. (both i j d l m).0)))

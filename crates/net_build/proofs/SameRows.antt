@@ -1,6 +1,6 @@
 -- The rows of a document and its files are determined.
-use Rattle.std.proofs.Common.{◌≡◌, ℕ, ◌-◌, ◌*◌, ◌/◌, ◌^◌, ◌⊎◌, inl, inr, Bool, true, false, ◌&&◌, Option, Some, None, List, [], ◌∷◌, refl, sym, ◌∙◌, ap, subst, arith, Decides, nat_eq}
-use Rattle.std.specs.Prelude.{Contains, IsSomeAnd, map, is_some}
+use Rattle.std.proofs.Common.{◌≡◌, ℕ, ◌-◌, ◌*◌, ◌/◌, ◌^◌, ◌⊎◌, inl, inr, Bool, true, false, ◌&&◌, Option, Some, None, List, [], ◌∷◌, refl, sym, ◌∙◌, ap, subst, arith, Decides, nat_eq, IsTrue, ◌↔◌}
+use Rattle.std.specs.Prelude.{Contains, IsSomeAnd, map}
 use Rattle.std.specs.List.{AllZip, list_any}
 use Rattle.std.specs.Cmp.Lexicographic.{pointwise}
 use Rattle.std.proofs.Math.Pow.{pow_pos}
@@ -9,18 +9,28 @@ use Rattle.std.proofs.lemmas.Bool.Decides.{Decides-and, same_from_decides}
 use Rattle.std.proofs.lemmas.Slice.Eq.{bytes_eq-Decides}
 use Rattle.std.proofs.lemmas.List.{map-id}
 use Rattle.arc_base.specs.Addresses.{Holds}
+use Rattle.arc_base.specs.declared.place.ListId.{ListId}
 use Rattle.arc_base.specs.declared.prefix.Prefix.{Prefix}
 use Rattle.arc_base.proofs.SamePrefix.{same_prefix}
+use Rattle.net_model.specs.declared.lists.PacketList.{PacketList}
 use Rattle.net_model.specs.declared.policies.Document.{Document}
 use Rattle.net_model.specs.declared.policies.LinkText.{LinkText}
 use Rattle.net_model.specs.declared.rows.FaceRow.{FaceRow}
 use Rattle.net_model.specs.declared.rows.LinkRow.{LinkRow}
+use Rattle.net_model.specs.declared.rows.RouterRow.{RouterRow}
 use Rattle.net_model.specs.declared.rows.Network.{Network}
-use Rattle.plain_files.specs.declared.plain.PlainFile.{PlainFile}
-use Rattle.net_build.specs.Sites.{Site, FullName, AreDistinct, sites, full_name, full_names, a_end, b_end, link_ends}
-use Rattle.net_build.specs.Rows.{IsPrefixAt, IsFaceRow, IsLinkRow, AreRows}
-use Rattle.net_build.proofs.Distinct.{one_place}
-use Rattle.net_build.proofs.Keys.{any-Decides}
+use Rattle.net_model.specs.declared.rows.Protocol.{Protocol}
+use Rattle.ios_config.specs.declared.settings.Config.{Config}
+use Rattle.net_build.specs.Names.{AreDistinct}
+use Rattle.net_build.specs.Settings.{IsPrefixAt, lines_of, value}
+use Rattle.net_build.specs.Sites.{Site, FullName, sites, full_name, full_names, a_end, b_end, ends_of}
+use Rattle.net_build.specs.Ordered.{IsNameBefore}
+use Rattle.net_build.specs.Lists.{IsPlaceAmong, IsListName, IsPacketListRow, IsRouteListRow, packet_list_key}
+use Rattle.net_build.specs.Rows.{IsRouterRow, IsSubnet, TellsHost, IsFaceRow, IsLinkRow, AreBaseRows}
+use Rattle.net_build.proofs.Distinct.{Contains-at, one_place}
+use Rattle.net_build.proofs.InOrder.{ordered_once, names_one_way, pairs_one_way}
+use Rattle.ios_config.proofs.StandLists.{any_seen}
+use Rattle.net_build.proofs.ListKeys.{packet_keys_differ}
 
 -- a list contains a name or not
 abbrev same_name : FullName → FullName → Bool
@@ -38,7 +48,7 @@ decided false P d = inr (λ p. false≢true (d.1 p))
 
 pub in_or_not : (names : List FullName) (x : FullName) → Contains names x ⊎ (Contains names x → ⊥)
 in_or_not names x =
-    let d : Decides (list_any (same_name x) names) (Contains (map (λ (n : FullName). n) names) x) = any-Decides same_name (λ (n : FullName). n) same_name-Decides names x in
+    let d : Decides (list_any (same_name x) names) (Contains (map (λ (n : FullName). n) names) x) = any_seen same_name (λ (n : FullName). n) same_name-Decides names x in
     decided (list_any (same_name x) names) (Contains names x)
     (subst (λ (l : List FullName). Decides (list_any (same_name x) names) (Contains l x)) (map-id names) d)
 
@@ -59,16 +69,34 @@ one_some_prefix address len None r h k = absurd h
 one_some_prefix address len (Some p) None h k = absurd k
 one_some_prefix address len (Some p) (Some q) h k = ap Some (one_prefix address len p q h k)
 
+one_subnet : (address : Option (ℕ × ℕ)) (o r : Option Prefix) → IsSubnet address o → IsSubnet address r → o ≡ r
+one_subnet None o r h k = h ∙ sym k
+one_subnet (Some a) o r h k = one_some_prefix a.0 a.1 o r h k
+
+-- a list that is bound has one place
+pub one_list_place : (keys : List (ℕ × List ℕ)) → AreDistinct keys → (router : ℕ) (bound : Option (List ℕ)) (o r : Option ListId) → IsPlaceAmong keys router bound o → IsPlaceAmong keys router bound r → o ≡ r
+one_list_place keys distinct router bound None None h k = refl
+one_list_place keys distinct router None None (Some id) h k = absurd k
+one_list_place keys distinct router None (Some id) r h k = absurd h
+one_list_place keys distinct router (Some name) None (Some id) h k = absurd (h (Contains-at keys id.0 (router, name) k))
+one_list_place keys distinct router (Some name) (Some id) None h k = absurd (k (Contains-at keys id.0 (router, name) h))
+one_list_place keys distinct router (Some name) (Some id) (Some other) h k =
+    let same : id.0 ≡ other.0 = one_place keys id.0 other.0 (router, name) distinct h k in
+    λ i. Some (record { 0 = same i })
+
 -- a file and an interface have one row
-pub one_face_row : (ends : List FullName) (site : Site) (f g : FaceRow) → IsFaceRow ends site f → IsFaceRow ends site g → f ≡ g
-one_face_row ends site f g p q =
+pub one_face_row : (protocol : Protocol) (ends : List FullName) (keys : List (ℕ × List ℕ)) → AreDistinct keys → (site : Site) (f g : FaceRow) → IsFaceRow protocol ends keys site f → IsFaceRow protocol ends keys site g → f ≡ g
+one_face_row protocol ends keys distinct site f g p q =
     let host : f.host ≡ g.host = elim (in_or_not ends (full_name site)) [
-      | inl is_end ↦ p.host_at_end is_end ∙ sym (q.host_at_end is_end)
-      | inr no_end ↦ one_some_prefix _ _ f.host g.host (p.host_elsewhere no_end) (q.host_elsewhere no_end)
+      | inl is_end ↦ p.host.at_end is_end ∙ sym (q.host.at_end is_end)
+      | inr no_end ↦ one_subnet _ f.host g.host (p.host.elsewhere no_end) (q.host.elsewhere no_end)
     ] in
     let enabled : f.enabled ≡ g.enabled = same_from_decides f.enabled g.enabled p.enabled q.enabled in
-    let told : f.told ≡ g.told = p.told ∙ (λ i. is_some (host i) && enabled i) ∙ sym q.told in
-    let subnet : f.subnet ≡ g.subnet = one_some_prefix _ _ f.subnet g.subnet p.subnet q.subnet in
+    let tells : IsTrue f.told ↔ TellsHost protocol (lines_of site.config) g.host g.enabled =
+    subst (λ (b : Bool). IsTrue f.told ↔ TellsHost protocol (lines_of site.config) g.host b) enabled
+    (subst (λ (o : Option Prefix). IsTrue f.told ↔ TellsHost protocol (lines_of site.config) o f.enabled) host p.told) in
+    let told : f.told ≡ g.told = same_from_decides f.told g.told tells q.told in
+    let subnet : f.subnet ≡ g.subnet = one_subnet _ f.subnet g.subnet p.subnet q.subnet in
     let router : f.router.0 ≡ g.router.0 = p.router ∙ sym q.router in
     let name : f.name ≡ g.name = p.name ∙ sym q.name in
     let addr : f.addr ≡ g.addr = p.addr ∙ sym q.addr in
@@ -76,8 +104,8 @@ one_face_row ends site f g p q =
     let passive : f.passive ≡ g.passive = p.passive ∙ sym q.passive in
     let cost : f.cost ≡ g.cost = p.cost ∙ sym q.cost in
     let bound_in : f.bound_in ≡ g.bound_in = p.bound_in ∙ sym q.bound_in in
-    let list_in : f.list_in ≡ g.list_in = p.list_in ∙ sym q.list_in in
-    let list_out : f.list_out ≡ g.list_out = p.list_out ∙ sym q.list_out in
+    let list_in : f.list_in ≡ g.list_in = one_list_place keys distinct site.router (value site.face.list_in) f.list_in g.list_in p.list_in q.list_in in
+    let list_out : f.list_out ≡ g.list_out = one_list_place keys distinct site.router (value site.face.list_out) f.list_out g.list_out p.list_out q.list_out in
     λ i. record {
       router = record { 0 = router i };
       name = name i;
@@ -93,6 +121,14 @@ one_face_row ends site f g p q =
       list_in = list_in i;
       list_out = list_out i;
     }
+
+-- a file has one row for its router
+one_router_row : (protocol : Protocol) (config : Config) (r s : RouterRow) → IsRouterRow protocol config r → IsRouterRow protocol config s → r ≡ s
+one_router_row protocol config r s p q =
+    let name : r.name ≡ s.name = p.name ∙ sym q.name in
+    let asn : r.asn ≡ s.asn = p.asn ∙ sym q.asn in
+    let names : r.names ≡ s.names = ordered_once IsNameBefore (IsListName config) (λ x y in_x in_y. names_one_way x y) r.names s.names p.names q.names in
+    λ i. record { name = name i; asn = asn i; names = names i }
 
 -- a link of distinct names has one row
 one_link_row : (names : List FullName) → AreDistinct names → (link : LinkText) (l m : LinkRow) → IsLinkRow names link l → IsLinkRow names link m → l ≡ m
@@ -110,22 +146,30 @@ one_partner R one (x ∷ xs) [] zs h k = absurd h
 one_partner R one (x ∷ xs) (y ∷ ys) [] h k = absurd k
 one_partner R one (x ∷ xs) (y ∷ ys) (z ∷ zs) h k = λ i. one x y z h.0 k.0 i ∷ one_partner R one xs ys zs h.1 k.1 i
 
--- the rows are determined
-pub same_rows : (doc : Document) (plain : List PlainFile) → AreDistinct (full_names plain) → (n m : Network) → AreRows doc plain n → AreRows doc plain m → n ≡ m
-same_rows doc plain distinct n m p q =
+-- the rows but the sessions are determined
+pub record AreSameRows (n m : Network) : Type 0 where
+  pub protocol : n.protocol ≡ m.protocol
+  pub routers : n.routers ≡ m.routers
+  pub faces : n.faces ≡ m.faces
+  pub links : n.links ≡ m.links
+  pub packet_lists : n.packet_lists ≡ m.packet_lists
+  pub route_lists : n.route_lists ≡ m.route_lists
+
+pub same_base_rows : (doc : Document) (configs : List Config) → AreDistinct (full_names configs) → (n m : Network) → AreBaseRows doc configs n → AreBaseRows doc configs m → AreSameRows n m
+same_base_rows doc configs distinct n m p q =
     let protocol : n.protocol ≡ m.protocol = p.protocol ∙ sym q.protocol in
-    let routers : n.routers ≡ m.routers = p.routers ∙ sym q.routers in
-    let faces : n.faces ≡ m.faces = one_partner (IsFaceRow (link_ends doc)) (one_face_row (link_ends doc)) (sites plain) n.faces m.faces p.faces q.faces in
-    let links : n.links ≡ m.links = one_partner (IsLinkRow (full_names plain)) (one_link_row (full_names plain) distinct) doc.links n.links m.links p.links q.links in
-    let sessions : n.sessions ≡ m.sessions = p.sessions ∙ sym q.sessions in
-    let packet_lists : n.packet_lists ≡ m.packet_lists = p.packet_lists ∙ sym q.packet_lists in
-    let route_lists : n.route_lists ≡ m.route_lists = p.route_lists ∙ sym q.route_lists in
-    λ i. record {
-      protocol = protocol i;
-      routers = routers i;
-      faces = faces i;
-      sessions = sessions i;
-      links = links i;
-      packet_lists = packet_lists i;
-      route_lists = route_lists i;
+    let packet_lists : n.packet_lists ≡ m.packet_lists = ordered_once _ (IsPacketListRow configs) (λ l r in_l in_r. pairs_one_way IsNameBefore names_one_way (l.router.0, l.name) (r.router.0, r.name)) n.packet_lists m.packet_lists p.packet_lists q.packet_lists in
+    let route_lists : n.route_lists ≡ m.route_lists = ordered_once _ (IsRouteListRow configs) (λ l r in_l in_r. pairs_one_way IsNameBefore names_one_way (l.router.0, l.name) (r.router.0, r.name)) n.route_lists m.route_lists p.route_lists q.route_lists in
+    let keys : List (ℕ × List ℕ) = map packet_list_key m.packet_lists in
+    let n_faces : AllZip (IsFaceRow m.protocol (ends_of doc.links) keys) (sites configs) n.faces =
+    subst (λ (o : Protocol). AllZip (IsFaceRow o (ends_of doc.links) keys) (sites configs) n.faces) protocol
+    (subst (λ (l : List PacketList). AllZip (IsFaceRow n.protocol (ends_of doc.links) (map packet_list_key l)) (sites configs) n.faces) packet_lists p.faces) in
+    let n_routers : AllZip (IsRouterRow m.protocol) configs n.routers = subst (λ (o : Protocol). AllZip (IsRouterRow o) configs n.routers) protocol p.routers in
+    record {
+      protocol = protocol;
+      routers = one_partner (IsRouterRow m.protocol) (one_router_row m.protocol) configs n.routers m.routers n_routers q.routers;
+      faces = one_partner (IsFaceRow m.protocol (ends_of doc.links) keys) (one_face_row m.protocol (ends_of doc.links) keys (packet_keys_differ configs m.packet_lists q.packet_lists)) (sites configs) n.faces m.faces n_faces q.faces;
+      links = one_partner (IsLinkRow (full_names configs)) (one_link_row (full_names configs) distinct) doc.links n.links m.links p.links q.links;
+      packet_lists = packet_lists;
+      route_lists = route_lists;
     }

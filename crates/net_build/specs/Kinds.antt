@@ -1,5 +1,5 @@
 -- The kinds of interfaces, with what routers take for granted of each.
-use Rattle.std.specs.Prelude.{ℕ, ◌/◌, Bool, true, false, nat_eq, List, codes, min, max, if◌then◌else◌}
+use Rattle.std.specs.Prelude.{ℕ, Bool, true, false, nat_eq, List, codes, if◌then◌else◌}
 use Rattle.std.specs.List.{starts_with}
 use Rattle.net_build.specs.declared.kinds.FaceKind.{FaceKind}
 use Rattle.net_build.specs.declared.kinds.FaceKind.TheVariants.{Ethernet, FastEthernet, GigabitEthernet, TenGigabitEthernet, Serial, Loopback}
@@ -15,23 +15,28 @@ kind_of name =
     else Loopback))))
 
 -- the default bandwidth, in kbit/s
-abbrev pub bandwidth : FaceKind → ℕ
-bandwidth Ethernet = 10000
-bandwidth FastEthernet = 100000
-bandwidth GigabitEthernet = 1000000
-bandwidth TenGigabitEthernet = 10000000
-bandwidth Serial = 1544
-bandwidth Loopback = 8000000
+abbrev pub default_bandwidth : FaceKind → ℕ
+default_bandwidth Ethernet = 10000
+default_bandwidth FastEthernet = 100000
+default_bandwidth GigabitEthernet = 1000000
+default_bandwidth TenGigabitEthernet = 10000000
+default_bandwidth Serial = 1544
+default_bandwidth Loopback = 8000000
 
--- the reference bandwidth of 100 Mbit/s over this bandwidth, rounded down, from 1 to 65535
-abbrev pub default_cost : FaceKind → ℕ
-default_cost kind = max 1 (min 65535 (100000 / bandwidth kind))
+-- whether it is a serial interface, whose OSPF network type is point-to-point by default
+abbrev pub is_serial : FaceKind → Bool
+is_serial Ethernet = false
+is_serial FastEthernet = false
+is_serial GigabitEthernet = false
+is_serial TenGigabitEthernet = false
+is_serial Serial = true
+is_serial Loopback = false
 
--- whether the OSPF network type is point-to-point, and else it is broadcast
-abbrev pub is_point_to_point : FaceKind → Bool
-is_point_to_point Ethernet = false
-is_point_to_point FastEthernet = false
-is_point_to_point GigabitEthernet = false
-is_point_to_point TenGigabitEthernet = false
-is_point_to_point Serial = true
-is_point_to_point Loopback = false
+-- whether it is a loopback, which is no link's end
+abbrev pub is_loopback : FaceKind → Bool
+is_loopback Ethernet = false
+is_loopback FastEthernet = false
+is_loopback GigabitEthernet = false
+is_loopback TenGigabitEthernet = false
+is_loopback Serial = false
+is_loopback Loopback = true

@@ -1,50 +1,101 @@
--- The network of a document and the texts of its router files, or why there is none.
-use Rattle.std.specs.Prelude.{◌≡◌, ◌⊎◌, ℕ, ◌+◌, List, take, slice_get, Option, Some, None, Result, Ok, Err, All}
+-- The network of a document and its router files, or the first reason why there is none.
+use Rattle.std.specs.Prelude.{◌≡◌, ℕ, ◌+◌, ◌⊎◌, List, map, take, slice_get, Result, Ok, Err, Some}
 use Rattle.std.specs.List.{AllZip}
-use Rattle.arc_base.specs.declared.refusal.Kind.TheVariants.{UnknownLine, NotBuilt}
-use Rattle.net_model.specs.declared.policies.Document.{Document}
-use Rattle.net_model.specs.declared.rows.Network.{Network}
+use Rattle.arc_base.specs.declared.refusal.Kind.{Kind}
+use Rattle.arc_base.specs.declared.refusal.Kind.TheVariants as kinds
 use Rattle.net_doc.specs.declared.fault.Refusal.{Refusal}
 use Rattle.net_doc.specs.declared.fault.NetFault.{NetFault}
 use Rattle.net_doc.specs.declared.fault.NetFault.TheVariants.{Refused, Memory}
-use Rattle.plain_files.specs.declared.plain.PlainFile.{PlainFile}
-use Rattle.plain_files.specs.Known.{first_unknown}
-use Rattle.plain_files.specs.Plain.{IsPlain}
-use Rattle.net_build.specs.PlainNetwork.{IsNetworkOfPlain}
+use Rattle.net_model.specs.declared.policies.Document.{Document}
+use Rattle.net_model.specs.declared.rows.Network.{Network}
+use Rattle.ios_lines.specs.declared.line.Lines.{Lines}
+use Rattle.ios_lines.specs.Lines.{AreLinesOf, HasOrphanAt, HasOpenBannerAt}
+use Rattle.ios_config.specs.declared.settings.Config.{Config}
+use Rattle.ios_config.specs.Configs.{IsConfigOf, IsRefused}
+use Rattle.net_build.specs.declared.built.Built.{Built}
+use Rattle.net_build.specs.declared.files.ReadFile.{ReadFile}
+use Rattle.net_build.specs.declared.files.ReadFiles.{ReadFiles}
+use Rattle.net_build.specs.Rows.{AreRows}
+use Rattle.net_build.specs.Order.{tries, Refuses, IsFirstOf, AreClear, Answers}
+use Rattle.net_build.specs.Places.{places_of}
 
--- each text is a plain router file, and what they say makes the network
-pub record IsNetworkOf (doc : Document) (files : List (List ℕ)) (net : Network) : Type 0 where
-  pub plain : List PlainFile
-  pub read : AllZip IsPlain files plain
-  pub network : IsNetworkOfPlain doc plain net
+-- each line of the text that belongs to a block has one, and each banner ends
+pub record HasBlocks (text : List ℕ) : Type 0 where
+  pub no_orphan : (line : ℕ) → ¬ HasOrphanAt text line
+  pub no_open_banner : (line : ℕ) → ¬ HasOpenBannerAt text line
 
--- what the texts say, where each is a plain router file
-abbrev pub AreRead : List (List ℕ) → Option (List PlainFile) → Type 0
-AreRead files None = (plain : List PlainFile) → ¬ AllZip IsPlain files plain
-AreRead files (Some plain) = AllZip IsPlain files plain
+-- the text is a router file with these settings
+pub record Says (text : List ℕ) (config : Config) : Type 0 where
+  pub has_blocks : HasBlocks text
+  pub lines : Lines
+  pub are_lines : AreLinesOf text lines
+  pub is_config : IsConfigOf text lines config
 
--- no line of these texts is unknown
-abbrev pub KnowsLines : List (List ℕ) → Type 0
-KnowsLines files = All (λ text. first_unknown text ≡ None) files
+-- the text has lines and blocks, and what they say is refused at this line
+pub record SaysWrong (text : List ℕ) (line : ℕ) (kind : Kind) : Type 0 where
+  pub has_blocks : HasBlocks text
+  pub lines : Lines
+  pub are_lines : AreLinesOf text lines
+  pub refused : IsRefused text lines line kind
 
--- the first unknown line of the first text that has one
-pub record IsUnknownLine (files : List (List ℕ)) (r : Refusal) : Type 0 where
+-- why the text is no router file, and at which line: first an indented line in no block, then a banner that does not end, and then what its lines say
+abbrev pub IsFaulty : List ℕ → ℕ → Kind → Type 0
+IsFaulty text line kind =
+    ((kind ≡ kinds.OrphanLine) × HasOrphanAt text line)
+    ⊎ (((kind ≡ kinds.BadWord) × HasOpenBannerAt text line × ((other : ℕ) → ¬ HasOrphanAt text other))
+    ⊎ SaysWrong text line kind)
+
+-- the refusal of the first text that is no router file
+pub record IsFirstFaulty (files : List (List ℕ)) (r : Refusal) : Type 0 where
   pub place : ℕ
   pub text : List ℕ
   pub at_place : slice_get files place ≡ Some text
-  pub line : ℕ
-  pub unknown : first_unknown text ≡ Some line
-  pub earlier : KnowsLines (take place files)
-  pub told : r ≡ record { file = place + 1; number = line; kind = UnknownLine }
+  pub configs : List Config
+  pub earlier : AllZip Says (take place files) configs
+  pub file : r.file ≡ place + 1
+  pub faulty : IsFaulty text r.number r.kind
 
--- each line is known, but the texts and the document have no network
-pub record IsNotBuilt (doc : Document) (files : List (List ℕ)) (r : Refusal) : Type 0 where
-  pub known : KnowsLines files
-  pub none : (net : Network) → ¬ IsNetworkOf doc files net
-  pub told : r ≡ record { file = 0; number = 0; kind = NotBuilt }
+-- the answer on one file: its lines and settings, or its first refusal
+abbrev pub ReadsFile : ℕ → List ℕ → Result ReadFile NetFault → Type 0
+ReadsFile place text (Ok read) = AreLinesOf text read.lines × Says text read.config
+ReadsFile place text (Err (Refused r)) = (r.file ≡ place + 1) × IsFaulty text r.number r.kind
+ReadsFile place text (Err Memory) = Unit {0}
+
+-- the answer on all files: the lines and settings of each, or the first refusal
+abbrev pub ReadsFiles : List (List ℕ) → Result ReadFiles NetFault → Type 0
+ReadsFiles files (Ok read) = AllZip AreLinesOf files read.lines × AllZip Says files read.configs
+ReadsFiles files (Err (Refused r)) = IsFirstFaulty files r
+ReadsFiles files (Err Memory) = Unit {0}
+
+-- the answer on the settings of all files: their network, or the first refusal of the tries
+abbrev pub Assembles : Document → List Config → Result Network NetFault → Type 0
+Assembles doc configs result = Answers (Refuses doc configs) tries (AreRows doc configs) result
+
+-- the network of the document and the texts of its router files: these have settings, the network has their rows, and no try refuses them
+pub record IsNetworkOf (doc : Document) (files : List (List ℕ)) (net : Network) : Type 0 where
+  pub configs : List Config
+  pub said : AllZip Says files configs
+  pub rows : AreRows doc configs net
+  pub clear : AreClear (Refuses doc configs) tries
+
+-- the network with the lines of the files, and the places of what it is made of
+pub record IsBuilt (doc : Document) (files : List (List ℕ)) (built : Built) : Type 0 where
+  pub network : IsNetworkOf doc files built.net
+  pub lines : AllZip AreLinesOf files built.lines
+  pub places : built.places ≡ map places_of network.configs
+
+-- a refusal of the network of files that all have settings
+pub record IsTried (doc : Document) (files : List (List ℕ)) (r : Refusal) : Type 0 where
+  pub configs : List Config
+  pub said : AllZip Says files configs
+  pub first : IsFirstOf (Refuses doc configs) tries r
+
+-- the first refusal: the first text that is no router file, or else the first refusal of the tries in their order
+abbrev pub IsFirstRefusal : Document → List (List ℕ) → Refusal → Type 0
+IsFirstRefusal doc files r = IsFirstFaulty files r ⊎ IsTried doc files r
 
 -- the answer is the network, or the first reason why there is none; want of memory may come in place of either
-abbrev pub BuildsNetwork : Document → List (List ℕ) → Result Network NetFault → Type 0
-BuildsNetwork doc files (Ok net) = KnowsLines files × IsNetworkOf doc files net
-BuildsNetwork doc files (Err (Refused r)) = IsUnknownLine files r ⊎ IsNotBuilt doc files r
-BuildsNetwork doc files (Err Memory) = Unit {0}
+abbrev pub Builds : Document → List (List ℕ) → Result Built NetFault → Type 0
+Builds doc files (Ok built) = IsBuilt doc files built
+Builds doc files (Err (Refused r)) = IsFirstRefusal doc files r
+Builds doc files (Err Memory) = Unit {0}

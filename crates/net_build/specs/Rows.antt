@@ -1,71 +1,88 @@
--- The rows that plain files and the document give to the network.
-use Rattle.std.specs.Prelude.{◌≡◌, ℕ, true, false, ◌&&◌, ◌↔◌, IsTrue, Some, None, IsSomeAnd, is_some, List, [], map, slice_get, Any, Contains}
+-- The rows that the router files and the document give to the network.
+use Rattle.std.specs.Prelude.{◌≡◌, ◌<◌, ℕ, ◌↔◌, Bool, false, IsTrue, Option, Some, None, IsSome, IsSomeAnd, is_some, List, unwrap_or, option_map, slice_get, Any, Contains, if◌then◌else◌, not, [], map}
 use Rattle.std.specs.List.{AllZip}
-use Rattle.arc_base.specs.Addresses.{Holds}
 use Rattle.arc_base.specs.declared.prefix.Prefix.{Prefix}
 use Rattle.net_model.specs.declared.policies.Document.{Document}
 use Rattle.net_model.specs.declared.policies.LinkText.{LinkText}
 use Rattle.net_model.specs.declared.rows.FaceRow.{FaceRow}
 use Rattle.net_model.specs.declared.rows.RouterRow.{RouterRow}
+use Rattle.net_model.specs.declared.rows.SessionRow.{SessionRow}
 use Rattle.net_model.specs.declared.rows.LinkRow.{LinkRow}
 use Rattle.net_model.specs.declared.rows.Network.{Network}
-use Rattle.net_model.specs.declared.rows.Protocol.TheVariants.{Ospf}
-use Rattle.plain_files.specs.declared.plain.PlainFile.{PlainFile}
-use Rattle.plain_files.specs.declared.plain.PlainFace.{PlainFace}
-use Rattle.net_build.specs.declared.kinds.FaceKind.{FaceKind}
-use Rattle.net_build.specs.declared.kinds.FaceKind.TheVariants.{Ethernet, FastEthernet, GigabitEthernet, TenGigabitEthernet, Serial, Loopback}
-use Rattle.net_build.specs.Kinds.{kind_of, default_cost}
-use Rattle.net_build.specs.Sites.{Site, FullName, sites, full_name, full_names, a_end, b_end, link_ends}
+use Rattle.net_model.specs.declared.rows.Protocol.{Protocol}
+use Rattle.net_model.specs.declared.rows.Protocol.TheVariants.{Ospf, Bgp}
+use Rattle.net_model.specs.Routing.{tail_end, head_end}
+use Rattle.ios_words.specs.declared.commands.Command.{Command}
+use Rattle.ios_words.specs.declared.commands.Command.TheVariants as commands
+use Rattle.ios_config.specs.declared.settings.Given.{Given}
+use Rattle.ios_config.specs.declared.settings.Config.{Config}
+use Rattle.ios_config.specs.declared.settings.FaceText.{FaceText}
+use Rattle.net_build.specs.Kinds.{kind_of, is_loopback}
+use Rattle.net_build.specs.Settings.{value, process_of, lines_of, address_of, IsPrefixAt, is_up, cost_of, is_passive, IsEnabled}
+use Rattle.net_build.specs.Sites.{Site, FullName, sites, host_name, full_name, full_names, a_end, b_end, ends_of}
+use Rattle.net_build.specs.Routers.{protocol_of}
+use Rattle.net_build.specs.Neighbors.{remote_of, is_down, filter_of}
+use Rattle.net_build.specs.Lists.{AreListNames, ArePacketLists, AreRouteLists, IsPlaceAmong, packet_list_key, route_list_key}
+use Rattle.net_build.specs.Ordered.{AreInOrder, IsPairBefore}
 
--- the router of a file: it has no AS, and its file gives no list a name
-abbrev pub router_row : PlainFile → RouterRow
-router_row file = record { name = file.hostname; asn = 0; names = [] }
+-- the AS of the file's process, and 0 under OSPF
+abbrev pub asn_of : Protocol → Config → ℕ
+asn_of Ospf config = 0
+asn_of Bgp config = unwrap_or (option_map (λ p. p.number) (process_of config)) 0
 
--- the prefix of this length that holds the address
-abbrev pub IsPrefixAt : ℕ → ℕ → Prefix → Type 0
-IsPrefixAt address len p = (p.len ≡ len) × Holds p address
+-- what the network says of the router of a file
+pub record IsRouterRow (protocol : Protocol) (config : Config) (row : RouterRow) : Type 0 where
+  pub name : row.name ≡ host_name config
+  pub asn : row.asn ≡ asn_of protocol config
+  pub names : AreListNames config row.names
 
--- the connected subnet of an interface
-abbrev pub IsSubnet : PlainFace → Prefix → Type 0
-IsSubnet face = IsPrefixAt face.addr face.mask_len
+-- the connected subnet of an interface: the prefix of its address and mask, where it has them
+abbrev pub IsSubnet : Option (ℕ × ℕ) → Option Prefix → Type 0
+IsSubnet None subnet = subnet ≡ None
+IsSubnet (Some address) subnet = IsSomeAnd subnet (IsPrefixAt address.0 address.1)
 
--- how many bits its host network has: a loopback's is its own address alone
-abbrev pub host_len : FaceKind → ℕ → ℕ
-host_len Loopback mask_len = 32
-host_len Ethernet mask_len = mask_len
-host_len FastEthernet mask_len = mask_len
-host_len GigabitEthernet mask_len = mask_len
-host_len TenGigabitEthernet mask_len = mask_len
-host_len Serial mask_len = mask_len
+-- OSPF advertises a loopback's own address alone, unless the interface is said to be point-to-point
+abbrev pub is_host_route : Protocol → FaceText → Bool
+is_host_route Ospf face = if is_loopback (kind_of face.name) then not (unwrap_or (value face.point) false) else false
+is_host_route Bgp face = false
 
--- the host network of an interface that is no link's end
-abbrev pub IsHostNetwork : PlainFace → Prefix → Type 0
-IsHostNetwork face = IsPrefixAt face.addr (host_len (kind_of face.name) face.mask_len)
+-- how many bits the host network of the interface has, if its mask has so many
+abbrev pub host_len : Protocol → FaceText → ℕ → ℕ
+host_len protocol face mask_len = if is_host_route protocol face then 32 else mask_len
 
--- some network statement of the file covers the address
-abbrev pub IsCovered : PlainFile → ℕ → Type 0
-IsCovered file address = Any (λ c. Holds c.prefix address) file.coverages
+-- the address of the interface with the length of its host network
+abbrev pub host_address_of : Protocol → FaceText → Option (ℕ × ℕ)
+host_address_of protocol face = option_map (λ a. (a.0, host_len protocol face a.1)) (address_of face)
 
 -- the interface is one of these ends of links
 abbrev pub IsEnd : List FullName → Site → Type 0
 IsEnd ends site = Contains ends (full_name site)
 
--- what the network says of an interface, where these are the ends of links
-pub record IsFaceRow (ends : List FullName) (site : Site) (row : FaceRow) : Type 0 where
+-- the host network of an interface, which a link's end does not have
+pub record IsHost (protocol : Protocol) (ends : List FullName) (site : Site) (host : Option Prefix) : Type 0 where
+  pub at_end : IsEnd ends site → host ≡ None
+  pub elsewhere : ¬ IsEnd ends site → IsSubnet (host_address_of protocol site.face) host
+
+-- the router tells its neighbours of the host network: under OSPF where the interface takes part, under eBGP where a network statement names it exactly
+abbrev pub TellsHost : Protocol → List (Given Command) → Option Prefix → Bool → Type 0
+TellsHost Ospf lines host enabled = IsSome host × IsTrue enabled
+TellsHost Bgp lines host enabled = IsSomeAnd host (λ p. Any (λ g. g.value ≡ commands.Tells p) lines)
+
+-- what the network says of an interface, where these are the ends of links, and packet lists have these routers and names
+pub record IsFaceRow (protocol : Protocol) (ends : List FullName) (lists : List (ℕ × List ℕ)) (site : Site) (row : FaceRow) : Type 0 where
   pub router : row.router.0 ≡ site.router
   pub name : row.name ≡ site.face.name
-  pub addr : row.addr ≡ Some site.face.addr
-  pub subnet : IsSomeAnd row.subnet (IsSubnet site.face)
-  pub host_at_end : IsEnd ends site → row.host ≡ None
-  pub host_elsewhere : ¬ IsEnd ends site → IsSomeAnd row.host (IsHostNetwork site.face)
-  pub up : row.up ≡ true
-  pub enabled : IsTrue row.enabled ↔ IsCovered site.file site.face.addr
-  pub told : row.told ≡ (is_some row.host && row.enabled)
-  pub passive : row.passive ≡ false
-  pub cost : row.cost ≡ default_cost (kind_of site.face.name)
-  pub bound_in : row.bound_in ≡ false
-  pub list_in : row.list_in ≡ None
-  pub list_out : row.list_out ≡ None
+  pub addr : row.addr ≡ option_map (λ a. a.0) (address_of site.face)
+  pub subnet : IsSubnet (address_of site.face) row.subnet
+  pub host : IsHost protocol ends site row.host
+  pub up : row.up ≡ is_up site.face
+  pub enabled : IsTrue row.enabled ↔ IsEnabled (lines_of site.config) site.face
+  pub told : IsTrue row.told ↔ TellsHost protocol (lines_of site.config) row.host row.enabled
+  pub passive : row.passive ≡ is_passive protocol (lines_of site.config) site.face.name
+  pub cost : row.cost ≡ cost_of (lines_of site.config) site.face
+  pub bound_in : row.bound_in ≡ is_some site.face.list_in
+  pub list_in : IsPlaceAmong lists site.router (value site.face.list_in) row.list_in
+  pub list_out : IsPlaceAmong lists site.router (value site.face.list_out) row.list_out
 
 -- the link's ends are at the places that their names have among these
 pub record IsLinkRow (names : List FullName) (link : LinkText) (row : LinkRow) : Type 0 where
@@ -73,12 +90,48 @@ pub record IsLinkRow (names : List FullName) (link : LinkText) (row : LinkRow) :
   pub b : slice_get names row.b.0 ≡ Some (b_end link)
   pub waypoint : row.waypoint ≡ link.waypoint
 
--- the network has the routers of the files, their interfaces and the document's links, each in order, and nothing else
-pub record AreRows (doc : Document) (plain : List PlainFile) (net : Network) : Type 0 where
-  pub protocol : net.protocol ≡ Ospf
-  pub routers : net.routers ≡ map router_row plain
-  pub faces : AllZip (IsFaceRow (link_ends doc)) (sites plain) net.faces
-  pub links : AllZip (IsLinkRow (full_names plain)) doc.links net.links
-  pub sessions : net.sessions ≡ []
-  pub packet_lists : net.packet_lists ≡ []
-  pub route_lists : net.route_lists ≡ []
+-- at this end of a link the file of the interface configures a neighbour, with the address of the far end; the route lists have these routers and names
+pub record IsSessionOf (configs : List Config) (links : List LinkRow) (lists : List (ℕ × List ℕ)) (link : ℕ) (from_a : Bool) (session : SessionRow) : Type 0 where
+  pub row : LinkRow
+  pub at_link : slice_get links link ≡ Some row
+  pub near : Site
+  pub at_near : slice_get (sites configs) session.face.0 ≡ Some near
+  pub near_end : (tail_end row from_a).0 ≡ session.face.0
+  pub far : Site
+  pub at_far : slice_get (sites configs) (head_end row from_a).0 ≡ Some far
+  pub peer : option_map (λ a. a.0) (address_of far.face) ≡ Some session.peer
+  pub remote : remote_of (lines_of near.config) session.peer ≡ Some session.remote
+  pub down : session.down ≡ is_down (lines_of near.config) session.peer
+  pub bound : session.bound ≡ is_some (filter_of (lines_of near.config) session.peer)
+  pub filter : IsPlaceAmong lists near.router (filter_of (lines_of near.config) session.peer) session.filter
+
+-- a session is that of some end of a link
+pub record IsSession (configs : List Config) (links : List LinkRow) (lists : List (ℕ × List ℕ)) (session : SessionRow) : Type 0 where
+  pub link : ℕ
+  pub from_a : Bool
+  pub session_of : IsSessionOf configs links lists link from_a session
+
+-- the one session comes before the other: by router, and then in the order of their links
+abbrev pub IsSessionBefore : List Config → List LinkRow → List (ℕ × List ℕ) → SessionRow → SessionRow → Type 0
+IsSessionBefore configs links lists s t =
+    (i j : ℕ) (from to : Bool) (one : IsSessionOf configs links lists i from s) (other : IsSessionOf configs links lists j to t) →
+    IsPairBefore ◌<◌ (one.near.router, i) (other.near.router, j)
+
+-- these are the sessions of the network: none under OSPF
+abbrev pub AreSessions : Protocol → List Config → List LinkRow → List (ℕ × List ℕ) → List SessionRow → Type 0
+AreSessions Ospf configs links lists sessions = sessions ≡ []
+AreSessions Bgp configs links lists sessions = AreInOrder (IsSessionBefore configs links lists) (IsSession configs links lists) sessions
+
+-- the network has the routers of the files, their interfaces and lists, and the document's links, each in its order, and nothing else
+pub record AreBaseRows (doc : Document) (configs : List Config) (net : Network) : Type 0 where
+  pub protocol : net.protocol ≡ protocol_of configs
+  pub routers : AllZip (IsRouterRow net.protocol) configs net.routers
+  pub packet_lists : ArePacketLists configs net.packet_lists
+  pub faces : AllZip (IsFaceRow net.protocol (ends_of doc.links) (map packet_list_key net.packet_lists)) (sites configs) net.faces
+  pub links : AllZip (IsLinkRow (full_names configs)) doc.links net.links
+  pub route_lists : AreRouteLists configs net.route_lists
+
+-- and it has their sessions
+pub record AreRows (doc : Document) (configs : List Config) (net : Network) : Type 0 where
+  pub base : AreBaseRows doc configs net
+  pub sessions : AreSessions net.protocol configs net.links (map route_list_key net.route_lists) net.sessions

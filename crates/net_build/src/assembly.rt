@@ -1,101 +1,173 @@
-ghost use Rattle.std.specs.Prelude.{◌≡◌, [], All, IfOk, IfSome, MatchOption};
-ghost use Rattle.net_model.specs.declared.rows.Network.{Network};
+//! The network of the settings of all files, or the first refusal of the tries in their order.
+ghost use Rattle.std.specs.Prelude.{◌≡◌, ◌≤◌, All, IfOk, OnOk, length, map};
+ghost use Rattle.std.specs.List.{AllZip};
+ghost use Rattle.net_model.specs.declared.policies.Document.{Document};
 ghost use Rattle.net_model.specs.Validity.{IsValid};
-ghost use Rattle.plain_files.specs.Plain.{IsWellFormed};
-ghost use Rattle.net_build.specs.Rows.{AreRows};
-ghost use Rattle.net_build.specs.Named.{AreNamesRight};
-ghost use Rattle.net_build.specs.Conditions.{KeepsLimits};
-ghost use Rattle.net_model.specs.Packets.{subject};
-ghost use Rattle.net_model.specs.Forwarding.{HasEnds};
-ghost use Rattle.net_build.specs.PlainNetwork.{IsNetworkOfPlain};
+ghost use Rattle.net_build.specs.Sites.{sites, full_names, ends_of};
+ghost use Rattle.net_build.specs.Names.{AreDistinct, names_at};
+ghost use Rattle.net_build.specs.Lists.{ArePacketLists, AreRouteLists, packet_list_key, route_list_key};
+ghost use Rattle.net_build.specs.Rows.{IsFaceRow, IsLinkRow, AreBaseRows, AreRows, AreSessions};
+ghost use Rattle.net_build.specs.Reasons.{IsClear};
+ghost use Rattle.net_build.specs.Routers.{RefusesHostname};
+ghost use Rattle.net_build.specs.Linking.{RefusesLinkFace};
+ghost use Rattle.net_build.specs.Addressing.{HasEndpoints};
+ghost use Rattle.net_build.specs.Order.{Refuses, Answers, router_tries, link_tries, network_tries};
+ghost use Rattle.net_build.specs.Forms.{IsWellFormed};
+ghost use Rattle.net_build.specs.Networks.{Assembles};
 
-use crate::conditions::{has_one_area, hostnames_differ, keeps_limits};
-use crate::endpoints::all_have_endpoints;
-use crate::links::{all_have_one_type, index_ends, link_rows};
-use crate::names::index_names;
-use crate::overlap::overlaps_nowhere;
-use crate::rows::{face_rows, router_rows};
-use crate::subnets::all_fit_subnets;
+use crate::adjacency::try_adjacency;
+use crate::areas::try_areas;
+use crate::endpoints::try_endpoints;
+use crate::faces::{Surroundings, face_rows, router_rows};
+use crate::limits::{try_entries, try_interfaces};
+use crate::links::try_links;
+use crate::lists::{packet_lists, route_lists};
+use crate::names::{FullName, index_names};
+use crate::overlap::try_overlap;
+use crate::peers::{try_neighbors, try_networks};
+use crate::places_of_lists::{index_packet_lists, index_route_lists};
+use crate::processes::{protocol_of, try_processes};
+use crate::routers::{try_as_numbers, try_hostnames};
+use crate::sessions::session_rows;
+use crate::stops::try_lists;
+use crate::subnets::try_subnets;
 use arc_base::{List, Memory};
-use net_model::{Document, Network, Protocol};
-use plain_files::PlainFile;
+use indexmap::IndexSet;
+use ios_config::Config;
+use net_doc::NetFault;
+use net_model::{Document, FaceRow, LinkRow, Network, PacketList, Protocol, SessionRow};
 use std::alloc::Global;
 
-/// The rows of the network, or `None` where the names of interfaces and of links' ends are not as they should be.
-fn network_rows(
-    alloc: Global,
-    doc: &Document,
-    plain: &List<PlainFile>,
-) -> Result<Option<Network>, Memory>
-    requires well_formed { All IsWellFormed plain.now }
-    requires limits { KeepsLimits doc.now plain.now }
-    ensures names { IfOk result (λ found. MatchOption found (¬ AreNamesRight doc.now plain.now) (λ net. AreNamesRight doc.now plain.now)) }
-    ensures rows { IfOk result (λ found. IfSome found (AreRows doc.now plain.now)) }
+/// Tries what is asked of routers by themselves.
+fn try_routers(alloc: Global, configs: &List<Config>) -> Result<(), NetFault>
+    requires { length configs.now ≤ 256 }
+    ensures { (doc : Document) → Answers (Refuses doc configs.now) router_tries (λ done. Unit {0}) result }
 {
-    let Some(names) = index_names(alloc, plain)? else {
-        return Ok(None);
+    try_hostnames(alloc, configs)?;
+    try_processes(configs)?;
+    try_areas(alloc, configs)?;
+    try_as_numbers(alloc, configs)
+}
+
+fn faces_of(
+    alloc: Global,
+    protocol: Protocol,
+    ends: &IndexSet<FullName<'_>>,
+    lists: &List<PacketList>,
+    configs: &List<Config>,
+) -> Result<List<FaceRow>, Memory>
+    requires few { length configs.now ≤ 256 }
+    requires well_formed { All IsWellFormed configs.now }
+    requires lists { ArePacketLists configs.now lists.now }
+    ensures { IfOk result (AllZip (IsFaceRow protocol (names_at ends.now.keys) (map packet_list_key lists.now)) (sites configs.now)) }
+{
+    let lists = index_packet_lists(alloc, lists)?;
+    let around = Surroundings {
+        protocol,
+        ends,
+        lists: &lists,
     };
-    let Some(ends) = index_ends(alloc, doc)? else {
-        return Ok(None);
-    };
-    let links = match link_rows(alloc, doc, &names)? {
-        Some(links) => links,
-        None => return Ok(None),
-    };
-    let routers = router_rows(alloc, plain)?;
-    let faces = face_rows(alloc, plain, &ends)?;
-    Ok(Some(Network {
-        protocol: Protocol::Ospf,
+    face_rows(alloc, &around, configs)
+}
+
+fn sessions_of(
+    alloc: Global,
+    net: &Network,
+    configs: &List<Config>,
+) -> Result<List<SessionRow>, Memory>
+    requires few { length configs.now ≤ 256 }
+    requires lists { AreRouteLists configs.now net.now.route_lists }
+    ensures { IfOk result (λ sessions. (doc : Document) → IsClear (RefusesLinkFace doc configs.now) → AreBaseRows doc configs.now net.now →
+        AreSessions net.now.protocol configs.now net.now.links (map route_list_key net.now.route_lists) sessions) }
+{
+    let lists = index_route_lists(alloc, &net.route_lists)?;
+    session_rows(alloc, net, configs, &lists)
+}
+
+/// The rows of the network over these links, but for the sessions.
+fn rows(
+    alloc: Global,
+    configs: &List<Config>,
+    ends: &IndexSet<FullName<'_>>,
+    links: List<LinkRow>,
+) -> Result<Network, Memory>
+    requires few { length configs.now ≤ 256 }
+    requires well_formed { All IsWellFormed configs.now }
+    ensures { IfOk result (λ net. (doc : Document) → names_at ends.now.keys ≡ ends_of doc.links → AllZip (IsLinkRow (full_names configs.now)) doc.links links → AreBaseRows doc configs.now net) }
+{
+    let protocol = protocol_of(configs);
+    let routers = router_rows(alloc, protocol, configs)?;
+    let packet_lists = packet_lists(alloc, configs)?;
+    let route_lists = route_lists(alloc, configs)?;
+    let faces = faces_of(alloc, protocol, ends, &packet_lists, configs)?;
+    Ok(Network {
+        protocol,
         routers,
         faces,
         sessions: List::make(alloc),
         links,
-        packet_lists: List::make(alloc),
-        route_lists: List::make(alloc),
-    }))
+        packet_lists,
+        route_lists,
+    })
 }
 
-/// The network of a document and of the plain files that it names, in the document's order.
-pub fn assemble(
+/// The network, once the routers are tried: or the first refusal of the links and of what stands on them.
+fn joined(alloc: Global, doc: &Document, configs: &List<Config>) -> Result<Network, NetFault>
+    requires few { length configs.now ≤ 256 }
+    requires links { length doc.now.links ≤ 1024 }
+    requires well_formed { All IsWellFormed configs.now }
+    requires named { AreDistinct (full_names configs.now) }
+    ensures { Answers (Refuses doc.now configs.now) link_tries (AreRows doc.now configs.now) result }
+{
+    let names = index_names(alloc, configs)?;
+    let mut ends = IndexSet::new(alloc);
+    let links = try_links(alloc, doc, configs, &names, &mut ends)?;
+    let mut net = rows(alloc, configs, &ends, links)?;
+    try_neighbors(alloc, &net, configs)?;
+    try_networks(configs)?;
+    net.sessions = sessions_of(alloc, &net, configs)?;
+    Ok(net)
+}
+
+/// Tries what is asked of the network of valid links.
+fn try_network(
     alloc: Global,
     doc: &Document,
-    plain: &List<PlainFile>,
-) -> Result<Option<Network>, Memory>
-    requires { All IsWellFormed plain.now }
-    ensures exact { IfOk result (λ found. MatchOption found
-        ((net : Network) → ¬ IsNetworkOfPlain doc.now plain.now net)
-        (IsNetworkOfPlain doc.now plain.now)) }
-    ensures valid { IfOk result (λ found. IfSome found IsValid) }
-    ensures sessions { IfOk result (λ found. IfSome found (λ net. net.sessions ≡ [])) }
-    ensures packet_lists { IfOk result (λ found. IfSome found (λ net. net.packet_lists ≡ [])) }
-    ensures ends { IfOk result (λ found. IfSome found (λ net. All (λ policy. HasEnds net (subject policy)) doc.now.policies)) }
+    configs: &List<Config>,
+    net: &Network,
+) -> Result<(), NetFault>
+    requires few { length configs.now ≤ 256 }
+    requires links { length doc.now.links ≤ 1024 }
+    requires policies { length doc.now.policies ≤ 256 }
+    requires well_formed { All IsWellFormed configs.now }
+    requires named { IsClear (RefusesHostname configs.now) }
+    requires joined { IsClear (RefusesLinkFace doc.now configs.now) }
+    requires rows { AreRows doc.now configs.now net.now }
+    ensures answer { Answers (Refuses doc.now configs.now) network_tries (λ done. Unit {0}) result }
+    ensures valid { OnOk result (IsValid net.now) }
+    ensures ends { OnOk result (All (λ policy. HasEndpoints net.now policy.from policy.to) doc.now.policies) }
 {
-    if !keeps_limits(doc, plain) {
-        return Ok(None);
-    }
-    if !has_one_area(plain) {
-        return Ok(None);
-    }
-    if !all_have_one_type(doc) {
-        return Ok(None);
-    }
-    let differ = hostnames_differ(alloc, plain)?;
-    if !differ {
-        return Ok(None);
-    }
-    let net = match network_rows(alloc, doc, plain)? {
-        Some(net) => net,
-        None => return Ok(None),
-    };
-    if !all_fit_subnets(&net) {
-        return Ok(None);
-    }
-    let clear = overlaps_nowhere(alloc, &net)?;
-    if !clear {
-        return Ok(None);
-    }
-    if !all_have_endpoints(&net, doc) {
-        return Ok(None);
-    }
-    Ok(Some(net))
+    try_overlap(alloc, net, configs)?;
+    try_subnets(net)?;
+    try_lists(net, configs)?;
+    try_adjacency(alloc, net, configs)?;
+    try_interfaces(configs)?;
+    try_entries(configs)?;
+    try_endpoints(net, doc)
+}
+
+/// The network of a document and of the settings of the files that it names, in the document's order.
+pub fn assemble(alloc: Global, doc: &Document, configs: &List<Config>) -> Result<Network, NetFault>
+    requires few { length configs.now ≤ 256 }
+    requires links { length doc.now.links ≤ 1024 }
+    requires policies { length doc.now.policies ≤ 256 }
+    requires well_formed { All IsWellFormed configs.now }
+    ensures answer { Assembles doc.now configs.now result }
+    ensures valid { IfOk result IsValid }
+    ensures ends { IfOk result (λ net. All (λ policy. HasEndpoints net policy.from policy.to) doc.now.policies) }
+{
+    try_routers(alloc, configs)?;
+    let net = joined(alloc, doc, configs)?;
+    try_network(alloc, doc, configs, &net)?;
+    Ok(net)
 }

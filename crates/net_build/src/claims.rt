@@ -1,32 +1,48 @@
-ghost use Rattle.std.specs.Prelude.{◌↔◌, IsTrue, length};
-ghost use Rattle.std.specs.List.{AllAdjacentBelow};
+ghost use Rattle.std.specs.Prelude.{◌↔◌, ◌<◌, ◌≤◌, IsTrue, length};
 
 use arc_base::Prefix;
 
-/// A subnet that an interface claims, and the place of the interface that answers for it: of the two ends of a link,
-/// that of the end a.
+/// A subnet that the interface at a place claims, and the place of the other end of its link, or its own place again.
 #[derive(Clone, Copy, Debug)]
 pub struct Claim {
     pub subnet: Prefix,
-    pub owner: u32,
+    pub place: u32,
+    pub partner: u32,
 }
 
 impl Claim {
     ghost use Rattle.net_build.specs.Claims.{AreAtPeace};
+    ghost use Rattle.net_build.specs.Sorting.{IsPackedAt, ArePacked};
 
-    /// Whether the two claims have one owner or no address in common.
+    /// Whether the two claims are those of the ends of one link or have no address in common.
     pub fn is_at_peace(&self, other: &Claim) -> bool
         ensures { IsTrue result ↔ AreAtPeace self.now other.now }
     {
-        self.owner == other.owner || self.subnet.disjoint(&other.subnet)
+        self.partner == other.place || self.subnet.disjoint(&other.subnet)
     }
 
-    /// Whether each claim is at peace with the next one.
-    pub fn neighbours_are_at_peace(claims: &[Claim]) -> bool
-        ensures { IsTrue result ↔ AllAdjacentBelow AreAtPeace claims.now (length claims.now) }
+    /// Whether the claim at a place is at peace with the one before it, and with the one before that.
+    fn is_packed_at(claims: &[Claim], place: usize) -> bool
+        requires some { 1 ≤ place }
+        requires within { place < length claims.now }
+        ensures { IsTrue result ↔ IsPackedAt claims.now place }
     {
-        for next in 1..claims.len() {
-            if !claims[next - 1].is_at_peace(&claims[next]) {
+        let claim = claims[place];
+        if !claims[place - 1].is_at_peace(&claim) {
+            return false;
+        }
+        if place < 2 {
+            return true;
+        }
+        claims[place - 2].is_at_peace(&claim)
+    }
+
+    /// Whether each claim is at peace with the next one, and with the one after that.
+    pub fn neighbours_are_at_peace(claims: &[Claim]) -> bool
+        ensures { IsTrue result ↔ ArePacked claims.now }
+    {
+        for place in 1..claims.len() {
+            if !Claim::is_packed_at(claims, place) {
                 return false;
             }
         }

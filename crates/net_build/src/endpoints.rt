@@ -1,8 +1,13 @@
-ghost use Rattle.std.specs.Prelude.{◌≡◌, ◌↔◌, IsTrue, All};
+//! The host networks between which the policies go.
+ghost use Rattle.std.specs.Prelude.{◌≡◌, ◌≤◌, ◌↔◌, All, IsTrue, OnOk, length};
+ghost use Rattle.arc_base.specs.declared.refusal.Kind.TheVariants as kinds;
 ghost use Rattle.net_model.specs.Validity.{IsValid};
-ghost use Rattle.net_build.specs.Conditions.{HasEndpoints};
+ghost use Rattle.net_build.specs.Reasons.{TriedAlone, InDocument};
+ghost use Rattle.net_build.specs.Addressing.{HasEndpoints};
 
-use arc_base::Prefix;
+use crate::reasons::in_document;
+use arc_base::{Kind, Prefix};
+use net_doc::NetFault;
 use net_model::{Document, Network};
 
 /// Whether the two prefixes lie in two different host networks.
@@ -19,13 +24,17 @@ pub fn has_endpoints(net: &Network, from: Prefix, to: Prefix) -> bool
     }
 }
 
-/// Whether this holds of each policy's prefixes.
-pub fn all_have_endpoints(net: &Network, doc: &Document) -> bool
-    requires { IsValid net.now }
-    ensures { IsTrue result ↔ All (λ policy. HasEndpoints net.now policy.from policy.to) doc.now.policies }
+/// Tries whether each policy goes from one host network to another.
+pub fn try_endpoints(net: &Network, doc: &Document) -> Result<(), NetFault>
+    requires few { length doc.now.policies ≤ 256 }
+    requires valid { IsValid net.now }
+    ensures tried { TriedAlone (InDocument kinds.Endpoint (λ place policy. ¬ HasEndpoints net.now policy.from policy.to) doc.now.policies) result }
+    ensures ends { OnOk result (All (λ policy. HasEndpoints net.now policy.from policy.to) doc.now.policies) }
 {
-    doc.policies
-        .slice()
-        .iter()
-        .all(|policy| has_endpoints(net, policy.from, policy.to))
+    for (place, policy) in doc.policies.slice().iter().enumerate() {
+        if !has_endpoints(net, policy.from, policy.to) {
+            return Err(in_document(place, Kind::Endpoint));
+        }
+    }
+    Ok(())
 }

@@ -1,4 +1,4 @@
-ghost use Rattle.std.specs.Prelude.{◌≡◌, ◌↔◌, IsTrue};
+ghost use Rattle.std.specs.Prelude.{◌≡◌};
 
 /// The kind of an interface, which its name begins with.
 #[derive(Clone, Copy, Debug, PartialEq, Eq)]
@@ -12,8 +12,7 @@ pub enum FaceKind {
 }
 
 impl FaceKind {
-    ghost use Rattle.net_build.specs.declared.kinds.FaceKind.TheVariants.{Loopback};
-    ghost use Rattle.net_build.specs.Kinds.{kind_of, bandwidth, default_cost, is_point_to_point};
+    ghost use Rattle.net_build.specs.Kinds.{kind_of, default_bandwidth, is_serial, is_loopback};
 
     /// The kind of the interface with this name.
     pub fn of(name: &[u8]) -> FaceKind
@@ -38,8 +37,8 @@ impl FaceKind {
     }
 
     /// The default bandwidth, in kbit/s.
-    pub fn bandwidth(self) -> u32
-        ensures { result ≡ bandwidth self }
+    pub fn default_bandwidth(self) -> u32
+        ensures { result ≡ default_bandwidth self }
     {
         match self {
             FaceKind::Ethernet => 10_000,
@@ -51,24 +50,16 @@ impl FaceKind {
         }
     }
 
-    /// The OSPF cost at this bandwidth and the reference bandwidth of 100 Mbit/s.
-    pub fn default_cost(self) -> u32
-        ensures { result ≡ default_cost self }
-    {
-        const REFERENCE: u32 = 100_000;
-        (REFERENCE / self.bandwidth()).clamp(1, 65_535)
-    }
-
-    /// Whether the OSPF network type is point-to-point. Else it is broadcast.
-    pub fn is_point_to_point(self) -> bool
-        ensures { result ≡ is_point_to_point self }
+    /// Whether it is a serial interface, whose OSPF network type is point-to-point unless a line says otherwise.
+    pub fn is_serial(self) -> bool
+        ensures { result ≡ is_serial self }
     {
         matches!(self, FaceKind::Serial)
     }
 
-    /// Whether the interface is a loopback.
+    /// Whether it is a loopback, which is no link's end.
     pub fn is_loopback(self) -> bool
-        ensures { IsTrue result ↔ (self ≡ Loopback) }
+        ensures { result ≡ is_loopback self }
     {
         matches!(self, FaceKind::Loopback)
     }

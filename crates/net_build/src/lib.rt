@@ -2,19 +2,39 @@
 //! them is a definition of its own, and so is each row of the network.
 #![tactic(auto)]
 
+mod able;
+mod adjacency;
+mod areas;
 mod assembly;
+mod bound_lists;
+mod built;
 mod claims;
-mod conditions;
+mod commands;
 mod endpoints;
+mod faces;
+mod files;
 mod kinds;
+pub mod laws;
+mod limits;
 mod links;
+mod lists;
 mod names;
-pub mod network_laws;
 mod networks;
 mod overlap;
-mod rows;
+mod peers;
+mod places;
+mod places_of_lists;
+mod processes;
+mod reasons;
+mod routers;
+mod sessions;
+mod spots;
+mod stops;
 mod subnets;
+#[cfg(test)]
+mod tests;
 
+pub use built::{Built, FacePlace, ListPlace, Places};
 pub use endpoints::has_endpoints;
 pub use kinds::FaceKind;
 pub use networks::network;

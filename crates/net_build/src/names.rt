@@ -1,14 +1,25 @@
-ghost use Rattle.std.specs.Prelude.{◌≡◌, ℕ, ◌<◌, ◌≤◌, [], ◌∷◌, ◌++◌, Contains, IfOk, MatchBool, MatchOption, Some, length, slice_get, IsTrue, ◌↔◌};
-ghost use Rattle.net_build.specs.Sites.{AreDistinct, full_names};
-ghost use Rattle.net_build.specs.Names.{names_at, file_names};
+//! The full names of interfaces, in indexes that hold them by reference.
+ghost use Rattle.std.specs.Prelude.{◌≡◌, ℕ, ◌<◌, ◌≤◌, ◌^◌, [], ◌∷◌, ◌++◌, Contains, IfOk, MatchBool, MatchOption, Some, length, slice_get, OnOk, IsTrue, ◌↔◌};
+ghost use Rattle.net_build.specs.Sites.{full_names, host_name};
+ghost use Rattle.net_build.specs.Names.{AreDistinct, names_at, file_names};
 
 use arc_base::{List, Memory};
 use indexmap::IndexSet;
-use plain_files::PlainFile;
+use ios_config::Config;
 use std::alloc::Global;
 
 /// The name of a router and that of one of its interfaces.
 pub type FullName<'a> = (&'a [u8], &'a [u8]);
+
+/// The name that the file gives its router.
+pub fn host_name(config: &Config) -> &[u8]
+    ensures { result.now ≡ host_name config.now }
+{
+    match &config.hostname {
+        Some(given) => given.name.bytes(),
+        None => &[],
+    }
+}
 
 /// Adds a name at the end, and says whether it is new.
 pub fn add_name<'a>(
@@ -25,50 +36,41 @@ pub fn add_name<'a>(
     Ok(new)
 }
 
-/// Adds the names of a file's interfaces, and says whether all of them are new.
-fn add_file<'a>(names: &mut IndexSet<FullName<'a>>, file: &'a PlainFile) -> Result<bool, Memory>
-    requires { AreDistinct (names_at names.old.keys) }
-    ensures { IfOk result (λ new. MatchBool new
-        ((AreDistinct (names_at names.new.keys))
-        × (names_at names.new.keys ≡ names_at names.old.keys ++ file_names file.now))
-        (¬ AreDistinct (names_at names.old.keys ++ file_names file.now))) }
+/// Adds the names of a file's interfaces, which are new.
+fn add_file<'a>(names: &mut IndexSet<FullName<'a>>, config: &'a Config) -> Result<(), Memory>
+    requires { AreDistinct (names_at names.old.keys ++ file_names config.now) }
+    ensures { OnOk result (names_at names.new.keys ≡ names_at names.old.keys ++ file_names config.now) }
 {
-    let router = file.hostname.bytes();
-    for face in file.faces.slice() {
-        if !add_name(names, router, face.name.bytes())? {
-            return Ok(false);
-        }
+    let router = host_name(config);
+    for face in config.faces.slice() {
+        add_name(names, router, face.name.bytes())?;
     }
-    Ok(true)
+    Ok(())
 }
 
-/// The full names of all interfaces with their places, or `None` where a name stands twice.
+/// The full names of all interfaces, each at its place.
 pub fn index_names<'a>(
     alloc: Global,
-    plain: &'a List<PlainFile>,
-) -> Result<Option<IndexSet<FullName<'a>>>, Memory>
-    ensures { IfOk result (λ found. MatchOption found
-        (¬ AreDistinct (full_names plain.now))
-        (λ names. AreDistinct (full_names plain.now) × (names_at names.keys ≡ full_names plain.now))) }
+    configs: &'a List<Config>,
+) -> Result<IndexSet<FullName<'a>>, Memory>
+    requires { AreDistinct (full_names configs.now) }
+    ensures { IfOk result (λ names. names_at names.keys ≡ full_names configs.now) }
 {
     let mut names = IndexSet::new(alloc);
-    for file in plain.slice() {
-        if !add_file(&mut names, file)? {
-            return Ok(None);
-        }
+    for config in configs.slice() {
+        add_file(&mut names, config)?;
     }
-    Ok(Some(names))
+    Ok(names)
 }
 
 /// The place of the interface with this name.
-pub fn place_of(names: &IndexSet<FullName<'_>>, router: &[u8], face: &[u8]) -> Option<u32>
-    requires { length names.now.keys ≤ 65536 }
+pub fn place_of(names: &IndexSet<FullName<'_>>, router: &[u8], face: &[u8]) -> Option<usize>
     ensures { MatchOption result
         (¬ Contains (names_at names.now.keys) (router.now, face.now))
         (λ place. slice_get (names_at names.now.keys) place ≡ Some (router.now, face.now)) }
 {
     let place = names.get_index_of(&(router, face))?;
-    Some(place as u32)
+    Some(place)
 }
 
 /// Whether this name is there.

@@ -1,7 +1,14 @@
-ghost use Rattle.std.specs.Prelude.{◌≡◌, ◌↔◌, IsTrue, All};
-ghost use Rattle.net_build.specs.Conditions.{HaveOneSubnet, FitsSubnets};
+//! The addresses at the two ends of a link.
+ghost use Rattle.std.specs.Prelude.{◌≡◌, ◌≤◌, ◌↔◌, IsTrue, length};
+ghost use Rattle.net_model.specs.declared.policies.Document.{Document};
+ghost use Rattle.ios_config.specs.declared.settings.Config.{Config};
+ghost use Rattle.net_build.specs.Reasons.{TriedAlone, InDocument};
+ghost use Rattle.net_build.specs.Linking.{HaveOneSubnet, FitsSubnets};
+ghost use Rattle.arc_base.specs.declared.refusal.Kind.TheVariants as kinds;
 
-use arc_base::Prefix;
+use crate::reasons::in_document;
+use arc_base::{Kind, Prefix};
+use net_doc::NetFault;
 use net_model::{FaceRow, LinkRow, Network};
 
 fn are_same(a: &Option<Prefix>, b: &Option<Prefix>) -> bool
@@ -38,9 +45,15 @@ fn fits_subnets(net: &Network, link: &LinkRow) -> bool
     have_one_subnet(f, g)
 }
 
-/// Whether it holds of each link.
-pub fn all_fit_subnets(net: &Network) -> bool
-    ensures { IsTrue result ↔ All (FitsSubnets net.now) net.now.links }
+/// Tries whether it holds of each link.
+pub fn try_subnets(net: &Network) -> Result<(), NetFault>
+    requires { length net.now.links ≤ 1024 }
+    ensures { TriedAlone (InDocument kinds.LinkSubnets (λ place link. ¬ FitsSubnets net.now link) net.now.links) result }
 {
-    net.links.slice().iter().all(|link| fits_subnets(net, link))
+    for (place, link) in net.links.slice().iter().enumerate() {
+        if !fits_subnets(net, link) {
+            return Err(in_document(place, Kind::LinkSubnets));
+        }
+    }
+    Ok(())
 }

@@ -112,7 +112,7 @@ no_more_than_whole whole (c ∷ cs) apart part p =
     ]
 
 -- an address that a prefix holds is below 2 ^ 32
-Holds-below : (p : Prefix) (a : ℕ) → Holds p a → a < 2 ^ 32
+pub Holds-below : (p : Prefix) (a : ℕ) → Holds p a → a < 2 ^ 32
 Holds-below p a h =
     let few : p.len ≤ 32 = p.length in
     let in_all : p.addr < 2 ^ 32 = p.in_range in

@@ -1,2 +1,5 @@
 pub mod Lines
 pub mod Reports
+pub mod Readings
+pub mod Steps
+pub mod Rereading

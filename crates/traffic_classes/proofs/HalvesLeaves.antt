@@ -7,7 +7,7 @@ use Rattle.arc_base.specs.declared.prefix.Prefix.{Prefix}
 use Rattle.arc_base.proofs.Agreement.{IsInside-len, Holds-first}
 use Rattle.traffic_classes.specs.Leaves.{IsStrictlyInside, IsSplit, IsLeaf, AreLeaves}
 use Rattle.traffic_classes.specs.Halves.{IsLowerHalf, IsUpperHalf, UnsplitIsLeaf, HalvesHaveLeaves}
-use Rattle.traffic_classes.proofs.Items.{Contains-head, Contains-none, Contains-cases, AllPairs-append, AllPairs-single}
+use Rattle.arc_base.proofs.Items.{Contains-head, Contains-none, Contains-cases, AllPairs-append, AllPairs-single}
 use Rattle.traffic_classes.proofs.Ranges.{inside_itself, same_or_strict}
 use Rattle.traffic_classes.proofs.Splits.{in_half, lower_inside, upper_inside, apart, rise}
 

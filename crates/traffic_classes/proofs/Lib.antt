@@ -1,4 +1,3 @@
-pub mod Items
 pub mod Ranges
 pub mod Splits
 pub mod HalvesLeaves

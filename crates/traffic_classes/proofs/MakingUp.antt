@@ -17,7 +17,7 @@ use Rattle.traffic_classes.specs.Leaves.{IsStrictlyInside, IsLeaf, AreLeaves}
 use Rattle.traffic_classes.specs.Classes.{source_marks, destination_marks, all_pairs, AreClasses}
 use Rattle.traffic_classes.specs.Parts.{IsUniformFor, MakeUp}
 use Rattle.traffic_classes.specs.Laws.{HasOneListOfClasses, ClassesMakeUp, ClassesAreEqualOrDisjoint}
-use Rattle.traffic_classes.proofs.Items.{Contains-map, AllPairs-among, All-from}
+use Rattle.arc_base.proofs.Items.{Contains-map, AllPairs-among, All-from}
 use Rattle.traffic_classes.proofs.Ranges.{nested, same_or_strict}
 use Rattle.traffic_classes.proofs.OneList.{HasAddress, same_leaves, leaf_holds, leaf_sizes}
 use Rattle.traffic_classes.proofs.Pairs.{pair, of_pairs, in_pairs, sum_pairs, disjoint_pairs}

@@ -7,7 +7,7 @@ use Rattle.arc_base.specs.Addresses.{Holds, size}
 use Rattle.arc_base.specs.declared.prefix.Prefix.{Prefix}
 use Rattle.traffic_classes.specs.Leaves.{IsSplit, AreLeaves, inner_marks}
 use Rattle.traffic_classes.specs.Halves.{IsLowerHalf, IsUpperHalf}
-use Rattle.traffic_classes.proofs.Items.{Contains-head, Contains-tail, Contains-none, Contains-cases, AllPairs-rest, AllPairs-first}
+use Rattle.arc_base.proofs.Items.{Contains-head, Contains-tail, Contains-none, Contains-cases, AllPairs-rest, AllPairs-first}
 use Rattle.traffic_classes.proofs.Ranges.{lower, upper, lower_half, upper_half}
 use Rattle.traffic_classes.proofs.Splits.{split_short, split_inner, unsplit_inner, some_inner, sizes, in_one}
 use Rattle.traffic_classes.proofs.HalvesLeaves.{single, joined}

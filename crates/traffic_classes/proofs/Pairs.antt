@@ -8,7 +8,7 @@ use Rattle.arc_base.specs.declared.prefix.Prefix.{Prefix}
 use Rattle.net_model.specs.declared.policies.Class.{Class}
 use Rattle.net_model.specs.Packets.{ShareNoPacket, packets}
 use Rattle.traffic_classes.specs.Classes.{classes_from, all_pairs}
-use Rattle.traffic_classes.proofs.Items.{Contains-map, from_map, Contains-piece, from_piece, AllPairs-map, AllPairs-append, AllPairs-rest, AllPairs-first, AllPairs-none}
+use Rattle.arc_base.proofs.Items.{Contains-map, from_map, Contains-piece, from_piece, AllPairs-map, AllPairs-append, AllPairs-rest, AllPairs-first, AllPairs-none}
 
 abbrev pub pair : Prefix → Prefix → Class
 pair s d = record { from = s; to = d }

@@ -7,7 +7,7 @@ use Rattle.arc_base.specs.declared.prefix.Prefix.{Prefix}
 use Rattle.arc_base.proofs.Agreement.{IsInside-shorter, Holds-first, inside-IsInside}
 use Rattle.traffic_classes.specs.Leaves.{IsStrictlyInside, IsSplit, IsLeaf, AreLeaves, is_strictly_inside, inner_marks}
 use Rattle.traffic_classes.specs.Halves.{IsLowerHalf, IsUpperHalf}
-use Rattle.traffic_classes.proofs.Items.{Contains-head, Contains-none, Contains-filter, from_filter}
+use Rattle.arc_base.proofs.Items.{Contains-head, Contains-none, Contains-filter, from_filter}
 use Rattle.traffic_classes.proofs.Ranges.{holds_range, range_holds, size-some, size-halves, inside_longer}
 
 pub strict_further : (m p q : Prefix) → IsStrictlyInside m p → IsInside p q → IsStrictlyInside m q

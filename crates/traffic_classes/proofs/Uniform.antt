@@ -19,7 +19,7 @@ use Rattle.net_model.specs.Witnesses.{IsUniform}
 use Rattle.traffic_classes.specs.Leaves.{IsSplit}
 use Rattle.traffic_classes.specs.Classes.{source_marks, destination_marks}
 use Rattle.traffic_classes.specs.Parts.{IsUniformFor}
-use Rattle.traffic_classes.proofs.Items.{Contains-head, Contains-tail, Contains-map, Contains-piece, All-from}
+use Rattle.arc_base.proofs.Items.{Contains-head, Contains-tail, Contains-map, Contains-piece, All-from}
 use Rattle.traffic_classes.proofs.Ranges.{nested}
 
 same_test : (b c : Bool) → (IsTrue b → IsTrue c) → (IsTrue c → IsTrue b) → b ≡ c

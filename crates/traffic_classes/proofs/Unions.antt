@@ -24,7 +24,7 @@ use Rattle.traffic_classes.specs.Classes.{AreClasses, CountsMore}
 use Rattle.traffic_classes.specs.Parts.{MakeUp, HasPacket, IsUniformFor, IsClassOf}
 use Rattle.traffic_classes.specs.AllClasses.{is_same, with_class, each_once, AreAllClasses, FirstHaveMore, lies_off}
 use Rattle.traffic_classes.specs.Laws.{HaveOneListOfClasses, AllClassesTellApart}
-use Rattle.traffic_classes.proofs.Items.{Contains-head, Contains-tail, Contains-none, Contains-cases, Contains-filter, from_filter, Contains-piece, from_piece, All-from, AllPairs-append, AllPairs-among, AllPairs-none}
+use Rattle.arc_base.proofs.Items.{Contains-head, Contains-tail, Contains-none, Contains-cases, Contains-filter, from_filter, Contains-piece, from_piece, All-from, AllPairs-append, AllPairs-among, AllPairs-none}
 use Rattle.traffic_classes.proofs.Sameness.{is_same-Decides, is_same-IsEquivalence, alike}
 use Rattle.traffic_classes.proofs.MakingUp.{make_up, disjoint_classes, equal_or_disjoint, one_list}
 

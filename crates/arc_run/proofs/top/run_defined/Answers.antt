@@ -1,5 +1,5 @@
 use Rattle.std.proofs.Common.{arith}
-use Rattle.arc_run.specs.Words.{command_of}
+use Rattle.command_words.specs.Commands.{command_of}
 use Rattle.arc_run.proofs.Finishing.{finished}
 use Rattle.arc_run.proofs.top.run_defined.Goals as goal
 

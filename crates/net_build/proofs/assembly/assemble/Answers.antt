@@ -1,102 +1,57 @@
-use Rattle.std.proofs.Common.{◌≡◌, sym, ◌∙◌, subst}
-use Rattle.std.specs.Prelude.{All}
-use Rattle.std.proofs.lemmas.Bool.{false≢true}
-use Rattle.std.proofs.lemmas.List.Elements.{All-weaker}
-use Rattle.std.proofs.lemmas.Option.{MatchOption-at_none}
-use Rattle.net_model.specs.declared.rows.Network.{Network}
-use Rattle.net_model.specs.Validity.{IsValid}
-use Rattle.net_build.specs.Named.{AreNamesRight}
-use Rattle.net_build.specs.Conditions.{FitsSubnets, OverlapsNowhere, HasEndpoints}
-use Rattle.net_model.specs.Forwarding.{HasEnds}
-use Rattle.net_model.specs.Packets.{subject}
-use Rattle.net_build.proofs.Cases.{at_true, at_false}
-use Rattle.net_build.proofs.Named.{full_names_distinct, no_face_twice}
-use Rattle.net_build.proofs.SameRows.{same_rows}
-use Rattle.net_build.proofs.ValidNetwork.{AreKnown, links_apart, subnets_known, links_share, valid, ends_of, known_from}
+use Rattle.std.proofs.Common.{[], ◌++◌, Ok, Err}
+use Rattle.std.proofs.lemmas.Result.{err_from_is_err_and}
+use Rattle.net_build.specs.Rows.{AreRows}
+use Rattle.net_build.specs.Order.{Refuses, router_tries, link_tries, network_tries}
+use Rattle.net_build.proofs.LinksApart.{names_distinct}
+use Rattle.net_build.proofs.Tries.{more_fail, clear_before}
 use Rattle.net_build.proofs.assembly.assemble.Goals as goal
 
-pub returns-in-None-clause-exact : goal.returns-in-None-clause-exact
-returns-in-None-clause-exact c = λ net is.
-    let wrong : ¬ AreNamesRight c.args.doc.now c.args.plain.now = MatchOption-at_none _ _ c.in-None.is c.in_ok-net.ensures.names in
-    wrong (record { names = full_names_distinct c.args.plain.now is.hostname is.duplicate_block; ends = is.link_face_twice; joined = is.link_face })
+abbrev Done : Unit {0} → Type 0
+Done done = Unit {0}
 
-pub overlaps_nowhere-requires : goal.overlaps_nowhere-requires
-overlaps_nowhere-requires c =
-    let k : AreKnown c.args.doc.now c.args.plain.now c.in-Some.net =
-    known_from c.args.doc.now c.args.plain.now c.in-Some.net c.in_ok-net.field-0 c.keeps_limits.result c.in_ok-differ.differ c.requires c.keeps_limits.ensures
-    c.if-not-keeps_limits.false c.in_ok-differ.ensures c.if-not-differ.false c.in_ok-net.ensures.names c.in_ok-net.ensures.rows c.in-Some.is in
-    record {
-      subnets = subnets_known c.args.doc.now c.args.plain.now c.in-Some.net k;
-      links = links_share c.args.doc.now c.args.plain.now c.in-Some.net k (c.all_fit_subnets.ensures.0 c.if-not-all_fit_subnets.false);
-      apart = links_apart c.args.doc.now c.args.plain.now c.in-Some.net k;
-    }
+pub joined-requires-clause-named : goal.joined-requires-clause-named
+joined-requires-clause-named c = names_distinct c.args.configs.now (c.in_ok-try_routers.ensures c.args.doc.now).0.0 c.requires.well_formed
 
-pub returns-then-not-all_fit_subnets-clause-exact : goal.returns-then-not-all_fit_subnets-clause-exact
-returns-then-not-all_fit_subnets-clause-exact c = λ net is.
-    let k : AreKnown c.args.doc.now c.args.plain.now c.in-Some.net =
-    known_from c.args.doc.now c.args.plain.now c.in-Some.net c.in_ok-net.field-0 c.keeps_limits.result c.in_ok-differ.differ c.requires c.keeps_limits.ensures
-    c.if-not-keeps_limits.false c.in_ok-differ.ensures c.if-not-differ.false c.in_ok-net.ensures.names c.in_ok-net.ensures.rows c.in-Some.is in
-    let same : net ≡ c.in-Some.net = same_rows c.args.doc.now c.args.plain.now k.names.names net c.in-Some.net is.rows k.rows in
-    false≢true (sym c.if-not-all_fit_subnets.true ∙ c.all_fit_subnets.ensures.1 (subst (λ (n : Network). All (FitsSubnets n) n.links) same is.link_subnets))
+pub try_network-requires-clause-named : goal.try_network-requires-clause-named
+try_network-requires-clause-named c = (c.in_ok-try_routers.ensures c.args.doc.now).0.0
 
-pub returns-then-not-clear-clause-exact : goal.returns-then-not-clear-clause-exact
-returns-then-not-clear-clause-exact c = λ net is.
-    let k : AreKnown c.args.doc.now c.args.plain.now c.in-Some.net =
-    known_from c.args.doc.now c.args.plain.now c.in-Some.net c.in_ok-net.field-0 c.keeps_limits.result c.in_ok-differ.differ c.requires c.keeps_limits.ensures
-    c.if-not-keeps_limits.false c.in_ok-differ.ensures c.if-not-differ.false c.in_ok-net.ensures.names c.in_ok-net.ensures.rows c.in-Some.is in
-    let same : net ≡ c.in-Some.net = same_rows c.args.doc.now c.args.plain.now k.names.names net c.in-Some.net is.rows k.rows in
-    at_false _ _ _ c.if-not-clear.true c.in_ok-clear.ensures (subst (λ (n : Network). OverlapsNowhere n) same is.overlap)
+pub try_network-requires-clause-joined : goal.try_network-requires-clause-joined
+try_network-requires-clause-joined c = c.in_ok-net.ensures.0.0
 
-pub all_have_endpoints-requires : goal.all_have_endpoints-requires
-all_have_endpoints-requires c =
-    let k : AreKnown c.args.doc.now c.args.plain.now c.in-Some.net =
-    known_from c.args.doc.now c.args.plain.now c.in-Some.net c.in_ok-net.field-0 c.keeps_limits.result c.in_ok-differ.differ c.requires c.keeps_limits.ensures
-    c.if-not-keeps_limits.false c.in_ok-differ.ensures c.if-not-differ.false c.in_ok-net.ensures.names c.in_ok-net.ensures.rows c.in-Some.is in
-    let clear : OverlapsNowhere c.in-Some.net = at_true _ _ _ c.if-not-clear.false c.in_ok-clear.ensures in
-    valid c.args.doc.now c.args.plain.now c.in-Some.net k clear
+pub try_network-requires-clause-rows : goal.try_network-requires-clause-rows
+try_network-requires-clause-rows c = c.in_ok-net.ensures.1
 
-pub returns-then-not-all_have_endpoints-clause-exact : goal.returns-then-not-all_have_endpoints-clause-exact
-returns-then-not-all_have_endpoints-clause-exact c = λ net is.
-    let k : AreKnown c.args.doc.now c.args.plain.now c.in-Some.net =
-    known_from c.args.doc.now c.args.plain.now c.in-Some.net c.in_ok-net.field-0 c.keeps_limits.result c.in_ok-differ.differ c.requires c.keeps_limits.ensures
-    c.if-not-keeps_limits.false c.in_ok-differ.ensures c.if-not-differ.false c.in_ok-net.ensures.names c.in_ok-net.ensures.rows c.in-Some.is in
-    let same : net ≡ c.in-Some.net = same_rows c.args.doc.now c.args.plain.now k.names.names net c.in-Some.net is.rows k.rows in
-    false≢true (sym c.if-not-all_have_endpoints.true ∙ c.all_have_endpoints.ensures.1 (subst (λ (n : Network). All (λ policy. HasEndpoints n policy.from policy.to) c.args.doc.now.policies) same is.endpoint))
+pub returns-in_err-try_routers-clause-answer : goal.returns-in_err-try_routers-clause-answer
+returns-in_err-try_routers-clause-answer c =
+    let p = err_from_is_err_and c.from_residual.result c.from_residual.ensures.1 in
+    rw (p.1, p.2) (more_fail (Refuses c.args.doc.now c.args.configs.now) router_tries (link_tries ++ network_tries) Done (AreRows c.args.doc.now c.args.configs.now) c.in_err-try_routers.field-0.0 (c.in_err-try_routers.ensures c.args.doc.now))
 
-pub returns-clause-exact : goal.returns-clause-exact
-returns-clause-exact c =
-    let k : AreKnown c.args.doc.now c.args.plain.now c.in-Some.net =
-    known_from c.args.doc.now c.args.plain.now c.in-Some.net c.in_ok-net.field-0 c.keeps_limits.result c.in_ok-differ.differ c.requires c.keeps_limits.ensures
-    c.if-not-keeps_limits.false c.in_ok-differ.ensures c.if-not-differ.false c.in_ok-net.ensures.names c.in_ok-net.ensures.rows c.in-Some.is in
-    let clear : OverlapsNowhere c.in-Some.net = at_true _ _ _ c.if-not-clear.false c.in_ok-clear.ensures in
-    record {
-      rows = k.rows;
-      duplicate_block = no_face_twice c.args.plain.now k.names.names;
-      hostname = k.hostnames;
-      two_areas = c.has_one_area.ensures.0 c.if-not-has_one_area.false;
-      link_face = k.names.joined;
-      link_face_twice = k.names.ends;
-      overlap = clear;
-      link_subnets = c.all_fit_subnets.ensures.0 c.if-not-all_fit_subnets.false;
-      adjacency_form = c.all_have_one_type.ensures.0 c.if-not-all_have_one_type.false;
-      endpoint = c.all_have_endpoints.ensures.0 c.if-not-all_have_endpoints.false;
-      limit = k.limits;
-    }
+pub returns-in_err-net-clause-answer : goal.returns-in_err-net-clause-answer
+returns-in_err-net-clause-answer c =
+    let p = err_from_is_err_and c.from_residual-in_err-net.result c.from_residual-in_err-net.ensures.1 in
+    let Makes = Refuses c.args.doc.now c.args.configs.now in
+    let Right = AreRows c.args.doc.now c.args.configs.now in
+    let fault = c.in_err-net.field-0.0 in
+    rw (p.1, p.2) (clear_before Makes router_tries (link_tries ++ network_tries) Right (Err fault) (c.in_ok-try_routers.ensures c.args.doc.now).0 (more_fail Makes link_tries network_tries Right Right fault c.in_err-net.ensures))
+
+pub returns-in_err-try_network-clause-answer : goal.returns-in_err-try_network-clause-answer
+returns-in_err-try_network-clause-answer c =
+    let p = err_from_is_err_and c.from_residual-in_err-try_network.result c.from_residual-in_err-try_network.ensures.1 in
+    let Makes = Refuses c.args.doc.now c.args.configs.now in
+    let Right = AreRows c.args.doc.now c.args.configs.now in
+    let fault = c.in_err-try_network.field-0.0 in
+    rw (p.1, p.2) (clear_before Makes router_tries (link_tries ++ network_tries) Right (Err fault) (c.in_ok-try_routers.ensures c.args.doc.now).0
+    (clear_before Makes link_tries network_tries Right (Err fault) c.in_ok-net.ensures.0 (more_fail Makes network_tries [] Done Right fault c.in_err-try_network.ensures.answer)))
+
+pub returns-clause-answer : goal.returns-clause-answer
+returns-clause-answer c =
+    let Makes = Refuses c.args.doc.now c.args.configs.now in
+    let Right = AreRows c.args.doc.now c.args.configs.now in
+    clear_before Makes router_tries (link_tries ++ network_tries) Right (Ok c.in_ok-net.net) (c.in_ok-try_routers.ensures c.args.doc.now).0
+    (clear_before Makes link_tries network_tries Right (Ok c.in_ok-net.net) c.in_ok-net.ensures.0 (c.in_ok-try_network.ensures.answer.0, c.in_ok-net.ensures.1))
 
 pub returns-clause-valid : goal.returns-clause-valid
-returns-clause-valid c =
-    let k : AreKnown c.args.doc.now c.args.plain.now c.in-Some.net =
-    known_from c.args.doc.now c.args.plain.now c.in-Some.net c.in_ok-net.field-0 c.keeps_limits.result c.in_ok-differ.differ c.requires c.keeps_limits.ensures
-    c.if-not-keeps_limits.false c.in_ok-differ.ensures c.if-not-differ.false c.in_ok-net.ensures.names c.in_ok-net.ensures.rows c.in-Some.is in
-    let clear : OverlapsNowhere c.in-Some.net = at_true _ _ _ c.if-not-clear.false c.in_ok-clear.ensures in
-    valid c.args.doc.now c.args.plain.now c.in-Some.net k clear
+returns-clause-valid c = c.in_ok-try_network.ensures.valid
 
 pub returns-clause-ends : goal.returns-clause-ends
-returns-clause-ends c =
-    let k : AreKnown c.args.doc.now c.args.plain.now c.in-Some.net =
-    known_from c.args.doc.now c.args.plain.now c.in-Some.net c.in_ok-net.field-0 c.keeps_limits.result c.in_ok-differ.differ c.requires c.keeps_limits.ensures
-    c.if-not-keeps_limits.false c.in_ok-differ.ensures c.if-not-differ.false c.in_ok-net.ensures.names c.in_ok-net.ensures.rows c.in-Some.is in
-    let clear : OverlapsNowhere c.in-Some.net = at_true _ _ _ c.if-not-clear.false c.in_ok-clear.ensures in
-    let is_valid : IsValid c.in-Some.net = valid c.args.doc.now c.args.plain.now c.in-Some.net k clear in
-    All-weaker (λ policy. HasEndpoints c.in-Some.net policy.from policy.to) (λ policy. HasEnds c.in-Some.net (subject policy)) (ends_of c.in-Some.net is_valid) c.args.doc.now.policies
-    (c.all_have_endpoints.ensures.0 c.if-not-all_have_endpoints.false)
+returns-clause-ends c = c.in_ok-try_network.ensures.ends

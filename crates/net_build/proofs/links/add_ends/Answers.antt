@@ -2,17 +2,9 @@ use Rattle.std.proofs.Common.{◌≡◌, ◌++◌, [], ◌∷◌, List, MatchBoo
 use Rattle.std.specs.Prelude.{Contains}
 use Rattle.net_build.specs.Names.{names_at}
 use Rattle.net_build.specs.Sites.{FullName, a_end, b_end}
-use Rattle.net_build.proofs.Cases.{at_true, at_false}
-use Rattle.net_build.proofs.Distinct.{AreDistinct-twice}
-use Rattle.net_build.proofs.NameLists.{two_more}
+use Rattle.net_build.proofs.Cases.{at_true}
+use Rattle.net_build.proofs.NameLists.{two_free}
 use Rattle.net_build.proofs.links.add_ends.Goals as goal
-
-pub returns-then-not-a_new : goal.returns-then-not-a_new
-returns-then-not-a_new c =
-    let there : Contains (names_at c.args.ends.now.keys) (a_end c.args.link.now) =
-    subst (λ (n : FullName). Contains (names_at c.args.ends.now.keys) n) (λ i. (c.bytes.ensures i, c.bytes-2.ensures i))
-    (at_false _ _ _ c.if-not-a_new.true c.in_ok-a_new.ensures) in
-    AreDistinct-twice (names_at c.args.ends.now.keys) (a_end c.args.link.now) (b_end c.args.link.now ∷ []) there
 
 pub returns : goal.returns
 returns c =
@@ -22,7 +14,7 @@ returns c =
     let mid : List FullName = names_at c.add_name.new.names.keys in
     let next : List FullName = names_at c.add_name-2.new.names.keys in
     let first = at_true _ _ _ c.if-not-a_new.false c.in_ok-a_new.ensures in
-    two_more old mid next (a_end c.args.link.now) (b_end c.args.link.now) c.in_ok-b_new.b_new c.requires
+    two_free old mid next (a_end c.args.link.now) (b_end c.args.link.now) c.in_ok-b_new.b_new c.requires
     (subst (λ (n : FullName). ¬ Contains old n) a_is first.0)
     (first.1 ∙ ap (λ (n : FullName). old ++ n ∷ []) a_is)
     (subst (λ (n : FullName). MatchBool c.in_ok-b_new.b_new ((¬ Contains mid n) × (next ≡ mid ++ n ∷ [])) (Contains mid n)) b_is c.in_ok-b_new.ensures)

@@ -1,8 +1,8 @@
-use Rattle.std.proofs.Common.{◌≡◌, refl, sym, ◌∙◌, ap, List, Some}
+use Rattle.std.proofs.Common.{◌≡◌, ℕ, refl, sym, ◌∙◌, ap, List, Some, subst}
 use Rattle.std.specs.Prelude.{slice_get}
 use Rattle.std.proofs.lemmas.Bool.{false≢true}
 use Rattle.net_build.specs.Names.{names_at}
-use Rattle.net_build.specs.Kinds.{kind_of}
+use Rattle.net_build.specs.Kinds.{kind_of, is_loopback}
 use Rattle.net_build.specs.Sites.{FullName, a_end, b_end}
 use Rattle.net_build.proofs.Distinct.{Contains-at}
 use Rattle.net_build.proofs.links.link_row.Goals as goal
@@ -17,9 +17,13 @@ returns c =
       record {
         a = Contains-at names c.in-Some.a (a_end c.args.link.now) at_a;
         b = Contains-at names c.in-Some-place_of.b (b_end c.args.link.now) at_b;
-        a_kind = λ e. false≢true (sym c.if-is_loopback.false ∙ c.is_loopback.ensures.1 (c.of.ensures ∙ ap kind_of c.bytes.ensures ∙ e));
-        b_kind = λ e. false≢true (sym c.if-is_loopback-2.false ∙ c.is_loopback-2.ensures.1 (c.of-2.ensures ∙ ap kind_of c.bytes-2.ensures ∙ e));
+        a_kind = sym (c.is_loopback.ensures ∙ ap is_loopback (c.of.ensures ∙ ap kind_of c.bytes.ensures)) ∙ c.if-is_loopback.false;
+        b_kind = sym (c.is_loopback-2.ensures ∙ ap is_loopback (c.of-2.ensures ∙ ap kind_of c.bytes-2.ensures)) ∙ c.if-is_loopback-2.false;
         routers = λ e. false≢true (sym c.if-is.false ∙ c.is.ensures.1 (e ∙ sym c.bytes-3.ensures));
       },
-      record { a = at_a; b = at_b; waypoint = refl },
+      record {
+        a = subst (λ (k : ℕ). slice_get names k ≡ Some (a_end c.args.link.now)) (sym c.in_ok-narrow.ensures) at_a;
+        b = subst (λ (k : ℕ). slice_get names k ≡ Some (b_end c.args.link.now)) (sym c.in_ok-narrow-2.ensures) at_b;
+        waypoint = refl;
+      },
     )

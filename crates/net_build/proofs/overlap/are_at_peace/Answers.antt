@@ -1,18 +1,14 @@
-use Rattle.std.proofs.Common.{rules, ℕ, List, subst, length, IsTrue, ◌↔◌}
-use Rattle.std.specs.List.{AllAdjacentBelow}
+use Rattle.std.proofs.Common.{rules, List, subst, IsTrue, ◌↔◌}
 use Rattle.std.specs.List.Sorted.{IsNonDecreasingBy}
 use Rattle.std.proofs.lemmas.List.Sorted.{IsNonDecreasingBy-from_sort_by_key}
 use Rattle.net_build.specs.declared.claims.Claim.{Claim}
-use Rattle.net_build.specs.Claims.{AreAtPeace}
-use Rattle.net_build.proofs.Peace.{peace_by_sorting}
+use Rattle.net_build.specs.Sorting.{ArePacked}
+use Rattle.net_build.proofs.Peace.{addr_of, peace_by_sorting}
 use Rattle.net_build.proofs.overlap.are_at_peace.Goals as goal
-
-abbrev addr_of : Claim → ℕ
-addr_of claim = claim.subnet.addr
 
 pub returns : goal.returns
 returns c =
     let sorted : IsNonDecreasingBy addr_of c.sort_by_key.new.self.items =
     IsNonDecreasingBy-from_sort_by_key addr_of c.sort_by_key.new.self.items c.in_ok-sort_by_key.ensures.sorted (λ a r q k. search rules) in
     peace_by_sorting c.args.claims.items c.sort_by_key.new.self.items c.neighbours_are_at_peace.result c.sort_by_key.ensures.permutation sorted c.requires
-    (subst (λ (l : List Claim). IsTrue c.neighbours_are_at_peace.result ↔ AllAdjacentBelow AreAtPeace l (length l)) c.deref.ensures.value c.neighbours_are_at_peace.ensures)
+    (subst (λ (l : List Claim). IsTrue c.neighbours_are_at_peace.result ↔ ArePacked l) c.deref.ensures.value c.neighbours_are_at_peace.ensures)

@@ -1,5 +1,5 @@
 use Rattle.std.proofs.Common.{[], ◌∷◌, ◌++◌, ℕ, List, ap, sym, ◌∙◌}
-use Rattle.net_build.proofs.Owners.{range_more}
+use Rattle.net_build.proofs.Partners.{range_more}
 use Rattle.net_build.proofs.overlap.own_places.Goals as goal
 
 pub loop-place-preserved : goal.loop-place-preserved

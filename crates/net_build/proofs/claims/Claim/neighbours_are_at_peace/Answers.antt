@@ -1,12 +1,15 @@
-use Rattle.std.proofs.Common.{◌-◌, arith}
-use Rattle.std.proofs.lemmas.List.Elements.{pair_read}
-use Rattle.std.proofs.lemmas.List.Sorted.{all_adjacent_more}
-use Rattle.net_build.specs.Claims.{AreAtPeace}
+use Rattle.std.proofs.Common.{arith, below_more, refl, sym, ◌∙◌}
+use Rattle.std.proofs.lemmas.Bool.{false≢true}
 use Rattle.net_build.proofs.claims.Claim.neighbours_are_at_peace.Goals as goal
 
-pub loop-next-preserved : goal.loop-next-preserved
-loop-next-preserved c =
-    all_adjacent_more c.args.claims.now AreAtPeace c.loop-next.next (omega arith) c.loop-next.invariant (
-    pair_read c.args.claims.now AreAtPeace (c.loop-next.next - 1) c.loop-next.next c.index-claims-next.result c.index-claims-next-in-loop-next.result
-    (omega arith) c.loop-next-test.true c.index-claims-next.is c.index-claims-next-in-loop-next.is (c.is_at_peace.ensures.0 c.if-not-is_at_peace.false)
-    )
+pub returns-then-not-is_packed_at : goal.returns-then-not-is_packed_at
+returns-then-not-is_packed_at c = (
+  λ t. absurd (false≢true t),
+  λ packed. absurd (false≢true (sym c.if-not-is_packed_at.true ∙ c.is_packed_at.ensures.1 (λ i d above near. packed i c.loop-place.place d above near c.loop-place-test.true))),
+)
+
+pub loop-place-preserved : goal.loop-place-preserved
+loop-place-preserved c = below_more _ _ c.loop-place.invariant (c.is_packed_at.ensures.0 c.if-not-is_packed_at.false)
+
+pub returns : goal.returns
+returns c = (λ t i j d above near within. c.loop-place.invariant j (omega (arith, within, c.loop-place-test.false)) i d above near, λ packed. refl)

@@ -1,6 +1,6 @@
-use Rattle.std.specs.List.{AllAdjacentBelow}
-use Rattle.net_build.specs.Claims.{AreAtPeace}
+use Rattle.std.proofs.Common.{ℕ, ◌<◌}
+use Rattle.net_build.specs.Sorting.{IsPackedAt}
 use Rattle.net_build.proofs.claims.Claim.neighbours_are_at_peace.Given as goal
 
-abbrev pub invariant-loop-next : goal.invariant-loop-next
-invariant-loop-next l = AllAdjacentBelow AreAtPeace l.claims l.next
+abbrev pub invariant-loop-place : goal.invariant-loop-place
+invariant-loop-place l = (j : ℕ) → j < l.place → IsPackedAt l.claims j

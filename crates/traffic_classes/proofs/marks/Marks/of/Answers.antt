@@ -4,7 +4,7 @@ use Rattle.arc_base.specs.declared.prefix.Prefix.{Prefix}
 use Rattle.net_model.specs.declared.lists.PacketEntry.{PacketEntry}
 use Rattle.net_model.specs.declared.lists.PacketList.{PacketList}
 use Rattle.net_model.specs.declared.policies.Policy.{Policy}
-use Rattle.traffic_classes.proofs.Items.{pieces_more, pieces_all}
+use Rattle.arc_base.proofs.Items.{pieces_more, pieces_all}
 use Rattle.traffic_classes.proofs.marks.Marks.of.Goals as goal
 
 abbrev froms : PacketList → List Prefix

@@ -1,0 +1,152 @@
+-- The judgement of a certificate, and what its status says.
+use Rattle.std.proofs.Common.{◌≡◌, ℕ, ◌<◌, ◌≤◌, inl, inr, List, [], ◌∷◌, refl, sym, ◌∙◌, ap, subst, arith}
+use Rattle.std.specs.Prelude.{Option, Some, None, IfSome, Ok, Vec, ◌↔◌}
+use Rattle.std.specs.List.{AllZip}
+use Rattle.std.specs.declared.alloc.Global.{Global}
+use Rattle.arc_outside.specs.Files.{Files}
+use Rattle.cnf_types.specs.Words.{lines}
+use Rattle.net_model.specs.declared.policies.Document.{Document}
+use Rattle.net_model.specs.declared.policies.Policy.{Policy}
+use Rattle.net_model.specs.declared.rows.Network.{Network}
+use Rattle.net_model.specs.declared.verdicts.Verdict.{Verdict}
+use Rattle.net_model.specs.Validity.{IsValid}
+use Rattle.net_model.specs.Witnesses.{IsRight}
+use Rattle.net_laws.proofs.RightVerdicts.{right_verdicts_are_true}
+use Rattle.policy_report.specs.Rereading.{answers}
+use Rattle.policy_report.specs.Steps.{start}
+use Rattle.report_check.specs.declared.outcome.Outcome.{Outcome as Judgement}
+use Rattle.report_check.specs.declared.outcome.Outcome.TheVariants.{Accepted, Rejected}
+use Rattle.report_check.specs.Outcomes.{IsOutcome, IsReport}
+use Rattle.command_words.specs.declared.commands.Command.{Command}
+use Rattle.command_words.specs.declared.commands.Command.TheVariants.{Check}
+use Rattle.arc_run.specs.declared.inputs.Input.{Input}
+use Rattle.arc_run.specs.declared.outcome.Done.{Done}
+use Rattle.arc_run.specs.declared.outcome.FileRefusal.{FileRefusal}
+use Rattle.arc_run.specs.declared.outcome.Outcome.{Outcome}
+use Rattle.arc_run.specs.declared.outcome.Outcome.TheVariants as outcomes
+use Rattle.arc_run.specs.Checks.{IsChecked, IsCheckRefusal, check_text, check_status}
+use Rattle.arc_run.specs.Counts.{HasFewClasses}
+use Rattle.arc_run.specs.Headline.{IsAccepted, IsRejected, IsUnchecked, IsTrueOf, TellsCheck}
+use Rattle.arc_run.specs.Inputs.{HoldsDocument, HoldsInput, IsFit, ReadsDocumentAt, ReadsFiles}
+use Rattle.arc_run.specs.Lrats.{proof_limit}
+use Rattle.arc_run.specs.Outcomes.{Answers, IsDefined, status_of}
+use Rattle.arc_run.specs.Reading.{ReadsFile}
+use Rattle.arc_run.specs.Refusals.{bytes_at, read_refusal}
+use Rattle.arc_run.specs.Runs.{Runs}
+use Rattle.arc_run.proofs.Determined.{determined}
+
+-- the judgement where nothing is refused
+judged_here : (held : Option Files) (document certificate slice : List ℕ) (doc : Document) (v : Vec ℕ Global) (input : Input) (judgement : Judgement) (done : Done) →
+    IfSome held (λ files. ReadsDocumentAt document files (Ok doc)) → IfSome held (λ files. ReadsFile proof_limit files certificate (Ok v)) →
+    IfSome held (λ files. HoldsDocument document files doc → ReadsFiles document files (Ok input)) → IsFit input → HasFewClasses input.net input.doc.policies → slice ≡ v.items →
+    IsOutcome input.net input.doc.policies 1 1 (answers input.net input.doc start (lines slice)) judgement → (judgement ≡ Accepted) ↔ IsReport input.net input.doc slice →
+    done.text ≡ check_text judgement → done.writes ≡ [] → done.status ≡ check_status judgement → done.status ≤ 3 → Answers (Check document certificate) held (Ok done)
+judged_here None document certificate slice doc v input judgement done told read files fit classes whole is accepted text writes status few = (few, tt)
+judged_here (Some files) document certificate slice doc v input judgement done told read input_is fit classes whole is accepted text writes status few =
+    let bytes : slice ≡ bytes_at files certificate = whole ∙ read.1 in (
+      few,
+      record {
+        doc = input.doc;
+        net = input.net;
+        input = input_is told;
+        valid = fit.valid;
+        held = read.0;
+        classes = classes;
+        outcome = judgement;
+        outcome_is = subst (λ l. IsOutcome input.net input.doc.policies 1 1 (answers input.net input.doc start (lines l)) judgement) bytes is;
+        accepted = subst (λ l. (judgement ≡ Accepted) ↔ IsReport input.net input.doc l) bytes accepted;
+        text = text;
+        writes = writes;
+        status = status;
+      },
+    )
+
+pub judged : (held one two : Option Files) → one ≡ held → two ≡ one → (document certificate slice : List ℕ) (doc : Document) (v : Vec ℕ Global) (input : Input) (judgement : Judgement) (done : Done) →
+    IfSome held (λ files. ReadsDocumentAt document files (Ok doc)) → IfSome one (λ files. ReadsFile proof_limit files certificate (Ok v)) →
+    IfSome two (λ files. HoldsDocument document files doc → ReadsFiles document files (Ok input)) → IsFit input → HasFewClasses input.net input.doc.policies → slice ≡ v.items →
+    IsOutcome input.net input.doc.policies 1 1 (answers input.net input.doc start (lines slice)) judgement → (judgement ≡ Accepted) ↔ IsReport input.net input.doc slice →
+    done.text ≡ check_text judgement → done.writes ≡ [] → done.status ≡ check_status judgement → done.status ≤ 3 → Answers (Check document certificate) held (Ok done)
+judged held one two first second document certificate slice doc v input judgement done told read input_is =
+    let P : Option Files → Type 0 = λ o. IfSome o (λ files. ReadsFile proof_limit files certificate (Ok v)) in
+    let Q : Option Files → Type 0 = λ o. IfSome o (λ files. HoldsDocument document files doc → ReadsFiles document files (Ok input)) in
+    judged_here held document certificate slice doc v input judgement done told (subst P first read) (subst Q (second ∙ first) input_is)
+
+-- right verdicts are true
+pub all_true : (net : Network) → IsValid net → (policies : List Policy) (vs : List Verdict) → AllZip (IsRight net) policies vs → AllZip (IsTrueOf net) policies vs
+all_true net valid [] [] right = tt
+all_true net valid [] (v ∷ vs) right = absurd right
+all_true net valid (policy ∷ policies) [] right = absurd right
+all_true net valid (policy ∷ policies) (v ∷ vs) right =
+    (record { ends = right.0.ends; are_ends = right.0.are_ends; says = right_verdicts_are_true net valid policy v right.0 }, all_true net valid policies vs right.1)
+
+-- of accepted, rejected and refused only one is said
+refused_none : (o : Option FileRefusal) (r : FileRefusal) → o ≡ None → o ≡ Some r → ⊥
+refused_none o r e f = absurd (cc)
+
+module _ (document certificate : List ℕ) (files : Files) where
+  accepted_or_rejected : IsAccepted document certificate files → IsRejected document certificate files → ⊥
+  accepted_or_rejected yes' no' =
+      let known = determined document files in
+      let docs : yes'.doc ≡ no'.doc = known.one_document yes'.doc no'.doc yes'.input.files_are.document_is no'.input.files_are.document_is in
+      let P : Document → Type 0 = λ d. HoldsInput document files d yes'.net in
+      let Q : Document → Type 0 = λ d. IsReport yes'.net d (bytes_at files certificate) in
+      let nets : yes'.net ≡ no'.net = known.one_network no'.doc yes'.net no'.net (subst P docs yes'.input) no'.input in
+      let R : Network → Type 0 = λ n. IsReport n no'.doc (bytes_at files certificate) in
+      no'.no_report (subst R nets (subst Q docs yes'.report))
+
+  held_or_refused : (doc : Document) (net : Network) (r : FileRefusal) → HoldsInput document files doc net → read_refusal proof_limit files certificate ≡ None → HasFewClasses net doc.policies → IsCheckRefusal document certificate files r → ⊥
+  held_or_refused doc net r input held classes (inl e) = (determined document files).not_both doc net r input (inl e)
+  held_or_refused doc net r input held classes (inr (inl u)) = (determined document files).not_both doc net r input (inr (inl u))
+  held_or_refused doc net r input held classes (inr (inr (inl u))) = refused_none (read_refusal proof_limit files certificate) r held u.refused
+  held_or_refused doc net r input held classes (inr (inr (inr u))) =
+      elim u.refused [
+        | inl behind ↦ (determined document files).not_both doc net r input (inr (inr behind))
+        | inr many ↦ (determined document files).few_not_both doc net r input classes (inr many)
+      ]
+
+  told_done : (d : Done) → (done : IsChecked document certificate files d) → (o : Judgement) → done.outcome ≡ o → TellsCheck document certificate d.status files
+  told_done d done Accepted is =
+      let zero' : d.status ≡ 0 = done.status ∙ ap check_status is in
+      let report = done.accepted.0 is in
+      let says : IsAccepted document certificate files = record { doc = done.doc; net = done.net; input = done.input; held = done.held; classes = done.classes; report = report; are_true = all_true done.net done.valid done.doc.policies report.verdicts report.right } in
+      record {
+        accepted_exactly = (λ e. says, λ s. zero');
+        rejected_exactly = (λ e. absurd (omega (arith, zero', e)), λ no'. absurd (accepted_or_rejected says no'));
+        refused_exactly = (λ e. absurd (omega (arith, zero', e)), λ r. absurd (held_or_refused done.doc done.net r.refusal done.input done.held done.classes r.refused));
+        nothing_else = inl zero';
+      }
+  told_done d done (Rejected fault) is =
+      let one : d.status ≡ 1 = done.status ∙ ap check_status is in
+      let says : IsRejected document certificate files = record { doc = done.doc; net = done.net; input = done.input; held = done.held; classes = done.classes; no_report = λ report. not_both (sym is ∙ done.accepted.1 report) } in
+      record {
+        accepted_exactly = (λ e. absurd (omega (arith, one, e)), λ yes'. absurd (accepted_or_rejected yes' says));
+        rejected_exactly = (λ e. says, λ s. one);
+        refused_exactly = (λ e. absurd (omega (arith, one, e)), λ r. absurd (held_or_refused done.doc done.net r.refusal done.input done.held done.classes r.refused));
+        nothing_else = inr (inl one);
+      }
+    where
+      not_both : Rejected fault ≡ Accepted → ⊥
+      not_both e = cc
+
+  told_of : (outcome : Outcome) → IsDefined (Some (Check document certificate)) (Some files) outcome → TellsCheck document certificate (status_of outcome) files
+  told_of outcomes.Usage defined = absurd defined
+  told_of (outcomes.Refused r) defined =
+      let says : IsUnchecked document certificate files = record { refusal = r; refused = defined } in
+      record {
+        accepted_exactly = (λ e. absurd (omega arith), λ yes'. absurd (held_or_refused yes'.doc yes'.net r yes'.input yes'.held yes'.classes defined));
+        rejected_exactly = (λ e. absurd (omega arith), λ no'. absurd (held_or_refused no'.doc no'.net r no'.input no'.held no'.classes defined));
+        refused_exactly = (λ e. says, λ s. refl);
+        nothing_else = inr (inr refl);
+      }
+  told_of (outcomes.Done d) defined = told_done d defined.1 defined.1.outcome refl
+
+told : (held : Option Files) (outcome : Outcome) (document certificate : List ℕ) → IsDefined (Some (Check document certificate)) held outcome → IfSome held (TellsCheck document certificate (status_of outcome))
+told None outcome document certificate defined = tt
+told (Some files) outcome document certificate defined = told_of document certificate files outcome defined
+
+pub tells_check : {absent failed broken : Type 0} {held held' : Option Files} {put put' : Option (List ℕ)} {code : ℕ} (command : Option Command) → Runs command absent failed broken held held' put put' code → (document certificate : List ℕ) → command ≡ Some (Check document certificate) → code < 6 → IfSome held (TellsCheck document certificate code)
+tells_check {held = held} command runs document certificate check below =
+    let end = runs.ended below in
+    let P : ℕ → Type 0 = λ n. IfSome held (TellsCheck document certificate n) in
+    let Q : Option Command → Type 0 = λ c. IsDefined c held end.outcome in
+    subst P (sym end.status_is) (told held end.outcome document certificate (subst Q check end.leaves.defined))

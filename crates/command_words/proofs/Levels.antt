@@ -1,0 +1,162 @@
+-- What `clap` makes of the words that follow a command's name: the values that they give it, or a refusal.
+use Rattle.std.proofs.Common.{◌≡◌, ◌∙◌, ◌⊎◌, inl, inr, ℕ, zero, suc, ◌<◌, ◌≤◌, ◌==◌, ◌||◌, Bool, true, false, not, List, [], ◌∷◌, length, Option, Some, None, refl, sym, ap, subst, slice_get, cond, if◌then◌else◌, option_and_then, arith, is_some}
+use Rattle.std.specs.List.{list_any, list_all}
+use Rattle.std.specs.Str.{is_utf8}
+use Rattle.std.proofs.lemmas.Bool.{eqb-true, eqb-false, ne_eqb}
+use Rattle.clap.specs.Walk.{Row, Rule, Text, first_of, idle, nothing_held, rows_after, settled, walk}
+use Rattle.clap.specs.Takes.{is_given}
+use Rattle.clap.specs.Kinds.{Kinds, or_else}
+use Rattle.clap.specs.Faults.{check_fault, defaults_fault, level_fault, settle_fault, walk_fault}
+use Rattle.clap.specs.declared.error.kind.ErrorKind.TheVariants.{MissingRequiredArgument}
+use Rattle.command_words.specs.Words.{Given, arguments_of, given_by, is_once, names_one, positionals, value_of}
+use Rattle.command_words.proofs.Rules.{Judged, Reads, both_empty, first_empty, second_empty, some_kind}
+use Rattle.command_words.proofs.Walking.{absorb, leaf, laws, nothing, outcome, state, within}
+use Rattle.command_words.proofs.Holding.{Absorbed, Holds, absorbs_all, given_first, given_knows}
+
+missing : (p : Text → Bool) (xs : List Text) (k : ℕ) (x : Text) → slice_get xs k ≡ Some x → p x ≡ true → list_any p xs ≡ true
+missing p [] k x at hit = absurd (cc)
+missing p (y ∷ ys) zero x at hit =
+    let same : y ≡ x = cc in
+    rw (same, hit) refl
+missing p (y ∷ ys) (suc k) x at hit = go (p y) (missing p ys k x at hit)
+  where
+    go : (t : Bool) → list_any p ys ≡ true → (t || list_any p ys) ≡ true
+    go true e = refl
+    go false e = e
+
+pub none_missing : (p : Text → Bool) (xs : List Text) → ((k : ℕ) (x : Text) → slice_get xs k ≡ Some x → p x ≡ false) → list_any p xs ≡ false
+none_missing p [] h = refl
+none_missing p (y ∷ ys) h = rw (h 0 y refl) (none_missing p ys (λ k x at. h (suc k) x at))
+
+four_empty : (w s d k : Kinds) → or_else w (or_else [] (or_else s (or_else d k))) ≡ [] → (w ≡ []) × ((s ≡ []) × (k ≡ []))
+four_empty w s d k e =
+    let after = second_empty w (or_else s (or_else d k)) e in
+    (first_empty w (or_else s (or_else d k)) e, (first_empty s (or_else d k) after, second_empty d k (second_empty s (or_else d k) after)))
+
+empty_four : (w s d k : Kinds) → w ≡ [] → s ≡ [] → d ≡ [] → k ≡ [] → or_else w (or_else [] (or_else s (or_else d k))) ≡ []
+empty_four w s d k e f g h = rw (e, f, g) h
+
+module _ (title : Text) (c : List Rule) (ids options : List Text) (r : Reads c ids options) where
+  -- the kinds of a refusal, and the rows where there is none
+  abbrev pub level : List Text → Kinds
+  level words = level_fault (leaf title c) [] nothing_held words false []
+
+  abbrev pub rows : List Text → List Row
+  rows words = rows_after c [] words
+
+  -- what the words give, where there are so many positional words as the command shows
+  abbrev pub whole : Option (List Given) → Option (List Given)
+  whole given = option_and_then (λ items. if length (positionals items) == length ids then Some items else None) given
+
+  pub record Values (words : List Text) (given : List Given) : Type 0 where
+    pub passes : level words ≡ []
+    pub places : (j : ℕ) (id : Text) → slice_get ids j ≡ Some id → first_of id (rows words) ≡ slice_get (positionals given) j
+    pub named : (name : Text) → names_one options name ≡ true → first_of name (rows words) ≡ value_of name given
+
+  abbrev pub Level : List Text → Option (List Given) → Type 0
+  Level words None = level words ≡ [] → ⊥
+  Level words (Some given) = Values words given
+
+  abbrev ended : List Text → List Row
+  ended words = (settled c (walk c [] nothing_held words).held).rows
+
+  abbrev walking : List Text → Kinds
+  walking words = or_else (walk_fault (leaf title c) [] (state [] None idle 0 false) words) (settle_fault c false (walk c [] nothing_held words).held)
+
+  check : List Row → Kinds
+  check found = check_fault (leaf title c) found false
+
+  rows_are : (words : List Text) → rows words ≡ ended words
+  rows_are words = r.no_default (ended words)
+
+  walk_kinds : List Text → Kinds
+  walk_kinds words = walk_fault (leaf title c) [] (state [] None idle 0 false) words
+
+  settle_kinds : List Text → Kinds
+  settle_kinds words = settle_fault c false (walk c [] nothing_held words).held
+
+  splits : (words : List Text) → level words ≡ [] → (walking words ≡ []) × (check (ended words) ≡ [])
+  unfolding check walk_kinds settle_kinds
+  splits words e =
+      let parts = four_empty (walk_kinds words) (settle_kinds words) (defaults_fault (ended words) c) (check (rows words)) e in
+      (both_empty (walk_kinds words) (settle_kinds words) parts.0 parts.1.0, subst (λ (found : List Row). check_fault (leaf title c) found false ≡ []) (rows_are words) parts.1.1)
+
+  joins : (words : List Text) → walking words ≡ [] → check (ended words) ≡ [] → level words ≡ []
+  unfolding check walk_kinds settle_kinds
+  joins words e f =
+      empty_four (walk_kinds words) (settle_kinds words) (defaults_fault (ended words) c) (check (rows words))
+      (first_empty (walk_kinds words) (settle_kinds words) e) (second_empty (walk_kinds words) (settle_kinds words) e) (r.no_default_fault (ended words))
+      (subst (λ (found : List Row). check_fault (leaf title c) found false ≡ []) (sym (rows_are words)) f)
+
+  all_there : (found : List Row) → list_any (λ id. not (is_given id found)) ids ≡ false → check found ≡ []
+  unfolding check
+  all_there found e = ap (λ (b : Bool). cond b (MissingRequiredArgument ∷ []) []) (r.wanted found ∙ e)
+
+  one_lacks : (found : List Row) → list_any (λ id. not (is_given id found)) ids ≡ true → check found ≡ [] → ⊥
+  unfolding check
+  one_lacks found e none = some_kind MissingRequiredArgument [] (sym (ap (λ (b : Bool). cond b (MissingRequiredArgument ∷ []) []) (r.wanted found ∙ e)) ∙ none)
+
+  within_some : (xs : List Text) (j : ℕ) → j < length xs → is_some (slice_get xs j) ≡ true
+  within_some [] j below = absurd (omega arith)
+  within_some (y ∷ ys) zero below = refl
+  within_some (y ∷ ys) (suc j) below = within_some ys j (omega arith)
+
+  at_end : (xs : List Text) → slice_get xs (length xs) ≡ None
+  at_end [] = refl
+  at_end (y ∷ ys) = at_end ys
+
+  id_there : (j : ℕ) → j < length ids → (id : Text) × (slice_get ids j ≡ Some id)
+  id_there j below = go (slice_get ids j) refl (within_some ids j below)
+    where
+      go : (o : Option Text) → slice_get ids j ≡ o → is_some (slice_get ids j) ≡ true → (id : Text) × (slice_get ids j ≡ Some id)
+      go None e some =
+          let bad : false ≡ true = rw e at some in
+          absurd (cc)
+      go (Some id) e some = (id, e)
+
+  held_law : (words : List Text) (items : List Given) (all : List Row) → walking words ≡ [] → ended words ≡ all → Holds c ids options r all items → length (positionals items) ≤ length ids
+      → Level words (whole (Some items))
+  held_law words items all walks is holds few = go (length (positionals items) == length ids) refl
+    where
+      go : (t : Bool) → (length (positionals items) == length ids) ≡ t → Level words (if t then Some items else None)
+      go true same =
+          let there : (j : ℕ) (id : Text) → slice_get ids j ≡ Some id → not (is_given id (ended words)) ≡ false = λ j id at.
+          let count : length (positionals items) ≡ length ids = eqb-true _ _ same in
+          let below : j < length (positionals items) = omega (arith, within ids j id at) in
+          ap (λ (found : List Row). not (is_given id found)) is ∙ ap not (given_first id all holds.ones ∙ ap (λ (o : Option Text). is_some o) (holds.places j id at) ∙ within_some (positionals items) j below) in
+          record {
+            passes = joins words walks (all_there (ended words) (none_missing (λ id. not (is_given id (ended words))) ids there));
+            places = λ j id at. ap (first_of id) (rows_are words ∙ is) ∙ holds.places j id at;
+            named = λ name known. ap (first_of name) (rows_are words ∙ is) ∙ holds.named name known;
+          }
+      go false apart =
+          let short : length (positionals items) < length ids = omega (arith, eqb-false _ _ apart, few) in
+          let id = id_there (length (positionals items)) short in
+          let lacks : not (is_given id.0 (ended words)) ≡ true =
+          ap (λ (found : List Row). not (is_given id.0 found)) is ∙ ap not (given_first id.0 all holds.ones ∙ ap (λ (o : Option Text). is_some o) (holds.places (length (positionals items)) id.0 id.1 ∙ at_end (positionals items))) in
+          λ none. one_lacks (ended words) (missing (λ id. not (is_given id (ended words))) ids (length (positionals items)) id.0 id.1 lacks) (splits words none).1
+
+  fallen_law : (words : List Text) (items : List Given) → (walking words ≡ [] → ⊥) → (is_once items ≡ false) ⊎ (length ids < length (positionals items))
+      → Level words (whole (if is_once items then Some items else None))
+  fallen_law words items falls (inl once) = rw once (λ none. falls (splits words none).0)
+  fallen_law words items falls (inr many) = go (is_once items)
+    where
+      go : (t : Bool) → Level words (whole (if t then Some items else None))
+      go true =
+          let apart : (length (positionals items) == length ids) ≡ false = ne_eqb _ _ (λ e. omega (arith, e, many)) in
+          rw apart (λ none. falls (splits words none).0)
+      go false = λ none. falls (splits words none).0
+
+  -- the words are taken exactly where they give the command what it shows, and the rows are what they give
+  pub level_law : (words : List Text) → list_all is_utf8 words ≡ true → Level words (whole (arguments_of options words))
+  level_law words texts = go (given_by options words None) refl ((laws title c ids options r words texts).from_idle [] None 0 nothing)
+    where
+      step : (items : List Given) (o : Option (List Row)) → Judged o (walking words) (ended words) → Absorbed c ids options r items o
+          → Level words (whole (if is_once items then Some items else None))
+      step items None h fell = fallen_law words items h fell
+      step items (Some all) h (holds, (once, few)) = rw once (held_law words items all h.0 h.1 holds few)
+
+      go : (given : Option (List Given)) → given_by options words None ≡ given → Judged (outcome ids 0 given []) (walking words) (ended words)
+          → Level words (whole (option_and_then (λ items. if is_once items then Some items else None) given))
+      go None e h = λ none. h (splits words none).0
+      go (Some items) e h = step items (absorb ids 0 items []) h (absorbs_all c ids options r items (given_knows options words None tt items e))

@@ -1,0 +1,10 @@
+pub mod LinkNumbers
+pub mod Forms
+pub mod Rules
+pub mod Walking
+pub mod Holding
+pub mod Levels
+pub mod Entering
+pub mod Readings
+pub mod Answering
+pub mod ByManual

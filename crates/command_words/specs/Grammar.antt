@@ -1,0 +1,39 @@
+-- The command line as `clap` is told it.
+use Rattle.std.specs.Prelude.{true, Some, codes}
+use Rattle.clap.specs.Walk.{Rule, Text}
+use Rattle.clap.specs.Simple.{App, new_app, new_rule, with_rule, with_subcommand}
+
+-- a word that is required in its place
+abbrev pub positional : Text → Rule
+positional id = record (new_rule id) { required = true }
+
+-- an option that takes one value
+abbrev pub option : Text → Rule
+option name = record (new_rule name) { long = Some name }
+
+abbrev pub verify : App
+verify = with_rule (new_app (codes "verify")) (positional (codes "document"))
+
+abbrev pub trace : App
+trace = with_rule (with_rule (with_rule (with_rule (new_app (codes "trace")) (positional (codes "document"))) (positional (codes "from")))
+    (positional (codes "to"))) (option (codes "down"))
+
+abbrev pub check : App
+check = with_rule (with_rule (new_app (codes "check")) (positional (codes "document"))) (positional (codes "certificate"))
+
+abbrev pub lrat : App
+lrat = with_rule (with_rule (new_app (codes "lrat")) (positional (codes "formula"))) (positional (codes "proof"))
+
+-- a command is required, and the first word is its name
+abbrev pub bare : App
+bare = record (new_app (codes "arcv")) {
+  top = record (new_app (codes "arcv")).top {
+    no_binary_name = true;
+    disable_help_flag = true;
+    disable_help_subcommand = true;
+    subcommand_required = true;
+  };
+}
+
+abbrev pub app : App
+app = with_subcommand (with_subcommand (with_subcommand (with_subcommand bare verify.top) trace.top) check.top) lrat.top

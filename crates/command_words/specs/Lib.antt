@@ -1,0 +1,6 @@
+pub mod Values
+pub mod Words
+pub mod Manual
+pub mod Commands
+pub mod Grammar
+pub mod Matched

@@ -1,0 +1,46 @@
+-- The command with the values that `clap` found.
+use Rattle.std.specs.Prelude.{List, Option, Some, None, option_and_then, bytes_eq, codes, if◌then◌else◌}
+use Rattle.clap.specs.Walk.{Row, Text, first_of}
+use Rattle.command_words.specs.Commands.{down_by}
+use Rattle.command_words.specs.Values.{trace_of}
+use Rattle.command_words.specs.declared.commands.Command.{Command}
+use Rattle.command_words.specs.declared.commands.Command.TheVariants.{Verify, Check, Lrat}
+
+infixl 10 ◌>>=◌
+abbrev ◌>>=◌ : {A B : Type 0} → Option A → (A → Option B) → Option B
+o >>= f = option_and_then f o
+
+abbrev pub matched_verify : List Row → Option Command
+matched_verify rows = do
+  document ← first_of (codes "document") rows
+  Some (Verify document)
+
+abbrev pub matched_trace : List Row → Option Command
+matched_trace rows = do
+  document ← first_of (codes "document") rows
+  from ← first_of (codes "from") rows
+  to ← first_of (codes "to") rows
+  trace_of document from to (down_by (first_of (codes "down") rows))
+
+abbrev pub matched_check : List Row → Option Command
+matched_check rows = do
+  document ← first_of (codes "document") rows
+  certificate ← first_of (codes "certificate") rows
+  Some (Check document certificate)
+
+abbrev pub matched_lrat : List Row → Option Command
+matched_lrat rows = do
+  formula ← first_of (codes "formula") rows
+  proof ← first_of (codes "proof") rows
+  Some (Lrat formula proof)
+
+abbrev pub matched_named : Text → List Row → Option Command
+matched_named name rows =
+    if bytes_eq name (codes "verify") then matched_verify rows
+    else (if bytes_eq name (codes "trace") then matched_trace rows
+    else (if bytes_eq name (codes "check") then matched_check rows
+    else (if bytes_eq name (codes "lrat") then matched_lrat rows
+    else None)))
+
+abbrev pub matched_command : Option (Text × List Row) → Option Command
+matched_command found = option_and_then (λ p. matched_named p.0 p.1) found

@@ -1,0 +1,38 @@
+-- The values that words are read as.
+use Rattle.std.specs.Prelude.{ℕ, ◌==◌, ◌&&◌, nat_le, List, [], ◌∷◌, length, Option, Some, None, option_and_then, if◌then◌else◌}
+use Rattle.std.specs.List.{slice_split}
+use Rattle.arc_base.specs.PrefixText.{prefix_of}
+use Rattle.cnf_types.specs.Numbers.{natural}
+use Rattle.command_words.specs.declared.commands.Command.{Command}
+use Rattle.command_words.specs.declared.commands.Command.TheVariants.{Trace}
+
+-- what a value that is there is read as
+infixl 10 ◌>>=◌
+abbrev ◌>>=◌ : {A B : Type 0} → Option A → (A → Option B) → Option B
+o >>= f = option_and_then f o
+
+-- the number of a link: 1 to 10 digits, from 1 to 4294967295
+abbrev pub link_number : List ℕ → Option ℕ
+link_number word = do
+  number ← natural 4294967295 word
+  if nat_le (length word) 10 && nat_le 1 number then Some number else None
+
+-- the numbers of all these words, where each has one
+abbrev pub all_numbers : List (List ℕ) → Option (List ℕ)
+all_numbers [] = Some []
+all_numbers (word ∷ words) = do
+  number ← link_number word
+  numbers ← all_numbers words
+  Some (number ∷ numbers)
+
+-- the numbers of links that commas join
+abbrev pub link_numbers : List ℕ → Option (List ℕ)
+link_numbers text = all_numbers (slice_split (λ b. b == 44) text)
+
+-- a trace: the document, the two prefixes, and the links that are down
+abbrev pub trace_of : List ℕ → List ℕ → List ℕ → Option (List ℕ) → Option Command
+trace_of document from to numbers = do
+  origin ← prefix_of from
+  destination ← prefix_of to
+  down ← numbers
+  Some (Trace (record { document = document; from = origin; to = destination; down = down }))

@@ -1,0 +1,84 @@
+//! The command line as `clap` knows it. Help is no command and no flag here: a request for it is refused as any other
+//! word, so that it matches no command.
+ghost use Rattle.std.specs.Prelude.{◌≡◌, IfOk, false};
+ghost use Rattle.clap.specs.Words.{app_of, rule_of};
+ghost use Rattle.command_words.specs.Grammar.{app, check, lrat, option, positional, trace, verify};
+
+use arc_base::Memory;
+use clap::{Arg, Command};
+use std::alloc::Global;
+
+// A word that a command requires in its place.
+fn positional<'a>(alloc: Global, id: &'a str) -> Arg<'a>
+    ensures rule { rule_of result ≡ positional id.entry.now }
+    ensures local { result.global ≡ false }
+{
+    Arg::new(alloc, id).required(true)
+}
+
+// An option that takes one value.
+fn option<'a>(alloc: Global, name: &'a str) -> Arg<'a>
+    ensures rule { rule_of result ≡ option name.entry.now }
+    ensures local { result.global ≡ false }
+{
+    Arg::new(alloc, name).long(name)
+}
+
+fn verify<'a>(alloc: Global) -> Result<Command<'a>, Memory>
+    ensures { IfOk result (λ command. (app_of command ≡ verify)) }
+{
+    let document = positional(alloc, "document");
+    Ok(Command::new(alloc, "verify").arg(document)?)
+}
+
+fn trace<'a>(alloc: Global) -> Result<Command<'a>, Memory>
+    ensures { IfOk result (λ command. (app_of command ≡ trace)) }
+{
+    let document = positional(alloc, "document");
+    let from = positional(alloc, "from");
+    let to = positional(alloc, "to");
+    let down = option(alloc, "down");
+    Ok(
+        Command::new(alloc, "trace")
+            .arg(document)?
+            .arg(from)?
+            .arg(to)?
+            .arg(down)?,
+    )
+}
+
+fn check<'a>(alloc: Global) -> Result<Command<'a>, Memory>
+    ensures { IfOk result (λ command. (app_of command ≡ check)) }
+{
+    let document = positional(alloc, "document");
+    let certificate = positional(alloc, "certificate");
+    Ok(
+        Command::new(alloc, "check")
+            .arg(document)?
+            .arg(certificate)?,
+    )
+}
+
+fn lrat<'a>(alloc: Global) -> Result<Command<'a>, Memory>
+    ensures { IfOk result (λ command. (app_of command ≡ lrat)) }
+{
+    let formula = positional(alloc, "formula");
+    let proof = positional(alloc, "proof");
+    Ok(Command::new(alloc, "lrat").arg(formula)?.arg(proof)?)
+}
+
+/// `arcv` with its commands, of which one is required.
+pub fn command_line<'a>(alloc: Global) -> Result<Command<'a>, Memory>
+    ensures { IfOk result (λ command. app_of command ≡ app) }
+{
+    let arcv = Command::new(alloc, "arcv")
+        .no_binary_name(true)
+        .disable_help_flag(true)
+        .disable_help_subcommand(true)
+        .subcommand_required(true)
+        .subcommand(verify(alloc)?)?
+        .subcommand(trace(alloc)?)?
+        .subcommand(check(alloc)?)?
+        .subcommand(lrat(alloc)?)?;
+    Ok(arcv)
+}

@@ -1,0 +1,317 @@
+//! Command lines, and what they match.
+
+use super::{Command, read_words};
+use arc_base::{Memory, Name};
+use std::alloc::Global;
+use std::test::Fail;
+
+#[derive(Clone, Copy)]
+enum Match {
+    Nothing,
+    Verify(&'static [u8]),
+    Check(&'static [u8], &'static [u8]),
+    Lrat(&'static [u8], &'static [u8]),
+    // `d 10.1.0.0/24 10.2.0.0/16` with the links that are down
+    Trace(&'static [u32]),
+}
+
+use Match::{Check, Lrat, Nothing, Trace, Verify};
+
+struct Row {
+    words: &'static [&'static [u8]],
+    found: Match,
+}
+
+const FROM: &[u8] = b"10.1.0.0/24";
+
+const TO: &[u8] = b"10.2.0.0/16";
+
+const ROWS: [Row; 60] = [
+    // the name of a command comes first
+    Row {
+        words: &[],
+        found: Nothing,
+    },
+    Row {
+        words: &[b"verify"],
+        found: Nothing,
+    },
+    Row {
+        words: &[b"verify", b"a"],
+        found: Verify(b"a"),
+    },
+    Row {
+        words: &[b"verify", b"a", b"b"],
+        found: Nothing,
+    },
+    Row {
+        words: &[b"a", b"verify"],
+        found: Nothing,
+    },
+    Row {
+        words: &[b"verif", b"a"],
+        found: Nothing,
+    },
+    Row {
+        words: &[b"Verify", b"a"],
+        found: Nothing,
+    },
+    Row {
+        words: &[b"--", b"verify", b"a"],
+        found: Nothing,
+    },
+    Row {
+        words: &[b"repair", b"a"],
+        found: Nothing,
+    },
+    Row {
+        words: &[b""],
+        found: Nothing,
+    },
+    Row {
+        words: &[b"-"],
+        found: Nothing,
+    },
+    // a word may be empty or `-`, or the name of a command
+    Row {
+        words: &[b"verify", b""],
+        found: Verify(b""),
+    },
+    Row {
+        words: &[b"verify", b"-"],
+        found: Verify(b"-"),
+    },
+    Row {
+        words: &[b"verify", b"verify"],
+        found: Verify(b"verify"),
+    },
+    Row {
+        words: &[b"verify", b"help"],
+        found: Verify(b"help"),
+    },
+    Row {
+        words: &[b"verify", b"\xc3\xa9"],
+        found: Verify(b"\xc3\xa9"),
+    },
+    // and is a text
+    Row {
+        words: &[b"verify", b"\xe9"],
+        found: Nothing,
+    },
+    Row {
+        words: &[b"\xff", b"a"],
+        found: Nothing,
+    },
+    Row {
+        words: &[b"lrat", b"a", b"\xc3"],
+        found: Nothing,
+    },
+    // after `--` every word is positional
+    Row {
+        words: &[b"verify", b"--", b"a"],
+        found: Verify(b"a"),
+    },
+    Row {
+        words: &[b"verify", b"--", b"-a"],
+        found: Verify(b"-a"),
+    },
+    Row {
+        words: &[b"verify", b"--", b"--x"],
+        found: Verify(b"--x"),
+    },
+    Row {
+        words: &[b"verify", b"--", b"--"],
+        found: Verify(b"--"),
+    },
+    Row {
+        words: &[b"verify", b"a", b"--"],
+        found: Verify(b"a"),
+    },
+    Row {
+        words: &[b"verify", b"--"],
+        found: Nothing,
+    },
+    Row {
+        words: &[b"lrat", b"a", b"--", b"-b"],
+        found: Lrat(b"a", b"-b"),
+    },
+    // no other word begins with a hyphen
+    Row {
+        words: &[b"verify", b"-a"],
+        found: Nothing,
+    },
+    Row {
+        words: &[b"verify", b"--x", b"a"],
+        found: Nothing,
+    },
+    Row {
+        words: &[b"verify", b"a", b"--x=1"],
+        found: Nothing,
+    },
+    Row {
+        words: &[b"verify", b"a", b"--=1"],
+        found: Nothing,
+    },
+    Row {
+        words: &[b"verify", b"-\xc3\xa9"],
+        found: Nothing,
+    },
+    Row {
+        words: &[b"verify", b"a", b"--down", b"1"],
+        found: Nothing,
+    },
+    // help is refused
+    Row {
+        words: &[b"-h"],
+        found: Nothing,
+    },
+    Row {
+        words: &[b"--help"],
+        found: Nothing,
+    },
+    Row {
+        words: &[b"help"],
+        found: Nothing,
+    },
+    Row {
+        words: &[b"help", b"verify"],
+        found: Nothing,
+    },
+    Row {
+        words: &[b"verify", b"--help"],
+        found: Nothing,
+    },
+    Row {
+        words: &[b"verify", b"a", b"-h"],
+        found: Nothing,
+    },
+    Row {
+        words: &[b"--version"],
+        found: Nothing,
+    },
+    // two words
+    Row {
+        words: &[b"lrat", b"a", b"b"],
+        found: Lrat(b"a", b"b"),
+    },
+    Row {
+        words: &[b"lrat", b"a"],
+        found: Nothing,
+    },
+    Row {
+        words: &[b"lrat", b"a", b"b", b"c"],
+        found: Nothing,
+    },
+    Row {
+        words: &[b"check", b"d", b"c"],
+        found: Check(b"d", b"c"),
+    },
+    Row {
+        words: &[b"check", b"d"],
+        found: Nothing,
+    },
+    // `--down` stands anywhere, once, with a value
+    Row {
+        words: &[b"trace", b"d", FROM, TO],
+        found: Trace(&[]),
+    },
+    Row {
+        words: &[b"trace", b"d", FROM, TO, b"--down", b"1,2"],
+        found: Trace(&[1, 2]),
+    },
+    Row {
+        words: &[b"trace", b"d", FROM, TO, b"--down=1,2"],
+        found: Trace(&[1, 2]),
+    },
+    Row {
+        words: &[b"trace", b"--down", b"3", b"d", FROM, TO],
+        found: Trace(&[3]),
+    },
+    Row {
+        words: &[b"trace", b"d", b"--down=0004294967", FROM, TO],
+        found: Trace(&[4_294_967]),
+    },
+    Row {
+        words: &[b"trace", b"d", FROM, b"--down=4", b"--", TO],
+        found: Trace(&[4]),
+    },
+    Row {
+        words: &[b"trace", b"d", FROM, TO, b"--down"],
+        found: Nothing,
+    },
+    Row {
+        words: &[b"trace", b"d", FROM, TO, b"--down="],
+        found: Nothing,
+    },
+    Row {
+        words: &[b"trace", b"d", FROM, TO, b"--down", b"1", b"--down", b"2"],
+        found: Nothing,
+    },
+    Row {
+        words: &[b"trace", b"d", FROM, TO, b"--down=1", b"--down=1"],
+        found: Nothing,
+    },
+    Row {
+        words: &[b"trace", b"d", FROM, TO, b"--down", b"-1"],
+        found: Nothing,
+    },
+    Row {
+        words: &[b"trace", b"d", FROM, TO, b"--down=-1"],
+        found: Nothing,
+    },
+    Row {
+        words: &[b"trace", b"d", FROM, TO, b"--down", b"--", b"1"],
+        found: Nothing,
+    },
+    Row {
+        words: &[b"trace", b"d", FROM, TO, b"--dow", b"1"],
+        found: Nothing,
+    },
+    // its values are read
+    Row {
+        words: &[b"trace", b"d", FROM, b"10.2.0.0/8", b"--down=1"],
+        found: Nothing,
+    },
+    Row {
+        words: &[b"trace", b"d", FROM, TO, b"--down=1,0"],
+        found: Nothing,
+    },
+];
+
+fn names(alloc: Global, words: &[&[u8]]) -> Result<Vec<Name>, Memory> {
+    let mut names = Vec::new(alloc);
+    for word in words {
+        names.push(Name::make(alloc, word)?)?;
+    }
+    Ok(names)
+}
+
+fn is_match(command: &Option<Command>, found: Match) -> bool {
+    match (command, found) {
+        (None, Nothing) => true,
+        (Some(Command::Verify(document)), Verify(d)) => document.is(d),
+        (Some(Command::Check(document, certificate)), Check(d, c)) => {
+            document.is(d) && certificate.is(c)
+        }
+        (Some(Command::Lrat(formula, proof)), Lrat(f, p)) => formula.is(f) && proof.is(p),
+        (Some(Command::Trace(words)), Trace(down)) => {
+            words.document.is(b"d")
+                && words.from.addr == 0x0a01_0000
+                && words.from.len == 24
+                && words.to.addr == 0x0a02_0000
+                && words.to.len == 16
+                && words.down.slice() == down
+        }
+        _ => false,
+    }
+}
+
+#[test]
+fn rows_match(rt: HostRuntime) -> Result<(), Fail> {
+    let alloc = rt.alloc();
+    for (at, row) in ROWS.iter().enumerate() {
+        let command = read_words(alloc, &names(alloc, row.words)?)?;
+        assert!(rt; is_match(&command, row.found), "at {at}");
+    }
+    Ok(())
+}

@@ -1,0 +1,131 @@
+-- The ends of links at which a list stops the protocol: of the network's rows, and of the files.
+use Rattle.std.proofs.Common.{◌≡◌, ℕ, zero, suc, ◌+◌, ◌⊎◌, inl, inr, Option, Some, None, List, [], ◌∷◌, refl, sym, ◌∙◌, ap, subst, arith, Bool, true, false, IsTrue, IsFalse, ◌↔◌, not}
+use Rattle.std.specs.Prelude.{Any, IsSomeAnd, slice_get, option_map, unwrap_or, map}
+use Rattle.std.proofs.lemmas.Bool.{false≢true}
+use Rattle.net_model.specs.declared.lists.PacketEntry.{PacketEntry}
+use Rattle.net_model.specs.declared.rows.Protocol.TheVariants.{Ospf}
+use Rattle.net_model.specs.Lists.{permits}
+use Rattle.std.proofs.lemmas.Option.{same_Some, slice_get-get_or, slice_get_within, get_or_from_slice_get}
+use Rattle.arc_base.specs.declared.place.ListId.{ListId}
+use Rattle.arc_base.specs.declared.refusal.Kind.TheVariants as kinds
+use Rattle.net_doc.specs.declared.fault.Refusal.{Refusal}
+use Rattle.net_model.specs.declared.policies.Document.{Document}
+use Rattle.net_model.specs.declared.rows.FaceRow.{FaceRow}
+use Rattle.net_model.specs.declared.rows.LinkRow.{LinkRow}
+use Rattle.net_model.specs.declared.rows.Network.{Network}
+use Rattle.net_model.specs.Routing.{Arc, head_end}
+use Rattle.ios_config.specs.declared.settings.Config.{Config}
+use Rattle.ios_config.specs.declared.settings.Given.{Given}
+use Rattle.net_build.specs.Settings.{value}
+use Rattle.net_build.specs.Sites.{Site, sites, full_names, ends_of}
+use Rattle.net_build.specs.Names.{AreDistinct}
+use Rattle.net_build.specs.Lists.{IsPlaceAmong, packet_list_key}
+use Rattle.net_build.specs.Rows.{IsFaceRow, AreRows}
+use Rattle.net_build.specs.Reasons.{IsClear, IsFirst}
+use Rattle.net_build.specs.Stops.{RefusesListStopsSession, Denies}
+use Rattle.net_build.specs.FarEnds.{FindsOnly}
+use Rattle.net_build.specs.Stopping.{list_line, StopsBetween, IsRefusalAt, StopsAt, StopsAtSome}
+use Rattle.net_build.proofs.Zips.{AllZip-left}
+use Rattle.net_build.proofs.SameNetwork.{same_rows}
+
+-- one of three items
+pub any_three : {X : Type 0} (P : X → Type 0) (x y z : X) → Any P (x ∷ y ∷ z ∷ []) ↔ (P x ⊎ (P y ⊎ P z))
+any_three {X} P x y z = (to, from)
+  where
+    to : Any P (x ∷ y ∷ z ∷ []) → P x ⊎ (P y ⊎ P z)
+    to (zero, w, l, e, p) = inl (subst P (sym e) p)
+    to (suc zero, w, l, e, p) = inr (inl (subst P (sym e) p))
+    to (suc (suc zero), w, l, e, p) = inr (inr (subst P (sym e) p))
+    to (suc (suc (suc k)), w, l, e, p) = absurd (omega (arith, l))
+
+    from : P x ⊎ (P y ⊎ P z) → Any P (x ∷ y ∷ z ∷ [])
+    from (inl p) = (0, x, omega arith, refl, p)
+    from (inr (inl p)) = (1, y, omega arith, refl, p)
+    from (inr (inr p)) = (2, z, omega arith, refl, p)
+
+not_true : (b : Bool) → not b ≡ true → b ≡ false
+not_true true h = absurd (false≢true h)
+not_true false h = refl
+
+-- the last of the three packets that OSPF sends decides, where the list permits the others
+pub denies_last : (entries : List PacketEntry) (from own : ℕ) (a b c : Bool) → a ≡ permits entries (record { from = from; to = own }) → b ≡ permits entries (record { from = from; to = 3758096389 }) →
+    c ≡ permits entries (record { from = from; to = 3758096390 }) → a ≡ true → b ≡ true → IsTrue (not c) ↔ Denies Ospf entries from own
+denies_last entries from own a b c a_is b_is c_is a_yes b_yes = (λ t. three.1 (inr (inl (sym c_is ∙ not_true c t))), λ h. by (three.0 h))
+  where
+    P : ℕ → Type 0
+    P to = IsFalse (permits entries (record { from = from; to = to }))
+
+    three : Any P (3758096389 ∷ 3758096390 ∷ own ∷ []) ↔ (P 3758096389 ⊎ (P 3758096390 ⊎ P own))
+    three = any_three P 3758096389 3758096390 own
+
+    by : P 3758096389 ⊎ (P 3758096390 ⊎ P own) → IsTrue (not c)
+    by (inl p) = absurd (false≢true (sym (b_is ∙ p) ∙ b_yes))
+    by (inr (inl p)) = ap not (c_is ∙ p)
+    by (inr (inr p)) = absurd (false≢true (sym (a_is ∙ p) ∙ a_yes))
+
+-- the refusal at a place
+abbrev at_site : Site → Refusal
+at_site site = record { file = site.router + 1; number = list_line site.face; kind = kinds.ListStopsSession }
+
+module _ (net : Network) (configs : List Config) (link : LinkRow) (from_a : Bool) where
+  pub stops_here : (tail head : FaceRow) → StopsBetween net link from_a tail head → (found : Option Refusal) → FindsOnly (IsRefusalAt configs (head_end link from_a).0) found →
+      FindsOnly (StopsAt net configs link from_a) found
+  stops_here tail head between None none = λ r bad. none r bad.refusal
+  stops_here tail head between (Some x) only = (record { tail = tail; head = head; between = between; refusal = only.0 }, λ r bad. only.1 r bad.refusal)
+
+-- a list that stands at a place is bound at a line
+bound_line : (D : ListId → Type 0) (keys : List (ℕ × List ℕ)) (router : ℕ) (o : Option ListId) (given : Option (Given (List ℕ))) → IsSomeAnd o D → IsPlaceAmong keys router (value given) o →
+    IsSomeAnd given (λ g. g.line ≡ unwrap_or (option_map (λ (g : Given (List ℕ)). g.line) given) 0)
+bound_line D keys router None given h k = absurd h
+bound_line D keys router (Some id) None h k = absurd k
+bound_line D keys router (Some id) (Some g) h k = refl
+
+line_bound : (line : ℕ) (given : Option (Given (List ℕ))) → IsSomeAnd given (λ g. g.line ≡ line) → line ≡ unwrap_or (option_map (λ (g : Given (List ℕ)). g.line) given) 0
+line_bound line None h = absurd h
+line_bound line (Some g) h = sym h
+
+module _ (doc : Document) (configs : List Config) (net : Network) (distinct : AreDistinct (full_names configs)) (rows : AreRows doc configs net) where
+  abbrev Row : Site → FaceRow → Type 0
+  Row = IsFaceRow net.protocol (ends_of doc.links) (map packet_list_key net.packet_lists)
+
+  made : (r : Refusal) → StopsAtSome net configs net.links r → RefusesListStopsSession doc configs r
+  made r (k, link, l, e, (from_a, s)) =
+      let at_k : slice_get net.links k ≡ Some link = slice_get-get_or net.links k link l ∙ ap Some e in
+      let arc : Arc = record { link = k; from_a = from_a; row = link; tail = s.tail; head = s.head } in
+      let f = AllZip-left Row (sites configs) net.faces rows.base.faces (head_end link from_a).0 s.head s.between.at_head in
+      let site_is : f.0 ≡ s.refusal.site = same_Some f.0 s.refusal.site (sym f.1 ∙ s.refusal.at_place) in
+      let row : Row s.refusal.site s.head = subst (λ (t : Site). Row t s.head) site_is f.2 in
+      record {
+        net = net;
+        rows = rows;
+        arc = arc;
+        is_arc = record { link = at_k; tail = s.between.at_tail; head = s.between.at_head };
+        able = record { tail = s.between.able_tail; head = s.between.able_head };
+        stops = s.between.stops;
+        site = s.refusal.site;
+        at_head = s.refusal.at_place;
+        line = list_line s.refusal.site.face;
+        binds = bound_line _ (map packet_list_key net.packet_lists) s.refusal.site.router s.head.list_in s.refusal.site.face.list_in s.between.stops.denies row.list_in;
+        told = s.refusal.told;
+      }
+
+  here : (r : Refusal) → RefusesListStopsSession doc configs r → StopsAtSome net configs net.links r
+  here r bad =
+      let number : bad.line ≡ list_line bad.site.face = line_bound bad.line bad.site.face.list_in bad.binds in
+      let Told : Refusal → Type 0 = λ q. r ≡ q in
+      let told : Told (at_site bad.site) = subst (λ (n : ℕ). Told (record { file = bad.site.router + 1; number = n; kind = kinds.ListStopsSession })) number bad.told in
+      let stops : StopsAt bad.net configs bad.arc.row bad.arc.from_a r = record {
+        tail = bad.arc.tail;
+        head = bad.arc.head;
+        between = record { at_tail = bad.is_arc.tail; at_head = bad.is_arc.head; able_tail = bad.able.tail; able_head = bad.able.head; stops = bad.stops };
+        refusal = record { site = bad.site; at_place = bad.at_head; told = told };
+      } in
+      let there : StopsAtSome bad.net configs bad.net.links r =
+      (bad.arc.link, bad.arc.row, slice_get_within bad.net.links bad.arc.link bad.arc.row bad.is_arc.link, get_or_from_slice_get bad.net.links bad.arc.link bad.arc.row bad.arc.row bad.is_arc.link, (bad.arc.from_a, stops)) in
+      subst (λ (m : Network). StopsAtSome m configs m.links r) (same_rows doc configs distinct bad.net net bad.rows rows) there
+
+  pub clear_stops : ((r : Refusal) → ¬ StopsAtSome net configs net.links r) → IsClear (RefusesListStopsSession doc configs)
+  clear_stops clear r bad = clear r (here r bad)
+
+  pub first_stops : (r : Refusal) → IsFirst (StopsAtSome net configs net.links) r → IsFirst (RefusesListStopsSession doc configs) r
+  first_stops r first = record { made = made r first.made; first = λ other bad. first.first other (here other bad) }

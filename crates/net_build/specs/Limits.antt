@@ -1,0 +1,28 @@
+-- The limits of what a router file counts.
+use Rattle.std.specs.Prelude.{◌≡◌, ℕ, ◌+◌, ◌<◌, Option, Some, List, slice_get, length, find, nat_lt}
+use Rattle.arc_base.specs.declared.refusal.Kind.TheVariants as kinds
+use Rattle.arc_base.specs.declared.refusal.LimitKind.TheVariants as limits
+use Rattle.net_doc.specs.declared.fault.Refusal.{Refusal}
+use Rattle.ios_config.specs.declared.settings.Config.{Config}
+use Rattle.ios_config.specs.declared.settings.ListText.{ListText}
+
+-- a router with more than 256 interfaces
+pub record RefusesInterfaces (configs : List Config) (r : Refusal) : Type 0 where
+  pub place : ℕ
+  pub config : Config
+  pub at_place : slice_get configs place ≡ Some config
+  pub many : 256 < length config.faces
+  pub told : r ≡ record { file = place + 1; number = 0; kind = kinds.Limit limits.Interfaces (length config.faces) }
+
+-- the first list of the file with more than 16,384 entries
+abbrev pub long_list : Config → Option ListText
+long_list config = find (λ list. nat_lt 16384 (length list.entries)) config.lists
+
+-- a router whose file has such a list
+pub record RefusesEntries (configs : List Config) (r : Refusal) : Type 0 where
+  pub place : ℕ
+  pub config : Config
+  pub at_place : slice_get configs place ≡ Some config
+  pub list : ListText
+  pub first : long_list config ≡ Some list
+  pub told : r ≡ record { file = place + 1; number = 0; kind = kinds.Limit limits.Entries (length list.entries) }

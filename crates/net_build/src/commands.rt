@@ -1,0 +1,168 @@
+//! What the lines of a process say: of an interface, of a neighbour, of a network. The last line that speaks of a matter
+//! decides.
+ghost use Rattle.std.specs.Prelude.{◌≡◌, ◌↔◌, IsTrue, Any};
+ghost use Rattle.std.specs.Option.{option_copied};
+ghost use Rattle.ios_config.specs.declared.settings.Given.{Given};
+ghost use Rattle.net_model.specs.declared.rows.Protocol.TheVariants as protocols;
+ghost use Rattle.ios_words.specs.declared.commands.Command.TheVariants as commands;
+ghost use Rattle.net_build.specs.Settings.{last_said, says_reference, reference_of, says_passive, is_passive, CommandCovers};
+ghost use Rattle.net_build.specs.Neighbors.{says_remote, says_down, says_filter, remote_of, is_down, filter_of};
+
+use arc_base::{Name, Prefix};
+use ios_config::Given;
+use ios_words::Command;
+use net_model::Protocol;
+
+fn says_reference(command: &Command) -> Option<u32>
+    ensures { result ≡ says_reference command.now }
+{
+    match command {
+        Command::Reference(m) => Some(*m),
+        _ => None,
+    }
+}
+
+fn last_reference(lines: &[Given<Command>]) -> Option<u32>
+    ensures { result ≡ last_said says_reference lines.now }
+{
+    let mut last = None;
+    for line in lines {
+        last = says_reference(&line.value).or(last);
+    }
+    last
+}
+
+/// The reference bandwidth of the process, in kbit/s.
+pub fn reference(lines: &[Given<Command>]) -> u64
+    ensures { result ≡ reference_of lines.now }
+{
+    u64::from(last_reference(lines).unwrap_or(100)) * 1000
+}
+
+fn says_passive(command: &Command, name: &[u8]) -> Option<bool>
+    ensures { result ≡ says_passive name.now command.now }
+{
+    match command {
+        Command::Passive(on, None) => Some(*on),
+        Command::Passive(on, Some(face)) => { if face.is(name) { Some(*on) } else { None } }
+        _ => None,
+    }
+}
+
+fn last_passive(lines: &[Given<Command>], name: &[u8]) -> Option<bool>
+    ensures { result ≡ last_said (says_passive name.now) lines.now }
+{
+    let mut last = None;
+    for line in lines {
+        last = says_passive(&line.value, name).or(last);
+    }
+    last
+}
+
+/// Whether the interface of this name is passive.
+pub fn is_passive(protocol: Protocol, lines: &[Given<Command>], name: &[u8]) -> bool
+    ensures { result ≡ is_passive protocol lines.now name.now }
+{
+    match protocol {
+        Protocol::Ospf => last_passive(lines, name).unwrap_or(false),
+        Protocol::Bgp => false,
+    }
+}
+
+fn covers(command: &Command, address: u32) -> bool
+    ensures { IsTrue result ↔ CommandCovers address command.now }
+{
+    match command {
+        Command::Covers(prefix, _) => prefix.covers(address),
+        _ => false,
+    }
+}
+
+/// Whether a network statement of OSPF covers the address.
+pub fn is_covered(lines: &[Given<Command>], address: u32) -> bool
+    ensures { IsTrue result ↔ Any (λ g. CommandCovers address g.value) lines.now }
+{
+    lines.iter().any(|line| covers(&line.value, address))
+}
+
+fn tells(command: &Command, p: &Prefix) -> bool
+    ensures { IsTrue result ↔ (command.now ≡ commands.Tells p.now) }
+{
+    match command {
+        Command::Tells(told) => told.is(p),
+        _ => false,
+    }
+}
+
+/// Whether a network statement of BGP names just this prefix.
+pub fn is_told(lines: &[Given<Command>], p: &Prefix) -> bool
+    ensures { IsTrue result ↔ Any (λ g. g.value ≡ commands.Tells p.now) lines.now }
+{
+    lines.iter().any(|line| tells(&line.value, p))
+}
+
+fn says_remote(command: &Command, peer: u32) -> Option<u32>
+    ensures { result ≡ says_remote peer command.now }
+{
+    match command {
+        Command::RemoteAs(other, asn) => { if *other == peer { Some(*asn) } else { None } }
+        _ => None,
+    }
+}
+
+/// The AS of the neighbour.
+pub fn remote_of(lines: &[Given<Command>], peer: u32) -> Option<u32>
+    ensures { result ≡ remote_of lines.now peer }
+{
+    let mut last = None;
+    for line in lines {
+        last = says_remote(&line.value, peer).or(last);
+    }
+    last
+}
+
+fn says_down(command: &Command, peer: u32) -> Option<bool>
+    ensures { result ≡ says_down peer command.now }
+{
+    match command {
+        Command::NeighborDown(other, down) => { if *other == peer { Some(*down) } else { None } }
+        _ => None,
+    }
+}
+
+fn last_down(lines: &[Given<Command>], peer: u32) -> Option<bool>
+    ensures { result ≡ last_said (says_down peer) lines.now }
+{
+    let mut last = None;
+    for line in lines {
+        last = says_down(&line.value, peer).or(last);
+    }
+    last
+}
+
+/// Whether the neighbour is shut down.
+pub fn is_down(lines: &[Given<Command>], peer: u32) -> bool
+    ensures { result ≡ is_down lines.now peer }
+{
+    last_down(lines, peer).unwrap_or(false)
+}
+
+fn says_filter(command: &Command, peer: u32) -> Option<&Name>
+    ensures { option_copied result ≡ says_filter peer command.now }
+{
+    match command {
+        Command::NeighborList(other, list) => { if *other == peer { Some(list) } else { None } }
+        _ => None,
+    }
+}
+
+/// The name of the route list that is bound inbound at the neighbour.
+pub fn filter_of(lines: &[Given<Command>], peer: u32) -> Option<&Name>
+    ensures { option_copied result ≡ filter_of lines.now peer }
+{
+    let mut last = None;
+    for line in lines {
+        last = says_filter(&line.value, peer).or(last);
+    }
+    last
+}

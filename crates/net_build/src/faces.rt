@@ -1,0 +1,308 @@
+//! The rows of routers and interfaces.
+ghost use Rattle.std.specs.Prelude.{◌≡◌, ◌≤◌, ◌<◌, ◌^◌, ◌++◌, All, List, IfOk, OnOk, IsTrue, ◌↔◌, length, MatchBool, Some, None, option_map, IfSome, unwrap_or};
+ghost use Rattle.std.specs.List.{AllZip};
+ghost use Rattle.net_build.specs.Forms.{IsWellFormed, IsWellFormedFace};
+ghost use Rattle.net_build.specs.Settings.{address_of, IsPrefixAt, is_up, bandwidth_of, cost_of, cost_at, IsEnabled, is_point_to_point, lines_of};
+ghost use Rattle.net_build.specs.Sites.{Site, sites_of, sites};
+ghost use Rattle.net_build.specs.Names.{names_at};
+ghost use Rattle.net_build.specs.Lists.{keys_at};
+ghost use Rattle.net_build.specs.Rows.{IsRouterRow, asn_of, IsSubnet, is_host_route, host_address_of, TellsHost, IsFaceRow};
+
+use crate::commands::{is_covered, is_passive, is_told, reference};
+use crate::kinds::FaceKind;
+use crate::lists::list_names;
+use crate::names::{FullName, contains_name, host_name};
+use crate::places_of_lists::{ListKey, bound_name, place_of_list};
+use crate::processes::{lines_of, process_of};
+use arc_base::{List, Memory, Name, Prefix, Router};
+use indexmap::IndexSet;
+use ios_config::{Config, FaceText, Given};
+use ios_words::Command;
+use net_model::{FaceRow, Protocol, RouterRow};
+use std::alloc::Global;
+
+fn asn_of(protocol: Protocol, config: &Config) -> u32
+    ensures { result ≡ asn_of protocol config.now }
+{
+    match protocol {
+        Protocol::Ospf => 0,
+        Protocol::Bgp => match process_of(config) {
+            Some(process) => process.number,
+            None => 0,
+        },
+    }
+}
+
+/// The row of the router of a file.
+fn router_row(alloc: Global, protocol: Protocol, config: &Config) -> Result<RouterRow, Memory>
+    ensures { IfOk result (IsRouterRow protocol config.now) }
+{
+    Ok(RouterRow {
+        name: Name::make(alloc, host_name(config))?,
+        asn: asn_of(protocol, config),
+        names: list_names(alloc, config)?,
+    })
+}
+
+/// The rows of the routers.
+pub fn router_rows(
+    alloc: Global,
+    protocol: Protocol,
+    configs: &List<Config>,
+) -> Result<List<RouterRow>, Memory>
+    requires { length configs.now ≤ 256 }
+    ensures { IfOk result (AllZip (IsRouterRow protocol) configs.now) }
+{
+    let mut rows = List::make(alloc);
+    for config in configs.slice() {
+        rows.push(router_row(alloc, protocol, config)?)?;
+    }
+    Ok(rows)
+}
+
+/// The address of an interface and the length of its mask.
+pub fn address_of(face: &FaceText) -> Option<(u32, u8)>
+    ensures { result ≡ address_of face.now }
+{
+    match &face.addr {
+        None => None,
+        Some(addr) => match &face.mask_len {
+            None => None,
+            Some(mask_len) => Some((addr.value, mask_len.value)),
+        },
+    }
+}
+
+/// The prefix of this length that holds the address.
+fn prefix_at(address: u32, len: u8) -> Prefix
+    requires { len ≤ 32 }
+    ensures { IsPrefixAt address len result }
+{
+    let size = 1u64 << (32 - len);
+    let rest = u64::from(address) % size;
+    Prefix {
+        addr: (u64::from(address) - rest) as u32,
+        len,
+    }
+}
+
+/// The connected subnet of an address and the length of its mask.
+pub fn subnet_of(address: Option<(u32, u8)>) -> Option<Prefix>
+    requires { IfSome address (λ a. a.1 ≤ 32) }
+    ensures { IsSubnet address result }
+{
+    match address {
+        None => None,
+        Some((address, len)) => Some(prefix_at(address, len)),
+    }
+}
+
+fn is_point_to_point(given: &Option<Given<bool>>, default: bool) -> bool
+    ensures { result ≡ unwrap_or (option_map (λ g. g.value) given.now) default }
+{
+    match given {
+        Some(given) => given.value,
+        None => default,
+    }
+}
+
+/// Whether the OSPF network type of the interface is point-to-point.
+pub fn has_point_type(face: &FaceText) -> bool
+    ensures { result ≡ is_point_to_point face.now }
+{
+    is_point_to_point(&face.point, FaceKind::of(face.name.bytes()).is_serial())
+}
+
+fn is_host_route(protocol: Protocol, face: &FaceText) -> bool
+    ensures { result ≡ is_host_route protocol face.now }
+{
+    match protocol {
+        Protocol::Ospf => {
+            if FaceKind::of(face.name.bytes()).is_loopback() {
+                !is_point_to_point(&face.point, false)
+            } else {
+                false
+            }
+        }
+        Protocol::Bgp => false,
+    }
+}
+
+fn host_address_of(protocol: Protocol, face: &FaceText) -> Option<(u32, u8)>
+    ensures { result ≡ host_address_of protocol face.now }
+{
+    match address_of(face) {
+        None => None,
+        Some((address, len)) => {
+            if is_host_route(protocol, face) {
+                Some((address, 32))
+            } else {
+                Some((address, len))
+            }
+        }
+    }
+}
+
+/// The host network of the interface, if it is no link's end.
+fn host_of(protocol: Protocol, face: &FaceText, is_end: bool) -> Option<Prefix>
+    requires { IsWellFormedFace face.now }
+    ensures { MatchBool is_end (result ≡ None) (IsSubnet (host_address_of protocol face.now) result) }
+{
+    if is_end {
+        return None;
+    }
+    subnet_of(host_address_of(protocol, face))
+}
+
+fn is_up(face: &FaceText) -> bool
+    ensures { result ≡ is_up face.now }
+{
+    match &face.shut {
+        Some(given) => !given.value,
+        None => true,
+    }
+}
+
+fn bandwidth_of(face: &FaceText) -> u32
+    ensures { result ≡ bandwidth_of face.now }
+{
+    match &face.bandwidth {
+        Some(given) => given.value,
+        None => FaceKind::of(face.name.bytes()).default_bandwidth(),
+    }
+}
+
+/// The OSPF cost at this bandwidth and this reference, both in kbit/s.
+fn cost_at(reference: u64, bandwidth: u32) -> u32
+    requires { 1 ≤ bandwidth }
+    ensures { result ≡ cost_at reference bandwidth }
+{
+    (reference / u64::from(bandwidth)).clamp(1, 65_535) as u32
+}
+
+fn cost_of(lines: &[Given<Command>], face: &FaceText) -> u32
+    requires { IsWellFormedFace face.now }
+    ensures { result ≡ cost_of lines.now face.now }
+{
+    match &face.cost {
+        Some(given) => given.value,
+        None => cost_at(reference(lines), bandwidth_of(face)),
+    }
+}
+
+fn is_enabled(lines: &[Given<Command>], face: &FaceText) -> bool
+    ensures { IsTrue result ↔ IsEnabled lines.now face.now }
+{
+    if face.area.is_some() {
+        return true;
+    }
+    match address_of(face) {
+        Some((address, _)) => is_covered(lines, address),
+        None => false,
+    }
+}
+
+/// Whether the router tells its neighbours of the host network.
+fn tells(protocol: Protocol, lines: &[Given<Command>], host: &Option<Prefix>, enabled: bool) -> bool
+    ensures { IsTrue result ↔ TellsHost protocol lines.now host.now enabled }
+{
+    match host {
+        None => false,
+        Some(p) => match protocol {
+            Protocol::Ospf => enabled,
+            Protocol::Bgp => is_told(lines, p),
+        },
+    }
+}
+
+/// What the row of an interface is made from beside its file.
+#[derive(Clone, Copy)]
+pub struct Surroundings<'a> {
+    pub protocol: Protocol,
+    /// The ends of the document's links.
+    pub ends: &'a IndexSet<FullName<'a>>,
+    /// The packet lists, each at its place.
+    pub lists: &'a IndexSet<ListKey<'a>>,
+}
+
+/// The row of an interface of the router at this place.
+fn face_row(
+    alloc: Global,
+    around: &Surroundings<'_>,
+    router: u32,
+    config: &Config,
+    face: &FaceText,
+) -> Result<FaceRow, Memory>
+    requires well_formed { IsWellFormedFace face.now }
+    requires few { length around.now.lists.now.keys < 2 ^ 32 }
+    ensures { IfOk result (IsFaceRow around.now.protocol (names_at around.now.ends.now.keys) (keys_at around.now.lists.now.keys)
+        (record { router = router; config = config.now; face = face.now })) }
+{
+    let lines = lines_of(config);
+    let is_end = contains_name(around.ends, host_name(config), face.name.bytes());
+    let address = address_of(face);
+    let host = host_of(around.protocol, face, is_end);
+    let enabled = is_enabled(lines, face);
+    Ok(FaceRow {
+        router: Router(router),
+        name: Name::make(alloc, face.name.bytes())?,
+        addr: first_of(address),
+        subnet: subnet_of(address),
+        host,
+        up: is_up(face),
+        enabled,
+        told: tells(around.protocol, lines, &host, enabled),
+        passive: is_passive(around.protocol, lines, face.name.bytes()),
+        cost: cost_of(lines, face),
+        bound_in: face.list_in.is_some(),
+        list_in: place_of_list(around.lists, router, bound_name(&face.list_in)),
+        list_out: place_of_list(around.lists, router, bound_name(&face.list_out)),
+    })
+}
+
+fn first_of(address: Option<(u32, u8)>) -> Option<u32>
+    ensures { result ≡ option_map (λ a. a.0) address }
+{
+    match address {
+        Some((address, _)) => Some(address),
+        None => None,
+    }
+}
+
+/// Adds the rows of a file's interfaces.
+fn add_face_rows(
+    alloc: Global,
+    rows: &mut Vec<FaceRow>,
+    around: &Surroundings<'_>,
+    router: u32,
+    config: &Config,
+) -> Result<(), Memory>
+    requires well_formed { IsWellFormed config.now }
+    requires few { length around.now.lists.now.keys < 2 ^ 32 }
+    ensures { OnOk result ((before : List Site) →
+        AllZip (IsFaceRow around.now.protocol (names_at around.now.ends.now.keys) (keys_at around.now.lists.now.keys)) before rows.old.items →
+        AllZip (IsFaceRow around.now.protocol (names_at around.now.ends.now.keys) (keys_at around.now.lists.now.keys)) (before ++ sites_of (router, config.now)) rows.new.items) }
+{
+    for face in config.faces.slice() {
+        rows.push(face_row(alloc, around, router, config, face)?)?;
+    }
+    Ok(())
+}
+
+/// The rows of all interfaces.
+pub fn face_rows(
+    alloc: Global,
+    around: &Surroundings<'_>,
+    configs: &List<Config>,
+) -> Result<List<FaceRow>, Memory>
+    requires well_formed { All IsWellFormed configs.now }
+    requires few { length around.now.lists.now.keys < 2 ^ 32 }
+    requires routers { length configs.now ≤ 256 }
+    ensures { IfOk result (AllZip (IsFaceRow around.now.protocol (names_at around.now.ends.now.keys) (keys_at around.now.lists.now.keys)) (sites configs.now)) }
+{
+    let mut rows = Vec::new(alloc);
+    for (router, config) in configs.slice().iter().enumerate() {
+        add_face_rows(alloc, &mut rows, around, router as u32, config)?;
+    }
+    List::of(rows)
+}

@@ -1,0 +1,57 @@
+//! The limits of what a router file counts.
+ghost use Rattle.std.specs.Prelude.{◌≡◌, ◌≤◌, length};
+ghost use Rattle.std.specs.Option.{option_copied};
+ghost use Rattle.net_build.specs.Reasons.{TriedAlone};
+ghost use Rattle.net_build.specs.Limits.{RefusesInterfaces, RefusesEntries, long_list};
+
+use crate::reasons::in_file;
+use arc_base::{Kind, LimitKind, List};
+use ios_config::{Config, ListText};
+use net_doc::NetFault;
+
+const MAX_INTERFACES: u32 = 256;
+
+const MAX_ENTRIES: u32 = 16_384;
+
+/// Tries whether no router has too many interfaces.
+pub fn try_interfaces(configs: &List<Config>) -> Result<(), NetFault>
+    requires { length configs.now ≤ 256 }
+    ensures { TriedAlone (RefusesInterfaces configs.now) result }
+{
+    for (place, config) in configs.slice().iter().enumerate() {
+        let count = config.faces.len();
+        if count > MAX_INTERFACES {
+            let kind = Kind::Limit(LimitKind::Interfaces, u64::from(count));
+            return Err(in_file(place, 0, kind));
+        }
+    }
+    Ok(())
+}
+
+/// The first list of the file with too many entries.
+fn long_list(config: &Config) -> Option<&ListText>
+    ensures { option_copied result ≡ long_list config.now }
+{
+    config
+        .lists
+        .slice()
+        .iter()
+        .find(|list| list.entries.len() > MAX_ENTRIES)
+}
+
+/// Tries whether no list has too many entries.
+pub fn try_entries(configs: &List<Config>) -> Result<(), NetFault>
+    requires { length configs.now ≤ 256 }
+    ensures { TriedAlone (RefusesEntries configs.now) result }
+{
+    for (place, config) in configs.slice().iter().enumerate() {
+        match long_list(config) {
+            Some(list) => {
+                let kind = Kind::Limit(LimitKind::Entries, u64::from(list.entries.len()));
+                return Err(in_file(place, 0, kind));
+            }
+            None => {}
+        }
+    }
+    Ok(())
+}

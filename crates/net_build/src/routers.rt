@@ -1,0 +1,85 @@
+//! What is asked of each router by itself: a name and an AS of its own.
+ghost use Rattle.std.specs.Prelude.{◌≡◌, ◌≤◌, ◌+◌, ◌<◌, ◌^◌, [], ◌∷◌, ◌++◌, length, IfOk, MatchOption, Contains, IsSomeAnd, map};
+ghost use Rattle.net_build.specs.Reasons.{TriedAlone};
+ghost use Rattle.net_build.specs.Routers.{RefusesHostname, RefusesSameAs};
+ghost use Rattle.net_build.specs.Settings.{process_of};
+ghost use Rattle.net_build.specs.Growing.{AddsAs};
+
+use crate::processes::process_of;
+use crate::reasons::in_file;
+use arc_base::{Kind, List, Memory};
+use indexmap::IndexSet;
+use ios_config::{Config, ProcessKind};
+use net_doc::NetFault;
+use std::alloc::Global;
+
+/// Adds the name of a router, or tells the line that refuses it.
+fn add_hostname<'a>(
+    names: &mut IndexSet<&'a [u8]>,
+    config: &'a Config,
+) -> Result<Option<u32>, Memory>
+    ensures { IfOk result (λ found. MatchOption found
+        (IsSomeAnd config.now.hostname (λ s. (¬ Contains (map (λ n. n.now) names.old.keys) s.name)
+        × (map (λ n. n.now) names.new.keys ≡ map (λ n. n.now) names.old.keys ++ s.name ∷ [])))
+        (λ line. MatchOption config.now.hostname (line ≡ 0) (λ s. (line ≡ s.line) × Contains (map (λ n. n.now) names.old.keys) s.name))) }
+{
+    match &config.hostname {
+        None => Ok(Some(0)),
+        Some(given) => {
+            let (_place, new) = names.insert_full(given.name.bytes())?;
+            if new {
+                return Ok(None);
+            }
+            Ok(Some(given.line))
+        }
+    }
+}
+
+/// Tries whether each router has a name of its own.
+pub fn try_hostnames(alloc: Global, configs: &List<Config>) -> Result<(), NetFault>
+    requires { length configs.now ≤ 256 }
+    ensures { TriedAlone (RefusesHostname configs.now) result }
+{
+    let mut names = IndexSet::new(alloc);
+    for (place, config) in configs.slice().iter().enumerate() {
+        match add_hostname(&mut names, config)? {
+            Some(line) => return Err(in_file(place, line, Kind::Hostname)),
+            None => {}
+        }
+    }
+    Ok(())
+}
+
+/// Adds the AS of a router, or tells the line that refuses it.
+fn add_as(numbers: &mut IndexSet<u32>, config: &Config) -> Result<Option<u32>, Memory>
+    ensures { IfOk result (AddsAs numbers.old.keys numbers.new.keys (process_of config.now)) }
+{
+    let Some(process) = process_of(config) else {
+        return Ok(None);
+    };
+    match process.kind {
+        ProcessKind::Ospf => Ok(None),
+        ProcessKind::Bgp => {
+            let (_place, new) = numbers.insert_full(process.number)?;
+            if new {
+                return Ok(None);
+            }
+            Ok(Some(process.head))
+        }
+    }
+}
+
+/// Tries whether each router has an AS of its own.
+pub fn try_as_numbers(alloc: Global, configs: &List<Config>) -> Result<(), NetFault>
+    requires { length configs.now ≤ 256 }
+    ensures { TriedAlone (RefusesSameAs configs.now) result }
+{
+    let mut numbers = IndexSet::new(alloc);
+    for (place, config) in configs.slice().iter().enumerate() {
+        match add_as(&mut numbers, config)? {
+            Some(line) => return Err(in_file(place, line, Kind::SameAs)),
+            None => {}
+        }
+    }
+    Ok(())
+}

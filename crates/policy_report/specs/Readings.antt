@@ -1,0 +1,190 @@
+-- What the lines of a report are read as. Each line has one spelling: its words stand with one space between them, and
+-- numbers, addresses and prefixes have the one form in which they are written.
+use Rattle.std.specs.Prelude.{ℕ, ◌-◌, ◌==◌, ◌&&◌, nat_le, Bool, true, false, if◌then◌else◌, List, [], ◌∷◌, length, Option, Some, None, option_and_then, bytes_eq, codes}
+use Rattle.std.specs.List.{slice_split}
+use Rattle.arc_base.specs.declared.place.Link.{Link}
+use Rattle.arc_base.specs.PrefixText.{number_of, address_of, prefix_of}
+use Rattle.net_model.specs.declared.lists.Packet.{Packet}
+use Rattle.net_model.specs.declared.policies.Class.{Class}
+use Rattle.net_model.specs.declared.policies.PolicyKind.{PolicyKind}
+use Rattle.net_model.specs.declared.policies.PolicyKind.TheVariants as kinds
+use Rattle.net_model.specs.declared.rows.RouterRow.{RouterRow}
+use Rattle.net_model.specs.declared.rows.Network.{Network}
+use Rattle.net_model.specs.declared.verdicts.ClassSide.{ClassSide}
+use Rattle.net_model.specs.declared.verdicts.LinkPath.{LinkPath}
+use Rattle.net_model.specs.declared.verdicts.Verdict.TheVariants as verdicts
+use Rattle.policy_report.specs.declared.drafts.Asked.{Asked}
+use Rattle.policy_report.specs.declared.drafts.Asked.TheVariants.{Blocked, Through, Reach}
+use Rattle.policy_report.specs.declared.drafts.Block.{Block}
+use Rattle.policy_report.specs.declared.drafts.Block.TheVariants.{Open, Whole}
+use Rattle.policy_report.specs.declared.drafts.Draft.TheVariants as drafts
+use Rattle.policy_report.specs.declared.drafts.Heading.{Heading}
+
+-- what a value that is there is read as
+infixl 10 ◌>>=◌
+abbrev ◌>>=◌ : {A B : Type 0} → Option A → (A → Option B) → Option B
+o >>= f = option_and_then f o
+
+-- the words of a line: the pieces between spaces
+abbrev pub line_words : List ℕ → List (List ℕ)
+line_words line = slice_split (λ b. b == 32) line
+
+-- a number below 2 ^ 32
+abbrev pub count_of : List ℕ → Option ℕ
+count_of word = do
+  number ← number_of word
+  if nat_le number 4294967295 then Some number else None
+
+-- a link, by its number counted from 1, where there are so many
+abbrev pub link_of : ℕ → List ℕ → Option Link
+link_of links word = do
+  number ← count_of word
+  if nat_le 1 number && nat_le number links then Some (record { 0 = number - 1 }) else None
+
+-- the links with these numbers
+abbrev pub all_links : ℕ → List (List ℕ) → Option (List Link)
+all_links links [] = Some []
+all_links links (word ∷ words) = do
+  link ← link_of links word
+  rest ← all_links links words
+  Some (link ∷ rest)
+
+-- for each router, in order, whether it is named; the names stand in that order, each once
+abbrev pub side_of : List RouterRow → List (List ℕ) → Option (List Bool)
+side_of [] [] = Some []
+side_of [] (name ∷ names) = None
+side_of (router ∷ routers) [] = do
+  side ← side_of routers []
+  Some (false ∷ side)
+side_of (router ∷ routers) (name ∷ names) =
+    if bytes_eq router.name name
+    then (do side ← side_of routers names; Some (true ∷ side))
+    else (do side ← side_of routers (name ∷ names); Some (false ∷ side))
+
+-- the two prefixes of a class
+abbrev pub class_of : List ℕ → List ℕ → Option Class
+class_of first second = do
+  from ← prefix_of first
+  to ← prefix_of second
+  Some (record { from = from; to = to })
+
+-- the words after this first word, where they begin with it
+abbrev pub after_word : List ℕ → List (List ℕ) → Option (List (List ℕ))
+after_word first [] = None
+after_word first (word ∷ words) = if bytes_eq word first then Some words else None
+
+-- `closed FROM TO ROUTERS..`
+abbrev pub side_shown : Network → List (List ℕ) → Option ClassSide
+side_shown net (from ∷ to ∷ names) = do
+  class ← class_of from to
+  side ← side_of net.routers names
+  Some (record { class = class; side = side })
+side_shown net words = None
+
+abbrev pub closed_of : Network → List (List ℕ) → Option ClassSide
+closed_of net words = do
+  rest ← after_word (codes "closed") words
+  side_shown net rest
+
+-- `path LINKS..`
+abbrev pub path_of : Network → List (List ℕ) → Option LinkPath
+path_of net words = do
+  numbers ← after_word (codes "path") words
+  links ← all_links (length net.links) numbers
+  Some (record { links = links })
+
+-- `walk FROM TO LINKS..`
+abbrev pub walk_shown : Network → List (List ℕ) → Option (Class × LinkPath)
+walk_shown net (from ∷ to ∷ numbers) = do
+  class ← class_of from to
+  links ← all_links (length net.links) numbers
+  Some (class, record { links = links })
+walk_shown net words = None
+
+abbrev pub walk_of : Network → List (List ℕ) → Option (Class × LinkPath)
+walk_of net words = do
+  rest ← after_word (codes "walk") words
+  walk_shown net rest
+
+-- `denied FROM TO`
+abbrev pub class_shown : List (List ℕ) → Option Class
+class_shown (from ∷ to ∷ []) = class_of from to
+class_shown words = None
+
+abbrev pub denied_of : List (List ℕ) → Option Class
+denied_of words = do
+  rest ← after_word (codes "denied") words
+  class_shown rest
+
+-- `cut LINKS..`
+abbrev pub cut_of : Network → List (List ℕ) → Option (List Link)
+cut_of net words = do
+  numbers ← after_word (codes "cut") words
+  all_links (length net.links) numbers
+
+-- `side ROUTERS..`
+abbrev pub side_line_of : Network → List (List ℕ) → Option (List Bool)
+side_line_of net words = do
+  names ← after_word (codes "side") words
+  side_of net.routers names
+
+-- `acl-on-routed-link FROMADDR TOADDR LINK`
+abbrev pub packet_shown : Network → List (List ℕ) → Option (Packet × Link)
+packet_shown net (first ∷ second ∷ number ∷ []) = do
+  from ← address_of first
+  to ← address_of second
+  link ← link_of (length net.links) number
+  Some (record { from = from; to = to }, link)
+packet_shown net words = None
+
+abbrev pub refused_of : Network → List (List ℕ) → Option (Packet × Link)
+refused_of net words = do
+  rest ← after_word (codes "acl-on-routed-link") words
+  packet_shown net rest
+
+-- what a policy of this kind asks
+abbrev pub asked_by : PolicyKind → Asked
+asked_by kinds.Blocked = Blocked
+asked_by kinds.Through = Through
+asked_by (kinds.Reach k) = Reach
+
+-- what a word asks
+abbrev pub asked_of : List ℕ → Option Asked
+asked_of word =
+    if bytes_eq word (codes "blocked") then Some Blocked
+    else if bytes_eq word (codes "through") then Some Through
+    else if bytes_eq word (codes "reach") then Some Reach
+    else None
+
+-- a yes: its sides or paths, as many as are counted
+abbrev pub yes_of : Asked → ℕ → Block
+yes_of Reach count = if count == 0 then Whole (verdicts.Paths []) else Open (drafts.Paths count [])
+yes_of asked count = if count == 0 then Whole (verdicts.Closed []) else Open (drafts.Sides count [])
+
+-- a no: the walk, or the class that is denied, or the cut with its side
+abbrev pub no_of : Asked → ℕ → Option Block
+no_of Reach count = if count == 1 then Some (Open drafts.Denied) else if count == 2 then Some (Open drafts.Cut) else None
+no_of asked count = if count == 1 then Some (Open drafts.Walk) else None
+
+-- a refusal: the packet with its link
+abbrev pub refusal_of : Asked → ℕ → Option Block
+refusal_of Reach count = if count == 1 then Some (Open drafts.Refused) else None
+refusal_of asked count = None
+
+-- what an answer with so many lines begins, where what is asked has such an answer
+abbrev pub block_of : Asked → List ℕ → ℕ → Option Block
+block_of asked answer count =
+    if bytes_eq answer (codes "yes") then Some (yes_of asked count)
+    else if bytes_eq answer (codes "no") then no_of asked count
+    else if bytes_eq answer (codes "refused") then refusal_of asked count
+    else None
+
+-- `NUMBER KIND ANSWER COUNT`
+abbrev pub heading_of : List (List ℕ) → Option Heading
+heading_of (first ∷ kind ∷ answer ∷ last ∷ []) = do
+  number ← count_of first
+  asked ← asked_of kind
+  count ← count_of last
+  block ← block_of asked answer count
+  Some (record { number = number; asked = asked; block = block })
+heading_of words = None

@@ -1,0 +1,89 @@
+-- A report is read again: a reader that takes its lines in order gives back its head, its verdicts and its end, and a text
+-- of which each line is taken, the last of them as the end, is a report.
+use Rattle.std.specs.Prelude.{◌≡◌, ℕ, ◌+◌, ◌<◌, ◌≤◌, ◌^◌, List, [], ◌∷◌, ◌++◌, length, All, Result, Ok, Err}
+use Rattle.std.specs.List.{AllZip}
+use Rattle.arc_base.specs.declared.place.Link.{Link}
+use Rattle.cnf_types.specs.Words.{lines}
+use Rattle.net_model.specs.declared.policies.Document.{Document}
+use Rattle.net_model.specs.declared.policies.Policy.{Policy}
+use Rattle.net_model.specs.declared.policies.PolicyKind.{PolicyKind}
+use Rattle.net_model.specs.declared.policies.PolicyKind.TheVariants as kinds
+use Rattle.net_model.specs.declared.rows.Network.{Network}
+use Rattle.net_model.specs.declared.verdicts.Verdict as verdicts
+use Rattle.net_model.specs.declared.verdicts.Verdict.TheVariants.{Closed, Paths, Walk, Denied, Cut, Refused}
+use Rattle.net_model.specs.Validity.{IsValid}
+use Rattle.policy_report.specs.declared.got.Got.{Got}
+use Rattle.policy_report.specs.declared.got.Got.TheVariants.{More, Head, Verdict, End}
+use Rattle.policy_report.specs.declared.got.CertForm.TheVariants.{Report}
+use Rattle.policy_report.specs.declared.got.CertFault.{CertFault}
+use Rattle.policy_report.specs.Reports.{witness_lines, report_text}
+use Rattle.policy_report.specs.Steps.{Standing, start, step}
+
+-- a policy that asks this may have the verdict
+abbrev pub IsAnswer : PolicyKind → verdicts.Verdict → Type 0
+IsAnswer (kinds.Reach k) (Paths paths) = Unit {0}
+IsAnswer (kinds.Reach k) (Denied class) = Unit {0}
+IsAnswer (kinds.Reach k) (Cut links side) = Unit {0}
+IsAnswer (kinds.Reach k) (Refused packet link) = Unit {0}
+IsAnswer (kinds.Reach k) _ = ⊥
+IsAnswer _ (Closed sides) = Unit {0}
+IsAnswer _ (Walk class path) = Unit {0}
+IsAnswer _ _ = ⊥
+
+-- the links are the network's
+abbrev pub AreLinks : Network → List Link → Type 0
+AreLinks net links = All (λ l. l.0 < length net.links) links
+
+-- the witness can be told in lines: links are the network's, a side has a flag for each router, an address has 32 bits, and
+-- the lines can be counted in 32 bits
+abbrev pub IsTold : Network → verdicts.Verdict → Type 0
+IsTold net (Closed sides) = All (λ s. length s.side ≡ length net.routers) sides × (length sides ≤ 4294967295)
+IsTold net (Paths paths) = All (λ p. AreLinks net p.links) paths × (length paths ≤ 4294967295)
+IsTold net (Walk class path) = AreLinks net path.links
+IsTold net (Denied class) = Unit {0}
+IsTold net (Cut links side) = AreLinks net links × (length side ≡ length net.routers)
+IsTold net (Refused packet link) = (link.0 < length net.links) × ((packet.from < 2 ^ 32) × (packet.to < 2 ^ 32))
+
+-- the verdict on the policy can be told in a report
+pub record IsReadable (net : Network) (policy : Policy) (v : verdicts.Verdict) : Type 0 where
+  pub kind : IsAnswer policy.kind v
+  pub told : IsTold net v
+
+-- what a reader answers to these lines
+abbrev pub answers : Network → Document → Standing → List (List ℕ) → List (Result Got CertFault)
+answers net doc s [] = []
+answers net doc s (line ∷ ls) = (step net doc s line).1 ∷ answers net doc (step net doc s line).0 ls
+
+-- as often as there are lines
+abbrev pub more : {X : Type 0} → List X → List (Result Got CertFault)
+more [] = []
+more (line ∷ ls) = Ok More ∷ more ls
+
+-- the answers to a block, to the blocks from this place on, and to a report
+abbrev pub block_answers : Network → ℕ → verdicts.Verdict → List (Result Got CertFault)
+block_answers net which v = more (witness_lines net v) ++ Ok (Verdict which v) ∷ []
+
+abbrev pub blocks_answers : Network → ℕ → List verdicts.Verdict → List (Result Got CertFault)
+blocks_answers net which [] = Ok End ∷ []
+blocks_answers net which (v ∷ vs) = block_answers net which v ++ blocks_answers net (which + 1) vs
+
+abbrev pub report_answers : Network → List verdicts.Verdict → List (Result Got CertFault)
+report_answers net vs = Ok (Head Report) ∷ blocks_answers net 0 vs
+
+-- each line is taken, and the last one is the end
+abbrev pub IsWhole : List (Result Got CertFault) → Type 0
+IsWhole [] = ⊥
+IsWhole (Err fault ∷ rest) = ⊥
+IsWhole (Ok End ∷ []) = Unit {0}
+IsWhole (Ok got ∷ rest) = IsWhole rest
+
+-- the lines of a report are read again
+abbrev pub ReportsAreReadAgain : Type 0
+ReportsAreReadAgain = (net : Network) (doc : Document) (vs : List verdicts.Verdict) → IsValid net → length doc.policies ≤ 4294967295 →
+    AllZip (IsReadable net) doc.policies vs → answers net doc start (lines (report_text net doc vs)) ≡ report_answers net vs
+
+-- only the lines of a report are taken
+abbrev pub OnlyReportsAreTaken : Type 0
+OnlyReportsAreTaken = (net : Network) (doc : Document) (ls : List (List ℕ)) → IsValid net → length doc.policies ≤ 4294967295 →
+    IsWhole (answers net doc start ls) →
+    (vs : List verdicts.Verdict) × AllZip (IsReadable net) doc.policies vs × (ls ≡ lines (report_text net doc vs))

@@ -1,0 +1,12 @@
+//! Laws over the definitions alone: each is the contract of a function that does nothing.
+ghost use Rattle.report_check.specs.Outcomes.{ReportsAreAccepted, HasOneOutcome};
+
+/// A text is accepted exactly where it is a report of right verdicts.
+pub fn reports_are_accepted()
+    ensures { ReportsAreAccepted }
+{}
+
+/// A text has one outcome.
+pub fn outcome_is_unique()
+    ensures { HasOneOutcome }
+{}
