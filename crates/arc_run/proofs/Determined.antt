@@ -19,10 +19,10 @@ use Rattle.arc_run.proofs.ClassCounts.{one_count, few_or_many}
 use Rattle.arc_run.specs.Headline.{IsDetermined, SaysYes, SaysNo, SaysRefused}
 
 -- the value of an option is one, and there is none where there is none
-one_value : {A : Type 0} (o : Option A) (x y : A) → o ≡ Some x → o ≡ Some y → x ≡ y
+pub one_value : {A : Type 0} (o : Option A) (x y : A) → o ≡ Some x → o ≡ Some y → x ≡ y
 one_value o x y e f = cc
 
-no_value : {A : Type 0} (o : Option A) (x : A) → o ≡ Some x → o ≡ None → ⊥
+pub no_value : {A : Type 0} (o : Option A) (x : A) → o ≡ Some x → o ≡ None → ⊥
 no_value o x e f = absurd (cc)
 
 -- what is read is one document or one refusal
@@ -43,7 +43,7 @@ module _ (document : List ℕ) (files : Files) where
   one_network doc net other h k = answers.one_network doc (contents files doc) net other h.network k.network
 
   -- the stages of the refusals, and what each says of the ones before
-  document_none : (doc : Document) (r : FileRefusal) → HoldsDocument document files doc → RefusesDocument document files r → ⊥
+  pub document_none : (doc : Document) (r : FileRefusal) → HoldsDocument document files doc → RefusesDocument document files r → ⊥
   document_none doc r h u = ok_or_err (reading (bytes_at files document)) doc u.refusal h.read u.refused
 
   document_once : (r s : FileRefusal) → RefusesDocument document files r → RefusesDocument document files s → r ≡ s
@@ -51,7 +51,7 @@ module _ (document : List ℕ) (files : Files) where
       let same : u.refusal ≡ v.refusal = one_err (reading (bytes_at files document)) u.refusal v.refusal u.refused v.refused in
       u.is_named ∙ ap (named document []) same ∙ sym v.is_named
 
-  files_none : (doc : Document) (r : FileRefusal) → HoldsFiles document files doc → RefusesFile document files r → ⊥
+  pub files_none : (doc : Document) (r : FileRefusal) → HoldsFiles document files doc → RefusesFile document files r → ⊥
   files_none doc r h u =
       let same : doc ≡ u.doc = one_document doc u.doc h.document_is u.document_is in
       no_value (first_refusal routers_limit files u.doc.routers) r u.refused (ap (λ (d : Document). first_refusal routers_limit files d.routers) (sym same) ∙ h.held)
@@ -75,7 +75,7 @@ module _ (document : List ℕ) (files : Files) where
       answers.network_or_refused doc (contents files doc) net u.refusal h.network (subst P same u.refused)
 
   -- a file that is held is not refused as one that is not
-  held_none : (r : FileRefusal) → read_refusal document_limit files document ≡ None → read_refusal document_limit files document ≡ Some r → ⊥
+  pub held_none : (r : FileRefusal) → read_refusal document_limit files document ≡ None → read_refusal document_limit files document ≡ Some r → ⊥
   held_none r none some = no_value (read_refusal document_limit files document) r some none
 
   pub not_both : (doc : Document) (net : Network) (r : FileRefusal) → HoldsInput document files doc net → IsInputRefusal document files r → ⊥

@@ -10,6 +10,10 @@ pub mod Judging
 pub mod Finishing
 pub mod Determined
 pub mod TraceOnce
+pub mod LateKinds
+pub mod OneSaid
+pub mod TracedInput
+pub mod OneTrace
 pub mod Traced
 pub mod Refuting
 pub mod Headline

@@ -2,10 +2,9 @@
 use Rattle.std.proofs.Common.{◌≡◌, ℕ, ◌<◌, ◌⊎◌, inl, inr, Bool, List, [], length, refl, sym, ◌∙◌, ap, subst, arith}
 use Rattle.std.proofs.lemmas.Option.{slice_get_within, get_or_from_slice_get}
 use Rattle.std.specs.Prelude.{Option, Some, None, IfSome, Ok, Err}
-use Rattle.arc_base.specs.declared.refusal.Kind.TheVariants.{LinkFace, Endpoint}
+use Rattle.arc_base.specs.declared.refusal.Kind.TheVariants.{Endpoint}
 use Rattle.arc_base.specs.declared.prefix.Prefix.{Prefix}
 use Rattle.arc_outside.specs.Files.{Files}
-use Rattle.net_model.specs.declared.policies.Document.{Document}
 use Rattle.net_model.specs.declared.rows.Network.{Network}
 use Rattle.net_build.specs.Addressing.{HasEndpoints}
 use Rattle.route_trace.specs.Routes.{flagged}
@@ -22,13 +21,13 @@ use Rattle.command_words.specs.declared.commands.Command.{Command}
 use Rattle.command_words.specs.declared.commands.Command.TheVariants.{Trace}
 use Rattle.command_words.specs.declared.commands.TraceWords.{TraceWords}
 use Rattle.arc_run.specs.Headline.{HasTrace, HasNoTrace, TellsTrace}
-use Rattle.arc_run.specs.Inputs.{HoldsInput, ReadsInput, IsFit}
+use Rattle.arc_run.specs.Inputs.{IsFit}
 use Rattle.arc_run.specs.Outcomes.{Answers, IsDefined, status_of}
 use Rattle.arc_run.specs.Runs.{Runs}
 use Rattle.arc_run.specs.Refusals.{refusal_of}
 use Rattle.arc_run.specs.Traces.{first_above, down_flags, IsTraceRefusal, IsTraced}
-use Rattle.arc_run.proofs.Determined.{determined}
-use Rattle.arc_run.proofs.TraceOnce.{trace_once}
+use Rattle.arc_run.specs.TracedInputs.{ReadsTraced}
+use Rattle.arc_run.proofs.OneTrace.{has_trace, traced_or_not}
 
 -- what a test of the numbers told
 pub none_from : (links count : ℕ) (numbers tested : List ℕ) → None ≡ first_above count tested → count ≡ links → tested ≡ numbers → first_above links numbers ≡ None
@@ -55,11 +54,11 @@ host_at net p place host = (host.face, record { is_face = (place, slice_get_with
 pub has_hosts : (net : Network) (from to : Prefix) → HasEndpoints net from to → HasHost net from × HasHost net to
 has_hosts net from to ends = (host_at net from ends.source ends.from, host_at net to ends.target ends.to)
 
-pub input_stopped : (held : Option Files) (words : TraceWords) (stop : Stop) → IfSome held (λ files. ReadsInput words.document files (Err stop)) → Answers (Trace words) held (Err stop)
+pub input_stopped : (held : Option Files) (words : TraceWords) (stop : Stop) → IfSome held (λ files. ReadsTraced words files (Err stop)) → Answers (Trace words) held (Err stop)
 input_stopped None words (stops.Refused r) told = tt
 input_stopped None words stops.Memory told = tt
 input_stopped None words stops.Failed told = tt
-input_stopped (Some files) words (stops.Refused r) told = inl told
+input_stopped (Some files) words (stops.Refused r) told = told
 input_stopped (Some files) words stops.Memory told = tt
 input_stopped (Some files) words stops.Failed told = tt
 
@@ -75,46 +74,19 @@ stopped (Some files) words r stop refused (inr is) =
     let P : Stop → Type 0 = λ s. Answers (Trace words) (Some files) (Err s) in
     subst P (sym is) refused
 
-pub link_refused : (held : Option Files) (words : TraceWords) (input : Input) (number : ℕ) (stop : Stop) → IfSome held (λ files. ReadsInput words.document files (Ok input)) → first_above (length input.net.links) words.down ≡ Some number →
-    (stop ≡ stops.Memory) ⊎ (stop ≡ stops.Refused (refusal_of words.document number LinkFace)) → Answers (Trace words) held (Err stop)
-link_refused None words input number stop told above is = stopped None words (refusal_of words.document number LinkFace) stop tt is
-link_refused (Some files) words input number stop told above is =
-    stopped (Some files) words (refusal_of words.document number LinkFace) stop (inr (inl (record { doc = input.doc; net = input.net; input = told; number = number; above = above; told = refl }))) is
-
-pub ends_refused : (held : Option Files) (words : TraceWords) (input : Input) (stop : Stop) → IfSome held (λ files. ReadsInput words.document files (Ok input)) → first_above (length input.net.links) words.down ≡ None → ¬ HasEndpoints input.net words.from words.to →
+pub ends_refused : (held : Option Files) (words : TraceWords) (input : Input) (stop : Stop) → IfSome held (λ files. ReadsTraced words files (Ok input)) → first_above (length input.net.links) words.down ≡ None → ¬ HasEndpoints input.net words.from words.to →
     (stop ≡ stops.Memory) ⊎ (stop ≡ stops.Refused (refusal_of words.document 0 Endpoint)) → Answers (Trace words) held (Err stop)
 ends_refused None words input stop told links ends is = stopped None words (refusal_of words.document 0 Endpoint) stop tt is
 ends_refused (Some files) words input stop told links ends is =
-    stopped (Some files) words (refusal_of words.document 0 Endpoint) stop (inr (inr (record { doc = input.doc; net = input.net; input = told; links = links; ends = ends; told = refl }))) is
+    stopped (Some files) words (refusal_of words.document 0 Endpoint) stop (inr (inr (inr (inr (record { doc = input.doc; net = input.net; input = told; links = links; ends = ends; told = refl }))))) is
 
-pub traced : (held : Option Files) (words : TraceWords) (input : Input) (done : Done) → IfSome held (λ files. ReadsInput words.document files (Ok input)) → IsFit input → first_above (length input.net.links) words.down ≡ None → HasEndpoints input.net words.from words.to →
+pub traced : (held : Option Files) (words : TraceWords) (input : Input) (done : Done) → IfSome held (λ files. ReadsTraced words files (Ok input)) → IsFit input → first_above (length input.net.links) words.down ≡ None → HasEndpoints input.net words.from words.to →
     IsTrace input.net (flagged (down_flags (length input.net.links) words.down)) words.from words.to done.text → done.writes ≡ [] → done.status ≡ 0 → Answers (Trace words) held (Ok done)
 traced None words input done told fit links ends text writes status = (omega (arith, status), tt)
 traced (Some files) words input done told fit links ends text writes status =
     (omega (arith, status), record { doc = input.doc; net = input.net; input = told; valid = fit.valid; links = links; ends = ends; text = text; writes = writes; status = status })
 
 -- what a status says
-none_some : {A : Type 0} (o : Option A) (x : A) → o ≡ None → o ≡ Some x → ⊥
-none_some o x e f = absurd (cc)
-
--- a trace and another network for it are of one network
-one_input : (words : TraceWords) (files : Files) (h : HasTrace words files) (doc : Document) (net : Network) → HoldsInput words.document files doc net → net ≡ h.net
-one_input words files h doc net input =
-    let one = determined words.document files in
-    let docs : doc ≡ h.doc = one.one_document doc h.doc input.files_are.document_is h.input.files_are.document_is in
-    let P : Document → Type 0 = λ d. HoldsInput words.document files d net in
-    one.one_network h.doc net h.net (subst P docs input) h.input
-
-traced_or_not : (words : TraceWords) (files : Files) → HasTrace words files → (r : FileRefusal) → IsTraceRefusal words files r → ⊥
-traced_or_not words files h r (inl refused) = (determined words.document files).not_both h.doc h.net r h.input refused
-traced_or_not words files h r (inr (inl u)) =
-    let net : u.net ≡ h.net = one_input words files h u.doc u.net u.input in
-    none_some (first_above (length h.net.links) words.down) u.number h.links (ap (λ (n : Network). first_above (length n.links) words.down) (sym net) ∙ u.above)
-traced_or_not words files h r (inr (inr u)) =
-    let net : u.net ≡ h.net = one_input words files h u.doc u.net u.input in
-    let P : Network → Type 0 = λ n. HasEndpoints n words.from words.to in
-    u.ends (subst P (sym net) h.ends)
-
 told_of : (words : TraceWords) (files : Files) (outcome : Outcome) → IsDefined (Some (Trace words)) (Some files) outcome → TellsTrace words (status_of outcome) files
 told_of words files outcomes.Usage defined = absurd defined
 told_of words files (outcomes.Refused r) defined =
@@ -127,7 +99,7 @@ told_of words files (outcomes.Refused r) defined =
 told_of words files (outcomes.Done d) defined =
     let done : IsTraced words files d = defined.1 in
     let is_zero : d.status ≡ 0 = done.status in
-    let says : HasTrace words files = record { doc = done.doc; net = done.net; input = done.input; links = done.links; ends = done.ends } in
+    let says : HasTrace words files = has_trace words files d done in
     record {
       traced_exactly = (λ e. says, λ s. is_zero);
       refused_exactly = (λ e. absurd (omega (arith, is_zero, e)), λ s. absurd (traced_or_not words files says s.refusal s.refused));
@@ -144,19 +116,3 @@ tells_trace {held = held} command runs words trace below =
     let P : ℕ → Type 0 = λ n. IfSome held (TellsTrace words n) in
     let Q : Option Command → Type 0 = λ c. IsDefined c held end.outcome in
     subst P (sym end.status_is) (told held end.outcome words (subst Q trace end.leaves.defined))
-
--- a trace is one
-same_done : (d e : Done) → d.text ≡ e.text → d.writes ≡ e.writes → d.status ≡ e.status → d ≡ e
-same_done d e texts writes statuses =
-    ap (λ (t : List ℕ). record { text = t; writes = d.writes; status = d.status }) texts
-    ∙ ap (λ (w : List (List ℕ × List ℕ)). record { text = e.text; writes = w; status = d.status }) writes
-    ∙ ap (λ (n : ℕ). record { text = e.text; writes = e.writes; status = n }) statuses
-
-pub traced_once : (words : TraceWords) (files : Files) (done other : Done) → IsTraced words files done → IsTraced words files other → done ≡ other
-traced_once words files done other t s =
-    let has : HasTrace words files = record { doc = s.doc; net = s.net; input = s.input; links = s.links; ends = s.ends } in
-    let nets : t.net ≡ s.net = one_input words files has t.doc t.net t.input in
-    let P : Network → Type 0 = λ n. IsTrace n (flagged (down_flags (length n.links) words.down)) words.from words.to done.text in
-    let texts : done.text ≡ other.text =
-    trace_once s.net s.valid (flagged (down_flags (length s.net.links) words.down)) words.from words.to done.text other.text (subst P nets t.text) s.text in
-    same_done done other texts (t.writes ∙ sym s.writes) (t.status ∙ sym s.status)

@@ -5,6 +5,7 @@ pub mod Inputs
 pub mod Counts
 pub mod Verifies
 pub mod Traces
+pub mod TracedInputs
 pub mod Lrats
 pub mod Outcomes
 pub mod Runs

@@ -1,5 +1,5 @@
 //! What a command over a document begins with: the document, and the network of the router files that it names.
-ghost use Rattle.std.specs.Prelude.{◌≡◌, ◌⊎◌, ◌≤◌, IfOk, IfErr, IfSome};
+ghost use Rattle.std.specs.Prelude.{◌≡◌, ◌⊎◌, ◌≤◌, length, IfOk, IfErr, IfSome};
 ghost use Rattle.arc_outside.specs.Causes.{Rose};
 ghost use Rattle.net_doc.specs.Documents.{IsWellFormed};
 ghost use Rattle.arc_run.specs.Inputs.{name_of, named, HoldsDocument, IsFit, ReadsDocumentAt, ReadsFiles, ReadsInput};
@@ -78,6 +78,7 @@ pub fn read_files<S: Store>(
     requires { IsWellFormed doc }
     ensures told { IfSome (S.held store.old) (λ files. HoldsDocument name.now files doc → ReadsFiles name.now files result) }
     ensures fit { IfOk result IsFit }
+    ensures links { IfOk result (λ input. length input.net.links ≡ length doc.links) }
     ensures same { S.held store.new ≡ S.held store.old }
     ensures cause { IfErr result (HasStopCause (Rose (S.faults store.old) (S.faults store.new)) (Rose (S.absences store.old) (S.absences store.new))) }
     ensures faults { S.faults store.old ≤ S.faults store.new }

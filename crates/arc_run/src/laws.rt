@@ -1,19 +1,25 @@
 //! Laws over the definitions alone: each is the contract of a function that does nothing.
-ghost use Rattle.std.specs.Prelude.{◌≡◌, ℕ, List};
+ghost use Rattle.std.specs.Prelude.{◌≡◌, ◌++◌, ℕ, List};
 ghost use Rattle.arc_outside.specs.Files.{Files};
+ghost use Rattle.net_build.specs.Order.{tries};
 ghost use Rattle.arc_run.specs.declared.outcome.Done.{Done};
+ghost use Rattle.arc_run.specs.declared.outcome.FileRefusal.{FileRefusal};
 ghost use Rattle.command_words.specs.declared.commands.TraceWords.{TraceWords};
 ghost use Rattle.arc_run.specs.Headline.{IsDetermined, VerifiedIsAccepted};
-ghost use Rattle.arc_run.specs.Traces.{IsTraced};
+ghost use Rattle.arc_run.specs.Traces.{tries_before, tries_after, IsTraceRefusal, IsTraced};
 
 /// What the names hold gives a command over a document one document and one network, or one first refusal, and never both.
 pub fn input_is_determined()
     ensures { (document : List ℕ) (files : Files) → IsDetermined document files }
 {}
 
-/// A trace is a function of the words and the files.
+/// The words and the files give one trace, or one first refusal, and never both. The refusals are tried in the order of those of a
+/// network, with the numbers of the links that are to be down between the links and what is asked of neighbours.
 pub fn trace_is_determined()
-    ensures { (words : TraceWords) (files : Files) (done other : Done) → IsTraced words files done → IsTraced words files other → done ≡ other }
+    ensures one_trace { (words : TraceWords) (files : Files) (done other : Done) → IsTraced words files done → IsTraced words files other → done ≡ other }
+    ensures one_refusal { (words : TraceWords) (files : Files) (r s : FileRefusal) → IsTraceRefusal words files r → IsTraceRefusal words files s → r ≡ s }
+    ensures not_both { (words : TraceWords) (files : Files) (done : Done) (r : FileRefusal) → IsTraced words files done → IsTraceRefusal words files r → ⊥ }
+    ensures order { tries_before ++ tries_after ≡ tries }
 {}
 
 /// Every report that `verify` put is accepted by `check` over the same files, where a name holds it and it is not too long.

@@ -19,7 +19,7 @@ use arc_outside::{MemSink, MemStore, SureSink, SureStore};
 use certificates::{CERTIFICATES, JUDGED};
 use listed::LISTED;
 use lrat::PROOFS;
-use no_network::NO_NETWORK;
+use no_network::{NO_NETWORK, TWO_AREAS, UNKNOWN_NEIGHBOUR};
 use plain::{KEPT, PLAIN, REDUNDANT};
 use refusals::REFUSALS;
 use routers::{PAIR_FILES, SQUARE_FILES};
@@ -27,7 +27,7 @@ use sessions::{DENIED_ROUTE, SESSIONS};
 use std::alloc::Global;
 use std::process::Abort;
 use std::test::Fail;
-use traces::{DENIED_TRACES, NO_TRACES, PAIR_TRACES, SQUARE_TRACES};
+use traces::{DENIED_TRACES, DOWN_AFTER, DOWN_BEFORE, NO_TRACES, PAIR_TRACES, SQUARE_TRACES};
 use unread::UNREAD;
 
 // A text, by its parts, which stand one after the other.
@@ -177,6 +177,8 @@ fn packets_are_traced(rt: HostRuntime) -> Result<(), Fail> {
     answer_over(&rt, rt.alloc(), &SQUARE_FILES, &SQUARE_TRACES)?;
     answer_over(&rt, rt.alloc(), &PAIR_FILES, &PAIR_TRACES)?;
     answer_over(&rt, rt.alloc(), &DENIED_ROUTE, &DENIED_TRACES)?;
+    answer_over(&rt, rt.alloc(), &UNKNOWN_NEIGHBOUR, &DOWN_BEFORE)?;
+    answer_over(&rt, rt.alloc(), &TWO_AREAS, &DOWN_AFTER)?;
     Ok(answer_over(&rt, rt.alloc(), &[], &NO_TRACES)?)
 }
 

@@ -2,7 +2,44 @@
 
 use super::documents::*;
 use super::routers::*;
-use super::{Row, VERIFY};
+use super::{File, Row, VERIFY};
+
+// The second router is in another area.
+pub const TWO_AREAS: [File; 3] = [
+    (b"net.json", PAIR_BLOCKED),
+    (b"r1.cfg", R1),
+    (
+        b"r2.cfg",
+        &[
+            USERS_2,
+            MARK,
+            FACE_1,
+            FAR_1,
+            MARK,
+            b"router ospf 1\n network 0.0.0.0 255.255.255.255 area 1\n",
+            END,
+        ],
+    ),
+];
+
+// The first router has a neighbour at no end of a link.
+pub const UNKNOWN_NEIGHBOUR: [File; 3] = [
+    (b"net.json", PAIR_BLOCKED),
+    (
+        b"r1.cfg",
+        &[
+            USERS_1,
+            MARK,
+            FACE_1,
+            NEAR_1,
+            MARK,
+            b"router bgp 65001\n neighbor 10.0.9.2 remote-as 65002\n",
+            b" network 10.1.0.0 mask 255.255.255.0\n",
+            END,
+        ],
+    ),
+    (b"r2.cfg", BGP_R2),
+];
 
 pub const NO_NETWORK: [Row; 13] = [
     // routers of one name
@@ -51,22 +88,7 @@ pub const NO_NETWORK: [Row; 13] = [
     },
     // two areas
     Row {
-        files: &[
-            (b"net.json", PAIR_BLOCKED),
-            (b"r1.cfg", R1),
-            (
-                b"r2.cfg",
-                &[
-                    USERS_2,
-                    MARK,
-                    FACE_1,
-                    FAR_1,
-                    MARK,
-                    b"router ospf 1\n network 0.0.0.0 255.255.255.255 area 1\n",
-                    END,
-                ],
-            ),
-        ],
+        files: &TWO_AREAS,
         words: VERIFY,
         text: b"refused r2.cfg 10 two-areas\n",
         code: 5,
@@ -96,23 +118,7 @@ pub const NO_NETWORK: [Row; 13] = [
     },
     // a neighbour at no end of a link, and a network that is none of the router's
     Row {
-        files: &[
-            (b"net.json", PAIR_BLOCKED),
-            (
-                b"r1.cfg",
-                &[
-                    USERS_1,
-                    MARK,
-                    FACE_1,
-                    NEAR_1,
-                    MARK,
-                    b"router bgp 65001\n neighbor 10.0.9.2 remote-as 65002\n",
-                    b" network 10.1.0.0 mask 255.255.255.0\n",
-                    END,
-                ],
-            ),
-            (b"r2.cfg", BGP_R2),
-        ],
+        files: &UNKNOWN_NEIGHBOUR,
         words: VERIFY,
         text: b"refused r1.cfg 10 neighbor-unknown\n",
         code: 5,

@@ -110,3 +110,19 @@ pub const NO_TRACES: [Said; 3] = [
         code: 4,
     },
 ];
+
+const ABOVE: &[&[u8]] = &[b"trace", b"net.json", SOURCE, TO_2, b"--down", b"5"];
+
+// Where a neighbour is unknown: a link above the last one is told before that.
+pub const DOWN_BEFORE: [Said; 1] = [Said {
+    words: ABOVE,
+    text: b"refused net.json 5 link-face\n",
+    code: 5,
+}];
+
+// Where there are two areas: these are told before it.
+pub const DOWN_AFTER: [Said; 1] = [Said {
+    words: ABOVE,
+    text: b"refused r2.cfg 10 two-areas\n",
+    code: 5,
+}];

@@ -2,6 +2,7 @@ use Rattle.std.proofs.Common.{rules}
 use Rattle.net_build.specs.Networks.{IsFirstRefusal}
 use Rattle.arc_run.proofs.Judging.{all_few}
 use Rattle.arc_run.proofs.FilesRead.{network_refused}
+use Rattle.arc_run.proofs.TracedInput.{same_links}
 use Rattle.arc_run.proofs.inputs.read_files.Goals as goal
 
 pub returns-in-Ok-network-clause-fit : goal.returns-in-Ok-network-clause-fit
@@ -16,3 +17,6 @@ returns-in-Err-Refused-clause-told g c =
     let refused : IsFirstRefusal c.args.doc c.in-Ok.files c.in-Err-Refused.refusal = search rules in
     network_refused (g.S.Store.held c.args.store.now) c.args.name.now c.args.doc c.slice.result.now _ c.in-Err-Refused.refusal c.named.result
     c.in-Ok.ensures.told c.slice.ensures.items refused c.named.ensures
+
+pub returns-in-Ok-network-clause-links : goal.returns-in-Ok-network-clause-links
+returns-in-Ok-network-clause-links g c = same_links c.args.doc _ c.in-Ok-network.built.net c.in-Ok-network.ensures.answer.network
