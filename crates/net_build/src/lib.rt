@@ -31,8 +31,6 @@ mod sessions;
 mod spots;
 mod stops;
 mod subnets;
-#[cfg(test)]
-mod tests;
 
 pub use built::{Built, FacePlace, ListPlace, Places};
 pub use endpoints::has_endpoints;

@@ -1,5 +1,7 @@
-use crate::{Built, network};
+ghost use Rattle.std.specs.Prelude.{◌<◌, ◌^◌, length, IfOk};
+
 use arc_base::{Kind, List, Memory, Name};
+use net_build::{Built, network};
 use net_doc::{NetFault, Refusal, document};
 use std::alloc::Global;
 use std::test::Fail;
@@ -36,16 +38,24 @@ const BGP_1: &str =
 const BGP_2: &str =
     "!\nrouter bgp 65002\n neighbor 10.0.1.1 remote-as 65001\n network 10.2.0.0 mask 255.255.255.0\n!\nend\n";
 
-fn joined(alloc: Global, parts: &[&str]) -> Result<Name, Memory> {
+fn joined(alloc: Global, parts: &[&str]) -> Result<Name, Memory>
+    ensures { IfOk result (λ text. length text < 2 ^ 32) }
+{
     let mut text = Vec::new(alloc);
     for part in parts {
         text.extend_from_slice(part.as_bytes())?;
+    }
+    if text.len() >= 1000 {
+        return Err(Memory);
     }
     Ok(Name::of(text))
 }
 
 fn built(alloc: Global, doc: &str, first: &[&str], second: &[&str]) -> Result<Built, NetFault> {
     let doc = document(alloc, doc.as_bytes())?;
+    if doc.routers.len() != 2 {
+        return Err(NetFault::Memory);
+    }
     let mut files = List::make(alloc);
     files.push(joined(alloc, first)?)?;
     files.push(joined(alloc, second)?)?;
