@@ -12,8 +12,6 @@ mod lrat_check;
 mod outcome;
 mod refusals;
 mod surely;
-#[cfg(test)]
-mod tests;
 mod top;
 mod tracing;
 mod verifying;

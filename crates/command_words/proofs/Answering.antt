@@ -14,7 +14,7 @@ use Rattle.command_words.specs.Grammar.{app}
 use Rattle.command_words.specs.Matched.{matched_check, matched_command, matched_lrat, matched_trace, matched_verify}
 use Rattle.command_words.specs.declared.commands.Command.{Command}
 use Rattle.command_words.proofs.Rules.{Reads, first_empty}
-use Rattle.command_words.proofs.Walking.{leaf}
+use Rattle.command_words.proofs.WalkStates.{leaf}
 use Rattle.command_words.proofs.Levels.{Level, Values, level, level_law, rows, whole}
 use Rattle.command_words.proofs.Entering.{check_rules, entered_fault_is, entered_rows, lrat_rules, names, no_word, trace_rules, unnamed, verify_rules}
 use Rattle.command_words.proofs.Readings.{check_ids, check_reads, lrat_ids, lrat_reads, trace_ids, trace_options, trace_reads, verify_ids, verify_reads}

@@ -12,7 +12,7 @@ use Rattle.clap.specs.declared.error.kind.ErrorKind.TheVariants.{InvalidSubcomma
 use Rattle.command_words.specs.Grammar.{app}
 use Rattle.command_words.proofs.Forms.{IsPlain, IsHyphened, IsLong, View, double, first_letter, seen_plain, seen_hyphened, seen_end, seen_long, view_of}
 use Rattle.command_words.proofs.Rules.{first_empty, place_rule, option_rule, some_kind}
-use Rattle.command_words.proofs.Walking.{leaf}
+use Rattle.command_words.proofs.WalkStates.{leaf}
 
 pub app_simple : is_simple app ≡ true
 unfolding clap_on_literals

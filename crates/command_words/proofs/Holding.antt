@@ -10,7 +10,7 @@ use Rattle.clap.specs.Walk.{Row, Rule, Text, arg_by_id, first_of, has_row}
 use Rattle.clap.specs.Takes.{is_given}
 use Rattle.command_words.specs.Words.{Form, Given, plain, hyphened, end, long, form_of, given_by, is_once, name_in, names_one, option, option_gives, positional, positionals, then_more, value_gives, value_in, value_of, word_gives}
 use Rattle.command_words.proofs.Rules.{Reads, added, option_rule, place_rule, row_of}
-use Rattle.command_words.proofs.Walking.{absorb, within}
+use Rattle.command_words.proofs.WalkStates.{absorb, within}
 
 -- ---- one more row
 

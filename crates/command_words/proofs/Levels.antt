@@ -10,7 +10,8 @@ use Rattle.clap.specs.Faults.{check_fault, defaults_fault, level_fault, settle_f
 use Rattle.clap.specs.declared.error.kind.ErrorKind.TheVariants.{MissingRequiredArgument}
 use Rattle.command_words.specs.Words.{Given, arguments_of, given_by, is_once, names_one, positionals, value_of}
 use Rattle.command_words.proofs.Rules.{Judged, Reads, both_empty, first_empty, second_empty, some_kind}
-use Rattle.command_words.proofs.Walking.{absorb, leaf, laws, nothing, outcome, state, within}
+use Rattle.command_words.proofs.WalkStates.{absorb, leaf, nothing, outcome, state, within}
+use Rattle.command_words.proofs.Walking.{laws}
 use Rattle.command_words.proofs.Holding.{Absorbed, Holds, absorbs_all, given_first, given_knows}
 
 missing : (p : Text → Bool) (xs : List Text) (k : ℕ) (x : Text) → slice_get xs k ≡ Some x → p x ≡ true → list_any p xs ≡ true

@@ -1,6 +1,7 @@
 pub mod LinkNumbers
 pub mod Forms
 pub mod Rules
+pub mod WalkStates
 pub mod Walking
 pub mod Holding
 pub mod Levels

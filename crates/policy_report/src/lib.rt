@@ -12,8 +12,6 @@ mod lines;
 mod reader;
 mod reading;
 mod reports;
-#[cfg(test)]
-mod tests;
 mod witness;
 mod words;
 

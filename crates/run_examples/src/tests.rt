@@ -13,9 +13,9 @@ mod sessions;
 mod traces;
 mod unread;
 
-use crate::run;
 use arc_base::{List, Memory, Name};
 use arc_outside::{MemSink, MemStore, SureSink, SureStore};
+use arc_run::run;
 use certificates::{CERTIFICATES, JUDGED};
 use listed::LISTED;
 use lrat::PROOFS;

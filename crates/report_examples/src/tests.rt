@@ -1,9 +1,9 @@
-use crate::{CertFault, CertForm, Got, Reader, report};
 use arc_base::{CertKind, Face, Link, List, Memory, Name, Prefix};
 use net_model::{
     Class, ClassSide, Document, LinkPath, LinkRow, Network, Policy, PolicyKind, Protocol,
     RouterRow, Verdict, Weights,
 };
+use policy_report::{CertFault, CertForm, Got, Reader, report};
 use std::alloc::Global;
 use std::process::Abort;
 use std::test::Fail;
