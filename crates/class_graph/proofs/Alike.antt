@@ -1,32 +1,26 @@
 -- One packet of a class decides for all of them, where each packet list is uniform on the class.
-use Rattle.std.proofs.Common.{◌≡◌, ℕ, ◌↔◌, Bool, Option, Some, None, IsTrue, refl, sym, subst, eq-eqb}
+use Rattle.std.proofs.Common.{◌≡◌, ℕ, ◌↔◌, Bool, Option, Some, None, IsTrue, refl, sym, subst}
 use Rattle.std.specs.Prelude.{slice_get, IsSomeAnd}
 use Rattle.std.proofs.lemmas.Option.{slice_get-map}
 use Rattle.std.specs.Option.{option_map}
 use Rattle.std.proofs.lemmas.List.Elements.{All-contains}
-use Rattle.arc_base.specs.Addresses.{first_bits}
 use Rattle.arc_base.specs.declared.place.ListId.{ListId}
 use Rattle.net_model.specs.declared.lists.Packet.{Packet}
 use Rattle.net_model.specs.declared.lists.PacketList.{PacketList}
 use Rattle.net_model.specs.declared.policies.Class.{Class}
 use Rattle.net_model.specs.declared.rows.Network.{Network}
 use Rattle.net_model.specs.Lists.{permits}
-use Rattle.net_model.specs.Packets.{IsOf}
+use Rattle.net_model.specs.Packets.{IsOf, first_packet}
 use Rattle.net_model.specs.Routing.{Arc}
 use Rattle.net_model.specs.Forwarding.{ListPermits, ArcPermits}
 use Rattle.net_model.specs.Witnesses.{IsUniform}
 use Rattle.class_graph.specs.declared.modes.Mode.{Mode}
 use Rattle.class_graph.specs.declared.modes.Mode.TheVariants.{Routed, Permitted, PermittedOffWaypoint}
-use Rattle.class_graph.specs.Classes.{AreUniform, first, PermitsClass}
+use Rattle.class_graph.specs.Classes.{AreUniform, PermitsClass}
 use Rattle.class_graph.specs.Answers.{answers_to, Allows, ArcAllows}
 use Rattle.class_graph.specs.Graphs.{MayUse}
-use Rattle.class_graph.proofs.Readings.{item_at_place}
-
-pub first_is_of : (class : Class) → IsOf class (first class)
-first_is_of class = (
-  eq-eqb (first_bits class.from.len class.from.addr) (first_bits class.from.len class.from.addr) refl,
-  eq-eqb (first_bits class.to.len class.to.addr) (first_bits class.to.len class.to.addr) refl,
-)
+use Rattle.net_model.proofs.Packets.{first_is_of}
+use Rattle.net_model.proofs.Readings.{item_at_place}
 
 list_alike : (net : Network) (class : Class) → AreUniform net class → (p q : Packet) → IsOf class p → IsOf class q →
     (place : ℕ) (o : Option PacketList) → slice_get net.packet_lists place ≡ o →
@@ -66,23 +60,23 @@ allows_is net p (Some id) =
     )
 
 -- the first packet's answers are those of the class
-pub arc_allows_is : (net : Network) (class : Class) → AreUniform net class → (arc : Arc) → ArcAllows (answers_to net (first class)) arc ↔ PermitsClass net class arc
+pub arc_allows_is : (net : Network) (class : Class) → AreUniform net class → (arc : Arc) → ArcAllows (answers_to net (first_packet class)) arc ↔ PermitsClass net class arc
 arc_allows_is net class uniform arc = (
-  λ h. λ p of_p. arc_alike net class uniform (first class) p (first_is_of class) of_p arc (
-    (allows_is net (first class) arc.tail.list_out).0 (h.0),
-    (allows_is net (first class) arc.head.list_in).0 (h.1),
+  λ h. λ p of_p. arc_alike net class uniform (first_packet class) p (first_is_of class) of_p arc (
+    (allows_is net (first_packet class) arc.tail.list_out).0 (h.0),
+    (allows_is net (first_packet class) arc.head.list_in).0 (h.1),
   ),
   λ h. (
-    (allows_is net (first class) arc.tail.list_out).1 ((h (first class) (first_is_of class)).0),
-    (allows_is net (first class) arc.head.list_in).1 ((h (first class) (first_is_of class)).1),
+    (allows_is net (first_packet class) arc.tail.list_out).1 ((h (first_packet class) (first_is_of class)).0),
+    (allows_is net (first_packet class) arc.head.list_in).1 ((h (first_packet class) (first_is_of class)).1),
   ),
 )
 
 pub open_is : (net : Network) (class : Class) → AreUniform net class → (up : Bool) (list : Option ListId) →
-    (IsTrue up × Allows (answers_to net (first class)) list) ↔ ((p : Packet) → IsOf class p → IsTrue up × ListPermits net list p)
+    (IsTrue up × Allows (answers_to net (first_packet class)) list) ↔ ((p : Packet) → IsOf class p → IsTrue up × ListPermits net list p)
 open_is net class uniform up list = (
-  λ h. λ p of_p. (h.0, lists_alike net class uniform (first class) p (first_is_of class) of_p list ((allows_is net (first class) list).0 (h.1))),
-  λ h. let here = h (first class) (first_is_of class) in (here.0, (allows_is net (first class) list).1 (here.1)),
+  λ h. λ p of_p. (h.0, lists_alike net class uniform (first_packet class) p (first_is_of class) of_p list ((allows_is net (first_packet class) list).0 (h.1))),
+  λ h. let here = h (first_packet class) (first_is_of class) in (here.0, (allows_is net (first_packet class) list).1 (here.1)),
 )
 
 -- a mode that takes an arc on one ground takes it on another

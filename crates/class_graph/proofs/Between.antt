@@ -5,24 +5,25 @@ use Rattle.arc_base.specs.declared.place.Router.{Router}
 use Rattle.net_model.specs.declared.policies.Class.{Class}
 use Rattle.net_model.specs.declared.rows.Network.{Network}
 use Rattle.net_model.specs.Forwarding.{Ends}
+use Rattle.net_model.specs.Packets.{first_packet}
 use Rattle.class_graph.specs.declared.building.ClassGraph.{ClassGraph}
 use Rattle.class_graph.specs.declared.hosts.End.{End}
 use Rattle.class_graph.specs.declared.hosts.HostPair.{HostPair}
 use Rattle.class_graph.specs.declared.modes.Mode.{Mode}
 use Rattle.class_graph.specs.Answers.{answers_to, ArcAllows}
 use Rattle.class_graph.specs.Building.{Answered}
-use Rattle.class_graph.specs.Classes.{AreUniform, first, PermitsClass}
+use Rattle.class_graph.specs.Classes.{AreUniform, PermitsClass}
 use Rattle.class_graph.specs.Graphs.{IsGraphOf, Fits, IsClassGraph}
 use Rattle.class_graph.specs.Hosts.{IsHostPair, IsOpenTo, end_in, end_out}
 use Rattle.class_graph.proofs.Alike.{arc_allows_is, open_is, may_use_by}
 use Rattle.class_graph.proofs.Growing.{graph_as}
 
-pub class_graph_of : (net : Network) (class : Class) → AreUniform net class → (pair : HostPair) (answers : List Bool) → answers ≡ answers_to net (first class) →
+pub class_graph_of : (net : Network) (class : Class) → AreUniform net class → (pair : HostPair) (answers : List Bool) → answers ≡ answers_to net (first_packet class) →
     (mode : Mode) (graph : ClassGraph) → graph.source ≡ pair.source.router → graph.target ≡ pair.target.router →
     IsTrue graph.enters ↔ IsOpenTo answers pair.source → IsTrue graph.leaves ↔ IsOpenTo answers pair.target →
     IsGraphOf net pair.to (Answered mode answers) graph.graph → (ends : Ends) → IsHostPair net ends pair → IsClassGraph net ends class mode graph
 class_graph_of net class uniform pair answers answered mode graph source target enters leaves arcs ends is =
-    let first_answers : List Bool = answers_to net (first class) in
+    let first_answers : List Bool = answers_to net (first_packet class) in
     let opens_in = open_is net class uniform ends.source.up ends.source.list_in in
     let opens_out = open_is net class uniform ends.target.up ends.target.list_out in
     let here : IsTrue graph.enters ↔ IsOpenTo first_answers (end_in ends.source) =

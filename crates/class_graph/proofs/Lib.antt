@@ -6,4 +6,3 @@ pub mod Denied
 pub mod Between
 pub mod ClassDenials
 pub mod Through
-pub mod ExampleNetwork

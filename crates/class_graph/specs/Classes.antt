@@ -12,10 +12,6 @@ use Rattle.net_model.specs.Witnesses.{IsUniform}
 abbrev pub AreUniform : Network → Class → Type 0
 AreUniform net class = All (λ l. IsUniform l.entries class) net.packet_lists
 
--- the packet of the class's first addresses
-abbrev pub first : Class → Packet
-first class = record { from = class.from.addr; to = class.to.addr }
-
 -- the arc permits the class: it permits each packet of it
 abbrev pub PermitsClass : Network → Class → Arc → Type 0
 PermitsClass net class arc = (p : Packet) → IsOf class p → ArcPermits net arc p

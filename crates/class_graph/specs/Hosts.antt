@@ -5,7 +5,7 @@ use Rattle.net_model.specs.declared.lists.Packet.{Packet}
 use Rattle.net_model.specs.declared.policies.Class.{Class}
 use Rattle.net_model.specs.declared.rows.FaceRow.{FaceRow}
 use Rattle.net_model.specs.declared.rows.Network.{Network}
-use Rattle.net_model.specs.Forwarding.{Ends, AreEnds, LiesInHostOf, ListPermits}
+use Rattle.net_model.specs.Forwarding.{Ends, AreEnds, ListPermits}
 use Rattle.net_model.specs.Tables.{AreRoutedLinks}
 use Rattle.class_graph.specs.declared.hosts.End.{End}
 use Rattle.class_graph.specs.declared.hosts.HostPair.{HostPair}
@@ -45,13 +45,3 @@ pub record IsHostPairOf (net : Network) (class : Class) (pair : HostPair) : Type
   pub ends : Ends
   pub are_ends : AreEnds net class ends
   pub is_pair : IsHostPair net ends pair
-
--- the prefix lies in the host network of this interface of the network
-pub record IsOwner (net : Network) (prefix : Prefix) (face : FaceRow) : Type 0 where
-  pub one : Contains net.faces face
-  pub lies : LiesInHostOf prefix face
-
--- the prefix lies in a host network of the network
-pub record LiesInSomeHost (net : Network) (prefix : Prefix) : Type 0 where
-  pub face : FaceRow
-  pub owner : IsOwner net prefix face

@@ -4,4 +4,3 @@ pub mod Hosts
 pub mod Graphs
 pub mod Building
 pub mod Denials
-pub mod Example

@@ -1,26 +1,17 @@
+//! What the packet lists of a network answer to a class, by the packet of its first addresses.
 ghost use Rattle.std.specs.Prelude.{◌≡◌, ◌↔◌, IsTrue, IfOk};
+ghost use Rattle.net_model.specs.Packets.{first_packet};
 ghost use Rattle.class_graph.specs.Answers.{answers_to, Allows, EndsAllow};
-ghost use Rattle.class_graph.specs.Classes.{first};
 
 use arc_base::{List, ListId, Memory};
-use net_model::{Class, FaceRow, Network, Packet};
+use net_model::{Class, FaceRow, Network};
 use std::alloc::Global;
-
-/// The packet of the class's first addresses.
-pub fn first_packet(class: Class) -> Packet
-    ensures { result ≡ first class }
-{
-    Packet {
-        from: class.from.addr,
-        to: class.to.addr,
-    }
-}
 
 /// What each packet list of the network answers to the class's packet of first addresses.
 pub fn list_answers(alloc: Global, net: &Network, class: Class) -> Result<List<bool>, Memory>
-    ensures { IfOk result (λ answers. answers ≡ answers_to net.now (first class)) }
+    ensures { IfOk result (λ answers. answers ≡ answers_to net.now (first_packet class)) }
 {
-    let packet = first_packet(class);
+    let packet = class.first_packet();
     let mut answers = List::make(alloc);
     for list in net.packet_lists.slice() {
         answers.push(list.permits(packet))?;

@@ -1,3 +1,4 @@
+//! Building the graph of a class, or of all routed arcs.
 ghost use Rattle.std.specs.Prelude.{◌≡◌, ◌↔◌, IsTrue, IfOk};
 ghost use Rattle.net_model.specs.Validity.{IsValid};
 ghost use Rattle.net_model.specs.Forwarding.{HasEnds, Ends};

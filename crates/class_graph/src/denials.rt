@@ -1,3 +1,4 @@
+//! The first link over which a class is denied.
 ghost use Rattle.std.specs.Prelude.{◌↔◌, ℕ, IsTrue, IfOk, IfSome, IfNone, MatchOption};
 ghost use Rattle.net_model.specs.Tables.{AreRoutedLinks};
 ghost use Rattle.class_graph.specs.Classes.{AreUniform};

@@ -1,12 +1,13 @@
+//! The interfaces at which the packets of a class enter and leave.
 ghost use Rattle.std.specs.Prelude.{◌≡◌, ◌↔◌, IsTrue, IfOk};
 ghost use Rattle.net_model.specs.declared.lists.Packet.{Packet as AnyPacket};
 ghost use Rattle.net_model.specs.Packets.{IsOf};
-ghost use Rattle.net_model.specs.Forwarding.{Ends, HasEnds, LiesInHostOf, Enters, Leaves};
+ghost use Rattle.net_model.specs.Forwarding.{Ends, HasEnds, Enters, Leaves};
 ghost use Rattle.class_graph.specs.Classes.{AreUniform};
 ghost use Rattle.class_graph.specs.Answers.{Allows};
-ghost use Rattle.class_graph.specs.Hosts.{end_in, end_out, IsOpenTo, Admits, IsHostPair, IsHostPairOf, LiesInSomeHost, IsOwner};
+ghost use Rattle.class_graph.specs.Hosts.{end_in, end_out, IsOpenTo, Admits, IsHostPair, IsHostPairOf};
 
-use crate::answers::{allows, first_packet};
+use crate::answers::allows;
 use arc_base::{List, ListId, Memory, Prefix, Router};
 use net_model::{Class, FaceRow, Network, Packet, RoutedLink};
 use std::alloc::Global;
@@ -54,7 +55,7 @@ impl HostPair {
         requires { AreUniform net.now class }
         ensures { (ends : Ends) → IsHostPair net.now ends self.now → IsTrue result ↔ ((p : AnyPacket) → IsOf class p → Enters net.now ends p × Leaves net.now ends p) }
     {
-        self.admits(net, first_packet(class))
+        self.admits(net, class.first_packet())
     }
 
     /// Whether both interfaces are up, and their lists permit the packet.
@@ -65,39 +66,16 @@ impl HostPair {
     }
 }
 
-/// The interface in whose host network the prefix lies.
-fn owner(net: &Network, prefix: Prefix) -> &FaceRow
-    requires { LiesInSomeHost net.now prefix }
-    ensures { IsOwner net.now prefix result.now }
-{
-    match net.host_of(prefix) {
-        Some(face) => match net.faces.get(face.0) {
-            Some(row) => row,
-            None => unreachable!(),
-        },
-        None => unreachable!(),
-    }
-}
-
-/// The host network of the interface.
-fn host(face: &FaceRow, prefix: Prefix) -> Prefix
-    requires { LiesInHostOf prefix face.now }
-    ensures { face.now.host ≡ Some result }
-{
-    match face.host {
-        Some(host) => host,
-        None => unreachable!(),
-    }
-}
-
 /// What the class shares with all classes between the same two host networks.
 pub fn host_pair(alloc: Global, net: &Network, class: Class) -> Result<HostPair, Memory>
     requires ends { HasEnds net.now class }
     ensures { IfOk result (IsHostPairOf net.now class) }
 {
-    let source = owner(net, class.from);
-    let target = owner(net, class.to);
-    let to = host(target, class.to);
+    let source = net.host_face(class.from);
+    let target = net.host_face(class.to);
+    let Some(to) = target.host else {
+        unreachable!()
+    };
     let routed = net.routed_links(alloc, to)?;
     Ok(HostPair {
         source: entrance(source),

@@ -9,10 +9,8 @@ mod building;
 mod denials;
 mod hosts;
 mod modes;
-#[cfg(test)]
-mod tests;
 
-pub use answers::{first_packet, list_answers};
+pub use answers::list_answers;
 pub use building::{ClassGraph, build, build_between, routed_graph};
 pub use denials::denied_link;
 pub use hosts::{End, HostPair, host_pair};

@@ -1,3 +1,4 @@
+//! Which of the routed arcs a graph takes.
 ghost use Rattle.std.specs.Prelude.{◌↔◌, IsTrue};
 ghost use Rattle.class_graph.specs.Graphs.{MayUse};
 

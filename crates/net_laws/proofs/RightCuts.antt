@@ -10,16 +10,17 @@ use Rattle.arc_base.specs.declared.prefix.Prefix.{Prefix}
 use Rattle.net_model.specs.declared.lists.Packet.{Packet}
 use Rattle.net_model.specs.declared.policies.Class.{Class}
 use Rattle.net_model.specs.declared.rows.Network.{Network}
-use Rattle.net_model.specs.Packets.{IsOf}
+use Rattle.net_model.specs.Packets.{IsOf, first_packet}
 use Rattle.net_model.specs.Routing.{Arc, IsArc, IsRouted, IsStable, Offers, cost, head_router}
 use Rattle.net_model.specs.Forwarding.{Ends, AreEnds, Enters, Leaves, Attains, ArcPermits, Walk, IsStuck, failures, source_router, target_router}
 use Rattle.net_model.specs.Validity.{IsValid, IsValidFace}
 use Rattle.net_model.specs.Witnesses.{IsOn, LeavesSide, IsRightCut, among}
+use Rattle.net_model.proofs.Packets.{first_is_of}
 use Rattle.net_laws.specs.Laws.{RightCutsSeparate, RightCutsBreakReach, RightDenialsBreakReach}
 use Rattle.net_laws.proofs.Counting.{total, total-sum, total-mono, total-cong, total-const, ind}
 use Rattle.net_laws.proofs.FailedLinks.{count-range, times}
 use Rattle.net_laws.proofs.StableMaps.{cost-pos, head_in, reached}
-use Rattle.net_laws.proofs.RightWalks.{first_packet, part_of}
+use Rattle.net_laws.proofs.RightWalks.{part_of}
 use Rattle.net_laws.proofs.Existence.{some_stable_map}
 
 -- a link that the list contains is among them
@@ -122,7 +123,7 @@ right_cuts_break_reach net valid ends k whole links side are cut reaches =
     let shown : (failures net (among links) ≤ k) × ((d : ℕ → Option ℕ) → IsStable net ends.to (target_router ends) (among links) d → d (source_router ends) ≡ None) =
     right_cuts_separate net valid ends k whole links side are cut in
     let d : (d : ℕ → Option ℕ) × IsStable net ends.to (target_router ends) (among links) d = some_stable_map net valid ends.to (target_router ends) (among links) in
-    let p : (p : Packet) × IsOf whole p = first_packet whole in
+    let p : (p : Packet) × IsOf whole p = (first_packet whole, first_is_of whole) in
     let reach : Enters net ends p.0 × ((arcs : List Arc) → ¬ IsStuck net ends (among links) d.0 p.0 arcs) = reaches (among links) d.0 shown.0 d.1 p.0 p.1 in
     reach.1 [] (stuck_at_source net ends (among links) d.0 p.0 reach.0 (shown.1 d.0 d.1))
 
@@ -151,7 +152,7 @@ pub right_denials_break_reach : RightDenialsBreakReach
 right_denials_break_reach net valid ends k whole class are denial reaches =
     let failed : ℕ → Bool = λ link. false in
     let d : (d : ℕ → Option ℕ) × IsStable net ends.to (target_router ends) (λ link. false) d = some_stable_map net valid ends.to (target_router ends) (λ link. false) in
-    let p : (p : Packet) × IsOf class p = first_packet class in
+    let p : (p : Packet) × IsOf class p = (first_packet class, first_is_of class) in
     let of : IsOf whole p.0 = part_of class whole p.0 denial.part p.1 in
     let reach : Enters net ends p.0 × ((arcs : List Arc) → ¬ IsStuck net ends (λ link. false) d.0 p.0 arcs) =
     reaches (λ link. false) d.0 (omega (arith, none_failed net)) d.1 p.0 of in

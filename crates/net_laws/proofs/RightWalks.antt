@@ -12,11 +12,12 @@ use Rattle.net_model.specs.declared.policies.PolicyKind.{PolicyKind}
 use Rattle.net_model.specs.declared.policies.PolicyKind.TheVariants.{Blocked, Through}
 use Rattle.net_model.specs.declared.verdicts.LinkPath.{LinkPath}
 use Rattle.net_model.specs.declared.rows.Network.{Network}
-use Rattle.net_model.specs.Packets.{IsOf, LiesIn}
+use Rattle.net_model.specs.Packets.{IsOf, LiesIn, first_packet}
 use Rattle.net_model.specs.Routing.{Arc}
 use Rattle.net_model.specs.Forwarding.{Ends, source_router, target_router}
 use Rattle.net_model.specs.Policies.{CrossesWaypoint}
 use Rattle.net_model.specs.Witnesses.{MayBreak, links_of, all_but, IsRightWalk}
+use Rattle.net_model.proofs.Packets.{first_is_of}
 use Rattle.net_laws.specs.Laws.{Delivers, RightWalksAreDelivered, RightWalksUnblock, RightWalksBypass}
 use Rattle.net_laws.proofs.PathDistances.{OnPath, Once, Once-from, along, stable, goes_along}
 
@@ -62,17 +63,13 @@ module _ (net : Network) (ends : Ends) (kind : PolicyKind) (whole class : Class)
 pub right_walks_are_delivered : RightWalksAreDelivered
 right_walks_are_delivered net ends kind whole class shown right = delivers net ends kind whole class shown right
 
--- each class has a packet
-pub first_packet : (class : Class) → (p : Packet) × IsOf class p
-first_packet class = (record { from = class.from.addr; to = class.to.addr }, (eq-eqb _ _ refl, eq-eqb _ _ refl))
-
 pub part_of : (class whole : Class) (p : Packet) → LiesIn class whole → IsOf class p → IsOf whole p
 part_of class whole p lies of = (lies.0 p.from of.0, lies.1 p.to of.1)
 
 pub right_walks_unblock : RightWalksUnblock
 right_walks_unblock net ends whole class shown right blocked =
     let d : Delivers net ends class shown right.path.arcs = delivers net ends Blocked whole class shown right in
-    let p : (p : Packet) × IsOf class p = first_packet class in
+    let p : (p : Packet) × IsOf class p = (first_packet class, first_is_of class) in
     blocked (all_but shown) d.distances d.stable p.0 (part_of class whole p.0 right.part p.1) right.path.arcs (d.delivered p.0 p.1)
 
 -- arcs over no waypoint link cross none
@@ -84,6 +81,6 @@ plain (arc ∷ arcs) breaks (suc k, x, within, e, crosses) = plain arcs breaks.1
 pub right_walks_bypass : RightWalksBypass
 right_walks_bypass net ends whole class shown right through =
     let d : Delivers net ends class shown right.path.arcs = delivers net ends Through whole class shown right in
-    let p : (p : Packet) × IsOf class p = first_packet class in
+    let p : (p : Packet) × IsOf class p = (first_packet class, first_is_of class) in
     plain right.path.arcs right.breaks
     (through (all_but shown) d.distances d.stable p.0 (part_of class whole p.0 right.part p.1) right.path.arcs (d.delivered p.0 p.1))

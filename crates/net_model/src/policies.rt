@@ -1,3 +1,7 @@
+ghost use Rattle.std.specs.Prelude.{◌≡◌};
+ghost use Rattle.net_model.specs.Packets.{first_packet};
+
+use crate::lists::Packet;
 use arc_base::{List, Name, Prefix};
 
 /// A traffic class: the packets from one prefix to another.
@@ -7,6 +11,18 @@ pub struct Class {
     pub from: Prefix,
     /// The prefix of the destination addresses.
     pub to: Prefix,
+}
+
+impl Class {
+    /// The packet of its first addresses.
+    pub fn first_packet(self) -> Packet
+        ensures { result ≡ first_packet self }
+    {
+        Packet {
+            from: self.from.addr,
+            to: self.to.addr,
+        }
+    }
 }
 
 /// What a policy asks of its packets.

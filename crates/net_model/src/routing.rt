@@ -2,7 +2,7 @@ ghost use Rattle.std.specs.Prelude.{◌≡◌, ◌↔◌, ℕ, length, Any, find
 ghost use Rattle.std.specs.Option.{option_copied};
 ghost use Rattle.net_model.specs.Routing.{tail_end, head_end, session_at, Names, TakesPart, IsAbleEnd, IsOpen, RouteListPermits, FilterPermits, Tells, Carries, IsRoutedLink};
 ghost use Rattle.net_model.specs.Tables.{IsRoutedOver};
-ghost use Rattle.net_model.specs.Forwarding.{LiesInHostOf, IsHostOf};
+ghost use Rattle.net_model.specs.Forwarding.{LiesInHostOf, IsHostOf, IsHostFace, HasHost};
 
 use crate::rows::{FaceRow, LinkRow, Network, Protocol, SessionRow};
 use arc_base::{Face, Link, ListId, Prefix};
@@ -68,6 +68,20 @@ impl Network {
             }
         }
         None
+    }
+
+    /// The interface in whose host network the prefix lies, where there is one.
+    pub fn host_face(&self, p: Prefix) -> &FaceRow
+        requires { HasHost self.now p }
+        ensures { IsHostFace self.now p result.now }
+    {
+        match self.host_of(p) {
+            Some(face) => match self.faces.get(face.0) {
+                Some(row) => row,
+                None => unreachable!(),
+            },
+            None => unreachable!(),
+        }
     }
 
     /// The session of the interface. It looks through all sessions of the network.

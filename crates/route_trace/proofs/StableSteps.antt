@@ -1,15 +1,16 @@
 -- Distances that are stable over the steps are stable in the network, and tell which routers have a path left to the owner.
 use Rattle.std.proofs.Common.{◌≡◌, ℕ, zero, suc, ◌+◌, ◌<◌, ◌≤◌, inl, inr, Option, Some, None, List, [], ◌∷◌, length, refl, sym, ◌∙◌, ap, subst, arith}
-use Rattle.std.specs.Prelude.{IsSome, IfSome, slice_get, Contains, ◌↔◌}
-use Rattle.std.proofs.lemmas.Bool.{false≢true, cases_eq, eq-eqb}
-use Rattle.std.proofs.lemmas.Option.{slice_get_within, slice_get-get_or}
+use Rattle.std.specs.Prelude.{IsSome, slice_get, ◌↔◌}
+use Rattle.std.proofs.lemmas.Bool.{false≢true, cases_eq}
+use Rattle.std.proofs.lemmas.Option.{slice_get_within}
 use Rattle.arc_base.specs.declared.prefix.Prefix.{Prefix}
-use Rattle.arc_base.specs.Addresses.{Holds, IsInside, AreDisjoint}
 use Rattle.net_model.specs.declared.rows.FaceRow.{FaceRow}
 use Rattle.net_model.specs.declared.rows.Network.{Network}
 use Rattle.net_model.specs.Routing.{Arc, FailureSet, DistanceMap, Offers, IsStable, head_router, cost}
-use Rattle.net_model.specs.Validity.{IsValid, IsValidFace, IsLinkEnd, AreLinked}
-use Rattle.net_model.proofs.Arcs.{one_item}
+use Rattle.net_model.specs.Forwarding.{IsHostFace}
+use Rattle.net_model.specs.Validity.{IsValid, IsValidFace}
+use Rattle.net_model.proofs.Readings.{place_of_item}
+use Rattle.net_model.proofs.Hosts.{lies_in, one_host_face}
 use Rattle.route_trace.specs.declared.steps.Step.{Step}
 use Rattle.route_trace.specs.Routes.{distance_map, Owns, IsPathLeft, HasPathLeft, AreDistances, TellReach}
 use Rattle.route_trace.specs.Steps.{step_of, IsUsableStep, AreSteps, IsOffered, IsStableOver}
@@ -91,59 +92,20 @@ module _ (net : Network) (valid : IsValid net) (to : Prefix) (failed : FailureSe
     λ path. along_path path.0 u within path.1,
   )
 
--- a host network's interface has a subnet that it lies in, and is no link's end
-record HostIn (net : Network) (place : ℕ) (face : FaceRow) (to : Prefix) : Type 0 where
-  pub no_link : IsLinkEnd net place → ⊥
-  pub subnet : Prefix
-  pub subnet_is : face.subnet ≡ Some subnet
-  pub lies : IsInside to subnet
+-- the owner's interface is that of the host network
+owner_face : (net : Network) (to : Prefix) (u : ℕ) (owns : Owns net to u) → IsHostFace net to owns.face
+owner_face net to u owns = record { is_face = owns.is_face; lies = lies_in to owns.face to owns.host (λ a holds. holds) }
 
-host_in : (net : Network) → IsValid net → (place : ℕ) (face : FaceRow) (to : Prefix) → slice_get net.faces place ≡ Some face → face.host ≡ Some to →
-    HostIn net place face to
-host_in net valid place face to read host =
-    let V : IsValidFace net place face = valid.faces place face read in
-    let H : Prefix → Type 0 = λ q. (¬ IsLinkEnd net place) × (subnet : Prefix) × (face.subnet ≡ Some subnet) × IsInside q subnet in
-    let v : H to = subst (λ (o : Option Prefix). IfSome o H) host V.host in
-    record { no_link = v.0; subnet = v.1; subnet_is = v.2; lies = v.3 }
-
-linked_is_end : (net : Network) (i j : ℕ) → AreLinked net i j → IsLinkEnd net i
-linked_is_end net i j h = (h.0, h.1, h.2, h.3, h.4.0)
-
-pub face_at : (net : Network) (f : FaceRow) → Contains net.faces f → (i : ℕ) × (slice_get net.faces i ≡ Some f)
-face_at net f at = (at.0, slice_get-get_or net.faces at.0 f at.1 ∙ ap Some at.2)
-
--- a host network is that of one interface
-same_place : (net : Network) → IsValid net → (i j : ℕ) (f g : FaceRow) (to : Prefix) → slice_get net.faces i ≡ Some f → slice_get net.faces j ≡ Some g →
-    f.host ≡ Some to → g.host ≡ Some to → i ≡ j
-same_place net valid i j f g to at_i at_j host_f host_g =
-    let a : HostIn net i f to = host_in net valid i f to at_i host_f in
-    let b : HostIn net j g to = host_in net valid j g to at_j host_g in
-    elim (cases_eq i j) [
-      | inl same ↦ same
-      | inr other ↦ elim (valid.subnets i j f g at_i at_j other) [
-        | inl linked ↦ absurd (a.no_link (linked_is_end net i j linked))
-        | inr apart ↦
-            let P : Prefix → Type 0 = λ q. IfSome g.subnet (AreDisjoint q) in
-            let first : IfSome g.subnet (AreDisjoint a.subnet) = subst (λ (o : Option Prefix). IfSome o P) a.subnet_is apart in
-            let disjoint : AreDisjoint a.subnet b.subnet = subst (λ (o : Option Prefix). IfSome o (AreDisjoint a.subnet)) b.subnet_is first in
-            let own : Holds to to.addr = eq-eqb _ _ refl in
-            absurd (disjoint to.addr (a.lies to.addr own) (b.lies to.addr own))
-      ]
-    ]
-
--- so it has one owner
+-- a host network has one owner
 pub one_owner : (net : Network) → IsValid net → (to : Prefix) (u v : ℕ) → Owns net to u → Owns net to v → u ≡ v
 one_owner net valid to u v a b =
-    let i : (i : ℕ) × (slice_get net.faces i ≡ Some a.face) = face_at net a.face a.is_face in
-    let j : (j : ℕ) × (slice_get net.faces j ≡ Some b.face) = face_at net b.face b.is_face in
-    let same : i.0 ≡ j.0 = same_place net valid i.0 j.0 a.face b.face to i.1 j.1 a.host b.host in
-    let face : a.face ≡ b.face = one_item net.faces j.0 a.face b.face (subst (λ (k : ℕ). slice_get net.faces k ≡ Some a.face) same i.1) j.1 in
+    let face : a.face ≡ b.face = one_host_face net valid to a.face b.face (owner_face net to u a) (owner_face net to v b) in
     sym a.router ∙ ap (λ (f : FaceRow). f.router.0) face ∙ b.router
 
 -- the owner is a router of the network
 pub owner_within : (net : Network) → IsValid net → (to : Prefix) (u : ℕ) → Owns net to u → u < length net.routers
 owner_within net valid to u owns =
-    let i : (i : ℕ) × (slice_get net.faces i ≡ Some owns.face) = face_at net owns.face owns.is_face in
+    let i : (i : ℕ) × (slice_get net.faces i ≡ Some owns.face) = place_of_item net.faces owns.face owns.is_face in
     let V : IsValidFace net i.0 owns.face = valid.faces i.0 owns.face i.1 in
     omega (arith, V.router, owns.router)
 

@@ -12,11 +12,12 @@ use Rattle.net_model.specs.declared.rows.FaceRow.{FaceRow}
 use Rattle.net_model.specs.declared.rows.Network.{Network}
 use Rattle.net_model.specs.Routing.{FailureSet, DistanceMap}
 use Rattle.net_model.specs.Validity.{IsValid}
+use Rattle.net_model.specs.Forwarding.{IsHostFace}
 use Rattle.route_trace.specs.declared.steps.Step.{Step}
 use Rattle.route_trace.specs.declared.steps.End.TheVariants.{Tail}
 use Rattle.route_trace.specs.Routes.{distance_map, Owns}
 use Rattle.route_trace.specs.Steps.{AreSteps, IsStableOver, attains, is_hop, hops_of, steps_at}
-use Rattle.route_trace.specs.TraceText.{router_name, route_line, route_lines, trace_head, trace_text, IsHostFace, IsTrace}
+use Rattle.route_trace.specs.TraceText.{router_name, route_line, route_lines, trace_head, trace_text, IsTrace}
 use Rattle.route_trace.proofs.NextHops.{hops_are_next}
 use Rattle.route_trace.proofs.StableSteps.{are_distances}
 

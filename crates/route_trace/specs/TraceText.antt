@@ -1,5 +1,5 @@
 -- The text of a trace: where packets from one prefix to another go, router by router.
-use Rattle.std.specs.Prelude.{◌≡◌, ℕ, ◌+◌, ◌<◌, List, [], ◌∷◌, ◌++◌, Option, Some, None, codes, decimal, length, slice_get, Contains}
+use Rattle.std.specs.Prelude.{◌≡◌, ℕ, ◌+◌, ◌<◌, List, [], ◌∷◌, ◌++◌, Option, Some, None, codes, decimal, length, slice_get}
 use Rattle.std.specs.List.{flat_map, range_with_len}
 use Rattle.std.specs.Option.{option_map_or}
 use Rattle.arc_base.specs.PrefixText.{prefix_text}
@@ -8,7 +8,7 @@ use Rattle.arc_base.specs.declared.prefix.Prefix.{Prefix}
 use Rattle.net_model.specs.declared.rows.FaceRow.{FaceRow}
 use Rattle.net_model.specs.declared.rows.Network.{Network}
 use Rattle.net_model.specs.Routing.{FailureSet}
-use Rattle.net_model.specs.Forwarding.{LiesInHostOf}
+use Rattle.net_model.specs.Forwarding.{IsHostFace}
 use Rattle.route_trace.specs.Routes.{distance_map, AreDistances, AreNextHops}
 
 -- the name of the router at a place
@@ -50,15 +50,6 @@ abbrev pub trace_text : Network → Prefix → FaceRow → Prefix → FaceRow �
 trace_text net from source to target distances hops =
     trace_head from (router_name net source.router.0) to (router_name net target.router.0)
     ++ route_lines net distances hops (length net.routers)
-
--- the interface is that of the host network in which the prefix lies
-pub record IsHostFace (net : Network) (p : Prefix) (face : FaceRow) : Type 0 where
-  pub is_face : Contains net.faces face
-  pub lies : LiesInHostOf p face
-
--- the prefix lies in a host network of the network
-abbrev pub HasHost : Network → Prefix → Type 0
-HasHost net p = (face : FaceRow) × IsHostFace net p face
 
 -- the text is that of the trace: it has the stable distances to the target's host network and the next hops of each router
 pub record IsTrace (net : Network) (failed : FailureSet) (from to : Prefix) (text : List ℕ) : Type 0 where

@@ -1,15 +1,16 @@
 ghost use Rattle.std.specs.Prelude.{◌≡◌, ◌++◌, length, All, IfOk, OnOk};
 ghost use Rattle.net_model.specs.Validity.{IsValid};
+ghost use Rattle.net_model.specs.Forwarding.{HasHost};
 ghost use Rattle.route_trace.specs.Routes.{flagged, distance_map};
 ghost use Rattle.route_trace.specs.Steps.{IsFit, hops_of};
-ghost use Rattle.route_trace.specs.TraceText.{router_name, end_text, trace_head, hops_text, route_text, route_line, route_lines, IsHostFace, HasHost, IsTrace};
+ghost use Rattle.route_trace.specs.TraceText.{router_name, end_text, trace_head, hops_text, route_text, route_line, route_lines, IsTrace};
 
 use crate::front::settle;
 use crate::groups::grouped;
 use crate::hops::{distance_of, hops};
 use crate::steps::{End, Step, steps};
 use arc_base::{Link, Memory, Prefix, Router, push_number, push_prefix};
-use net_model::{FaceRow, Network};
+use net_model::Network;
 use std::alloc::Global;
 
 /// The text of `arcv trace`: the line `trace FROM ROUTER TO ROUTER`, and then a line for each router, in order, with its
@@ -28,8 +29,8 @@ pub fn trace_text(
     requires to { HasHost net.now to }
     ensures { IfOk result (λ text. IsTrace net.now (flagged down.now) from to text.items) }
 {
-    let source = host_face(net, from);
-    let target = host_face(net, to);
+    let source = net.host_face(from);
+    let target = net.host_face(to);
     let Some(host) = target.host else {
         unreachable!()
     };
@@ -41,20 +42,6 @@ pub fn trace_text(
     push_head(alloc, &mut text, &from, at_source, &to, at_target)?;
     push_routes(alloc, &mut text, net, &steps, &distances)?;
     Ok(text)
-}
-
-/// The interface of the host network in which the prefix lies.
-fn host_face(net: &Network, p: Prefix) -> &FaceRow
-    requires { HasHost net.now p }
-    ensures { IsHostFace net.now p result.now }
-{
-    match net.host_of(p) {
-        Some(face) => match net.faces.get(face.0) {
-            Some(row) => row,
-            None => unreachable!(),
-        },
-        None => unreachable!(),
-    }
 }
 
 fn name(net: &Network, router: Router) -> &[u8]

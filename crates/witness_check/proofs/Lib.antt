@@ -2,7 +2,6 @@ pub mod Halves
 pub mod Nesting
 pub mod Matches
 pub mod Readings
-pub mod OneCase
 pub mod RoutedArcs
 pub mod Following
 pub mod FollowingOnce
@@ -10,4 +9,3 @@ pub mod Repeats
 pub mod UniformClasses
 pub mod CarryingWalks
 pub mod Rising
-pub mod ExampleNetwork

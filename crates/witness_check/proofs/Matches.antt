@@ -14,10 +14,11 @@ use Rattle.net_model.specs.declared.lists.Packet.{Packet}
 use Rattle.net_model.specs.declared.lists.PacketEntry.{PacketEntry}
 use Rattle.net_model.specs.declared.policies.Class.{Class}
 use Rattle.net_model.specs.Lists.{matches, permits}
-use Rattle.net_model.specs.Packets.{IsOf}
+use Rattle.net_model.specs.Packets.{IsOf, first_packet}
 use Rattle.witness_check.specs.Boxes.{classes_meet, entry_class, splits, MakeUp}
 use Rattle.witness_check.specs.Answers.{EachGets, NoneGets}
-use Rattle.witness_check.proofs.Nesting.{classes_apart, class_within, first_of}
+use Rattle.net_model.proofs.Packets.{first_is_of}
+use Rattle.witness_check.proofs.Nesting.{classes_apart, class_within}
 
 pub hit : (p : Packet) (e : PacketEntry) (es : List PacketEntry) → matches p e ≡ true → permits (e ∷ es) p ≡ e.permit
 hit p e es h = ap (λ (b : Bool). option_map_or (λ (x : PacketEntry). x.permit) (cond b (Some e) (find (matches p) es)) false) h
@@ -112,7 +113,7 @@ first_decides class xs place e found read short p at =
 
 -- a class has a packet, so it cannot be that each gets the answer and none does
 pub each_not_none : (xs : List PacketEntry) (answer : Bool) (class : Class) → EachGets xs answer class → NoneGets xs answer class → ⊥
-each_not_none xs answer class each none = none (first_of class).0 (first_of class).1 (each (first_of class).0 (first_of class).1)
+each_not_none xs answer class each none = none (first_packet class) (first_is_of class) (each (first_packet class) (first_is_of class))
 
 -- what was asked of the two halves of a class, one after the other, is answered for the whole
 module _ (class c d : Class) (parts : MakeUp class c d) (P Q : Packet → Type 0) (there : (p : Packet) → IsOf class p → P p → Q p)

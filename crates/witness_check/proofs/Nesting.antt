@@ -63,10 +63,6 @@ class_within c d meet short =
     let lens : (nat_lt c.from.len d.from.len ≡ false) × (nat_lt c.to.len d.to.len ≡ false) = or_parts _ _ short in
     (within c.from d.from both.0 lens.0, within c.to d.to both.1 lens.1)
 
--- the class's packet of first addresses
-pub first_of : (c : Class) → (p : Packet) × IsOf c p
-first_of c = (record { from = c.from.addr; to = c.to.addr }, (Holds-first c.from, Holds-first c.to))
-
 pub from_halves : (c d e : Class) → AreHalves c.from d.from e.from → d.to ≡ c.to → e.to ≡ c.to → MakeUp c d e
 from_halves c d e halves same_d same_e = (
   λ p at. elim (halves.0 p.from at.0) [

@@ -10,21 +10,17 @@ use Rattle.net_model.specs.declared.policies.PolicyKind.{PolicyKind}
 use Rattle.net_model.specs.declared.rows.Network.{Network}
 use Rattle.net_model.specs.declared.verdicts.ClassSide.{ClassSide}
 use Rattle.net_model.specs.Lists.{permits}
-use Rattle.net_model.specs.Packets.{IsOf, ShareNoPacket, packets}
+use Rattle.net_model.specs.Packets.{IsOf, ShareNoPacket, packets, first_packet}
 use Rattle.net_model.specs.Routing.{Arc, IsArc, IsRouted}
 use Rattle.net_model.specs.Forwarding.{Ends, ListPermits}
 use Rattle.net_model.specs.Witnesses.{IsUniform, MayBreak, IsRightSide, IsRightClosed}
-use Rattle.witness_check.specs.Answers.{first_packet}
+use Rattle.net_model.proofs.Packets.{first_is_of}
+use Rattle.net_model.proofs.Readings.{item_at_place}
 use Rattle.witness_check.specs.Cases.{EachRouted}
 use Rattle.witness_check.specs.Sides.{Stands, Keeps, KeepsEach}
-use Rattle.witness_check.proofs.Readings.{item_at_place}
-use Rattle.arc_base.proofs.Agreement.{Holds-first}
 
 abbrev Uniform : Network → Class → Type 0
 Uniform net class = All (λ l. IsUniform l.entries class) net.packet_lists
-
-of_first : (class : Class) → IsOf class (first_packet class)
-of_first class = (Holds-first class.from, Holds-first class.to)
 
 at_list : (class : Class) (o : Option PacketList) → ((l : PacketList) → o ≡ Some l → IsUniform l.entries class) → (p q : Packet) → IsOf class p → IsOf class q →
     IsSomeAnd o (λ l. IsTrue (permits l.entries p)) → IsSomeAnd o (λ l. IsTrue (permits l.entries q))
@@ -48,12 +44,12 @@ module _ (net : Network) (ends : Ends) (kind : PolicyKind) (whole : Class) where
     uniform = stands.uniform;
     closed = record {
       flags = stands.flags;
-      source = λ p at enters. stands.source (enters.0, list_same net shown.class stands.uniform ends.source.list_in p (first_packet shown.class) at (of_first shown.class) enters.1);
+      source = λ p at enters. stands.source (enters.0, list_same net shown.class stands.uniform ends.source.list_in p (first_packet shown.class) at (first_is_of shown.class) enters.1);
       arcs = λ arc is_arc routed breaks tail p at permitted. keeps arc is_arc routed breaks tail (
-        list_same net shown.class stands.uniform arc.tail.list_out p (first_packet shown.class) at (of_first shown.class) permitted.0,
-        list_same net shown.class stands.uniform arc.head.list_in p (first_packet shown.class) at (of_first shown.class) permitted.1,
+        list_same net shown.class stands.uniform arc.tail.list_out p (first_packet shown.class) at (first_is_of shown.class) permitted.0,
+        list_same net shown.class stands.uniform arc.head.list_in p (first_packet shown.class) at (first_is_of shown.class) permitted.1,
       );
-      target = λ on p at leaves. stands.target on (leaves.0, list_same net shown.class stands.uniform ends.target.list_out p (first_packet shown.class) at (of_first shown.class) leaves.1);
+      target = λ on p at leaves. stands.target on (leaves.0, list_same net shown.class stands.uniform ends.target.list_out p (first_packet shown.class) at (first_is_of shown.class) leaves.1);
     };
   }
 
@@ -61,8 +57,8 @@ module _ (net : Network) (ends : Ends) (kind : PolicyKind) (whole : Class) where
   stands_of shown right = record {
     part = right.part;
     flags = right.closed.flags;
-    source = λ enters. right.closed.source (first_packet shown.class) (of_first shown.class) enters;
-    target = λ on leaves. right.closed.target on (first_packet shown.class) (of_first shown.class) leaves;
+    source = λ enters. right.closed.source (first_packet shown.class) (first_is_of shown.class) enters;
+    target = λ on leaves. right.closed.target on (first_packet shown.class) (first_is_of shown.class) leaves;
     uniform = right.uniform;
   }
 
@@ -79,4 +75,4 @@ module _ (net : Network) (ends : Ends) (kind : PolicyKind) (whole : Class) where
 
   pub each_keeps_of : (sides : List ClassSide) → IsRightClosed net ends kind whole sides → EachRouted net ends.to (KeepsEach net kind sides)
   each_keeps_of sides right arc routed breaks k d less tail permitted =
-      (right.right k d less).closed.arcs arc routed.0 routed.1 breaks tail (first_packet (get_or sides k d).class) (of_first (get_or sides k d).class) permitted
+      (right.right k d less).closed.arcs arc routed.0 routed.1 breaks tail (first_packet (get_or sides k d).class) (first_is_of (get_or sides k d).class) permitted

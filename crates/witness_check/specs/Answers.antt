@@ -9,10 +9,6 @@ use Rattle.witness_check.specs.declared.answers.Share.{Share}
 use Rattle.witness_check.specs.declared.answers.Share.TheVariants.{Never, Always, Open}
 use Rattle.witness_check.specs.Boxes.{entry_class, splits}
 
--- the packet of the class's first addresses
-abbrev pub first_packet : Class → Packet
-first_packet class = record { from = class.from.addr; to = class.to.addr }
-
 -- each packet of the class gets this answer
 abbrev pub EachGets : List PacketEntry → Bool → Class → Type 0
 EachGets entries answer class = (p : Packet) → IsOf class p → permits entries p ≡ answer

@@ -5,4 +5,3 @@ pub mod Trails
 pub mod Paths
 pub mod Cuts
 pub mod Sides
-pub mod Example

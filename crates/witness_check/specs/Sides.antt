@@ -4,11 +4,10 @@ use Rattle.net_model.specs.declared.policies.Class.{Class}
 use Rattle.net_model.specs.declared.policies.PolicyKind.{PolicyKind}
 use Rattle.net_model.specs.declared.rows.Network.{Network}
 use Rattle.net_model.specs.declared.verdicts.ClassSide.{ClassSide}
-use Rattle.net_model.specs.Packets.{LiesIn}
+use Rattle.net_model.specs.Packets.{LiesIn, first_packet}
 use Rattle.net_model.specs.Routing.{Arc, tail_router, head_router}
 use Rattle.net_model.specs.Forwarding.{Ends, source_router, target_router, ArcPermits, Enters, Leaves}
 use Rattle.net_model.specs.Witnesses.{IsUniform, IsOn, MayBreak}
-use Rattle.witness_check.specs.Answers.{first_packet}
 
 -- the side holds the source if the class's packet of first addresses enters
 abbrev pub HoldsSource : Network → Ends → ClassSide → Type 0

@@ -3,10 +3,10 @@ ghost use Rattle.net_model.specs.Packets.{IsOf};
 ghost use Rattle.net_model.specs.Witnesses.{IsUniform};
 ghost use Rattle.net_model.specs.declared.lists.Packet.{Packet};
 ghost use Rattle.witness_check.specs.Boxes.{classes_meet, entry_class};
-ghost use Rattle.witness_check.specs.Answers.{EachGets, NoneGets, NoneGetsBoth, IsShare, first_packet};
+ghost use Rattle.witness_check.specs.Answers.{EachGets, NoneGets, NoneGetsBoth, IsShare};
 
 use crate::boxes::{classes_meet, entry_class, halve_towards, splits};
-use net_model::{Class, Packet, PacketEntry, PacketList};
+use net_model::{Class, PacketEntry, PacketList};
 
 /// How many of a class's packets get some answer from a list.
 #[derive(Clone, Copy)]
@@ -126,16 +126,6 @@ pub(crate) fn none_gets_both(one: &Asked<'_>, other: &Asked<'_>, class: Class) -
     }
 }
 
-/// The packet of the class's first addresses.
-pub(crate) fn first_packet(class: Class) -> Packet
-    ensures { result ≡ first_packet class }
-{
-    Packet {
-        from: class.from.addr,
-        to: class.to.addr,
-    }
-}
-
 /// The answer that the list gives to each packet of the class, or `None` where it does not give them all the same.
 ///
 /// Entries that decide the whole class, or all give one answer, settle it at once. Else the class is halved along an entry
@@ -144,7 +134,7 @@ pub fn answer(list: &PacketList, class: Class) -> Option<bool>
     ensures answer { IfSome result (λ a. EachGets list.now.entries a class) }
     ensures none { IsNone result ↔ (¬ IsUniform list.now.entries class) }
 {
-    let answer = list.permits(first_packet(class));
+    let answer = list.permits(class.first_packet());
     let other = Asked {
         entries: list.entries.slice(),
         answer: !answer,

@@ -1,7 +1,7 @@
-ghost use Rattle.std.specs.Prelude.{◌≡◌, ◌↔◌, ℕ, IsTrue, Any, Contains};
+ghost use Rattle.std.specs.Prelude.{◌≡◌, ◌↔◌, IsTrue, Any};
 ghost use Rattle.net_model.specs.Packets.{subject};
 ghost use Rattle.net_model.specs.Routing.{Tells};
-ghost use Rattle.net_model.specs.Forwarding.{AreEnds, HasEnds, IsHostOf, LiesInHostOf};
+ghost use Rattle.net_model.specs.Forwarding.{AreEnds, HasEnds};
 ghost use Rattle.witness_check.specs.Cases.{ends_of, IsTold};
 
 use arc_base::Prefix;
@@ -23,32 +23,6 @@ pub(crate) struct Case<'a> {
     pub(crate) whole: Class,
 }
 
-/// The interface in whose host network the prefix lies.
-fn owner(net: &Network, prefix: Prefix) -> &FaceRow
-    requires { (place : ℕ) × IsHostOf net.now prefix place }
-    ensures one { Contains net.now.faces result.now }
-    ensures lies { LiesInHostOf prefix result.now }
-{
-    match net.host_of(prefix) {
-        Some(face) => match net.faces.get(face.0) {
-            Some(row) => row,
-            None => unreachable!(),
-        },
-        None => unreachable!(),
-    }
-}
-
-/// The host network of the interface.
-fn host(face: &FaceRow, prefix: Prefix) -> Prefix
-    requires { LiesInHostOf prefix face.now }
-    ensures { face.now.host ≡ Some result }
-{
-    match face.host {
-        Some(host) => host,
-        None => unreachable!(),
-    }
-}
-
 impl Case<'_> {
     /// The case of a policy.
     pub(crate) fn of<'a>(net: &'a Network, policy: &Policy) -> Case<'a>
@@ -58,9 +32,11 @@ impl Case<'_> {
         ensures ends { AreEnds net.now (subject policy.now) (ends_of result) }
         ensures told { IsTold result }
     {
-        let source = owner(net, policy.from);
-        let target = owner(net, policy.to);
-        let to = host(target, policy.to);
+        let source = net.host_face(policy.from);
+        let target = net.host_face(policy.to);
+        let Some(to) = target.host else {
+            unreachable!()
+        };
         Case {
             net,
             source,

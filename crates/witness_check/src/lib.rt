@@ -13,8 +13,6 @@ mod cuts;
 mod packets;
 mod paths;
 mod sides;
-#[cfg(test)]
-mod tests;
 mod trails;
 mod walks;
 

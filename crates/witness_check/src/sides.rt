@@ -2,11 +2,10 @@ ghost use Rattle.std.specs.Prelude.{◌≡◌, ◌↔◌, ◌^◌, ◌<◌, ◌�
 ghost use Rattle.arc_base.specs.Addresses.{size};
 ghost use Rattle.net_model.specs.Packets.{ShareNoPacket, packets};
 ghost use Rattle.net_model.specs.Witnesses.{IsUniform, IsRightClosed};
-ghost use Rattle.witness_check.specs.Answers.{first_packet};
 ghost use Rattle.witness_check.specs.Cases.{IsTold, ends_of, arc_of, EachOver, EachRouted};
 ghost use Rattle.witness_check.specs.Sides.{HoldsSource, SparesTarget, Stands, Keeps, KeepsEach};
 
-use crate::answers::{answer, first_packet};
+use crate::answers::answer;
 use crate::arcs::RoutedArc;
 use crate::boxes::share_none;
 use crate::cases::Case;
@@ -51,7 +50,8 @@ fn is_apart(class: Class, others: &[ClassSide]) -> bool
     others.iter().all(|other| share_none(class, other.class))
 }
 
-/// Whether no two of the classes share a packet.
+/// Whether no two of the classes share a packet. It compares each pair of them: they may come in any order, and there is no
+/// memory to sort them in.
 fn are_apart(sides: &[ClassSide]) -> bool
     ensures { IsTrue result ↔ AllPairs (λ c d. ShareNoPacket c.class d.class) sides.now }
 {
@@ -85,14 +85,14 @@ impl Case<'_> {
     fn holds_source(&self, shown: &ClassSide) -> bool
         ensures { IsTrue result ↔ HoldsSource self.now.net.now (ends_of self.now) shown.now }
     {
-        is_on(&shown.side, self.source.router) || !self.enters(first_packet(shown.class))
+        is_on(&shown.side, self.source.router) || !self.enters(shown.class.first_packet())
     }
 
     /// Whether the side does not hold the target, or the class's packet of first addresses does not leave.
     fn spares_target(&self, shown: &ClassSide) -> bool
         ensures { IsTrue result ↔ SparesTarget self.now.net.now (ends_of self.now) shown.now }
     {
-        !is_on(&shown.side, self.target.router) || !self.leaves(first_packet(shown.class))
+        !is_on(&shown.side, self.target.router) || !self.leaves(shown.class.first_packet())
     }
 
     /// Whether the class is a part of the policy on which the lists are uniform, and the side has a flag for each router, holds
@@ -121,7 +121,7 @@ impl Case<'_> {
         if !is_on(&shown.side, arc.tail.router) || is_on(&shown.side, arc.head.router) {
             return true;
         }
-        let p = first_packet(shown.class);
+        let p = shown.class.first_packet();
         !self.net.list_permits(arc.tail.list_out, p) || !self.net.list_permits(arc.head.list_in, p)
     }
 

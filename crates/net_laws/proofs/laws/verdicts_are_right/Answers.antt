@@ -1,4 +1,5 @@
-use Rattle.net_laws.proofs.RightVerdicts.{one_pair_of_ends, right_verdicts_are_true, right_verdicts_decide}
+use Rattle.net_model.proofs.Hosts.{one_pair_of_ends}
+use Rattle.net_laws.proofs.RightVerdicts.{right_verdicts_are_true, right_verdicts_decide}
 use Rattle.net_laws.proofs.laws.verdicts_are_right.Goals as goal
 
 pub returns-clause-ends : goal.returns-clause-ends

@@ -6,7 +6,7 @@ use Rattle.net_model.specs.Witnesses.{IsRightFor}
 use Rattle.net_model.specs.declared.policies.Class.{Class}
 use Rattle.net_model.specs.declared.rows.Network.{Network}
 use Rattle.witness_check.specs.Cases.{ends_of}
-use Rattle.witness_check.proofs.OneCase.{one_pair_of_ends}
+use Rattle.net_model.proofs.Hosts.{one_pair_of_ends}
 use Rattle.witness_check.proofs.acceptance.accepts.Goals as goal
 
 pub returns : goal.returns

@@ -1,0 +1,7 @@
+-- Each class has a packet.
+use Rattle.arc_base.proofs.Agreement.{Holds-first}
+use Rattle.net_model.specs.declared.policies.Class.{Class}
+use Rattle.net_model.specs.Packets.{IsOf, first_packet}
+
+pub first_is_of : (class : Class) → IsOf class (first_packet class)
+first_is_of class = (Holds-first class.from, Holds-first class.to)
