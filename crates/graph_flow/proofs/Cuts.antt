@@ -322,8 +322,22 @@ least_side g s t many side units is ls lt sep flow closed reach =
     record {
       separates = sep;
       left_over = cut-left_over g units side is on closed;
+      fewest = λ other others sep' left. let many_at_most : many ≤ length others = bounded g s t many other others units is ls lt sep' left flow in omega (arith, many_at_most, size);
       least = λ other others sep' left few node on_side.
           let way = reach node on_side in
           let small : length others ≤ many = omega (arith, few, size) in
           stays_inside (residual units g.arcs) (λ n. IsTrue (other n)) (other-closed g s t many other others units is ls lt sep' flow left small) s node way.0 way.1 sep'.source;
     }
+
+same_flag : (a b : Bool) → (IsTrue a → IsTrue b) → (IsTrue b → IsTrue a) → a ≡ b
+same_flag true b there back = sym (there refl)
+same_flag false true there back = back refl
+same_flag false false there back = refl
+
+-- two least sides hold the same nodes, since neither is left by fewer links
+pub one_least_side : (arcs : List Arc) (s t : ℕ) (side other : ℕ → Bool) (links others : List Link) → IsLeastSide arcs s t side links → IsLeastSide arcs s t other others →
+    (node : ℕ) → side node ≡ other node
+one_least_side arcs s t side other links others one two node =
+    same_flag (side node) (other node)
+    (one.least other others two.separates two.left_over (two.fewest side links one.separates one.left_over) node)
+    (two.least side links one.separates one.left_over (one.fewest other others two.separates two.left_over) node)

@@ -1,5 +1,5 @@
 -- Answers of link-disjoint paths or cuts.
-use Rattle.std.specs.Prelude.{◌≡◌, ℕ, ◌<◌, Bool, List, [], ◌∷◌, length, map, AllPairs}
+use Rattle.std.specs.Prelude.{ℕ, ◌<◌, Bool, List, [], ◌∷◌, map, AllPairs}
 use Rattle.arc_base.specs.declared.place.Link.{Link}
 use Rattle.graph_flow.specs.declared.arcs.LinkRow2.{LinkRow2}
 use Rattle.graph_flow.specs.declared.answer.FlowAnswer.{FlowAnswer}

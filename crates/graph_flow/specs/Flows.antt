@@ -1,5 +1,5 @@
 -- Flows of units over links, of which each carries at most one, in one of its directions.
-use Rattle.std.specs.Prelude.{◌≡◌, ℕ, ◌+◌, ◌<◌, ◌≤◌, ◌==◌, Bool, false, if◌then◌else◌, IsTrue, List, [], ◌∷◌, length, map, sum_by, slice_index_or, All, Contains, Option, Some, None, filter_map, ◌&&◌, not}
+use Rattle.std.specs.Prelude.{◌≡◌, ℕ, ◌+◌, ◌<◌, ◌≤◌, ◌==◌, Bool, false, if◌then◌else◌, List, length, sum_by, slice_index_or, All, Contains, Option, Some, None, filter_map, ◌&&◌, not}
 use Rattle.arc_base.specs.declared.place.Link.{Link}
 use Rattle.graph_flow.specs.declared.arcs.Arc.{Arc}
 use Rattle.graph_flow.specs.Paths.{Digraph}

@@ -1,9 +1,9 @@
 -- What holds of every graph, whatever program looks at it.
-use Rattle.std.specs.Prelude.{◌≢◌, ◌⊎◌, ◌↔◌, ℕ, ◌<◌, Bool, List, length, Contains}
+use Rattle.std.specs.Prelude.{◌≡◌, ◌≢◌, ◌⊎◌, ◌↔◌, ℕ, ◌<◌, Bool, List, length, Contains}
 use Rattle.arc_base.specs.declared.place.Link.{Link}
 use Rattle.graph_flow.specs.declared.arcs.Arc.{Arc}
 use Rattle.graph_flow.specs.Paths.{Digraph, IsGraph, Leads, AreDisjointPaths}
-use Rattle.graph_flow.specs.Sides.{Separates, AreLeftOver}
+use Rattle.graph_flow.specs.Sides.{Separates, AreLeftOver, IsLeastSide}
 
 -- so many link-disjoint paths lead from s to t
 abbrev pub HavePaths : List Arc → ℕ → ℕ → ℕ → Type 0
@@ -30,3 +30,8 @@ NotBoth = (g : Digraph) → IsGraph g → (s t want : ℕ) → s < g.nodes → t
 -- the nodes to which a path leads are those of a list
 abbrev pub ReachedAreListed : Type 0
 ReachedAreListed = (arcs : List Arc) (s : ℕ) → (nodes : List ℕ) × ((node : ℕ) → Leads arcs s node ↔ Contains nodes node)
+
+-- between two nodes there is one least side
+abbrev pub HasOneLeastSide : Type 0
+HasOneLeastSide = (arcs : List Arc) (s t : ℕ) (side other : ℕ → Bool) (links others : List Link) →
+    IsLeastSide arcs s t side links → IsLeastSide arcs s t other others → (node : ℕ) → side node ≡ other node

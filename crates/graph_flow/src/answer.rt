@@ -1,3 +1,5 @@
+//! The answer of a search for link-disjoint paths: so many of them, or a smaller cut.
+
 use crate::arcs::LinkRow2;
 use arc_base::{Link, List};
 

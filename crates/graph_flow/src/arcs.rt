@@ -1,3 +1,5 @@
+//! The arcs of a graph, and the links of a path.
+
 use arc_base::{Link, List};
 
 /// One direction of a link: from the node `tail` to the node `head`. The cost is what a path pays for it.

@@ -1,3 +1,4 @@
+//! Which nodes paths reach from a node, and one path to each.
 ghost use Rattle.std.specs.Prelude.{◌≡◌, ℕ, ◌<◌, length, IfOk, IsSome, IsTrue, Some, None, Option, List, ◌↔◌, ◌^◌, slice_index_or, replicate, reverse, vec_len};
 ghost use Rattle.graph_flow.specs.Paths.{Leads, IsPath, links_of};
 ghost use Rattle.graph_flow.specs.Marks.{AreSteps, depth_of, mark_at, way_to};

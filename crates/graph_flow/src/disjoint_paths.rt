@@ -1,3 +1,4 @@
+//! Link-disjoint paths between two nodes, or the cut that rules them out.
 ghost use Rattle.std.specs.Prelude.{◌≡◌, ◌≢◌, ℕ, ◌≤◌, ◌<◌, ◌+◌, ◌-◌, ◌^◌, length, IfOk, IsTrue, IsFalse, Some};
 ghost use Rattle.graph_flow.specs.Paths.{AreDisjointPaths};
 ghost use Rattle.graph_flow.specs.Sides.{IsLeastSide};

@@ -1,3 +1,4 @@
+//! Flows that grow unit by unit, each over links that have room for it.
 ghost use Rattle.std.specs.Prelude.{◌≡◌, ◌≢◌, ℕ, ◌<◌, ◌+◌, length, IfOk, IsTrue, IsFalse, ◌↔◌};
 ghost use Rattle.graph_flow.specs.Flows.{IsFlow, IsGreatest, IsMadeFor, EndsAt, leaving, flagged};
 ghost use Rattle.graph_flow.specs.Marks.{AreSteps, mark_at, way_to};

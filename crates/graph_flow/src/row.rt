@@ -1,3 +1,4 @@
+//! The arcs at one node, kept without an allocation where they are few.
 ghost use Rattle.std.specs.Prelude.{◌≡◌, ◌-◌, ◌<◌, [], ◌∷◌, ◌++◌, length, take, OnOk, OnErr, slice_set, slice_index_or, List as Items};
 ghost use Rattle.graph_flow.specs.declared.arcs.Arc.{Arc};
 

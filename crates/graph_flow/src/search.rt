@@ -1,3 +1,4 @@
+//! The search in breadth that finds what can be reached over links that have room.
 ghost use Rattle.std.specs.Prelude.{◌≡◌, ◌≤◌, ◌<◌, ◌+◌, ◌^◌, length, IfOk, IsTrue, IsFalse, replicate, List, vec_len, ℕ, Contains, Some};
 ghost use Rattle.graph_flow.specs.Flows.{unit_at};
 ghost use Rattle.graph_flow.specs.Residual.{residual};

@@ -90,6 +90,16 @@ fn node_without_arcs_is_cut_off(rt: HostRuntime) -> Result<(), Fail> {
 }
 
 #[test]
+fn fewest_links_are_cut(rt: HostRuntime) -> Result<(), Fail> {
+    let text = answer(&rt, rt.alloc(), 3, &[(0, 1), (0, 1), (1, 2)], 0, 2, 3)?;
+    assert_eq!(rt;
+        text.as_str(),
+        "Cut(List { items: [Link(2)] }, List { items: [true, true, false] })"
+    );
+    Ok(())
+}
+
+#[test]
 fn closure_follows_arcs_forwards(rt: HostRuntime) -> Result<(), Fail> {
     let mut g = Graph::make(rt.alloc(), 4)?;
     add(&rt, &mut g, 5, 0, 1)?;

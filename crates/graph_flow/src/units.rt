@@ -1,3 +1,4 @@
+//! Taking a flow apart into link-disjoint paths.
 ghost use Rattle.std.specs.Prelude.{◌≡◌, ◌≢◌, ℕ, ◌<◌, ◌^◌, length, All, IfOk, Some};
 ghost use Rattle.graph_flow.specs.Paths.{Joins, AreDisjointPaths};
 ghost use Rattle.graph_flow.specs.Flows.{IsFlow, unit_at, leaving};

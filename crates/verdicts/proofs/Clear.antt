@@ -17,7 +17,7 @@ use Rattle.net_model.specs.Forwarding.{Ends, ListPermits, ArcPermits, Enters, Le
 use Rattle.class_graph.specs.Classes.{AreUniform}
 use Rattle.class_graph.specs.Denials.{IsDeniedOn}
 use Rattle.class_graph.proofs.Alike.{arc_alike, lists_alike}
-use Rattle.class_graph.proofs.Readings.{place_of_item}
+use Rattle.net_model.proofs.Readings.{place_of_item}
 use Rattle.traffic_classes.specs.Parts.{MakeUp, HasPacket}
 use Rattle.verdicts.specs.Fixed.{Passes}
 use Rattle.verdicts.specs.Reaching.{AllPass}

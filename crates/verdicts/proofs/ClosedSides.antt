@@ -11,17 +11,18 @@ use Rattle.net_model.specs.declared.policies.Class.{Class}
 use Rattle.net_model.specs.declared.policies.PolicyKind.{PolicyKind}
 use Rattle.net_model.specs.declared.rows.FaceRow.{FaceRow}
 use Rattle.net_model.specs.declared.rows.Network.{Network}
-use Rattle.net_model.specs.Packets.{IsOf}
+use Rattle.net_model.specs.Packets.{IsOf, first_packet}
 use Rattle.net_model.specs.Routing.{Arc, IsArc, IsRouted, tail_router, head_router, head_face}
 use Rattle.net_model.specs.Forwarding.{Ends, Enters, Leaves, source_router, target_router}
 use Rattle.net_model.specs.Validity.{IsValid}
 use Rattle.net_model.specs.Witnesses.{IsOn, IsClosed, MayBreak}
-use Rattle.class_graph.specs.Classes.{AreUniform, PermitsClass, first}
+use Rattle.class_graph.specs.Classes.{AreUniform, PermitsClass}
 use Rattle.class_graph.specs.Graphs.{IsShown, Fits, IsClassGraph}
 use Rattle.class_graph.specs.declared.building.ClassGraph.{ClassGraph}
-use Rattle.class_graph.proofs.Alike.{first_is_of, arc_alike, lists_alike}
+use Rattle.net_model.proofs.Packets.{first_is_of}
+use Rattle.class_graph.proofs.Alike.{arc_alike, lists_alike}
 use Rattle.class_graph.proofs.NetworkArcs.{router_within}
-use Rattle.class_graph.proofs.Readings.{place_of_item}
+use Rattle.net_model.proofs.Readings.{place_of_item}
 use Rattle.verdicts.specs.Fixed.{IsLeastClosed}
 use Rattle.verdicts.specs.Judged.{mode_of}
 use Rattle.verdicts.specs.Sides.{IsReached}
@@ -101,8 +102,8 @@ way_stays net ends kind class graph is side closed (a ∷ way) u v path on =
     let one : IsShown net ends.to (Fits (mode_of kind) net class) a = (is.arcs.arcs a).0 (path.0) in
     let tail : IsOn side (tail_router one.arc) = subst (IsOn side) (sym (path.1) ∙ one.shows.tail) on in
     let head : IsOn side (head_router one.arc) =
-    closed.arcs one.arc one.is_arc one.routed (fits_breaks kind net class one.arc one.fits) tail (first class) (first_is_of class)
-    (fits_permits kind net class one.arc one.fits (first class) (first_is_of class)) in
+    closed.arcs one.arc one.is_arc one.routed (fits_breaks kind net class one.arc one.fits) tail (first_packet class) (first_is_of class)
+    (fits_permits kind net class one.arc one.fits (first_packet class) (first_is_of class)) in
     way_stays net ends kind class graph is side closed way a.head v (path.2) (subst (IsOn side) (sym one.shows.head) head)
 
 -- so the side is the least closed one
@@ -112,7 +113,7 @@ pub side_is_least : (net : Network) (ends : Ends) (kind : PolicyKind) (class : C
 side_is_least net ends kind class graph is reached reaches other closed router on =
     let at : IsSome (slice_index_or reached router None) = on_reached reached router on in
     let led = (reaches.led router (omega (arith, on_within reached router at, reaches.room))).0 at in
-    let source : IsOn other (source_router ends) = closed.source (first class) (first_is_of class) (is.enters.0 (led.0) (first class) (first_is_of class)) in
+    let source : IsOn other (source_router ends) = closed.source (first_packet class) (first_is_of class) (is.enters.0 (led.0) (first_packet class) (first_is_of class)) in
     way_stays net ends kind class graph is other closed (led.1.0) graph.source.0 router (led.1.1) (subst (IsOn other) (sym is.source) source)
 
 pub least_closed : (net : Network) → IsValid net → (ends : Ends) → Contains net.faces ends.source → (kind : PolicyKind) (class : Class) → AreUniform net class → (graph : ClassGraph) →

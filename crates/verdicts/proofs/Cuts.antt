@@ -125,6 +125,10 @@ good_cut net ends g is s t k from there links side cut few flags =
       flags = flags ∙ is.nodes;
       separates = separator_of net ends g is links side parted cut.left_over;
       few = omega (arith, few);
+      fewest = λ others other separator. cut.fewest (flagged other) others
+          (subst (λ (u : ℕ). cuts.Separates u t (flagged other)) (sym from)
+          (subst (λ (v : ℕ). cuts.Separates (source_router ends) v (flagged other)) (sym there) (separates_of net ends others other separator)))
+          (left_over_of net ends g is others other separator);
       least = λ others other separator no_more router on. cut.least (flagged other) others
           (subst (λ (u : ℕ). cuts.Separates u t (flagged other)) (sym from)
           (subst (λ (v : ℕ). cuts.Separates (source_router ends) v (flagged other)) (sym there) (separates_of net ends others other separator)))

@@ -13,16 +13,16 @@ use Rattle.net_model.specs.declared.verdicts.ClassSide.{ClassSide}
 use Rattle.net_model.specs.declared.verdicts.LinkPath.{LinkPath}
 use Rattle.net_model.specs.declared.verdicts.Verdict.{Verdict}
 use Rattle.net_model.specs.declared.verdicts.Verdict.TheVariants.{Closed, Paths, Walk, Denied, Cut, Refused}
-use Rattle.net_model.specs.Packets.{IsOf, LiesIn, ShareNoPacket, packets, subject}
+use Rattle.net_model.specs.Packets.{IsOf, LiesIn, ShareNoPacket, packets, subject, first_packet}
 use Rattle.net_model.specs.Forwarding.{Ends, source_router, target_router}
 use Rattle.net_model.specs.Policies.{IsClear}
 use Rattle.net_model.specs.Witnesses.{IsRightClosed, IsRightWalk, IsRightBlocking, IsRight}
-use Rattle.class_graph.specs.Classes.{AreUniform, first}
+use Rattle.class_graph.specs.Classes.{AreUniform}
 use Rattle.class_graph.specs.Hosts.{IsHostPair, IsHostPairOf}
 use Rattle.class_graph.specs.declared.hosts.End.{End}
 use Rattle.class_graph.specs.declared.hosts.HostPair.{HostPair}
-use Rattle.class_graph.proofs.Alike.{first_is_of}
-use Rattle.class_graph.proofs.Readings.{item_at_place}
+use Rattle.net_model.proofs.Packets.{first_is_of}
+use Rattle.net_model.proofs.Readings.{item_at_place}
 use Rattle.traffic_classes.specs.Classes.{AreClasses}
 use Rattle.traffic_classes.specs.Parts.{MakeUp}
 use Rattle.verdicts.specs.declared.denials.Denial.{Denial}
@@ -145,7 +145,7 @@ no_paths net ends k whole classes parts together all =
 
 -- the first denial is a refusal
 pub refused_verdict : (net : Network) (ends : Ends) (k : ℕ) (whole : Class) (classes : List Class) → MakeUp net whole classes → source_router ends ≢ target_router ends → (d : Denial) →
-    IsDenial net ends.to classes (length classes) d → (p : Packet) → p ≡ first d.class → IsReachVerdict net ends k whole classes (Refused p d.link)
+    IsDenial net ends.to classes (length classes) d → (p : Packet) → p ≡ first_packet d.class → IsReachVerdict net ends k whole classes (Refused p d.link)
 refused_verdict net ends k whole classes parts apart d denial p packet =
     let one : Contains classes d.class = item_at_place classes denial.is_first.place d.class denial.is_first.at_place in
     let part : LiesIn d.class whole = All-contains (λ (c : Class). LiesIn c whole) classes d.class parts.parts one in
@@ -198,7 +198,7 @@ settled net ends k whole classes parts apart none all (Cut links side) is =
         cut = is.separates.cut;
         few = is.few;
       };
-      fixed = record { passes = whole_passes net ends whole classes parts all; least = is.least };
+      fixed = record { passes = whole_passes net ends whole classes parts all; fewest = is.fewest; least = is.least };
     }
 settled net ends k whole classes parts apart none all (Closed sides) is = absurd is
 settled net ends k whole classes parts apart none all (Walk class path) is = absurd is

@@ -10,11 +10,10 @@ use Rattle.net_model.specs.declared.rows.Network.{Network}
 use Rattle.net_model.specs.declared.verdicts.ClassSide.{ClassSide}
 use Rattle.net_model.specs.declared.verdicts.Verdict.{Verdict}
 use Rattle.net_model.specs.declared.verdicts.Verdict.TheVariants.{Closed, Paths, Walk, Denied, Cut, Refused}
-use Rattle.net_model.specs.Packets.{IsOf, subject}
+use Rattle.net_model.specs.Packets.{IsOf, subject, first_packet}
 use Rattle.net_model.specs.Routing.{Arc, IsArc, IsRouted}
 use Rattle.net_model.specs.Forwarding.{Ends, AreEnds, source_router, target_router, Enters, Leaves, ArcPermits}
 use Rattle.net_model.specs.Witnesses.{IsOn, IsClosed, LeavesSide}
-use Rattle.class_graph.specs.Classes.{first}
 use Rattle.class_graph.specs.Denials.{IsDeniedOn}
 use Rattle.graph_flow.specs.Answers.{AreInOrder}
 use Rattle.traffic_classes.specs.Classes.{AreClasses}
@@ -59,9 +58,10 @@ pub record IsSeparator (net : Network) (ends : Ends) (links : List Link) (side :
   pub rising : AllPairs (λ k l. k.0 < l.0) links
   pub cut : (l : Link) → Contains links l ↔ ((arc : Arc) × (arc.link ≡ l.0) × LeavesSide net ends.to side arc)
 
--- the least cut that there is, once every packet enters and leaves: its side lies in every side that no more links leave
+-- the least cut that there is, once every packet enters and leaves: no side is left by fewer links, and its side lies in every side that no more links leave
 pub record IsLeastCut (net : Network) (ends : Ends) (whole : Class) (links : List Link) (side : List Bool) : Type 0 where
   pub passes : Passes net ends whole
+  pub fewest : (others : List Link) (other : List Bool) → IsSeparator net ends others other → length links ≤ length others
   pub least : (others : List Link) (other : List Bool) → IsSeparator net ends others other → length others ≤ length links →
       (router : ℕ) → IsOn side router → IsOn other router
 
@@ -71,7 +71,7 @@ pub record IsFirstRefusal (net : Network) (ends : Ends) (whole : Class) (classes
   pub class : Class
   pub is_first : IsFirstAfter (λ c. ¬ IsDeniedOn net ends.to c link.0) classes class
   pub denied : IsDeniedOn net ends.to class link.0
-  pub packet : p ≡ first class
+  pub packet : p ≡ first_packet class
 
 -- for a reach policy: the first refusal; or the first class of which not each packet enters and leaves; or paths in rising order of their first links; or the least cut
 abbrev pub IsFixedReach : Network → Ends → Class → List Class → Verdict → Type 0

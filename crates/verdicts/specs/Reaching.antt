@@ -53,11 +53,12 @@ pub record AreGoodPaths (net : Network) (ends : Ends) (many : ℕ) (paths : List
   pub once : AllPairs (λ l m. l ≢ m) (flat_map (λ path. path.links) paths)
   pub in_order : AreInOrder (map (λ path. path.links) paths)
 
--- the links separate the ends, are at most so many, and their side lies in every side that no more links leave
+-- the links separate the ends, are at most so many, no fewer links do, and their side lies in every side that no more links leave
 pub record IsGoodCut (net : Network) (ends : Ends) (most : ℕ) (links : List Link) (side : List Bool) : Type 0 where
   pub flags : length side ≡ length net.routers
   pub separates : IsSeparator net ends links side
   pub few : length links ≤ most
+  pub fewest : (others : List Link) (other : List Bool) → IsSeparator net ends others other → length links ≤ length others
   pub least : (others : List Link) (other : List Bool) → IsSeparator net ends others other → length others ≤ length links →
       (router : ℕ) → IsOn side router → IsOn other router
 

@@ -9,8 +9,6 @@ mod fault;
 mod judgement;
 mod reach;
 mod sides;
-#[cfg(test)]
-mod tests;
 
 pub use fault::JudgeFault;
 pub use judgement::judge;

@@ -9,7 +9,7 @@ ghost use Rattle.verdicts.specs.Reaching.{HasNoDenial, IsPathsOrCut, paths_of};
 
 use crate::denials::{first_denial, first_kept_out};
 use arc_base::{Link, List, Memory};
-use class_graph::{HostPair, first_packet, routed_graph};
+use class_graph::{HostPair, routed_graph};
 use graph_flow::{FlowAnswer, LinkRow2, disjoint};
 use net_model::{Class, LinkPath, Network, Verdict};
 use std::alloc::Global;
@@ -64,7 +64,7 @@ fn judge_apart(
 {
     let found = first_denial(alloc, net, pair, classes)?;
     match found {
-        Some(denial) => Ok(Verdict::Refused(first_packet(denial.class), denial.link)),
+        Some(denial) => Ok(Verdict::Refused(denial.class.first_packet(), denial.link)),
         None => judge_clear(alloc, net, pair, classes, failures),
     }
 }
