@@ -6,10 +6,10 @@ use Rattle.std.proofs.lemmas.List.{get_or-take, get_or_default, length-take}
 use Rattle.std.proofs.lemmas.Option.{slice_get_within, slice_get-get_or, get_or_from_slice_get}
 use Rattle.ios_words.specs.declared.commands.Command.{Command}
 use Rattle.ios_config.specs.declared.settings.Given.{Given}
-use Rattle.ios_config.specs.Least.{IsLeast, lesser}
+use Rattle.ios_config.specs.Least.{FindsLeast, lesser}
 use Rattle.ios_config.specs.Rising.{FallsAt, rises}
 use Rattle.ios_config.specs.Texts.{entry_number}
-use Rattle.ios_config.proofs.Least.{IsLeast-same, IsLeast-either}
+use Rattle.ios_config.proofs.Least.{least_same, least_either}
 
 -- what stands in the front of a list
 pub taken : {X : Type 0} (n : ℕ) (xs : List X) (k : ℕ) (x : X) → slice_get (take n xs) k ≡ Some x → (k < n) × (slice_get xs k ≡ Some x)
@@ -103,15 +103,15 @@ module _ (xs : List (Given Command)) (p : ℕ) (e l : Given Command) (low : 1 �
       }
 
   -- the least line that falls, with one more entry that does
-  pub least_falls : (found : Option ℕ) → rises (entry_number e.value) (entry_number l.value) ≡ false → IsLeast (FallsAt (take p xs)) found →
-      IsLeast (FallsAt (take (p + 1) xs)) (lesser found (Some l.line))
+  pub least_falls : (found : Option ℕ) → rises (entry_number e.value) (entry_number l.value) ≡ false → FindsLeast (FallsAt (take p xs)) found →
+      FindsLeast (FallsAt (take (p + 1) xs)) (lesser found (Some l.line))
   least_falls found falls least =
-      IsLeast-same (λ n. FallsAt (take p xs) n ⊎ Falls e l n) (FallsAt (take (p + 1) xs)) (lesser found (Some l.line)) falls_from falls_to
-      (IsLeast-either (FallsAt (take p xs)) (Falls e l) found (Some l.line) least ((falls, refl), λ other (f : Falls e l other). let same : l.line ≡ other = f.1 in omega arith))
+      least_same (λ n. FallsAt (take p xs) n ⊎ Falls e l n) (FallsAt (take (p + 1) xs)) (lesser found (Some l.line)) falls_from falls_to
+      (least_either (FallsAt (take p xs)) (Falls e l) found (Some l.line) least (record { has = (falls, refl); least = λ other (f : Falls e l other). let same : l.line ≡ other = f.1 in omega arith }))
 
   -- and with one that does not
-  pub least_rises : (found : Option ℕ) → rises (entry_number e.value) (entry_number l.value) ≡ true → IsLeast (FallsAt (take p xs)) found →
-      IsLeast (FallsAt (take (p + 1) xs)) found
+  pub least_rises : (found : Option ℕ) → rises (entry_number e.value) (entry_number l.value) ≡ true → FindsLeast (FallsAt (take p xs)) found →
+      FindsLeast (FallsAt (take (p + 1) xs)) found
   least_rises found rise least =
-      IsLeast-same (FallsAt (take p xs)) (FallsAt (take (p + 1) xs)) found (λ n f. falls_from n (inl f))
+      least_same (FallsAt (take p xs)) (FallsAt (take (p + 1) xs)) found (λ n f. falls_from n (inl f))
       (λ n f. elim (falls_to n f) [ inl g ↦ g | inr g ↦ absurd (false≢true (sym g.0 ∙ rise)) ]) least

@@ -1,26 +1,35 @@
--- The least number of a set, and of two sets together.
+-- The least number with a property, and with one of two.
 use Rattle.std.proofs.Common.{◌≡◌, ℕ, ◌<◌, ◌≤◌, min, ◌⊎◌, inl, inr, Option, Some, None, arith, subst}
 use Rattle.std.proofs.lemmas.Bool.{cases_lt}
-use Rattle.ios_config.specs.Least.{IsLeast, lesser}
+use Rattle.ios_config.specs.Least.{IsLeast, FindsLeast, lesser}
 
--- a number of a set that is the least of it
-pub IsLeast-same : (P Q : ℕ → Type 0) (o : Option ℕ) → ((n : ℕ) → P n → Q n) → ((n : ℕ) → Q n → P n) → IsLeast P o → IsLeast Q o
-IsLeast-same P Q None to from least = λ n q. least n (from n q)
-IsLeast-same P Q (Some n) to from least = (to n least.0, λ other q. least.1 other (from other q))
+-- a set that has the same numbers has the same least
+pub least_same : (P Q : ℕ → Type 0) (found : Option ℕ) → ((n : ℕ) → P n → Q n) → ((n : ℕ) → Q n → P n) → FindsLeast P found → FindsLeast Q found
+least_same P Q None to from none = λ n q. none n (from n q)
+least_same P Q (Some m) to from least = record { has = to m least.has; least = λ n q. least.least n (from n q) }
 
--- the least of two sets together
-pub IsLeast-either : (P Q : ℕ → Type 0) (a b : Option ℕ) → IsLeast P a → IsLeast Q b → IsLeast (λ n. P n ⊎ Q n) (lesser a b)
-IsLeast-either P Q None None p q = λ n h. elim h [ inl x ↦ p n x | inr y ↦ q n y ]
-IsLeast-either P Q None (Some b) p q = (inr q.0, λ other h. elim h [ inl x ↦ absurd (p other x) | inr y ↦ q.1 other y ])
-IsLeast-either P Q (Some a) None p q = (inl p.0, λ other h. elim h [ inl x ↦ p.1 other x | inr y ↦ absurd (q other y) ])
-IsLeast-either P Q (Some a) (Some b) p q = (
-  holds (cases_lt a b),
-  λ other h. elim h [
-    | inl x ↦ let k : a ≤ other = p.1 other x in omega arith
-    | inr y ↦ let k : b ≤ other = q.1 other y in omega arith
-  ],
-)
-  where
-    holds : (a < b) ⊎ (b ≤ a) → P (min a b) ⊎ Q (min a b)
-    holds (inl h) = let e : a ≡ min a b = omega arith in inl (subst P e p.0)
-    holds (inr h) = let e : b ≡ min a b = omega arith in inr (subst Q e q.0)
+module _ (P Q : ℕ → Type 0) where
+  abbrev pub Either : ℕ → Type 0
+  Either n = P n ⊎ Q n
+
+  neither : ((n : ℕ) → ¬ P n) → ((n : ℕ) → ¬ Q n) → (n : ℕ) → ¬ Either n
+  neither p q n (inl h) = p n h
+  neither p q n (inr h) = q n h
+
+  above : (k : ℕ) → ((n : ℕ) → P n → k ≤ n) → ((n : ℕ) → Q n → k ≤ n) → (n : ℕ) → Either n → k ≤ n
+  above k p q n (inl h) = p n h
+  above k p q n (inr h) = q n h
+
+  -- the least of two sets
+  pub least_either : (a b : Option ℕ) → FindsLeast P a → FindsLeast Q b → FindsLeast Either (lesser a b)
+  least_either None None p q = neither p q
+  least_either None (Some n) p q = record { has = inr q.has; least = above n (λ k h. absurd (p k h)) q.least }
+  least_either (Some m) None p q = record { has = inl p.has; least = above m p.least (λ k h. absurd (q k h)) }
+  least_either (Some m) (Some n) p q = elim (cases_lt n m) [
+    | inl right ↦
+        let is : n ≡ min m n = omega arith in
+        subst (λ (k : ℕ). IsLeast Either k) is (record { has = inr q.has; least = above n (λ k h. omega (arith, p.least k h, right)) q.least })
+    | inr left ↦
+        let is : m ≡ min m n = omega arith in
+        subst (λ (k : ℕ). IsLeast Either k) is (record { has = inl p.has; least = above m p.least (λ k h. omega (arith, q.least k h, left)) })
+  ]

@@ -193,7 +193,7 @@ module _ (text : List ℕ) (lines : Lines) where
       let same : falling.commands ≡ is.commands = commands_one text lines (command_lines lines) falling.commands is.commands falling.read is.read in
       let P : Config → Type 0 = λ c. IsFirstNotRising c.lists n in
       let falls : IsFirstNotRising config.lists n = subst P (ap config_of same ∙ sym is.set) falling.falls in
-      is.rising n falls.falls
+      is.rising n falls.has
 
   same_refusal : (n m : ℕ) (k l : Kind) → IsRefused text lines n k → IsRefused text lines m l → Both n m k l
   same_refusal n m k l (inl a) (inl b) = faults_one a.before b.before n m a.line b.line a.after b.after a.commands b.commands a.within b.within k l (sym a.split ∙ b.split) a.read b.read a.stands b.stands a.fault b.fault
@@ -217,7 +217,7 @@ module _ (text : List ℕ) (lines : Lines) where
       let same : a.commands ≡ b.commands = commands_one text lines (command_lines lines) a.commands b.commands a.read b.read in
       let P : List FileCommand → Type 0 = λ cs. IsFirstNotRising (config_of cs).lists n in
       let falls : IsFirstNotRising (config_of b.commands).lists n = subst P same a.falls in
-      record { number = omega (arith, falls.first m b.falls.falls, b.falls.first n falls.falls); kind = told ∙ sym other }
+      record { number = omega (arith, falls.least m b.falls.has, b.falls.least n falls.has); kind = told ∙ sym other }
 
 pub refused_alone : HasNoConfigWhereRefused
 refused_alone text lines config n k is refused = config_or_refused text lines config n k is refused

@@ -1,5 +1,5 @@
 -- The answers of `config`, from those of its parts.
-use Rattle.std.proofs.Common.{◌≡◌, ℕ, ◌≤◌, List, inl, inr, refl, subst}
+use Rattle.std.proofs.Common.{◌≡◌, ℕ, List, inl, inr, refl, subst}
 use Rattle.std.specs.Prelude.{Err}
 use Rattle.arc_base.specs.declared.refusal.Kind.TheVariants.{DuplicateBlock, SequenceNotRising}
 use Rattle.ios_lines.specs.declared.line.Lines.{Lines}
@@ -9,7 +9,7 @@ use Rattle.ios_config.specs.declared.fault.ConfigFault.{ConfigFault}
 use Rattle.ios_config.specs.declared.fault.ConfigFault.TheVariants.{Refused, Memory}
 use Rattle.ios_config.specs.Commands.{AreCommandsOf, IsFaultOf}
 use Rattle.ios_config.specs.Configs.{IsConfigOf, IsRefused, Configures}
-use Rattle.ios_config.specs.Rising.{IsNotRising, NumbersRise, IsFirstNotRising}
+use Rattle.ios_config.specs.Rising.{NumbersRise, IsFirstNotRising}
 use Rattle.ios_config.specs.Texts.{config_of}
 use Rattle.ios_config.specs.Twice.{StandOnce, IsFirstDuplicate}
 
@@ -25,9 +25,8 @@ module _ (text : List ℕ) (lines : Lines) (cs : List FileCommand) (read : AreCo
 
   -- the first entry whose number does not rise
   pub refused_falls : (config : Config) (line : ℕ) → StandOnce cs → config ≡ config_of cs →
-      (IsNotRising config.lists line × ((other : ℕ) → IsNotRising config.lists other → line ≤ other)) → IsRefused text lines line SequenceNotRising
-  refused_falls config line once set least =
-      let first : IsFirstNotRising config.lists line = record { falls = least.0; first = least.1 } in
+      IsFirstNotRising config.lists line → IsRefused text lines line SequenceNotRising
+  refused_falls config line once set first =
       inr (inr (refl, record { commands = cs; read = read; once = once; falls = subst (λ (c : Config). IsFirstNotRising c.lists line) set first }))
 
   -- and else the settings

@@ -1,12 +1,17 @@
--- The least number of a set.
+-- The least number with a property.
 use Rattle.std.specs.Prelude.{ℕ, ◌≤◌, min, Option, Some, None, MatchOption}
 
--- the least number of which this holds, or none where it holds of no number
-abbrev pub IsLeast : (ℕ → Type 0) → Option ℕ → Type 0
-IsLeast P found = MatchOption found ((n : ℕ) → ¬ P n) (λ n. P n × ((other : ℕ) → P other → n ≤ other))
+-- the number is the least with the property
+pub record IsLeast (P : ℕ → Type 0) (n : ℕ) : Type 0 where
+  pub has : P n
+  pub least : (m : ℕ) → P m → n ≤ m
 
--- the lesser of two numbers, where there are any
+-- what was found is the least number with the property, or that there is none
+abbrev pub FindsLeast : (ℕ → Type 0) → Option ℕ → Type 0
+FindsLeast P found = MatchOption found ((n : ℕ) → ¬ P n) (IsLeast P)
+
+-- the lesser of two numbers that were found or not
 abbrev pub lesser : Option ℕ → Option ℕ → Option ℕ
-lesser (Some a) (Some b) = Some (min a b)
-lesser (Some a) None = Some a
 lesser None b = b
+lesser (Some m) None = Some m
+lesser (Some m) (Some n) = Some (min m n)

@@ -1,8 +1,9 @@
 -- The numbers of a list's entries.
-use Rattle.std.specs.Prelude.{◌≡◌, ℕ, ◌+◌, ◌≤◌, nat_lt, Bool, true, false, List, Any, slice_get, Option, Some, None}
+use Rattle.std.specs.Prelude.{◌≡◌, ℕ, ◌+◌, nat_lt, Bool, true, false, List, Any, slice_get, Option, Some, None}
 use Rattle.ios_words.specs.declared.commands.Command.{Command}
 use Rattle.ios_config.specs.declared.settings.Given.{Given}
 use Rattle.ios_config.specs.declared.settings.ListText.{ListText}
+use Rattle.ios_config.specs.Least.{IsLeast}
 use Rattle.ios_config.specs.Texts.{entry_number}
 
 -- whether the second number may follow the first: it is greater, or neither entry has one
@@ -30,6 +31,5 @@ abbrev pub NumbersRise : List ListText → Type 0
 NumbersRise lists = (line : ℕ) → ¬ IsNotRising lists line
 
 -- the first line whose entry may not
-pub record IsFirstNotRising (lists : List ListText) (line : ℕ) : Type 0 where
-  pub falls : IsNotRising lists line
-  pub first : (other : ℕ) → IsNotRising lists other → line ≤ other
+abbrev pub IsFirstNotRising : List ListText → ℕ → Type 0
+IsFirstNotRising lists line = IsLeast (IsNotRising lists) line

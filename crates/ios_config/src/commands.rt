@@ -19,7 +19,7 @@ pub struct FileCommand {
     pub command: Command,
 }
 
-// The kind of block that a top line's command opens.
+/// The kind of block that a top line's command opens.
 fn opened_by(command: &Command) -> BlockKind
     ensures { result ≡ opened_by command.now }
 {
@@ -33,7 +33,7 @@ fn opened_by(command: &Command) -> BlockKind
     }
 }
 
-// The kind of block that a line stands in, where this is the kind of the open block.
+/// The kind of block that a line stands in, where this is the kind of the open block.
 fn standing(line: &Line, current: BlockKind) -> BlockKind
     ensures { result ≡ standing line.now current }
 {
@@ -44,7 +44,7 @@ fn standing(line: &Line, current: BlockKind) -> BlockKind
     }
 }
 
-// The kind of the open block after a line that is read as this command.
+/// The kind of the open block after a line that is read as this command.
 fn open_after(line: &Line, command: &Command, current: BlockKind) -> BlockKind
     ensures { result ≡ open_after line.now command.now current }
 {
@@ -55,7 +55,7 @@ fn open_after(line: &Line, command: &Command, current: BlockKind) -> BlockKind
     }
 }
 
-// What is answered for the line of this number, which is no command.
+/// What is answered for the line of this number, which is no command.
 fn refused(number: u32, fault: WordFault) -> ConfigFault
     ensures { result ≡ refusal number fault }
 {
@@ -67,7 +67,7 @@ fn refused(number: u32, fault: WordFault) -> ConfigFault
     }
 }
 
-// The command of the line of this number, which stands in a block of this kind.
+/// The command of the line of this number, which stands in a block of this kind.
 fn read(
     alloc: Global,
     text: &[u8],

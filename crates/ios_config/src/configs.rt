@@ -20,7 +20,7 @@ use ios_lines::Lines;
 use ios_words::Command;
 use std::alloc::Global;
 
-// The name of the router, with its line.
+/// The name of the router, with its line.
 fn router_name(alloc: Global, commands: &[FileCommand]) -> Result<Option<Setting>, Memory>
     ensures { IfOk result (λ found. found ≡ router_name commands.now) }
 {
@@ -39,7 +39,7 @@ fn router_name(alloc: Global, commands: &[FileCommand]) -> Result<Option<Setting
     Ok(found)
 }
 
-// The interfaces among the groups.
+/// The interfaces among the groups.
 fn faces(alloc: Global, groups: &[Vec<&FileCommand>]) -> Result<List<FaceText>, Memory>
     ensures { IfOk result (λ found. found ≡ flat_map face_of (group_list groups.now)) }
 {
@@ -53,7 +53,7 @@ fn faces(alloc: Global, groups: &[Vec<&FileCommand>]) -> Result<List<FaceText>, 
     List::of(found)
 }
 
-// The lists among the groups.
+/// The lists among the groups.
 fn lists(alloc: Global, groups: &[Vec<&FileCommand>]) -> Result<List<ListText>, Memory>
     ensures { IfOk result (λ found. found ≡ flat_map list_of (group_list groups.now)) }
 {
@@ -67,7 +67,7 @@ fn lists(alloc: Global, groups: &[Vec<&FileCommand>]) -> Result<List<ListText>, 
     List::of(found)
 }
 
-// The processes among the groups.
+/// The processes among the groups.
 fn processes(alloc: Global, groups: &[Vec<&FileCommand>]) -> Result<List<ProcessText>, Memory>
     ensures { IfOk result (λ found. found ≡ flat_map process_of (group_list groups.now)) }
 {
@@ -81,7 +81,7 @@ fn processes(alloc: Global, groups: &[Vec<&FileCommand>]) -> Result<List<Process
     List::of(found)
 }
 
-// What the commands of a file set.
+/// What the commands of a file set.
 fn config_of(alloc: Global, commands: &[FileCommand]) -> Result<Config, Memory>
     ensures { IfOk result (λ config. config ≡ config_of commands.now) }
 {

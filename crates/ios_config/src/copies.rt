@@ -8,14 +8,14 @@ use arc_base::{Memory, Name};
 use ios_words::Command;
 use std::alloc::Global;
 
-// A copy of a name.
+/// A copy of a name.
 fn copy_name(alloc: Global, name: &Name) -> Result<Name, Memory>
     ensures { IfOk result (λ copy. copy ≡ name.now) }
 {
     Name::make(alloc, name.bytes())
 }
 
-// A copy of a name, if there is one.
+/// A copy of a name, if there is one.
 fn copy_option(alloc: Global, name: &Option<Name>) -> Result<Option<Name>, Memory>
     ensures { IfOk result (λ copy. copy ≡ name.now) }
 {
@@ -25,7 +25,7 @@ fn copy_option(alloc: Global, name: &Option<Name>) -> Result<Option<Name>, Memor
     }
 }
 
-// A copy of a command.
+/// A copy of a command.
 fn copy(alloc: Global, command: &Command) -> Result<Command, Memory>
     ensures { IfOk result (λ copy. copy ≡ command.now) }
 {

@@ -10,7 +10,7 @@ use arc_base::{Memory, Name};
 use ios_words::Command;
 use std::alloc::Global;
 
-// The interface whose block has no command yet.
+/// The interface whose block has no command yet.
 fn fresh(alloc: Global, name: &Name, head: u32) -> Result<FaceText, Memory>
     ensures { IfOk result (λ face. face ≡ face_text name.now head []) }
 {
@@ -30,7 +30,7 @@ fn fresh(alloc: Global, name: &Name, head: u32) -> Result<FaceText, Memory>
     })
 }
 
-// Sets what one more command of the block says.
+/// Sets what one more command of the block says.
 fn set(alloc: Global, face: &mut FaceText, c: &FileCommand) -> Result<(), Memory>
     ensures { OnOk result (SaysMore c.now face.old face.new) }
 {
@@ -69,7 +69,7 @@ fn set(alloc: Global, face: &mut FaceText, c: &FileCommand) -> Result<(), Memory
     Ok(())
 }
 
-// The interface of this name and the commands of its block.
+/// The interface of this name and the commands of its block.
 fn face_text(
     alloc: Global,
     name: &Name,

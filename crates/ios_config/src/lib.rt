@@ -4,11 +4,11 @@
 #![tactic(auto)]
 
 mod commands;
-pub mod config_laws;
 mod configs;
 mod copies;
 mod faces;
 mod fault;
+pub mod laws;
 mod lists;
 mod parts;
 mod processes;
@@ -20,6 +20,7 @@ mod twice;
 
 pub use configs::config;
 pub use fault::ConfigFault;
+pub use rising::lesser;
 pub use settings::{
     Config, FaceText, Given, ListForm, ListKind, ListText, ProcessKind, ProcessText, Setting,
 };

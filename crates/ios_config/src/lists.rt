@@ -10,7 +10,7 @@ use arc_base::{List, Memory, Name, read_number};
 use ios_words::Command;
 use std::alloc::Global;
 
-// Whether the command is an entry of a list.
+/// Whether the command is an entry of a list.
 fn is_entry(command: &Command) -> bool
     ensures { result ≡ is_entry command.now }
 {
@@ -31,7 +31,7 @@ pub fn entry_number(command: &Command) -> Option<u32>
     }
 }
 
-// Whether the first entry has a number.
+/// Whether the first entry has a number.
 fn is_numbered(entries: &[Given<Command>]) -> bool
     ensures { result ≡ is_numbered entries.now }
 {
@@ -41,14 +41,14 @@ fn is_numbered(entries: &[Given<Command>]) -> bool
     }
 }
 
-// Whether this number of an `access-list` is that of a standard one.
+/// Whether this number of an `access-list` is that of a standard one.
 fn is_standard(number: u64) -> bool
     ensures { result ≡ is_standard number }
 {
     (1 <= number && number <= 99) || (1300 <= number && number <= 1999)
 }
 
-// The kind of the `access-list` of this number.
+/// The kind of the `access-list` of this number.
 fn kind_of_number(name: &Name) -> ListKind
     ensures { result ≡ kind_of_number name.now }
 {
@@ -64,7 +64,7 @@ fn kind_of_number(name: &Name) -> ListKind
     }
 }
 
-// The entries among the commands.
+/// The entries among the commands.
 fn entries(alloc: Global, commands: &[&FileCommand]) -> Result<List<Given<Command>>, Memory>
     ensures { IfOk result (λ found. found ≡ entries (commands_seen commands.now)) }
 {
@@ -77,7 +77,7 @@ fn entries(alloc: Global, commands: &[&FileCommand]) -> Result<List<Given<Comman
     List::of(found)
 }
 
-// The list of this name, kind and form, whose commands these are.
+/// The list of this name, kind and form, whose commands these are.
 fn list_text(
     alloc: Global,
     name: &Name,

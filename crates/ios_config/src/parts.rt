@@ -17,7 +17,7 @@ pub enum Part<'a> {
     PrefixLines(&'a [u8]),
 }
 
-// The part of a command.
+/// The part of a command.
 fn part_of(command: &FileCommand) -> Part<'_>
     ensures { part_seen result ≡ part_of command.now }
 {
@@ -28,7 +28,7 @@ fn part_of(command: &FileCommand) -> Part<'_>
     }
 }
 
-// Adds a command to the group at a place.
+/// Adds a command to the group at a place.
 fn add<'a>(
     groups: &mut Vec<Vec<&'a FileCommand>>,
     place: usize,

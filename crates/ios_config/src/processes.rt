@@ -10,7 +10,7 @@ use arc_base::{List, Memory};
 use ios_words::Command;
 use std::alloc::Global;
 
-// The commands with their lines.
+/// The commands with their lines.
 fn all_given(alloc: Global, commands: &[&FileCommand]) -> Result<List<Given<Command>>, Memory>
     ensures { IfOk result (λ found. found ≡ map given (commands_seen commands.now)) }
 {
@@ -21,7 +21,7 @@ fn all_given(alloc: Global, commands: &[&FileCommand]) -> Result<List<Given<Comm
     List::of(found)
 }
 
-// The line of the last command.
+/// The line of the last command.
 fn last_line(commands: &[&FileCommand]) -> u32
     ensures { result ≡ last_line (commands_seen commands.now) }
 {

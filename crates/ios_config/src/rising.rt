@@ -1,13 +1,13 @@
 //! The numbers of a list's entries.
-ghost use Rattle.std.specs.Prelude.{◌≡◌, ◌⊎◌, ℕ, MatchOption};
-ghost use Rattle.ios_config.specs.Least.{IsLeast, lesser};
-ghost use Rattle.ios_config.specs.Rising.{rises, FallsAt, IsNotRising, NumbersRise, IsFirstNotRising};
+ghost use Rattle.std.specs.Prelude.{◌≡◌};
+ghost use Rattle.ios_config.specs.Least.{FindsLeast, lesser};
+ghost use Rattle.ios_config.specs.Rising.{rises, FallsAt, IsNotRising};
 
 use crate::lists::entry_number;
 use crate::settings::{Given, ListText};
 use ios_words::Command;
 
-// Whether the second number may follow the first.
+/// Whether the second number may follow the first.
 fn rises(earlier: Option<u32>, later: Option<u32>) -> bool
     ensures { result ≡ rises earlier later }
 {
@@ -18,8 +18,8 @@ fn rises(earlier: Option<u32>, later: Option<u32>) -> bool
     }
 }
 
-// The lesser of two numbers, where there are any.
-fn lesser(a: Option<u32>, b: Option<u32>) -> Option<u32>
+/// The lesser of two numbers that were found or not.
+pub fn lesser(a: Option<u32>, b: Option<u32>) -> Option<u32>
     ensures { result ≡ lesser a b }
 {
     match (a, b) {
@@ -29,9 +29,9 @@ fn lesser(a: Option<u32>, b: Option<u32>) -> Option<u32>
     }
 }
 
-// The first line of the list whose entry may not follow the one before it.
+/// The first line of the list whose entry may not follow the one before it.
 fn first_in_list(entries: &[Given<Command>]) -> Option<u32>
-    ensures { IsLeast (FallsAt entries.now) result }
+    ensures { FindsLeast (FallsAt entries.now) result }
 {
     let mut found = None;
     for place in 1..entries.len() {
@@ -46,7 +46,7 @@ fn first_in_list(entries: &[Given<Command>]) -> Option<u32>
 
 /// The first line of a list whose entry may not follow the one before it, if there is one.
 pub fn first_not_rising(lists: &[ListText]) -> Option<u32>
-    ensures { IsLeast (IsNotRising lists.now) result }
+    ensures { FindsLeast (IsNotRising lists.now) result }
 {
     let mut found = None;
     for list in lists {

@@ -7,7 +7,7 @@ use std::test::Fail;
 const FILE: &[u8] =
     b"hostname r1\n!\ninterface GigabitEthernet0/0\n ip address 10.1.0.1 255.255.255.0\n!\ninterface GigabitEthernet0/1\n ip address 10.0.9.1 255.255.255.0\n ip ospf cost 7\n ip ospf cost 9\n shutdown\n no shutdown\n ip address 10.0.1.1 255.255.255.252\n description core\n\n ! left aside\n!\naccess-list 7 permit 10.0.0.0 0.255.255.255\nip prefix-list PL seq 5 permit 10.3.0.0/16 le 24\naccess-list 7 deny any\nip access-list extended F\n 10 permit ip any any\n remark all\n!\nrouter ospf 1\n network 0.0.0.0 255.255.255.255 area 0\n!\nline vty 0 4\n redistribute static\n!\nend\n";
 
-// Short files that are refused, each with its line and kind.
+/// Short files that are refused, each with its line and kind.
 const REFUSED: [(&[u8], u32, Kind); 9] = [
     (b"\0\0\0", 1, Kind::UnknownLine),
     (b"interface Serial0\n ip ospf cost 0\n", 2, Kind::BadWord),
@@ -48,7 +48,7 @@ const REFUSED: [(&[u8], u32, Kind); 9] = [
     ),
 ];
 
-// The file of a router with a host network and a link, with one line changed or added, and where it is refused and why.
+/// The file of a router with a host network and a link, with one line changed or added, and where it is refused and why.
 const ROWS: [(&[u8], u32, Kind); 10] = [
     (
         b" ip address 10.9.0.1 255.255.255.0\nhostname r1\n!\ninterface GigabitEthernet0/0\n ip address 10.1.0.1 255.255.255.0\n!\ninterface GigabitEthernet0/1\n ip address 10.0.1.1 255.255.255.252\n!\nrouter ospf 1\n network 0.0.0.0 255.255.255.255 area 0\n!\nend\n",
@@ -102,7 +102,7 @@ const ROWS: [(&[u8], u32, Kind); 10] = [
     ),
 ];
 
-// What a file sets, or its first refusal.
+/// What a file sets, or its first refusal.
 fn read(alloc: Global, text: &[u8]) -> Result<Config, ConfigFault> {
     if text.len() > u32::MAX as usize {
         return Err(ConfigFault::Memory);
@@ -115,7 +115,7 @@ fn read(alloc: Global, text: &[u8]) -> Result<Config, ConfigFault> {
     }
 }
 
-// Whether the file is refused at this line for this reason.
+/// Whether the file is refused at this line for this reason.
 fn is_refused(alloc: Global, text: &[u8], line: u32, kind: Kind) -> bool {
     match read(alloc, text) {
         Err(ConfigFault::Refused(at, why)) => at == line && why == kind,
@@ -123,7 +123,7 @@ fn is_refused(alloc: Global, text: &[u8], line: u32, kind: Kind) -> bool {
     }
 }
 
-// Whether the interface has the values of the last lines that set them, with those lines.
+/// Whether the interface has the values of the last lines that set them, with those lines.
 fn has_last_values(face: &FaceText) -> bool {
     match (face.addr, face.mask_len, face.cost, face.shut) {
         (Some(addr), Some(len), Some(cost), Some(shut)) => {
@@ -134,7 +134,7 @@ fn has_last_values(face: &FaceText) -> bool {
     }
 }
 
-// The numbers of the lines of a list's entries.
+/// The numbers of the lines of a list's entries.
 fn has_entry_at(list: &ListText, place: u32, line: u32) -> bool {
     match list.entries.get(place) {
         Some(entry) => entry.line == line,

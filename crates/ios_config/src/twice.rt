@@ -19,7 +19,7 @@ pub enum Stand<'a> {
     Lines(&'a [u8]),
 }
 
-// What a command makes stand.
+/// What a command makes stand.
 fn stand_of(command: &Command) -> Option<Stand<'_>>
     ensures { option_map stand_seen result ≡ stand_of command.now }
 {
@@ -33,14 +33,14 @@ fn stand_of(command: &Command) -> Option<Stand<'_>>
     }
 }
 
-// Whether this stands already.
+/// Whether this stands already.
 fn stands_as(stands: &IndexSet<Stand<'_>>, stand: Stand<'_>) -> bool
     ensures { IsTrue result ↔ Contains (map stand_seen stands.now.keys) (stand_seen stand.entry) }
 {
     stands.contains(&stand)
 }
 
-// Whether something stands already that may not where this command comes.
+/// Whether something stands already that may not where this command comes.
 fn is_excluded(stands: &IndexSet<Stand<'_>>, command: &Command) -> bool
     ensures { IsTrue result ↔ Any (λ stand. Contains (map stand_seen stands.now.keys) stand) (excluded command.now) }
 {

@@ -15,4 +15,4 @@ mod tests;
 mod words;
 
 pub use cutting::{LineFault, cut};
-pub use line::{Line, Lines, word};
+pub use line::{Line, Lines};

@@ -1,6 +1,4 @@
 //! Lines and their words.
-ghost use Rattle.std.specs.Prelude.{◌≡◌, option_map, slice_get};
-ghost use Rattle.ios_lines.specs.Texts.{HasWordsIn, part};
 
 use arc_base::{List, Span};
 
@@ -26,13 +24,4 @@ pub struct Line {
 #[derive(Debug, Drop)]
 pub struct Lines {
     pub rows: List<Line>,
-}
-
-/// The bytes of the word at a place, counted from 0, of a line of a text.
-pub fn word<'a>(text: &'a [u8], line: &Line, place: u32) -> Option<&'a [u8]>
-    requires { HasWordsIn text.now line.now }
-    ensures { option_map (λ bytes. bytes.now) result ≡ option_map (part text.now) (slice_get line.now.words place) }
-{
-    let span = line.words.get(place)?;
-    Some(&text[span.from as usize..span.to as usize])
 }

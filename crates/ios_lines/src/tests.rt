@@ -1,7 +1,7 @@
 //! Cutting whole texts, row by row.
 ghost use Rattle.std.specs.Prelude.{◌<◌, ◌^◌, length};
 
-use crate::{Line, LineFault, cut, word};
+use crate::{Line, LineFault, cut};
 use std::alloc::Global;
 use std::test::Fail;
 
@@ -45,46 +45,43 @@ fn the_lines_of_a_plain_file(rt: HostRuntime) -> Result<(), Fail> {
     Ok(())
 }
 
+/// Texts and their first fault.
+const FAULTS: [(&[u8], LineFault); 10] = [
+    // an indented line before the first block, and after a comment that closed it
+    (
+        b" ip address 10.9.0.1 255.255.255.0\nhostname r1\n",
+        LineFault::Orphan(1),
+    ),
+    (b"interface Serial0/0\n!\n shutdown\n", LineFault::Orphan(3)),
+    // top lines that open no block
+    (b"hostname r1\n shutdown\n", LineFault::Orphan(2)),
+    (
+        b"access-list 1 permit any\n shutdown\n",
+        LineFault::Orphan(2),
+    ),
+    (
+        b"ip prefix-list PL permit 0.0.0.0/0\n shutdown\n",
+        LineFault::Orphan(2),
+    ),
+    (
+        b"interface Serial0/0\nbanner motd x y x\n shutdown\n",
+        LineFault::Orphan(3),
+    ),
+    // banners that do not end
+    (
+        b"hostname r1\nbanner motd ^C\n text\n^c\n",
+        LineFault::OpenBanner(2),
+    ),
+    (b"banner motd\n", LineFault::OpenBanner(1)),
+    (b"banner\nend\n", LineFault::OpenBanner(1)),
+    // the earlier of two
+    (b" shutdown\nbanner motd ^C\n", LineFault::Orphan(1)),
+];
+
 #[test]
 fn what_the_first_fault_is(rt: HostRuntime) -> Result<(), Fail> {
     let alloc = rt.alloc();
-    for (text, fault) in [
-        // an indented line before the first block, and after a comment that closed it
-        (
-            b" ip address 10.9.0.1 255.255.255.0\nhostname r1\n".as_slice(),
-            LineFault::Orphan(1),
-        ),
-        (
-            b"interface Serial0/0\n!\n shutdown\n".as_slice(),
-            LineFault::Orphan(3),
-        ),
-        // top lines that open no block
-        (b"hostname r1\n shutdown\n".as_slice(), LineFault::Orphan(2)),
-        (
-            b"access-list 1 permit any\n shutdown\n".as_slice(),
-            LineFault::Orphan(2),
-        ),
-        (
-            b"ip prefix-list PL permit 0.0.0.0/0\n shutdown\n".as_slice(),
-            LineFault::Orphan(2),
-        ),
-        (
-            b"interface Serial0/0\nbanner motd x y x\n shutdown\n".as_slice(),
-            LineFault::Orphan(3),
-        ),
-        // banners that do not end
-        (
-            b"hostname r1\nbanner motd ^C\n text\n^c\n".as_slice(),
-            LineFault::OpenBanner(2),
-        ),
-        (b"banner motd\n".as_slice(), LineFault::OpenBanner(1)),
-        (b"banner\nend\n".as_slice(), LineFault::OpenBanner(1)),
-        // the earlier of two
-        (
-            b" shutdown\nbanner motd ^C\n".as_slice(),
-            LineFault::Orphan(1),
-        ),
-    ] {
+    for (text, fault) in FAULTS {
         assert_eq!(rt; all_marks(alloc, text).err(), Some(fault), "{text:?}");
     }
     Ok(())
@@ -140,15 +137,5 @@ fn lines_of_a_banner_are_inert(rt: HostRuntime) -> Result<(), Fail> {
         ]
         .as_slice()
     );
-    Ok(())
-}
-
-#[test]
-fn words_are_lent(rt: HostRuntime) -> Result<(), Fail> {
-    let text = b"ip \thost a".as_slice();
-    let lines = cut(rt.alloc(), text).ok().ok_or("lines")?;
-    let line = lines.rows.get(0).ok_or("a line")?;
-    assert_eq!(rt; word(text, line, 1), Some(b"host".as_slice()));
-    assert!(rt; word(text, line, 3).is_none());
     Ok(())
 }

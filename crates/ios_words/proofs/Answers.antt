@@ -17,7 +17,9 @@ use Rattle.ios_words.specs.Laws.{AnswersAreOne, UnknownMatchesNone, InertCounts}
 use Rattle.ios_words.specs.Meanings.{give}
 use Rattle.ios_words.specs.Readings.{matches, read}
 use Rattle.ios_words.specs.Rows.{Rule}
+use Rattle.ios_words.specs.Trials.{try_rules}
 use Rattle.ios_words.specs.Values.{Values}
+use Rattle.ios_words.proofs.Trials.{answered, is_answer, no_memory}
 
 -- what a row's reading says
 said : Meaning → Result Values WordFault → Result Command WordFault
@@ -75,8 +77,19 @@ line_answer text line within (Err (faults.BadWord place)) is told = answer-fault
 line_answer text line within (Err faults.WildcardNotPrefix) is told = answer-fault (is_extended_block within) (line_words text line) (rows within) faults.WildcardNotPrefix is
 line_answer text line within (Err faults.Memory) is told = absurd (told refl)
 
-pub one_answer : AnswersAreOne
+pub one_answer :
+    (text : List ℕ) (line : Line) (within : BlockKind) (a b : Result Command WordFault) → IsAnswer text line within a → IsAnswer text line within b → a ≢ Err faults.Memory → b ≢ Err faults.Memory → a ≡ b
 one_answer text line within a b one two told told' = sym (line_answer text line within a one told) ∙ line_answer text line within b two told'
+
+-- a line has the answer that its block's rows give when they are tried
+pub has_one_answer : AnswersAreOne
+has_one_answer text line within =
+    let extended = is_extended_block within in
+    let words = line_words text line in
+    let tried = try_rules extended words None (rows within) in (
+      (tried, record { told = is_answer text line within tried (answered extended words (rows within) tried refl); known = no_memory extended words (rows within) }),
+      λ a b one two. one_answer text line within a b one.told two.told one.known two.known,
+    )
 
 -- where nothing is found, no element passes, and the other way round
 none_pass : {X : Type 0} (p : X → Bool) (xs : List X) → find p xs ≡ None → (x : X) → Contains xs x → IsFalse (p x)

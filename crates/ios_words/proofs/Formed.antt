@@ -1,5 +1,5 @@
 -- What a line reads as has its forms and ranges.
-use Rattle.std.proofs.Common.{◌≡◌, ℕ, ◌≤◌, Bool, true, false, ◌&&◌, ◌==◌, List, [], ◌∷◌, Some, refl, sym, subst, ◌∙◌, find}
+use Rattle.std.proofs.Common.{◌≡◌, ℕ, ◌≤◌, Bool, true, false, ◌&&◌, ◌==◌, List, [], ◌∷◌, Some, IsTrue, refl, sym, subst, ◌∙◌, find}
 use Rattle.std.proofs.lemmas.Bool.{and_parts, eqb-true, cond-true, cond-false}
 use Rattle.std.specs.List.{list_all}
 use Rattle.ios_words.specs.declared.kinds.BlockKind.{BlockKind}
@@ -7,9 +7,10 @@ use Rattle.ios_words.specs.declared.kinds.BlockKind.TheVariants as blocks
 use Rattle.ios_words.specs.declared.rows.Meaning.{Meaning}
 use Rattle.ios_words.specs.declared.rows.Meaning.TheVariants.{Hostname, Interface, RouterOspf, RouterBgp, ExtendedList, StandardList, ListLine, PrefixLine, Address, NoAddress, Shutdown, NoShutdown, Bandwidth, Cost, Area, PointToPoint, Broadcast, GroupIn, GroupOut, Covers, Passive, NoPassive, PassiveByDefault, NoPassiveByDefault, Reference, RouterId, RemoteAs, NeighborDown, NoNeighborDown, NeighborList, Tells, Entry, Inert}
 use Rattle.ios_words.specs.Commands.{completes, is_extended_block, line_words}
-use Rattle.ios_words.specs.Forms.{IsFrom, IsInForm, CommandsAreInForm}
+use Rattle.ios_words.specs.Forms.{IsFrom, IsOrder, AreLengths, IsInForm, CommandsAreInForm, AddressesFit, AllAddressesFit}
 use Rattle.ios_words.specs.Language.{rows}
 use Rattle.ios_words.specs.Meanings.{give}
+use Rattle.ios_words.specs.Names.{is_name}
 use Rattle.ios_words.specs.Rows.{Rule}
 use Rattle.ios_words.specs.Values.{Values}
 use Rattle.ios_words.proofs.Known.{Known, nothing, learn_parts, Holds, read-holds}
@@ -26,8 +27,8 @@ fits RouterOspf k = is_ranged 1 65535 k
 fits RouterBgp k = is_ranged 1 4294967295 k
 fits ExtendedList k = k.name
 fits StandardList k = k.name
-fits ListLine k = true
-fits PrefixLine k = k.name
+fits ListLine k = k.listed
+fits PrefixLine k = k.name && (k.routed && (k.order == 4294967294))
 fits Address k = k.measured && (k.least == 1)
 fits NoAddress k = true
 fits Shutdown k = true
@@ -51,7 +52,7 @@ fits NeighborDown k = true
 fits NoNeighborDown k = true
 fits NeighborList k = k.name
 fits Tells k = true
-fits Entry k = true
+fits Entry k = k.order == 2147483647
 fits Inert k = true
 
 -- whether the row gives what its meaning asks
@@ -79,6 +80,15 @@ long_enough k v h e =
     let parts = and_parts _ _ e in
     subst (λ (a : ℕ). (a ≤ v.length) × (v.length ≤ 32)) (eqb-true _ _ parts.1) (h.length parts.0)
 
+in_order : (high : ℕ) (k : Known) (v : Values) → Holds k v → (k.order == high) ≡ true → IsOrder high v.order
+in_order high k v h e = subst (λ (n : ℕ). IsOrder n v.order) (eqb-true _ _ e) h.order
+
+prefix_line : (k : Known) (v : Values) → Holds k v → (k.name && (k.routed && (k.order == 4294967294))) ≡ true → IsTrue (is_name v.text) × IsOrder 4294967294 v.order × AreLengths v.to v.low v.high
+prefix_line k v h e =
+    let parts = and_parts _ _ e in
+    let rest = and_parts _ _ parts.1 in
+    (h.name parts.0, in_order 4294967294 k v h rest.1, h.routed rest.0)
+
 given : (meaning : Meaning) (k : Known) (v : Values) → Holds k v → fits meaning k ≡ true → IsInForm (give meaning v)
 given Hostname k v h e = h.name e
 given Interface k v h e = h.face e
@@ -86,8 +96,8 @@ given RouterOspf k v h e = in_range 1 65535 k v h e
 given RouterBgp k v h e = in_range 1 4294967295 k v h e
 given ExtendedList k v h e = h.name e
 given StandardList k v h e = h.name e
-given ListLine k v h e = tt
-given PrefixLine k v h e = h.name e
+given ListLine k v h e = h.listed e
+given PrefixLine k v h e = prefix_line k v h e
 given Address k v h e = long_enough k v h e
 given NoAddress k v h e = tt
 given Shutdown k v h e = tt
@@ -111,7 +121,7 @@ given NeighborDown k v h e = tt
 given NoNeighborDown k v h e = tt
 given NeighborList k v h e = h.name e
 given Tells k v h e = tt
-given Entry k v h e = tt
+given Entry k v h e = in_order 2147483647 k v h e
 given Inert k v h e = tt
 
 found_step : (p q : Rule → Bool) (x : Rule) (xs : List Rule) (y : Rule) → q x ≡ true → find p (x ∷ xs) ≡ Some y → (find p xs ≡ Some y → q y ≡ true) → (b : Bool) → p x ≡ b → q y ≡ true
@@ -126,3 +136,18 @@ pub in_form : CommandsAreInForm
 in_form text line within command reads =
     let sound : rule_fits reads.rule ≡ true = found_passes (completes (is_extended_block within) (line_words text line)) rule_fits (rows within) reads.rule (all_fit within) reads.first in
     subst IsInForm (sym reads.gives) (given reads.rule.meaning (learn_parts reads.rule.pieces nothing) reads.values (read-holds (is_extended_block within) (line_words text line) reads.rule reads.values reads.complete) sound)
+
+addressed : (meaning : Meaning) (k : Known) (v : Values) → Holds k v → AddressesFit (give meaning v)
+addressed Address k v h = h.address
+addressed Area k v h = h.area
+addressed Covers k v h = h.area
+addressed RouterId k v h = h.address
+addressed RemoteAs k v h = h.address
+addressed NeighborDown k v h = h.address
+addressed NoNeighborDown k v h = h.address
+addressed NeighborList k v h = h.address
+addressed _ k v h = tt
+
+pub addresses_fit : AllAddressesFit
+addresses_fit text line within command reads =
+    subst AddressesFit (sym reads.gives) (addressed reads.rule.meaning (learn_parts reads.rule.pieces nothing) reads.values (read-holds (is_extended_block within) (line_words text line) reads.rule reads.values reads.complete))

@@ -1,70 +1,87 @@
 -- What is known of the values that a row's words give.
-use Rattle.std.proofs.Common.{◌≡◌, ℕ, ◌+◌, ◌≤◌, Bool, true, false, cond, if◌then◌else◌, ◌&&◌, ◌==◌, List, [], ◌∷◌, Option, Some, None, Result, Ok, Err, refl, sym, subst, true≢false, IsTrue, not, codes, nat_le, ◌<◌, arith}
+use Rattle.std.proofs.Common.{◌≡◌, ℕ, ◌+◌, ◌-◌, ◌^◌, ◌≤◌, ◌⊎◌, inl, inr, max, Bool, true, false, cond, ◌&&◌, ◌||◌, ◌==◌, List, [], ◌∷◌, Option, Some, None, Result, Ok, Err, refl, sym, ap, subst, true≢false, IsTrue, not, codes, nat_le, ◌<◌, arith}
 use Rattle.std.proofs.lemmas.Bool.{and_parts, leb-true}
 use Rattle.std.proofs.lemmas.List.Quantifiers.{position-Some}
+use Rattle.std.specs.Int.{w32, from_be_bytes}
 use Rattle.std.specs.Str.{bytes_eq}
+use Rattle.arc_base.specs.Cuts.{cut_at}
 use Rattle.arc_base.specs.PrefixText.{number_of, address_of}
+use Rattle.arc_base.proofs.NumberTexts.{number_of-some}
+use Rattle.arc_base.proofs.AddressTexts.{address_of-some}
 use Rattle.ios_words.specs.declared.kinds.Flaw.{Flaw}
 use Rattle.ios_words.specs.declared.kinds.Flaw.TheVariants.{Amiss}
 use Rattle.ios_words.specs.declared.kinds.WordFault.{WordFault}
 use Rattle.ios_words.specs.declared.rows.Form.{Form}
 use Rattle.ios_words.specs.declared.rows.Form.TheVariants.{Name, FaceName, Number, Address, Host, Network, Mask, Wildcard, Area, ListNumber, Order, Route, AtLeast, AtMost}
+use Rattle.ios_words.specs.Forms.{IsFrom, IsStandard, IsExtended, IsListNumber, AreLengths, IsOrder}
 use Rattle.ios_words.specs.Names.{is_name, is_face_name}
 use Rattle.ios_words.specs.Prefixes.{holding, whole}
-use Rattle.ios_words.specs.Numbers.{is_from, ranged, number_in, length_from, mask_of_address, mask_length, mask_ones, masks, wildcard_length, area_of, list_kind}
+use Rattle.ios_words.specs.Numbers.{is_from, ranged, number_in, length_from, mask_of_address, mask_length, mask_ones, masks, wildcard_length, or_else, area_of, is_standard, is_extended, list_kind}
 use Rattle.ios_words.specs.Readings.{State, begins, begins_entry, after_word, next_word, place, this_word, permits, verdict, passed, then_do, stands_alone, alone, any, width, side, as_source, step, read_parts, finish_words, finish, start, read}
 use Rattle.ios_words.specs.Rows.{Piece, Word, Verdict, Place, Bracket, Flag, EntryNumber, Protocol, Source, Destination, Anything, Rule}
-use Rattle.ios_words.specs.Values.{Values, with_value, with_result, tested, route_of, class_prefix, values_with}
+use Rattle.ios_words.specs.Values.{Values, with_value, with_result, tested, both, route_parts, route_of, class_prefix, values_with, no_values}
 
--- what is known: that the text is a name, or an interface's; the range of the number; the least length of a mask
+-- what is known: that the text is a name, an interface's or the number of a list; the range of the number; the least length of a mask;
+-- that the lengths of a route are in order; the greatest number of an entry
 pub record Known : Type 0 where
   pub name : Bool
   pub face : Bool
+  pub listed : Bool
   pub numbered : Bool
   pub low : ℕ
   pub high : ℕ
   pub measured : Bool
   pub least : ℕ
+  pub routed : Bool
+  pub order : ℕ
 
 -- nothing is known
 abbrev pub nothing : Known
-nothing = record { name = false; face = false; numbered = false; low = 0; high = 0; measured = false; least = 0 }
+nothing = record { name = false; face = false; listed = false; numbered = false; low = 0; high = 0; measured = false; least = 0; routed = false; order = 0 }
+
+-- what is known where the prefix may change, and the length with it
+abbrev pub loose : Known → Known
+loose k = record k { measured = false; routed = false }
+
+-- what is known where only the prefix may change
+abbrev pub unrouted : Known → Known
+unrouted k = record k { routed = false }
 
 -- what is known after a word of the form
 abbrev pub learn_form : Form → Known → Known
-learn_form Name k = record k { name = true; face = false }
-learn_form FaceName k = record k { name = false; face = true }
+learn_form Name k = record k { name = true; face = false; listed = false }
+learn_form FaceName k = record k { name = false; face = true; listed = false }
 learn_form (Number low high) k = record k { numbered = true; low = low; high = high }
 learn_form Address k = k
-learn_form Host k = k
-learn_form Network k = k
-learn_form (Mask least) k = record k { measured = true; least = least }
-learn_form Wildcard k = record k { measured = false }
+learn_form Host k = unrouted k
+learn_form Network k = unrouted k
+learn_form (Mask least) k = record k { measured = true; least = least; routed = false }
+learn_form Wildcard k = loose k
 learn_form Area k = k
-learn_form ListNumber k = record k { name = false; face = false }
-learn_form (Order high) k = k
-learn_form Route k = k
+learn_form ListNumber k = record k { name = false; face = false; listed = true }
+learn_form (Order high) k = record k { order = high }
+learn_form Route k = record k { routed = true }
 learn_form AtLeast k = k
 learn_form AtMost k = k
 
--- what is known whether a word of the form stands or not: only what no form in brackets changes
-abbrev pub is_mild : Form → Bool
-is_mild (Order high) = true
-is_mild AtLeast = true
-is_mild AtMost = true
-is_mild _ = false
+-- what is known whether a word of the form stands or not
+abbrev pub learn_either : Form → Known → Known
+learn_either (Order high) k = record k { order = max k.order high }
+learn_either AtLeast k = k
+learn_either AtMost k = k
+learn_either _ k = record nothing { order = k.order }
 
 -- what is known after a part of a row
 abbrev pub learn : Piece → Known → Known
 learn (Word word) k = k
 learn Verdict k = k
 learn (Place form) k = learn_form form k
-learn (Bracket word form) k = if is_mild form then k else nothing
+learn (Bracket word form) k = learn_either form k
 learn (Flag word) k = k
-learn EntryNumber k = k
+learn EntryNumber k = learn_either (Order 2147483647) k
 learn Protocol k = k
-learn Source k = record k { measured = false }
-learn Destination k = record k { measured = false }
+learn Source k = loose k
+learn Destination k = loose k
 learn Anything k = k
 
 -- what is known after these parts
@@ -76,8 +93,13 @@ learn_parts (piece ∷ pieces) k = learn_parts pieces (learn piece k)
 pub record Holds (k : Known) (v : Values) : Type 0 where
   pub name : k.name ≡ true → IsTrue (is_name v.text)
   pub face : k.face ≡ true → IsTrue (is_face_name v.text)
+  pub listed : k.listed ≡ true → IsListNumber v.text
   pub number : k.numbered ≡ true → (k.low ≤ v.number) × (v.number ≤ k.high)
   pub length : k.measured ≡ true → (k.least ≤ v.length) × (v.length ≤ 32)
+  pub routed : k.routed ≡ true → AreLengths v.to v.low v.high
+  pub order : IsOrder k.order v.order
+  pub address : v.address < 2 ^ 32
+  pub area : v.area < 2 ^ 32
 
 -- one result is one value
 one_value : (a b : Values) (r : Result Values Flaw) → r ≡ Ok a → r ≡ Ok b → a ≡ b
@@ -94,6 +116,9 @@ no_state fault b r one two = cc
 
 same_number : (a b : ℕ) → Some a ≡ Some b → a ≡ b
 same_number a b e = cc
+
+same_pair : (a b : ℕ × ℕ) → Some a ≡ Some b → a ≡ b
+same_pair a b e = cc
 
 same_word : (a b : List ℕ) → Some a ≡ Some b → a ≡ b
 same_word a b e = cc
@@ -140,17 +165,82 @@ mask-some : (least n : ℕ) (o : Option ℕ) → mask_of_address least o ≡ Ok 
 mask-some least n None e = absurd (cc)
 mask-some least n (Some addr) e = from-some least addr n (mask_ones addr) refl e
 
--- what holds of values holds of those that agree in the fields that matter
-kept : (k : Known) (v u : Values) → Holds k v → u.text ≡ v.text → u.number ≡ v.number → u.length ≡ v.length → Holds k u
-kept k v u h t n l = record {
+-- a number that passes the test of a range is in it
+from-test : (low high n : ℕ) → is_from low high n ≡ true → IsFrom low high n
+from-test low high n e = let parts = and_parts _ _ e in (leb-true _ _ parts.0, leb-true _ _ parts.1)
+
+two-ranges : (low high from to n : ℕ) (b : Bool) → is_from low high n ≡ b → (b || is_from from to n) ≡ true → IsFrom low high n ⊎ IsFrom from to n
+two-ranges low high from to n true is e = inl (from-test low high n is)
+two-ranges low high from to n false is e = inr (from-test from to n e)
+
+kind-step : (n : ℕ) (extended b c : Bool) → is_standard n ≡ b → is_extended n ≡ c → cond b (Some false) (cond c (Some true) None) ≡ Some extended → IsStandard n ⊎ IsExtended n
+kind-step n extended true c is other e = inl (two-ranges 1 99 1300 1999 n (is_from 1 99 n) refl is)
+kind-step n extended false true no' is e = inr (two-ranges 100 199 2000 2699 n (is_from 100 199 n) refl is)
+kind-step n extended false false no' other e = absurd (cc)
+
+-- a word of a list's number is one
+kind-some : (w : List ℕ) (extended : Bool) (o : Option ℕ) → number_of w ≡ o → list_kind o ≡ Some extended → IsListNumber w
+kind-some w extended None is e = absurd (cc)
+kind-some w extended (Some n) is e = record { number = n; written = (number_of-some w n is).1; ranged = kind-step n extended (is_standard n) (is_extended n) refl refl e }
+
+-- the length of a route is at most 32
+both-some : (a b : Option ℕ) (r : ℕ × ℕ) → both a b ≡ Some r → b ≡ Some r.1
+both-some None b r e = absurd (cc)
+both-some (Some x) None r e = absurd (cc)
+both-some (Some x) (Some y) r e = ap (λ (p : ℕ × ℕ). Some p.1) (same_pair (x, y) r e)
+
+parts-some : (o : Option (List ℕ × List ℕ)) (r : ℕ × ℕ) → route_parts o ≡ Some r → r.1 ≤ 32
+parts-some None r e = absurd (cc)
+parts-some (Some parts) r e = (ranged-some 0 32 (number_of parts.1) r.1 (both-some (address_of parts.0) (number_in 0 32 parts.1) r e)).1
+
+-- four bytes make an address of 32 bits
+four_bytes : (a b c d : ℕ) → (a < 256) × (b < 256) × (c < 256) × (d < 256) → from_be_bytes w32 (a ∷ b ∷ c ∷ d ∷ []) < 2 ^ 32
+four_bytes a b c d fit = omega (arith, fit.0, fit.1, fit.2, fit.3)
+
+address-small : (w : List ℕ) (a : ℕ) → address_of w ≡ Some a → a < 2 ^ 32
+address-small w a e =
+    let (octets, dotted, is) = address_of-some w a e in
+    subst (λ (n : ℕ). n < 2 ^ 32) is (subst (λ (bytes : List ℕ). from_be_bytes w32 bytes < 2 ^ 32) (sym dotted.value) (four_bytes dotted.a dotted.b dotted.c dotted.d dotted.fit))
+
+area-small : (w : List ℕ) (a : ℕ) (o : Option ℕ) → number_in 0 (2 ^ 32 - 1) w ≡ o → or_else o (address_of w) ≡ Some a → a < 2 ^ 32
+area-small w a None is e = address-small w a e
+area-small w a (Some n) is e = let most : n ≤ 2 ^ 32 - 1 = (ranged-some 0 (2 ^ 32 - 1) (number_of w) n is).1 in subst (λ (m : ℕ). m < 2 ^ 32) (same_number n a e) (omega arith)
+
+-- a route has its own length
+own-length : (addr len : ℕ) → len ≤ 32 → AreLengths (holding addr len) len len
+unfolding holding
+own-length addr len few = record { least = omega arith; ordered = omega arith; most = few }
+
+-- what holds of values holds of those that agree in the other fields
+kept : (k : Known) (v u : Values) → Holds k v → u.text ≡ v.text → u.number ≡ v.number → u.length ≡ v.length → u.order ≡ v.order → (k.routed ≡ true → AreLengths u.to u.low u.high) → u.address < 2 ^ 32 → u.area < 2 ^ 32 → Holds k u
+kept k v u h t n l o routed address area = record {
   name = λ is. subst (λ x. IsTrue (is_name x)) (sym t) (h.name is);
   face = λ is. subst (λ x. IsTrue (is_face_name x)) (sym t) (h.face is);
+  listed = λ is. subst (λ x. IsListNumber x) (sym t) (h.listed is);
   number = λ is. subst (λ x. (k.low ≤ x) × (x ≤ k.high)) (sym n) (h.number is);
   length = λ is. subst (λ x. (k.least ≤ x) × (x ≤ 32)) (sym l) (h.length is);
+  routed = routed;
+  order = subst (λ x. IsOrder k.order x) (sym o) h.order;
+  address = address;
+  area = area;
 }
 
 never : {A : Type 0} → false ≡ true → A
 never e = absurd (true≢false (sym e))
+
+-- less is known
+weaker : (k : Known) (v : Values) → Holds k v → Holds (loose k) v
+weaker k v h = record { name = h.name; face = h.face; listed = h.listed; number = h.number; length = λ no'. never no'; routed = λ no'. never no'; order = h.order; address = h.address; area = h.area }
+
+less_routed : (k : Known) (v : Values) → Holds k v → Holds (unrouted k) v
+less_routed k v h = record { name = h.name; face = h.face; listed = h.listed; number = h.number; length = h.length; routed = λ no'. never no'; order = h.order; address = h.address; area = h.area }
+
+ordered_only : (k : Known) (v : Values) → IsOrder k.order v.order → v.address < 2 ^ 32 → v.area < 2 ^ 32 → Holds (record nothing { order = k.order }) v
+ordered_only k v order address area = record { name = λ no'. never no'; face = λ no'. never no'; listed = λ no'. never no'; number = λ no'. never no'; length = λ no'. never no'; routed = λ no'. never no'; order = order; address = address; area = area }
+
+wider : (o : Option ℕ) (m n : ℕ) → m ≤ n → IsOrder m o → IsOrder n o
+wider None m n few is = tt
+wider (Some x) m n few is = (is.0, (let most = is.1 in omega arith))
 
 -- with what a word of the form gives, what is learnt of it holds
 form-holds : (form : Form) (k : Known) (v u : Values) (w : List ℕ) → Holds k v → values_with form v w ≡ Ok u → Holds (learn_form form k) u
@@ -158,32 +248,48 @@ form-holds Name k v u w h e = with-value (Holds (learn_form Name k)) (λ t. reco
     (λ t is. let both = tested-some (is_name w) w t is in record {
       name = λ _. subst (λ x. IsTrue (is_name x)) both.0 both.1;
       face = λ no'. never no';
+      listed = λ no'. never no';
       number = h.number;
       length = h.length;
+      routed = h.routed;
+      order = h.order;
+      address = h.address;
+      area = h.area;
     }) e
 form-holds FaceName k v u w h e = with-value (Holds (learn_form FaceName k)) (λ t. record v { text = t }) (tested (is_face_name w) w) u
     (λ t is. let both = tested-some (is_face_name w) w t is in record {
       name = λ no'. never no';
       face = λ _. subst (λ x. IsTrue (is_face_name x)) both.0 both.1;
+      listed = λ no'. never no';
       number = h.number;
       length = h.length;
+      routed = h.routed;
+      order = h.order;
+      address = h.address;
+      area = h.area;
     }) e
 form-holds (Number low high) k v u w h e = with-value (Holds (learn_form (Number low high) k)) (λ n. record v { number = n }) (number_in low high w) u
-    (λ n is. record { name = h.name; face = h.face; number = λ _. ranged-some low high (number_of w) n is; length = h.length }) e
-form-holds Address k v u w h e = with-value (Holds k) (λ a. record v { address = a }) (address_of w) u (λ a is. kept k v _ h refl refl refl) e
-form-holds Host k v u w h e = with-value (Holds k) (λ a. record v { address = a; to = holding a 32 }) (address_of w) u (λ a is. kept k v _ h refl refl refl) e
-form-holds Network k v u w h e = with-value (Holds k) (λ p. record v { to = p }) (class_prefix (address_of w)) u (λ a is. kept k v _ h refl refl refl) e
+    (λ n is. record { name = h.name; face = h.face; listed = h.listed; number = λ _. ranged-some low high (number_of w) n is; length = h.length; routed = h.routed; order = h.order; address = h.address; area = h.area }) e
+form-holds Address k v u w h e = with-value (Holds k) (λ a. record v { address = a }) (address_of w) u (λ a is. kept k v _ h refl refl refl refl h.routed (address-small w a is) h.area) e
+form-holds Host k v u w h e = with-value (Holds (unrouted k)) (λ a. record v { address = a; to = holding a 32 }) (address_of w) u
+    (λ a is. kept (unrouted k) v _ (less_routed k v h) refl refl refl refl (λ no'. never no') (address-small w a is) h.area) e
+form-holds Network k v u w h e = with-value (Holds (unrouted k)) (λ p. record v { to = p }) (class_prefix (address_of w)) u
+    (λ a is. kept (unrouted k) v _ (less_routed k v h) refl refl refl refl (λ no'. never no') h.address h.area) e
 form-holds (Mask least) k v u w h e = with-result (Holds (learn_form (Mask least) k)) (λ l. record v { length = l; to = holding v.address l }) (mask_length least w) u
-    (λ l is. record { name = h.name; face = h.face; number = h.number; length = λ _. mask-some least l (address_of w) is }) e
-form-holds Wildcard k v u w h e = with-result (Holds (learn_form Wildcard k)) (λ l. record v { length = l; to = holding v.address l }) (wildcard_length w) u
-    (λ l is. record { name = h.name; face = h.face; number = h.number; length = λ no'. never no' }) e
-form-holds Area k v u w h e = with-value (Holds k) (λ a. record v { area = a }) (area_of w) u (λ a is. kept k v _ h refl refl refl) e
+    (λ l is. record { name = h.name; face = h.face; listed = h.listed; number = h.number; length = λ _. mask-some least l (address_of w) is; routed = λ no'. never no'; order = h.order; address = h.address; area = h.area }) e
+form-holds Wildcard k v u w h e = with-result (Holds (loose k)) (λ l. record v { length = l; to = holding v.address l }) (wildcard_length w) u
+    (λ l is. record { name = h.name; face = h.face; listed = h.listed; number = h.number; length = λ no'. never no'; routed = λ no'. never no'; order = h.order; address = h.address; area = h.area }) e
+form-holds Area k v u w h e = with-value (Holds k) (λ a. record v { area = a }) (area_of w) u (λ a is. kept k v _ h refl refl refl refl h.routed h.address (area-small w a (number_in 0 (2 ^ 32 - 1) w) refl is)) e
 form-holds ListNumber k v u w h e = with-value (Holds (learn_form ListNumber k)) (λ extended. record v { text = w; extended = extended }) (list_kind (number_of w)) u
-    (λ a is. record { name = λ no'. never no'; face = λ no'. never no'; number = h.number; length = h.length }) e
-form-holds (Order high) k v u w h e = with-value (Holds k) (λ n. record v { order = Some n }) (number_in 1 high w) u (λ a is. kept k v _ h refl refl refl) e
-form-holds Route k v u w h e = with-value (Holds k) (λ r. record v { to = holding r.0 r.1; low = r.1; high = r.1 }) (route_of w) u (λ a is. kept k v _ h refl refl refl) e
-form-holds AtLeast k v u w h e = with-value (Holds k) (λ n. record v { low = n; high = 32 }) (number_in v.to.len 32 w) u (λ a is. kept k v _ h refl refl refl) e
-form-holds AtMost k v u w h e = with-value (Holds k) (λ n. record v { high = n }) (number_in v.low 32 w) u (λ a is. kept k v _ h refl refl refl) e
+    (λ a is. record { name = λ no'. never no'; face = λ no'. never no'; listed = λ _. kind-some w a (number_of w) refl is; number = h.number; length = h.length; routed = h.routed; order = h.order; address = h.address; area = h.area }) e
+form-holds (Order high) k v u w h e = with-value (Holds (learn_form (Order high) k)) (λ n. record v { order = Some n }) (number_in 1 high w) u
+    (λ n is. record { name = h.name; face = h.face; listed = h.listed; number = h.number; length = h.length; routed = h.routed; order = ranged-some 1 high (number_of w) n is; address = h.address; area = h.area }) e
+form-holds Route k v u w h e = with-value (Holds (learn_form Route k)) (λ r. record v { to = holding r.0 r.1; low = r.1; high = r.1 }) (route_of w) u
+    (λ r is. record { name = h.name; face = h.face; listed = h.listed; number = h.number; length = h.length; routed = λ _. own-length r.0 r.1 (parts-some (cut_at 47 w) r is); order = h.order; address = h.address; area = h.area }) e
+form-holds AtLeast k v u w h e = with-value (Holds k) (λ n. record v { low = n; high = 32 }) (number_in v.to.len 32 w) u
+    (λ n is. let range = ranged-some v.to.len 32 (number_of w) n is in kept k v _ h refl refl refl refl (λ _. record { least = range.0; ordered = range.1; most = omega arith }) h.address h.area) e
+form-holds AtMost k v u w h e = with-value (Holds k) (λ n. record v { high = n }) (number_in v.low 32 w) u
+    (λ n is. let range = ranged-some v.low 32 (number_of w) n is in kept k v _ h refl refl refl refl (λ was. record { least = (h.routed was).least; ordered = range.0; most = range.1 }) h.address h.area) e
 
 -- what holds after the next word
 after-holds : (P : Values → Type 0) (place : ℕ) (words : List (List ℕ)) (r : Result Values Flaw) (s : State) → ((v : Values) → r ≡ Ok v → P v) → after_word place words r ≡ Ok s → P s.values
@@ -218,55 +324,54 @@ this-holds word k s t h e = next-holds (Holds k) (λ w. cond (bytes_eq w word) (
 
 verdict-holds : (k : Known) (s t : State) → Holds k s.values → verdict s ≡ Ok t → Holds k t.values
 verdict-holds k s t h e = next-holds (Holds k) (permits s.values) s.taken s.words t
-    (λ w v. if-value (Holds k) (bytes_eq w (codes "permit")) _ _ v (ok-value (Holds k) (record s.values { permit = true }) v _ refl (kept k s.values _ h refl refl refl))
-    (if-value (Holds k) (bytes_eq w (codes "deny")) _ _ v (ok-value (Holds k) (record s.values { permit = false }) v _ refl (kept k s.values _ h refl refl refl)) (λ e'. absurd (no_value Amiss v (Err Amiss) refl e')))) e
+    (λ w v. if-value (Holds k) (bytes_eq w (codes "permit")) _ _ v (ok-value (Holds k) (record s.values { permit = true }) v _ refl (kept k s.values _ h refl refl refl refl h.routed h.address h.area))
+    (if-value (Holds k) (bytes_eq w (codes "deny")) _ _ v (ok-value (Holds k) (record s.values { permit = false }) v _ refl (kept k s.values _ h refl refl refl refl h.routed h.address h.area)) (λ e'. absurd (no_value Amiss v (Err Amiss) refl e')))) e
 
--- less is known
-weaker : (k : Known) (v : Values) → Holds k v → Holds (record k { measured = false }) v
-weaker k v h = record { name = h.name; face = h.face; number = h.number; length = λ no'. never no' }
-
-width-holds : (extended : Bool) (k : Known) (s t : State) → Holds k s.values → width extended s ≡ Ok t → Holds (record k { measured = false }) t.values
-width-holds extended k s t h e = if-state (λ x. Holds (record k { measured = false }) x.values) (not extended && stands_alone s.words) _ _ t
-    (ok-state (λ x. Holds (record k { measured = false }) x.values) (alone s) t _ refl (weaker k _ (kept k s.values _ h refl refl refl)))
+width-holds : (extended : Bool) (k : Known) (s t : State) → Holds k s.values → width extended s ≡ Ok t → Holds (loose k) t.values
+width-holds extended k s t h e = if-state (λ x. Holds (loose k) x.values) (not extended && stands_alone s.words) _ _ t
+    (ok-state (λ x. Holds (loose k) x.values) (alone s) t _ refl (kept (loose k) s.values _ (weaker k s.values h) refl refl refl refl (λ no'. never no') h.address h.area))
     (place-holds Wildcard k s t h) e
 
 then-holds : (P : State → Type 0) (next : State → Result State WordFault) (r : Result State WordFault) (t : State) → ((s : State) → r ≡ Ok s → next s ≡ Ok t → P t) → then_do next r ≡ Ok t → P t
 then-holds P next (Ok s) t h e = h s refl e
 then-holds P next (Err fault) t h e = absurd (no_state fault t (then_do next (Err fault)) refl e)
 
-side-holds : (extended : Bool) (k : Known) (s t : State) → Holds k s.values → side extended s ≡ Ok t → Holds (record k { measured = false }) t.values
+side-holds : (extended : Bool) (k : Known) (s t : State) → Holds k s.values → side extended s ≡ Ok t → Holds (loose k) t.values
 side-holds extended k s t h e =
-    let P : State → Type 0 = λ x. Holds (record k { measured = false }) x.values in
-    if-state P (begins (codes "any") s.words) _ _ t (ok-state P (any s) t _ refl (weaker k _ (kept k s.values _ h refl refl refl)))
-    (if-state P (begins (codes "host") s.words) _ _ t (λ e'. weaker k t.values (place-holds Host k (passed s) t h e'))
+    let P : State → Type 0 = λ x. Holds (loose k) x.values in
+    if-state P (begins (codes "any") s.words) _ _ t (ok-state P (any s) t _ refl (kept (loose k) s.values _ (weaker k s.values h) refl refl refl refl (λ no'. never no') h.address h.area))
+    (if-state P (begins (codes "host") s.words) _ _ t (λ e'. weaker (unrouted k) t.values (place-holds Host k (passed s) t h e'))
     (then-holds P (width extended) (place Address s) t (λ m at. width-holds extended k m t (place-holds Address k s m h at)))) e
 
-mild-there : (form : Form) (k : Known) (v : Values) → Holds (learn_form form k) v → Holds (cond (is_mild form) k nothing) v
-mild-there (Order high) k v h = h
-mild-there AtLeast k v h = h
-mild-there AtMost k v h = h
-mild-there _ k v h = record { name = λ no'. never no'; face = λ no'. never no'; number = λ no'. never no'; length = λ no'. never no' }
+-- whether the word stands or not
+either-there : (form : Form) (k : Known) (v : Values) → Holds (learn_form form k) v → Holds (learn_either form k) v
+either-there (Order high) k v h = record { name = h.name; face = h.face; listed = h.listed; number = h.number; length = h.length; routed = h.routed; order = wider v.order high (max k.order high) (omega arith) h.order; address = h.address; area = h.area }
+either-there AtLeast k v h = h
+either-there AtMost k v h = h
+either-there _ k v h = ordered_only k v h.order h.address h.area
 
-mild-not : (form : Form) (k : Known) (v : Values) → Holds k v → Holds (cond (is_mild form) k nothing) v
-mild-not (Order high) k v h = h
-mild-not AtLeast k v h = h
-mild-not AtMost k v h = h
-mild-not _ k v h = record { name = λ no'. never no'; face = λ no'. never no'; number = λ no'. never no'; length = λ no'. never no' }
+either-not : (form : Form) (k : Known) (v : Values) → Holds k v → Holds (learn_either form k) v
+either-not (Order high) k v h = record { name = h.name; face = h.face; listed = h.listed; number = h.number; length = h.length; routed = h.routed; order = wider v.order k.order (max k.order high) (omega arith) h.order; address = h.address; area = h.area }
+either-not AtLeast k v h = h
+either-not AtMost k v h = h
+either-not _ k v h = ordered_only k v h.order h.address h.area
 
 step-holds : (piece : Piece) (k : Known) (s t : State) → Holds k s.values → step piece s ≡ Ok t → Holds (learn piece k) t.values
 step-holds (Word word) k s t h e = this-holds word k s t h e
 step-holds Verdict k s t h e = verdict-holds k s t h e
 step-holds (Place form) k s t h e = place-holds form k s t h e
-step-holds (Bracket word form) k s t h e = if-state (λ x. Holds (cond (is_mild form) k nothing) x.values) (begins word s.words) _ _ t
-    (λ e'. mild-there form k t.values (place-holds form k (passed s) t h e'))
-    (ok-state (λ x. Holds (cond (is_mild form) k nothing) x.values) s t _ refl (mild-not form k s.values h)) e
+step-holds (Bracket word form) k s t h e = if-state (λ x. Holds (learn_either form k) x.values) (begins word s.words) _ _ t
+    (λ e'. either-there form k t.values (place-holds form k (passed s) t h e'))
+    (ok-state (λ x. Holds (learn_either form k) x.values) s t _ refl (either-not form k s.values h)) e
 step-holds (Flag word) k s t h e = if-state (λ x. Holds k x.values) (begins word s.words) _ _ t (ok-state (λ x. Holds k x.values) (passed s) t _ refl h) (ok-state (λ x. Holds k x.values) s t _ refl h) e
-step-holds EntryNumber k s t h e = if-state (λ x. Holds k x.values) (begins_entry s.words) _ _ t (ok-state (λ x. Holds k x.values) s t _ refl h) (place-holds (Order 2147483647) k s t h) e
+step-holds EntryNumber k s t h e = if-state (λ x. Holds (learn_either (Order 2147483647) k) x.values) (begins_entry s.words) _ _ t
+    (ok-state (λ x. Holds (learn_either (Order 2147483647) k) x.values) s t _ refl (either-not (Order 2147483647) k s.values h))
+    (λ e'. either-there (Order 2147483647) k t.values (place-holds (Order 2147483647) k s t h e')) e
 step-holds Protocol k s t h e = if-state (λ x. Holds k x.values) s.values.extended _ _ t (this-holds (codes "ip") k s t h) (ok-state (λ x. Holds k x.values) s t _ refl h) e
-step-holds Source k s t h e = then-holds (λ x. Holds (record k { measured = false }) x.values) as_source (side s.values.extended s) t
-    (λ m at. ok-state (λ x. Holds (record k { measured = false }) x.values) (record m { values = record m.values { from = m.values.to; to = whole } }) t _ refl
-    (kept (record k { measured = false }) m.values _ (side-holds s.values.extended k s m h at) refl refl refl)) e
-step-holds Destination k s t h e = if-state (λ x. Holds (record k { measured = false }) x.values) s.values.extended _ _ t (side-holds true k s t h) (ok-state (λ x. Holds (record k { measured = false }) x.values) s t _ refl (weaker k s.values h)) e
+step-holds Source k s t h e = then-holds (λ x. Holds (loose k) x.values) as_source (side s.values.extended s) t
+    (λ m at. ok-state (λ x. Holds (loose k) x.values) (record m { values = record m.values { from = m.values.to; to = whole } }) t _ refl
+    (let held = side-holds s.values.extended k s m h at in kept (loose k) m.values _ held refl refl refl refl (λ no'. never no') held.address held.area)) e
+step-holds Destination k s t h e = if-state (λ x. Holds (loose k) x.values) s.values.extended _ _ t (side-holds true k s t h) (ok-state (λ x. Holds (loose k) x.values) s t _ refl (weaker k s.values h)) e
 step-holds Anything k s t h e = ok-state (λ x. Holds k x.values) (record s { words = [] }) t _ refl h e
 
 parts-hold : (pieces : List Piece) (k : Known) (s t : State) → Holds k s.values → read_parts pieces s ≡ Ok t → Holds (learn_parts pieces k) t.values
@@ -287,4 +392,4 @@ finish-holds P (Err fault) v h e = absurd (cc)
 
 pub read-holds : (extended : Bool) (words : List (List ℕ)) (rule : Rule) (v : Values) → read extended words rule ≡ Ok v → Holds (learn_parts rule.pieces nothing) v
 read-holds extended words rule v e = finish-holds (Holds (learn_parts rule.pieces nothing)) (read_parts rule.pieces (start extended words)) v
-    (λ s. parts-hold rule.pieces nothing (start extended words) s (record { name = λ no'. never no'; face = λ no'. never no'; number = λ no'. never no'; length = λ no'. never no' })) e
+    (λ s. parts-hold rule.pieces nothing (start extended words) s (ordered_only nothing (no_values extended) tt (omega arith) (omega arith))) e

@@ -1,5 +1,5 @@
 -- Rows that are tried one after another give the answer of the block.
-use Rattle.std.proofs.Common.{◌≡◌, ℕ, Bool, true, false, List, [], ◌∷◌, Option, Some, None, Result, Ok, Err, unwrap_or, refl, sym, ap, subst, ◌∙◌, true≢false, find, ◌⊎◌, inl, inr}
+use Rattle.std.proofs.Common.{◌≡◌, ◌≢◌, ℕ, Bool, true, false, List, [], ◌∷◌, Option, Some, None, Result, Ok, Err, unwrap_or, refl, sym, ap, subst, ◌∙◌, true≢false, find, ◌⊎◌, inl, inr}
 use Rattle.ios_words.specs.declared.commands.Command.{Command}
 use Rattle.ios_words.specs.declared.kinds.WordFault.{WordFault}
 use Rattle.ios_words.specs.declared.kinds.WordFault.TheVariants as faults
@@ -139,6 +139,12 @@ answered extended words rules (Err faults.Unknown) e = no_fault extended words r
 answered extended words rules (Err (faults.BadWord place)) e = known_fault extended words rules (faults.BadWord place) (λ same. absurd (cc)) (fault_found extended words None rules (faults.BadWord place) e).1
 answered extended words rules (Err faults.WildcardNotPrefix) e = known_fault extended words rules faults.WildcardNotPrefix (λ same. absurd (cc)) (fault_found extended words None rules faults.WildcardNotPrefix e).1
 answered extended words rules (Err faults.Memory) e = tt
+
+-- and never that memory is wanting
+pub no_memory : (extended : Bool) (words : List (List ℕ)) (rules : List Rule) → try_rules extended words None rules ≢ Err faults.Memory
+no_memory extended words rules e =
+    let faulty = known_fault extended words rules faults.Memory (λ same. absurd (cc)) (fault_found extended words None rules faults.Memory e).1 in
+    true≢false (sym (read-fault extended words faulty.rule faults.Memory faulty.faulty))
 
 -- rows that say the same of the words have the same answer
 same_fault : (extended : Bool) (words : List (List ℕ)) (rules others : List Rule) (fault : WordFault) → SaysTheSame words rules others → FaultyBy extended words rules fault → FaultyBy extended words others fault

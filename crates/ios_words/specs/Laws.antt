@@ -15,10 +15,15 @@ use Rattle.ios_words.specs.Rows.{Rule}
 abbrev pub Completes : List ℕ → Line → BlockKind → Rule → Type 0
 Completes text line within rule = IsTrue (completes (is_extended_block within) (line_words text line) rule)
 
--- a line reads as one command, or is unknown, or has one faulty word, and no two of these
+-- this is what a line says in a block of this kind, or why it says nothing, and not want of memory
+pub record HasAnswer (text : List ℕ) (line : Line) (within : BlockKind) (answer : Result Command WordFault) : Type 0 where
+  pub told : IsAnswer text line within answer
+  pub known : answer ≢ Err faults.Memory
+
+-- a line reads as one command, or is unknown, or has one faulty word: one of these and no two
 abbrev pub AnswersAreOne : Type 0
 AnswersAreOne =
-    (text : List ℕ) (line : Line) (within : BlockKind) (a b : Result Command WordFault) → IsAnswer text line within a → IsAnswer text line within b → a ≢ Err faults.Memory → b ≢ Err faults.Memory → a ≡ b
+    (text : List ℕ) (line : Line) (within : BlockKind) → ((answer : Result Command WordFault) × HasAnswer text line within answer) × ((a b : Result Command WordFault) → HasAnswer text line within a → HasAnswer text line within b → a ≡ b)
 
 -- a line is unknown exactly where no row of its block matches it
 abbrev pub UnknownMatchesNone : Type 0

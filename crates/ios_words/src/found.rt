@@ -139,7 +139,7 @@ impl<'a> Found<'a> {
         }
     }
 
-    // With the length of a mask or wildcard, which makes a prefix of the address before it.
+    /// With the length of a mask or wildcard, which makes a prefix of the address before it.
     fn with_length(self, length: Result<u8, Flaw>) -> Result<Found<'a>, Flaw>
         requires { IfOk length (λ length. length ≤ 32) }
         ensures { word_values result ≡ with_length (values_of self.entry) length }

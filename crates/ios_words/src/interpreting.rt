@@ -35,7 +35,7 @@ pub fn command(
     try_rows(alloc, rows, words, is_extended(within))
 }
 
-// Whether a side of an entry in the block is that of an extended list.
+/// Whether a side of an entry in the block is that of an extended list.
 fn is_extended(within: BlockKind) -> bool
     ensures { result ≡ is_extended_block within }
 {
@@ -50,7 +50,7 @@ fn is_extended(within: BlockKind) -> bool
     }
 }
 
-// The rows of a block that may match these words: the others don't.
+/// The rows of a block that may match these words: the others don't.
 fn candidates(within: BlockKind, words: Words) -> &'static [Row]
     ensures same { SaysTheSame (words_of words.entry) (map rule_of result.now) (rows within) }
     ensures short { IsTrue (list_all is_short (map rule_of result.now)) }
@@ -66,7 +66,7 @@ fn candidates(within: BlockKind, words: Words) -> &'static [Row]
     }
 }
 
-// The rows of lines outside blocks that may match these words.
+/// The rows of lines outside blocks that may match these words.
 fn top_candidates(words: Words) -> &'static [Row]
     ensures same { SaysTheSame (words_of words.entry) (map rule_of result.now) (rows BlockKind.Top) }
     ensures short { IsTrue (list_all is_short (map rule_of result.now)) }
@@ -83,7 +83,7 @@ fn top_candidates(words: Words) -> &'static [Row]
     }
 }
 
-// The rows of lines of an interface that may match these words.
+/// The rows of lines of an interface that may match these words.
 fn interface_candidates(words: Words) -> &'static [Row]
     ensures same { SaysTheSame (words_of words.entry) (map rule_of result.now) (rows BlockKind.Interface) }
     ensures short { IsTrue (list_all is_short (map rule_of result.now)) }

@@ -1,5 +1,5 @@
 //! Laws over the definitions alone: each is the contract of a function that does nothing.
-ghost use Rattle.ios_words.specs.Forms.{CommandsAreInForm};
+ghost use Rattle.ios_words.specs.Forms.{CommandsAreInForm, AllAddressesFit};
 ghost use Rattle.ios_words.specs.Names.{NamesHaveTheirForm};
 ghost use Rattle.ios_words.specs.Laws.{AnswersAreOne, UnknownMatchesNone, InertCounts};
 
@@ -18,9 +18,10 @@ pub fn an_inert_row_counts()
     ensures { InertCounts }
 {}
 
-/// The names and numbers of what a line says have their forms and ranges.
+/// The names and numbers of what a line says have their forms and ranges, and its addresses and areas have 32 bits.
 pub fn commands_are_in_form()
-    ensures { CommandsAreInForm }
+    ensures form { CommandsAreInForm }
+    ensures addresses { AllAddressesFit }
 {}
 
 /// Words that pass the tests of names have the forms of names.

@@ -21,7 +21,7 @@ pub(crate) fn matches(parts: &[Part], words: Words) -> bool
     true
 }
 
-// The words after a part of a row, where they have the part's fixed words.
+/// The words after a part of a row, where they have the part's fixed words.
 fn after<'a>(part: Part, words: Words<'a>) -> Option<Words<'a>>
     ensures { option_map words_of result ≡ after (piece_of part) (words_of words.entry) }
 {

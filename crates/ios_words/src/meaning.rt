@@ -54,14 +54,14 @@ pub(crate) fn give(alloc: Global, meaning: Meaning, found: Found) -> Result<Comm
     }
 }
 
-// The name or number that was read.
+/// The name or number that was read.
 fn text(alloc: Global, found: Found) -> Result<Name, Memory>
     ensures { IfOk result (λ name. name ≡ found.entry.text.now) }
 {
     Name::make(alloc, found.text)
 }
 
-// The entry of a packet list.
+/// The entry of a packet list.
 fn packet(found: Found) -> PacketText
     ensures { result ≡ packet (values_of found.entry) }
 {
@@ -72,7 +72,7 @@ fn packet(found: Found) -> PacketText
     }
 }
 
-// The entry of a prefix list.
+/// The entry of a prefix list.
 fn route(found: Found) -> RouteText
     ensures { result ≡ route (values_of found.entry) }
 {
@@ -84,7 +84,7 @@ fn route(found: Found) -> RouteText
     }
 }
 
-// The process and the area that an interface names.
+/// The process and the area that an interface names.
 fn area(found: Found) -> AreaText
     ensures { result ≡ area (values_of found.entry) }
 {

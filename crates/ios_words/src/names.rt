@@ -5,7 +5,7 @@ ghost use Rattle.std.specs.List.{list_all, list_any};
 ghost use Rattle.ios_words.specs.Names.{is_name_byte, is_name, is_unit, is_of_kind, is_face_name, face_kinds};
 ghost use Rattle.ios_words.specs.Units.{next, ends};
 
-// The most bytes that a name has.
+/// The most bytes that a name has.
 const MOST_BYTES: usize = 64;
 
 /// Whether a word has the form of a name: 1 to 64 letters, digits, `-`, `_` and `.`.
@@ -48,7 +48,7 @@ pub(crate) fn is_face_name(word: &[u8]) -> bool
     is_of_some_kind(word)
 }
 
-// Whether a word is a known kind and then numbers joined by slashes.
+/// Whether a word is a known kind and then numbers joined by slashes.
 fn is_of_some_kind(word: &[u8]) -> bool
     ensures { result ≡ list_any (is_of_kind word.now) face_kinds }
 {
@@ -70,7 +70,7 @@ fn is_of_some_kind(word: &[u8]) -> bool
     is_of_kind(word, b"Loopback")
 }
 
-// Whether a word is this kind and then numbers joined by slashes.
+/// Whether a word is this kind and then numbers joined by slashes.
 fn is_of_kind(word: &[u8], kind: &[u8]) -> bool
     ensures { result ≡ is_of_kind word.now kind.now }
 {
@@ -81,7 +81,7 @@ fn is_of_kind(word: &[u8], kind: &[u8]) -> bool
     front == kind && is_unit(unit)
 }
 
-// What stands before a byte of numbers joined by slashes.
+/// What stands before a byte of numbers joined by slashes.
 #[derive(Clone, Copy, Debug, PartialEq, Eq)]
 enum Before {
     /// Nothing, or a slash.
@@ -92,7 +92,7 @@ enum Before {
     Digit,
 }
 
-// Whether a text is decimal numbers joined by slashes.
+/// Whether a text is decimal numbers joined by slashes.
 fn is_unit(text: &[u8]) -> bool
     ensures { result ≡ is_unit text.now }
 {
@@ -106,7 +106,7 @@ fn is_unit(text: &[u8]) -> bool
     ends(before)
 }
 
-// What stands before the next byte, where this one may stand here.
+/// What stands before the next byte, where this one may stand here.
 fn next(before: Before, byte: u8) -> Option<Before>
     ensures { result ≡ next before byte }
 {
@@ -139,7 +139,7 @@ fn next(before: Before, byte: u8) -> Option<Before>
     }
 }
 
-// Whether the numbers may end here.
+/// Whether the numbers may end here.
 fn ends(before: Before) -> bool
     ensures { result ≡ ends before }
 {

@@ -6,7 +6,7 @@ ghost use Rattle.ios_words.specs.Numbers.{is_from, number_in, mask_ones, length_
 use crate::kinds::Flaw;
 use arc_base::{read_address, read_number};
 
-// The masks, by the number of their ones.
+/// The masks, by the number of their ones.
 const MASKS: [u32; 33] = [
     0,
     0x8000_0000,
@@ -60,14 +60,14 @@ pub(crate) fn number_in(word: &[u8], low: u32, high: u32) -> Option<u32>
     }
 }
 
-// Whether a number is from the first to the second.
+/// Whether a number is from the first to the second.
 fn is_from(low: u64, high: u64, number: u64) -> bool
     ensures { result ≡ is_from low high number }
 {
     low <= number && number <= high
 }
 
-// The number of ones of an address that is a mask.
+/// The number of ones of an address that is a mask.
 #[tactic(auto, unfolding(crate::specs::Numbers::masks))]
 fn mask_ones(address: u32) -> Option<usize>
     ensures ones { result ≡ mask_ones address }
@@ -76,7 +76,7 @@ fn mask_ones(address: u32) -> Option<usize>
     MASKS.iter().position(|mask| *mask == address)
 }
 
-// A number of ones that is at least so many; an address without one is no mask.
+/// A number of ones that is at least so many; an address without one is no mask.
 fn length_from(least: u8, ones: Option<usize>) -> Result<u8, Flaw>
     requires { IfSome ones (λ ones. ones ≤ 32) }
     ensures length { result ≡ length_from least ones }
@@ -161,14 +161,14 @@ pub(crate) fn list_kind(word: &[u8]) -> Option<bool>
     }
 }
 
-// Whether a number is that of a standard list.
+/// Whether a number is that of a standard list.
 fn is_standard(number: u64) -> bool
     ensures { result ≡ is_standard number }
 {
     is_from(1, 99, number) || is_from(1300, 1999, number)
 }
 
-// Whether a number is that of an extended list.
+/// Whether a number is that of an extended list.
 fn is_extended(number: u64) -> bool
     ensures { result ≡ is_extended number }
 {

@@ -17,7 +17,7 @@ pub(crate) fn holding(address: u32, len: u8) -> Prefix
     }
 }
 
-// An address with so many of its last bits cleared.
+/// An address with so many of its last bits cleared.
 fn cleared(address: u32, rest: u8) -> u32
     requires { rest ≤ 32 }
     ensures { result ≡ cleared rest address }
@@ -50,7 +50,7 @@ pub(crate) fn route_of(word: &[u8]) -> Option<(u32, u8)>
     }
 }
 
-// An address and a length, where both are there.
+/// An address and a length, where both are there.
 fn both(address: Option<u32>, len: Option<u32>) -> Option<(u32, u8)>
     requires { IfSome len (λ len. len ≤ 32) }
     ensures both { result ≡ both address len }

@@ -22,7 +22,7 @@ pub(crate) struct Reader<'a> {
 impl<'a> Reader<'a> {
     ghost use Rattle.std.specs.Prelude.{◌≡◌, ◌+◌, ◌*◌, ◌^◌, ◌<◌, ◌≤◌, Bool, map, length, codes, IfOk};
     ghost use Rattle.ios_words.specs.Readings.{place, this_word, verdict, passed, stands_alone, alone, any, width, side, as_source, step, read_parts, finish, start};
-    ghost use Rattle.ios_words.specs.Rows.{Source, piece_of};
+    ghost use Rattle.ios_words.specs.Rows.{Bracket, Flag, Source, piece_of};
     ghost use Rattle.ios_words.specs.Views.{words_of, state_of, next_state, line_values};
 
     /// A line that is to be read in a block, extended or not.
@@ -65,7 +65,7 @@ impl<'a> Reader<'a> {
         }
     }
 
-    // Reads a part.
+    /// Reads a part.
     fn step(self, part: Part) -> Result<Reader<'a>, WordFault>
         requires { self.taken ≤ 1000 }
         ensures state { next_state result ≡ step (piece_of part) (state_of self.entry) }
@@ -75,20 +75,8 @@ impl<'a> Reader<'a> {
             Part::Word(word) => self.this_word(word),
             Part::Verdict => self.verdict(),
             Part::Place(form) => self.place(form),
-            Part::Option(word, form) => {
-                if self.words.begin_with(word) {
-                    self.passed().place(form)
-                } else {
-                    Ok(self)
-                }
-            }
-            Part::Flag(word) => {
-                if self.words.begin_with(word) {
-                    Ok(self.passed())
-                } else {
-                    Ok(self)
-                }
-            }
+            Part::Option(word, form) => self.option(word, form),
+            Part::Flag(word) => Ok(self.flag(word)),
             Part::EntryNumber => {
                 if self.words.begin_entry() {
                     Ok(self)
@@ -118,7 +106,33 @@ impl<'a> Reader<'a> {
         }
     }
 
-    // Reads a word of the form.
+    /// Reads a word and one of the form after it, where the word stands here.
+    fn option(self, word: &[u8], form: Form) -> Result<Reader<'a>, WordFault>
+        requires { self.taken ≤ 1000 }
+        ensures state { next_state result ≡ step (Bracket word.now form) (state_of self.entry) }
+        ensures taken { IfOk result (λ reader. reader.taken ≤ self.entry.taken + 2) }
+    {
+        if self.words.begin_with(word) {
+            self.passed().place(form)
+        } else {
+            Ok(self)
+        }
+    }
+
+    /// Passes over this word, where it stands here.
+    fn flag(self, word: &[u8]) -> Reader<'a>
+        requires { self.taken ≤ 1000 }
+        ensures state { Ok (state_of result) ≡ step (Flag word.now) (state_of self.entry) }
+        ensures taken { result.taken ≤ self.entry.taken + 1 }
+    {
+        if self.words.begin_with(word) {
+            self.passed()
+        } else {
+            self
+        }
+    }
+
+    /// Reads a word of the form.
     fn place(self, form: Form) -> Result<Reader<'a>, WordFault>
         requires { self.taken ≤ 2000 }
         ensures state { next_state result ≡ place form (state_of self.entry) }
@@ -138,7 +152,7 @@ impl<'a> Reader<'a> {
         }
     }
 
-    // Reads this word.
+    /// Reads this word.
     fn this_word(self, word: &[u8]) -> Result<Reader<'a>, WordFault>
         requires { self.taken ≤ 2000 }
         ensures state { next_state result ≡ this_word word.now (state_of self.entry) }
@@ -161,7 +175,7 @@ impl<'a> Reader<'a> {
         }
     }
 
-    // Reads `permit` or `deny`.
+    /// Reads `permit` or `deny`.
     fn verdict(self) -> Result<Reader<'a>, WordFault>
         requires { self.taken ≤ 2000 }
         ensures state { next_state result ≡ verdict (state_of self.entry) }
@@ -196,7 +210,7 @@ impl<'a> Reader<'a> {
         }
     }
 
-    // Passes over the next word.
+    /// Passes over the next word.
     fn passed(self) -> Reader<'a>
         requires { self.taken ≤ 2000 }
         ensures state { state_of result ≡ passed (state_of self.entry) }
@@ -209,7 +223,7 @@ impl<'a> Reader<'a> {
         }
     }
 
-    // Reads where the packets of an entry come from.
+    /// Reads where the packets of an entry come from.
     fn source(self) -> Result<Reader<'a>, WordFault>
         requires { self.taken ≤ 1000 }
         ensures state { next_state result ≡ step Source (state_of self.entry) }
@@ -221,7 +235,7 @@ impl<'a> Reader<'a> {
         }
     }
 
-    // The side that was read is where packets come from.
+    /// The side that was read is where packets come from.
     fn as_source(self) -> Reader<'a>
         ensures state { Ok (state_of result) ≡ as_source (state_of self.entry) }
         ensures taken { result.taken ≡ self.entry.taken }
@@ -237,7 +251,7 @@ impl<'a> Reader<'a> {
         }
     }
 
-    // Reads one side of an entry.
+    /// Reads one side of an entry.
     fn side(self, extended: bool) -> Result<Reader<'a>, WordFault>
         requires { self.taken ≤ 1000 }
         ensures state { next_state result ≡ side extended (state_of self.entry) }
@@ -255,7 +269,7 @@ impl<'a> Reader<'a> {
         }
     }
 
-    // Passes over the word that stands for all addresses.
+    /// Passes over the word that stands for all addresses.
     fn any(self) -> Reader<'a>
         requires { self.taken ≤ 1000 }
         ensures state { state_of result ≡ any (state_of self.entry) }
@@ -271,7 +285,7 @@ impl<'a> Reader<'a> {
         }
     }
 
-    // Reads the wildcard of an address, or takes it for one host where it may stand alone.
+    /// Reads the wildcard of an address, or takes it for one host where it may stand alone.
     fn width(self, extended: bool) -> Result<Reader<'a>, WordFault>
         requires { self.taken ≤ 1001 }
         ensures state { next_state result ≡ width extended (state_of self.entry) }
@@ -283,7 +297,7 @@ impl<'a> Reader<'a> {
         self.place(Form::Wildcard)
     }
 
-    // Whether no wildcard follows.
+    /// Whether no wildcard follows.
     fn stands_alone(self) -> bool
         ensures { result ≡ stands_alone (words_of self.entry.words) }
     {
@@ -293,7 +307,7 @@ impl<'a> Reader<'a> {
         }
     }
 
-    // The address stands for itself alone.
+    /// The address stands for itself alone.
     fn alone(self) -> Reader<'a>
         ensures state { state_of result ≡ alone (state_of self.entry) }
         ensures taken { result.taken ≡ self.entry.taken }
@@ -309,7 +323,7 @@ impl<'a> Reader<'a> {
     }
 }
 
-// What a flaw of the word at this place says of the line.
+/// What a flaw of the word at this place says of the line.
 fn fault_at(place: u32, flaw: Flaw) -> WordFault
     ensures { result ≡ fault_at place flaw }
 {

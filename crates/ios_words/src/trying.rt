@@ -41,7 +41,7 @@ pub(crate) fn try_rows(
     Err(first.unwrap_or(WordFault::Unknown))
 }
 
-// What a row says of the words, where it matches.
+/// What a row says of the words, where it matches.
 fn trial<'a>(row: &Row, words: Words<'a>, extended: bool) -> Option<Result<Found<'a>, WordFault>>
     requires { length row.now.parts.now ≤ 100 }
     ensures { trial_of result ≡ trial extended (words_of words.entry) (rule_of row.now) }

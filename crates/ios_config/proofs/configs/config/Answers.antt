@@ -1,8 +1,7 @@
 use Rattle.std.proofs.Common.{◌≡◌, ℕ, List, Option, Some, None, MatchOption, ap, subst, ◌∙◌}
 use Rattle.ios_config.specs.declared.commands.FileCommand.{FileCommand}
 use Rattle.ios_config.specs.declared.settings.ListText.{ListText}
-use Rattle.ios_config.specs.Least.{IsLeast}
-use Rattle.ios_config.specs.Rising.{IsNotRising, NumbersRise}
+use Rattle.ios_config.specs.Rising.{NumbersRise, IsFirstNotRising}
 use Rattle.ios_config.specs.Texts.{config_of}
 use Rattle.ios_config.specs.Twice.{StandOnce, IsFirstDuplicate}
 use Rattle.ios_config.proofs.Whole.{refused_falls, is_config}
@@ -20,9 +19,9 @@ returns-in-Some-first_not_rising c =
     let line = c.in-Some-first_not_rising.line in
     let once : StandOnce cs = stand_once cs c.deref.result.now c.in_ok-line.field-0 c.deref.ensures.value c.in-None.is c.in_ok-line.ensures in
     let set : config ≡ config_of cs = c.in_ok-config.ensures ∙ ap config_of c.deref-2.ensures.value in
-    let least : IsLeast (IsNotRising config.lists) (Some line) =
-    subst (λ (l : List ListText). IsLeast (IsNotRising l) (Some line)) c.slice.ensures.items c.in-Some-first_not_rising.ensures in
-    refused_falls c.args.text.now c.args.lines.now cs c.in_ok-commands.ensures.ok config line once set least
+    let first : IsFirstNotRising config.lists line =
+    subst (λ (l : List ListText). IsFirstNotRising l line) c.slice.ensures.items c.in-Some-first_not_rising.ensures in
+    refused_falls c.args.text.now c.args.lines.now cs c.in_ok-commands.ensures.ok config line once set first
 
 pub returns : goal.returns
 returns c =

@@ -1,7 +1,7 @@
 use Rattle.std.proofs.Common.{take}
-use Rattle.ios_config.specs.Least.{IsLeast}
+use Rattle.ios_config.specs.Least.{FindsLeast}
 use Rattle.ios_config.specs.Rising.{FallsAt}
 use Rattle.ios_config.proofs.rising.first_in_list.Given as goal
 
 abbrev pub invariant-loop-place : goal.invariant-loop-place
-invariant-loop-place l = IsLeast (FallsAt (take l.place l.entries)) l.found
+invariant-loop-place l = FindsLeast (FallsAt (take l.place l.entries)) l.found

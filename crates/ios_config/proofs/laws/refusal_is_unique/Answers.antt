@@ -1,5 +1,5 @@
 use Rattle.ios_config.proofs.OneAnswer.{refusal_one, refused_alone}
-use Rattle.ios_config.proofs.config_laws.refusal_is_unique.Goals as goal
+use Rattle.ios_config.proofs.laws.refusal_is_unique.Goals as goal
 
 pub returns-clause-one : goal.returns-clause-one
 returns-clause-one c = refusal_one
