@@ -10,7 +10,8 @@ use Rattle.arc_base.specs.declared.refusal.Kind.TheVariants as kinds
 use Rattle.net_doc.specs.declared.fault.Refusal.{Refusal}
 use Rattle.ios_config.specs.declared.settings.Given.{Given}
 use Rattle.ios_config.specs.declared.settings.Config.{Config}
-use Rattle.net_build.specs.Reasons.{IsBefore, IsClear, IsFirst, InFiles, FindsLeast, lesser}
+use Rattle.ios_config.specs.Least.{FindsLeast, lesser}
+use Rattle.net_build.specs.Reasons.{IsBefore, IsClear, IsFirst, InFiles}
 use Rattle.net_build.specs.Routers.{areas_of, IsFirstArea, IsOther, RefusesTwoAreas}
 use Rattle.net_build.specs.Growing.{sooner, IsSoonest, line_of_other}
 use Rattle.net_build.proofs.Leasts.{LinesTo, least_more}

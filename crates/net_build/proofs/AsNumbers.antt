@@ -5,7 +5,7 @@ use Rattle.ios_config.specs.declared.settings.Config.{Config}
 use Rattle.ios_config.specs.declared.settings.ProcessText.{ProcessText}
 use Rattle.ios_config.specs.declared.settings.ProcessKind.TheVariants as processes
 use Rattle.net_build.specs.Settings.{process_of}
-use Rattle.net_build.specs.Reasons.{IsLeast}
+use Rattle.ios_config.specs.Least.{IsLeast}
 use Rattle.net_build.specs.Routers.{HasAs, HasNoOwnAs}
 use Rattle.net_build.specs.Growing.{HasAsNumber, AddsAs}
 use Rattle.net_build.proofs.Grown.{one_added}

@@ -7,7 +7,8 @@ use Rattle.arc_base.specs.declared.refusal.Kind.{Kind}
 use Rattle.net_doc.specs.declared.fault.Refusal.{Refusal}
 use Rattle.net_doc.specs.declared.fault.NetFault.{NetFault}
 use Rattle.net_doc.specs.declared.fault.NetFault.TheVariants.{Refused}
-use Rattle.net_build.specs.Reasons.{IsBefore, IsClear, IsFirst, IsLeast, Tried, InFiles, InDocument}
+use Rattle.ios_config.specs.Least.{IsLeast}
+use Rattle.net_build.specs.Reasons.{IsBefore, IsClear, IsFirst, Tried, InFiles, InDocument}
 
 -- a refusal that a function made is that of the try
 pub tried_refused : {X : Type 0} (Reason : Refusal → Type 0) (IsRight : X → Type 0) (fault : NetFault) (r : Refusal) → fault ≡ Refused r → IsFirst Reason r → Tried Reason IsRight (Err fault)

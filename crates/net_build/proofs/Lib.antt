@@ -14,7 +14,6 @@ mod Grown
 mod AsNumbers
 mod LinkFaces
 mod Picks
-pub mod Hosts
 mod RouterIds
 mod AreaLines
 mod SiteFacts
@@ -58,3 +57,7 @@ pub mod WellFormed
 pub mod OneAnswer
 pub mod NeverMissing
 mod NetworkTried
+mod PrefixKeys
+mod Gathered
+mod ConnectedSubnets
+mod IndexLines

@@ -7,7 +7,7 @@ use Rattle.ios_config.specs.declared.settings.Setting.{Setting}
 use Rattle.std.proofs.lemmas.Bool.{false≢true}
 use Rattle.std.proofs.lemmas.List.{take_more, map-append}
 use Rattle.std.proofs.lemmas.List.Elements.{All-contains, All-push}
-use Rattle.net_build.specs.Reasons.{IsLeast}
+use Rattle.ios_config.specs.Least.{IsLeast}
 use Rattle.net_build.specs.Sites.{host_name}
 use Rattle.arc_base.proofs.Items.{from_map}
 use Rattle.net_build.specs.Routers.{NamesRouter, HasNoOwnName}

@@ -15,6 +15,7 @@ use Rattle.net_model.specs.declared.rows.Network.{Network}
 use Rattle.net_model.specs.Validity.{IsValid, AreLinked, AreApart}
 use Rattle.net_model.specs.Packets.{subject}
 use Rattle.net_model.specs.Forwarding.{HasEnds}
+use Rattle.net_model.proofs.Hosts.{some_host, one_host}
 use Rattle.ios_config.specs.declared.settings.Config.{Config}
 use Rattle.net_build.specs.Forms.{IsWellFormed}
 use Rattle.net_build.specs.Names.{AreDistinct}
@@ -28,7 +29,6 @@ use Rattle.net_build.specs.Addressing.{HasEndpoints, RefusesEndpoint}
 use Rattle.net_build.specs.Limits.{RefusesInterfaces}
 use Rattle.net_build.proofs.Distinct.{Contains-at}
 use Rattle.net_build.proofs.HostNames.{all_named, hosts_differ}
-use Rattle.net_build.proofs.Hosts.{some_host, one_host}
 use Rattle.net_build.proofs.LinksApart.{names_distinct, few_files}
 use Rattle.net_build.proofs.Overlaps.{turn_linked}
 use Rattle.net_build.proofs.SameNetwork.{tried_same, to_link_subnets, from_link_subnets, to_endpoint, from_endpoint}

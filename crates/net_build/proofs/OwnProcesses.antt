@@ -4,7 +4,7 @@ use Rattle.std.specs.Prelude.{MatchOption}
 use Rattle.net_model.specs.declared.rows.Protocol.{Protocol}
 use Rattle.ios_config.specs.declared.settings.Config.{Config}
 use Rattle.net_build.specs.Settings.{process_of}
-use Rattle.net_build.specs.Reasons.{IsLeast}
+use Rattle.ios_config.specs.Least.{IsLeast}
 use Rattle.net_build.specs.Routers.{protocol_of, MixesProcesses, HasNoOwnProcess}
 
 -- what is wrong with the process of a file in a network of this protocol

@@ -16,7 +16,7 @@ use Rattle.ios_words.specs.declared.commands.Command.{Command}
 use Rattle.ios_words.specs.declared.commands.Command.TheVariants as commands
 use Rattle.ios_config.specs.declared.settings.Given.{Given}
 use Rattle.net_build.specs.Neighbors.{names_peer, says_remote, remote_of}
-use Rattle.net_build.specs.Reasons.{IsLeast, FindsLeast}
+use Rattle.ios_config.specs.Least.{IsLeast, FindsLeast}
 use Rattle.net_build.specs.FarEnds.{LeadsTo, LinkLeadsTo, AddsFarEnd, NamesOther, IsListed, IsReached, gives_remote}
 use Rattle.net_build.specs.Settings.{lines_of}
 use Rattle.ios_config.specs.declared.settings.Config.{Config}
@@ -24,7 +24,7 @@ use Rattle.net_build.proofs.Anys.{Any-none, Any-before, Any-now, Any-either}
 use Rattle.arc_base.proofs.Items.{Contains-none}
 use Rattle.ios_config.proofs.StandLists.{any_seen}
 use Rattle.net_build.proofs.Lasts.{last_more}
-use Rattle.net_build.proofs.Leasts.{least_same}
+use Rattle.ios_config.proofs.Least.{least_same}
 
 module _ {K : Type 0} (eq : K → K → Bool) (same : (x y : K) → Decides (eq x y) (x ≡ y)) where
   found_key : (ks : List K) (k : K) → Decides (list_any (eq k) ks) (Contains ks k)

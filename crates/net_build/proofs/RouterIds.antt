@@ -3,7 +3,7 @@ use Rattle.std.proofs.Common.{◌≡◌, ℕ, Option, Some, None, List, [], ◌�
 use Rattle.std.specs.Prelude.{Any, Contains, IsSomeAnd}
 use Rattle.ios_config.specs.declared.settings.Config.{Config}
 use Rattle.ios_config.specs.declared.settings.Given.{Given}
-use Rattle.net_build.specs.Reasons.{IsLeast}
+use Rattle.ios_config.specs.Least.{IsLeast}
 use Rattle.net_build.specs.Linking.{router_id_of, HasRouterId, RepeatsRouterId}
 use Rattle.net_build.specs.Growing.{IsGiven, AddsGiven}
 use Rattle.net_build.proofs.Grown.{one_added}

@@ -59,7 +59,7 @@ block_start p a h =
     let block : 2 ^ (32 - p.len) * (a / 2 ^ (32 - p.len)) ≡ 2 ^ (32 - p.len) * (p.addr / 2 ^ (32 - p.len)) = ap (λ x. 2 ^ (32 - p.len) * x) same in
     omega (arith, pow_pos (32 - p.len), p.clear, block)
 
-one_prefix : (address len : ℕ) (p q : Prefix) → IsPrefixAt address len p → IsPrefixAt address len q → p ≡ q
+pub one_prefix : (address len : ℕ) (p q : Prefix) → IsPrefixAt address len p → IsPrefixAt address len q → p ≡ q
 one_prefix address len p q of_p of_q =
     let long : p.len ≡ q.len = of_p.0 ∙ sym of_q.0 in
     same_prefix p q (block_start p address of_p.1 ∙ ap (λ n. 2 ^ (32 - n) * (address / 2 ^ (32 - n))) long ∙ sym (block_start q address of_q.1)) long
@@ -69,7 +69,7 @@ one_some_prefix address len None r h k = absurd h
 one_some_prefix address len (Some p) None h k = absurd k
 one_some_prefix address len (Some p) (Some q) h k = ap Some (one_prefix address len p q h k)
 
-one_subnet : (address : Option (ℕ × ℕ)) (o r : Option Prefix) → IsSubnet address o → IsSubnet address r → o ≡ r
+pub one_subnet : (address : Option (ℕ × ℕ)) (o r : Option Prefix) → IsSubnet address o → IsSubnet address r → o ≡ r
 one_subnet None o r h k = h ∙ sym k
 one_subnet (Some a) o r h k = one_some_prefix a.0 a.1 o r h k
 

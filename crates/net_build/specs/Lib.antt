@@ -24,3 +24,5 @@ pub mod Networks
 pub mod Sessions
 pub mod FarEnds
 pub mod Stopping
+pub mod Indexes
+pub mod Prefixes

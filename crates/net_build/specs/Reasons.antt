@@ -1,5 +1,5 @@
 -- Reasons to refuse the input, each as the set of the refusals that it makes, and which of these comes first.
-use Rattle.std.specs.Prelude.{◌≡◌, ℕ, ◌+◌, ◌<◌, ◌≤◌, ◌⊎◌, Option, Some, None, MatchOption, Result, Ok, Err, List, slice_get, min}
+use Rattle.std.specs.Prelude.{◌≡◌, ℕ, ◌+◌, ◌<◌, ◌⊎◌, Some, Result, Ok, Err, List, slice_get}
 use Rattle.arc_base.specs.declared.refusal.Kind.{Kind}
 use Rattle.net_doc.specs.declared.fault.Refusal.{Refusal}
 use Rattle.net_doc.specs.declared.fault.NetFault.{NetFault}
@@ -27,21 +27,6 @@ Tried Reason IsRight (Err Memory) = Unit {0}
 -- the answer of a try that gives no value
 abbrev pub TriedAlone : (Refusal → Type 0) → Result (Unit {0}) NetFault → Type 0
 TriedAlone Reason result = Tried Reason (λ done. Unit {0}) result
-
--- the number is the least with the property
-pub record IsLeast (P : ℕ → Type 0) (n : ℕ) : Type 0 where
-  pub has : P n
-  pub least : (m : ℕ) → P m → n ≤ m
-
--- what was found is the least number with the property, or that there is none
-abbrev pub FindsLeast : (ℕ → Type 0) → Option ℕ → Type 0
-FindsLeast P found = MatchOption found ((n : ℕ) → ¬ P n) (IsLeast P)
-
--- the lesser of two numbers that were found or not
-abbrev pub lesser : Option ℕ → Option ℕ → Option ℕ
-lesser None b = b
-lesser (Some m) None = Some m
-lesser (Some m) (Some n) = Some (min m n)
 
 -- a refusal of an item of a list: the item at a place, the number told, and what is wrong there; the file is that of the item
 pub record InFiles {X : Type 0} (kind : Kind) (Offends : ℕ → X → ℕ → Type 0) (items : List X) (r : Refusal) : Type 0 where

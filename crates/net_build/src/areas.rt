@@ -1,14 +1,15 @@
 //! The OSPF areas that the files name: one in all.
 ghost use Rattle.std.specs.Prelude.{◌≡◌, [], ◌++◌, ◌≤◌, ◌<◌, ℕ, length, IfOk, OnOk, MatchOption, Any};
 ghost use Rattle.std.specs.List.{filter_map, cons_option};
-ghost use Rattle.net_build.specs.Reasons.{TriedAlone, FindsLeast};
+ghost use Rattle.ios_config.specs.Least.{FindsLeast};
+ghost use Rattle.net_build.specs.Reasons.{TriedAlone};
 ghost use Rattle.net_build.specs.Growing.{sooner, IsSoonest, line_of_other};
 ghost use Rattle.net_build.specs.Routers.{RefusesTwoAreas, area_of_command, line_area, face_area, areas_of, IsFirstArea, IsOther};
 
 use crate::processes::lines_of;
-use crate::reasons::{in_file, lesser};
+use crate::reasons::in_file;
 use arc_base::{Kind, List, Memory};
-use ios_config::{Config, FaceText, Given};
+use ios_config::{Config, FaceText, Given, lesser};
 use ios_words::Command;
 use net_doc::NetFault;
 use std::alloc::Global;

@@ -124,7 +124,7 @@ fn joined(alloc: Global, doc: &Document, configs: &List<Config>) -> Result<Netwo
     let links = try_links(alloc, doc, configs, &names, &mut ends)?;
     let mut net = rows(alloc, configs, &ends, links)?;
     try_neighbors(alloc, &net, configs)?;
-    try_networks(configs)?;
+    try_networks(alloc, configs)?;
     net.sessions = sessions_of(alloc, &net, configs)?;
     Ok(net)
 }

@@ -1,14 +1,11 @@
-//! What the lines of a process say: of an interface, of a neighbour, of a network. The last line that speaks of a matter
-//! decides.
-ghost use Rattle.std.specs.Prelude.{◌≡◌, ◌↔◌, IsTrue, Any};
+//! What the lines of a process say: of the reference bandwidth, of an interface, of a neighbour. The last line that speaks
+//! of a matter decides.
+ghost use Rattle.std.specs.Prelude.{◌≡◌};
 ghost use Rattle.std.specs.Option.{option_copied};
-ghost use Rattle.ios_config.specs.declared.settings.Given.{Given};
-ghost use Rattle.net_model.specs.declared.rows.Protocol.TheVariants as protocols;
-ghost use Rattle.ios_words.specs.declared.commands.Command.TheVariants as commands;
-ghost use Rattle.net_build.specs.Settings.{last_said, says_reference, reference_of, says_passive, is_passive, CommandCovers};
+ghost use Rattle.net_build.specs.Settings.{last_said, says_reference, reference_of, says_passive, is_passive};
 ghost use Rattle.net_build.specs.Neighbors.{says_remote, says_down, says_filter, remote_of, is_down, filter_of};
 
-use arc_base::{Name, Prefix};
+use arc_base::Name;
 use ios_config::Given;
 use ios_words::Command;
 use net_model::Protocol;
@@ -67,38 +64,6 @@ pub fn is_passive(protocol: Protocol, lines: &[Given<Command>], name: &[u8]) -> 
         Protocol::Ospf => last_passive(lines, name).unwrap_or(false),
         Protocol::Bgp => false,
     }
-}
-
-fn covers(command: &Command, address: u32) -> bool
-    ensures { IsTrue result ↔ CommandCovers address command.now }
-{
-    match command {
-        Command::Covers(prefix, _) => prefix.covers(address),
-        _ => false,
-    }
-}
-
-/// Whether a network statement of OSPF covers the address.
-pub fn is_covered(lines: &[Given<Command>], address: u32) -> bool
-    ensures { IsTrue result ↔ Any (λ g. CommandCovers address g.value) lines.now }
-{
-    lines.iter().any(|line| covers(&line.value, address))
-}
-
-fn tells(command: &Command, p: &Prefix) -> bool
-    ensures { IsTrue result ↔ (command.now ≡ commands.Tells p.now) }
-{
-    match command {
-        Command::Tells(told) => told.is(p),
-        _ => false,
-    }
-}
-
-/// Whether a network statement of BGP names just this prefix.
-pub fn is_told(lines: &[Given<Command>], p: &Prefix) -> bool
-    ensures { IsTrue result ↔ Any (λ g. g.value ≡ commands.Tells p.now) lines.now }
-{
-    lines.iter().any(|line| tells(&line.value, p))
 }
 
 fn says_remote(command: &Command, peer: u32) -> Option<u32>

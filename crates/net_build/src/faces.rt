@@ -2,22 +2,24 @@
 ghost use Rattle.std.specs.Prelude.{◌≡◌, ◌≤◌, ◌<◌, ◌^◌, ◌++◌, All, List, IfOk, OnOk, IsTrue, ◌↔◌, length, MatchBool, Some, None, option_map, IfSome, unwrap_or};
 ghost use Rattle.std.specs.List.{AllZip};
 ghost use Rattle.net_build.specs.Forms.{IsWellFormed, IsWellFormedFace};
-ghost use Rattle.net_build.specs.Settings.{address_of, IsPrefixAt, is_up, bandwidth_of, cost_of, cost_at, IsEnabled, is_point_to_point, lines_of};
+ghost use Rattle.net_build.specs.Settings.{value, address_of, is_up, bandwidth_of, cost_at, IsEnabled, is_point_to_point, lines_of};
 ghost use Rattle.net_build.specs.Sites.{Site, sites_of, sites};
 ghost use Rattle.net_build.specs.Names.{names_at};
 ghost use Rattle.net_build.specs.Lists.{keys_at};
+ghost use Rattle.net_build.specs.Indexes.{IsIndex};
 ghost use Rattle.net_build.specs.Rows.{IsRouterRow, asn_of, IsSubnet, is_host_route, host_address_of, TellsHost, IsFaceRow};
 
-use crate::commands::{is_covered, is_passive, is_told, reference};
+use crate::commands::is_passive;
 use crate::kinds::FaceKind;
 use crate::lists::list_names;
 use crate::names::{FullName, contains_name, host_name};
 use crate::places_of_lists::{ListKey, bound_name, place_of_list};
+use crate::prefixes::prefix_at;
+use crate::process_index::{ProcessIndex, index_process};
 use crate::processes::{lines_of, process_of};
 use arc_base::{List, Memory, Name, Prefix, Router};
 use indexmap::IndexSet;
 use ios_config::{Config, FaceText, Given};
-use ios_words::Command;
 use net_model::{FaceRow, Protocol, RouterRow};
 use std::alloc::Global;
 
@@ -70,19 +72,6 @@ pub fn address_of(face: &FaceText) -> Option<(u32, u8)>
             None => None,
             Some(mask_len) => Some((addr.value, mask_len.value)),
         },
-    }
-}
-
-/// The prefix of this length that holds the address.
-fn prefix_at(address: u32, len: u8) -> Prefix
-    requires { len ≤ 32 }
-    ensures { IsPrefixAt address len result }
-{
-    let size = 1u64 << (32 - len);
-    let rest = u64::from(address) % size;
-    Prefix {
-        addr: (u64::from(address) - rest) as u32,
-        len,
     }
 }
 
@@ -180,37 +169,39 @@ fn cost_at(reference: u64, bandwidth: u32) -> u32
     (reference / u64::from(bandwidth)).clamp(1, 65_535) as u32
 }
 
-fn cost_of(lines: &[Given<Command>], face: &FaceText) -> u32
+fn cost_of(reference: u64, face: &FaceText) -> u32
     requires { IsWellFormedFace face.now }
-    ensures { result ≡ cost_of lines.now face.now }
+    ensures { result ≡ unwrap_or (value face.now.cost) (cost_at reference (bandwidth_of face.now)) }
 {
     match &face.cost {
         Some(given) => given.value,
-        None => cost_at(reference(lines), bandwidth_of(face)),
+        None => cost_at(reference, bandwidth_of(face)),
     }
 }
 
-fn is_enabled(lines: &[Given<Command>], face: &FaceText) -> bool
-    ensures { IsTrue result ↔ IsEnabled lines.now face.now }
+fn is_enabled(index: &ProcessIndex<'_>, face: &FaceText) -> bool
+    requires { IsIndex index.now }
+    ensures { IsTrue result ↔ IsEnabled (lines_of index.now.config.now) face.now }
 {
     if face.area.is_some() {
         return true;
     }
     match address_of(face) {
-        Some((address, _)) => is_covered(lines, address),
+        Some((address, _)) => index.is_covered(address),
         None => false,
     }
 }
 
 /// Whether the router tells its neighbours of the host network.
-fn tells(protocol: Protocol, lines: &[Given<Command>], host: &Option<Prefix>, enabled: bool) -> bool
-    ensures { IsTrue result ↔ TellsHost protocol lines.now host.now enabled }
+fn tells(protocol: Protocol, index: &ProcessIndex<'_>, host: &Option<Prefix>, enabled: bool) -> bool
+    requires { IsIndex index.now }
+    ensures { IsTrue result ↔ TellsHost protocol (lines_of index.now.config.now) host.now enabled }
 {
     match host {
         None => false,
         Some(p) => match protocol {
             Protocol::Ospf => enabled,
-            Protocol::Bgp => is_told(lines, p),
+            Protocol::Bgp => index.is_told(p),
         },
     }
 }
@@ -230,19 +221,20 @@ fn face_row(
     alloc: Global,
     around: &Surroundings<'_>,
     router: u32,
-    config: &Config,
+    index: &ProcessIndex<'_>,
     face: &FaceText,
 ) -> Result<FaceRow, Memory>
+    requires index { IsIndex index.now }
     requires well_formed { IsWellFormedFace face.now }
     requires few { length around.now.lists.now.keys < 2 ^ 32 }
     ensures { IfOk result (IsFaceRow around.now.protocol (names_at around.now.ends.now.keys) (keys_at around.now.lists.now.keys)
-        (record { router = router; config = config.now; face = face.now })) }
+        (record { router = router; config = index.now.config.now; face = face.now })) }
 {
-    let lines = lines_of(config);
-    let is_end = contains_name(around.ends, host_name(config), face.name.bytes());
+    let lines = lines_of(index.config);
+    let is_end = contains_name(around.ends, host_name(index.config), face.name.bytes());
     let address = address_of(face);
     let host = host_of(around.protocol, face, is_end);
-    let enabled = is_enabled(lines, face);
+    let enabled = is_enabled(index, face);
     Ok(FaceRow {
         router: Router(router),
         name: Name::make(alloc, face.name.bytes())?,
@@ -251,9 +243,9 @@ fn face_row(
         host,
         up: is_up(face),
         enabled,
-        told: tells(around.protocol, lines, &host, enabled),
+        told: tells(around.protocol, index, &host, enabled),
         passive: is_passive(around.protocol, lines, face.name.bytes()),
-        cost: cost_of(lines, face),
+        cost: cost_of(index.reference, face),
         bound_in: face.list_in.is_some(),
         list_in: place_of_list(around.lists, router, bound_name(&face.list_in)),
         list_out: place_of_list(around.lists, router, bound_name(&face.list_out)),
@@ -283,8 +275,9 @@ fn add_face_rows(
         AllZip (IsFaceRow around.now.protocol (names_at around.now.ends.now.keys) (keys_at around.now.lists.now.keys)) before rows.old.items →
         AllZip (IsFaceRow around.now.protocol (names_at around.now.ends.now.keys) (keys_at around.now.lists.now.keys)) (before ++ sites_of (router, config.now)) rows.new.items) }
 {
+    let index = index_process(alloc, config)?;
     for face in config.faces.slice() {
-        rows.push(face_row(alloc, around, router, config, face)?)?;
+        rows.push(face_row(alloc, around, router, &index, face)?)?;
     }
     Ok(())
 }

@@ -24,6 +24,8 @@ mod overlap;
 mod peers;
 mod places;
 mod places_of_lists;
+mod prefixes;
+mod process_index;
 mod processes;
 mod reasons;
 mod routers;

@@ -1,25 +1,31 @@
 //! What the lines of BGP processes name: neighbours at the far ends of links, and connected networks.
 ghost use Rattle.std.specs.Prelude.{◌≡◌, ◌≤◌, ◌<◌, ◌^◌, ◌↔◌, ◌⊎◌, ℕ, Any, All, Contains, IfOk, IsTrue, IsSome, length};
+ghost use Rattle.arc_base.specs.declared.prefix.Prefix.{Prefix};
 ghost use Rattle.ios_config.specs.declared.settings.Given.{Given};
+ghost use Rattle.ios_config.specs.declared.settings.Config.{Config};
 ghost use Rattle.net_model.specs.declared.policies.Document.{Document};
 ghost use Rattle.net_build.specs.Forms.{IsWellFormed, IsWellFormedFace};
 ghost use Rattle.net_build.specs.Settings.{lines_of};
 ghost use Rattle.net_build.specs.Neighbors.{names_peer, remote_of, says_remote};
 ghost use Rattle.arc_base.specs.declared.refusal.Kind.TheVariants as kinds;
-ghost use Rattle.net_build.specs.Reasons.{TriedAlone, FindsLeast, InFiles};
+ghost use Rattle.ios_config.specs.Least.{FindsLeast};
+ghost use Rattle.net_build.specs.Reasons.{TriedAlone, InFiles};
 ghost use Rattle.net_build.specs.Rows.{AreBaseRows};
 ghost use Rattle.net_build.specs.Names.{AreDistinct};
 ghost use Rattle.net_build.specs.Sites.{full_names};
 ghost use Rattle.net_build.specs.FarEnds.{FindsOnly, LeadsTo, LinkLeadsTo, AddsFarEnd, NamesOther, IsListed, IsReached, gives_remote};
-ghost use Rattle.net_build.specs.Peers.{RefusesNeighbor, RefusesNetwork, IsConnected, IsConnectedAt, TellsUnconnected};
+ghost use Rattle.net_build.specs.Peers.{RefusesNeighbor, RefusesNetwork, IsConnectedAt, TellsUnconnected};
+ghost use Rattle.net_build.specs.Prefixes.{HasPrefix};
+ghost use Rattle.net_build.specs.Indexes.{AreSubnets};
 
 use crate::faces::{address_of, subnet_of};
+use crate::prefixes::{Prefixes, add_prefix, has_prefix};
 use crate::processes::lines_of;
-use crate::reasons::{in_file, lesser};
+use crate::reasons::in_file;
 use crate::sessions::address_at;
-use arc_base::{Face, Kind, List, Memory, Prefix};
+use arc_base::{Face, Kind, List, Memory};
 use indexmap::IndexSet;
-use ios_config::{Config, FaceText, Given};
+use ios_config::{Config, FaceText, Given, lesser};
 use ios_words::Command;
 use net_doc::NetFault;
 use net_model::Network;
@@ -182,35 +188,39 @@ pub fn try_neighbors(alloc: Global, net: &Network, configs: &List<Config>) -> Re
     try_known(alloc, &ends, configs)
 }
 
-fn has_subnet(face: &FaceText, p: &Prefix) -> bool
+/// Adds the connected subnet of the interface, if it has one.
+fn add_subnet(subnets: &mut Prefixes, face: &FaceText) -> Result<(), Memory>
     requires { IsWellFormedFace face.now }
-    ensures { IsTrue result ↔ IsConnectedAt face.now p.now }
+    ensures { IfOk result (λ done. (p : Prefix) → HasPrefix subnets.new.keys p ↔ (HasPrefix subnets.old.keys p ⊎ IsConnectedAt face.now p)) }
 {
     match subnet_of(address_of(face)) {
-        Some(subnet) => subnet.is(p),
-        None => false,
-    }
-}
-
-fn is_connected(faces: &List<FaceText>, p: &Prefix) -> bool
-    requires { All IsWellFormedFace faces.now }
-    ensures { IsTrue result ↔ IsConnected faces.now p.now }
-{
-    for face in faces.slice() {
-        if has_subnet(face, p) {
-            return true;
+        Some(subnet) => {
+            add_prefix(subnets, &subnet)?;
+            Ok(())
         }
+        None => Ok(()),
     }
-    false
 }
 
-fn tells_unconnected(config: &Config, line: &Given<Command>) -> Option<u32>
-    requires { IsWellFormed config.now }
-    ensures { FindsLeast (λ n. TellsUnconnected config.now n line.now) result }
+/// The connected subnets of the interfaces.
+fn subnets(alloc: Global, faces: &List<FaceText>) -> Result<Prefixes, Memory>
+    requires { All IsWellFormedFace faces.now }
+    ensures { IfOk result (λ subnets. AreSubnets faces.now subnets.keys) }
+{
+    let mut subnets = IndexSet::new(alloc);
+    for face in faces.slice() {
+        add_subnet(&mut subnets, face)?;
+    }
+    Ok(subnets)
+}
+
+/// The line, if it is a network statement for none of these subnets.
+fn tells_unconnected(subnets: &Prefixes, line: &Given<Command>) -> Option<u32>
+    ensures { (config : Config) → AreSubnets config.faces subnets.now.keys → FindsLeast (λ n. TellsUnconnected config n line.now) result }
 {
     match &line.value {
         Command::Tells(p) => {
-            if is_connected(&config.faces, p) {
+            if has_prefix(subnets, p) {
                 None
             } else {
                 Some(line.line)
@@ -221,25 +231,26 @@ fn tells_unconnected(config: &Config, line: &Given<Command>) -> Option<u32>
 }
 
 /// The first network statement of the file for a network that is not connected.
-fn unconnected(config: &Config) -> Option<u32>
+fn unconnected(alloc: Global, config: &Config) -> Result<Option<u32>, Memory>
     requires { IsWellFormed config.now }
-    ensures { FindsLeast (λ n. Any (TellsUnconnected config.now n) (lines_of config.now)) result }
+    ensures { IfOk result (FindsLeast (λ n. Any (TellsUnconnected config.now n) (lines_of config.now))) }
 {
+    let subnets = subnets(alloc, &config.faces)?;
     let mut least = None;
     for line in lines_of(config) {
-        least = lesser(least, tells_unconnected(config, line));
+        least = lesser(least, tells_unconnected(&subnets, line));
     }
-    least
+    Ok(least)
 }
 
 /// Tries whether each network statement of BGP is for a connected network.
-pub fn try_networks(configs: &List<Config>) -> Result<(), NetFault>
+pub fn try_networks(alloc: Global, configs: &List<Config>) -> Result<(), NetFault>
     requires few { length configs.now ≤ 256 }
     requires well_formed { All IsWellFormed configs.now }
     ensures { TriedAlone (RefusesNetwork configs.now) result }
 {
     for (place, config) in configs.slice().iter().enumerate() {
-        match unconnected(config) {
+        match unconnected(alloc, config)? {
             Some(line) => return Err(in_file(place, line, Kind::NetworkNotConnected)),
             None => {}
         }

@@ -2,12 +2,13 @@
 ghost use Rattle.std.specs.Prelude.{◌≡◌, ◌≤◌, length, MatchOption, Any, ◌⊎◌, IsSomeAnd, slice_get};
 ghost use Rattle.std.specs.Option.{option_copied};
 ghost use Rattle.net_build.specs.Settings.{process_of, lines_of};
-ghost use Rattle.net_build.specs.Reasons.{TriedAlone, FindsLeast};
+ghost use Rattle.ios_config.specs.Least.{FindsLeast};
+ghost use Rattle.net_build.specs.Reasons.{TriedAlone};
 ghost use Rattle.net_build.specs.Routers.{RefusesProtocol, protocol_of, protocol_of_kind, NamesOtherProcess, RunsOther, MixesProcesses};
 
-use crate::reasons::{in_file, lesser};
+use crate::reasons::in_file;
 use arc_base::{Kind, List};
-use ios_config::{Config, FaceText, Given, ProcessKind, ProcessText};
+use ios_config::{Config, FaceText, Given, ProcessKind, ProcessText, lesser};
 use ios_words::Command;
 use net_doc::NetFault;
 use net_model::Protocol;

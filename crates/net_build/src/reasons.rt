@@ -1,7 +1,6 @@
 //! Refusals of files and of items of the document.
 ghost use Rattle.std.specs.Prelude.{◌≡◌, ◌+◌, ◌<◌, ◌^◌};
 ghost use Rattle.net_doc.specs.declared.fault.NetFault.TheVariants.{Refused};
-ghost use Rattle.net_build.specs.Reasons.{lesser};
 
 use arc_base::Kind;
 use net_doc::{NetFault, Refusal};
@@ -28,17 +27,4 @@ pub fn in_document(place: usize, kind: Kind) -> NetFault
         number: place as u32 + 1,
         kind,
     })
-}
-
-/// The lesser of two lines that were found or not.
-pub fn lesser(a: Option<u32>, b: Option<u32>) -> Option<u32>
-    ensures { result ≡ lesser a b }
-{
-    match a {
-        None => b,
-        Some(m) => match b {
-            None => Some(m),
-            Some(n) => Some(m.min(n)),
-        },
-    }
 }

@@ -1,6 +1,6 @@
 use Rattle.std.proofs.Common.{ℕ, ◌+◌, Option, sym, subst}
 use Rattle.ios_config.specs.declared.settings.Given.{Given}
-use Rattle.net_build.specs.Reasons.{FindsLeast}
+use Rattle.ios_config.specs.Least.{FindsLeast}
 use Rattle.net_build.specs.Routers.{IsOther}
 use Rattle.net_build.proofs.Leasts.{LinesTo, least_all}
 use Rattle.net_build.proofs.AreaLines.{other_more}

@@ -1,7 +1,7 @@
 use Rattle.std.proofs.Common.{ℕ, List, ◌∙◌, subst}
 use Rattle.std.specs.Prelude.{Any}
 use Rattle.ios_config.specs.declared.settings.Given.{Given}
-use Rattle.net_build.specs.Reasons.{FindsLeast}
+use Rattle.ios_config.specs.Least.{FindsLeast}
 use Rattle.net_build.specs.Routers.{IsOther}
 use Rattle.net_build.proofs.areas.other_area_in.Goals as goal
 

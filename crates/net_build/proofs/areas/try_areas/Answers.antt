@@ -1,11 +1,12 @@
 use Rattle.std.proofs.Common.{ℕ, ◌+◌, List, Option, subst}
 use Rattle.std.specs.Prelude.{MatchOption}
 use Rattle.ios_config.specs.declared.settings.Config.{Config}
-use Rattle.net_build.specs.Reasons.{FindsLeast}
+use Rattle.ios_config.specs.Least.{FindsLeast}
 use Rattle.net_build.specs.Routers.{IsFirstArea}
 use Rattle.arc_base.specs.declared.refusal.Kind.TheVariants as kinds
 use Rattle.net_doc.specs.declared.fault.Refusal.{Refusal}
-use Rattle.net_build.specs.Reasons.{IsClear, IsFirst, IsLeast, InFiles}
+use Rattle.ios_config.specs.Least.{IsLeast}
+use Rattle.net_build.specs.Reasons.{IsClear, IsFirst, InFiles}
 use Rattle.net_build.specs.Routers.{RefusesTwoAreas}
 use Rattle.net_build.proofs.Firsts.{tried_refused, first_found, clear_more, clear_all}
 use Rattle.net_build.proofs.AreaLines.{NamesOtherThan, none_found, none_refused, others_first, others_clear}

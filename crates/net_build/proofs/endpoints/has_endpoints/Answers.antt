@@ -1,7 +1,7 @@
 use Rattle.std.proofs.Common.{◌≢◌, ℕ, not, nat_eq, inl, inr, IsTrue, ◌↔◌, sym, ◌∙◌, ap}
 use Rattle.std.proofs.lemmas.Bool.{false≢true, eq-eqb}
 use Rattle.std.proofs.lemmas.Bool.Decides.{eqb_tells}
-use Rattle.net_build.proofs.Hosts.{one_host}
+use Rattle.net_model.proofs.Hosts.{one_host}
 use Rattle.net_build.proofs.endpoints.has_endpoints.Goals as goal
 
 differ : (a b : ℕ) → IsTrue (not (nat_eq a b)) ↔ (a ≢ b)

@@ -1,11 +1,11 @@
 use Rattle.std.proofs.Common.{◌≡◌, refl, ◌∙◌, ap, subst, IsTrue, ◌↔◌, List, Option, ℕ}
-use Rattle.std.specs.Prelude.{Contains, option_map}
+use Rattle.std.specs.Prelude.{Contains, option_map, unwrap_or}
 use Rattle.arc_base.proofs.Agreement.{false-from}
 use Rattle.ios_words.specs.declared.commands.Command.{Command}
 use Rattle.ios_config.specs.declared.settings.Given.{Given}
-use Rattle.net_build.specs.Settings.{lines_of, IsEnabled, is_passive, cost_of}
+use Rattle.net_build.specs.Settings.{value, lines_of, bandwidth_of, is_passive, cost_at}
 use Rattle.net_build.specs.Lists.{keys_at, IsPlaceAmong}
-use Rattle.net_build.specs.Rows.{TellsHost, IsSubnet}
+use Rattle.net_build.specs.Rows.{IsSubnet}
 use Rattle.net_build.specs.Names.{names_at}
 use Rattle.net_build.specs.Sites.{FullName, host_name}
 use Rattle.net_build.proofs.Cases.{at_true, at_false}
@@ -13,7 +13,7 @@ use Rattle.net_build.proofs.faces.face_row.Goals as goal
 
 pub returns : goal.returns
 returns c =
-    let config = c.args.config.now in
+    let config = c.args.index.now.config.now in
     let face = c.args.face.now in
     let around = c.args.around.now in
     let named : (c.host_name.result.now, c.bytes.result.now) ≡ (host_name config, face.name) = λ i. (c.host_name.ensures i, c.bytes.ensures i) in
@@ -29,10 +29,10 @@ returns c =
         elsewhere = λ n. at_false c.contains_name-is_end.result _ _ (false-from c.contains_name-is_end.result (λ t. n (said.0 t))) c.host_of-host.ensures;
       };
       up = c.is_up.ensures;
-      enabled = subst (λ (lines : List (Given Command)). IsTrue c.is_enabled-enabled.result ↔ IsEnabled lines face) c.lines_of-lines.ensures c.is_enabled-enabled.ensures;
-      told = subst (λ (lines : List (Given Command)). IsTrue c.tells.result ↔ TellsHost around.protocol lines c.host_of-host.result c.is_enabled-enabled.result) c.lines_of-lines.ensures c.tells.ensures;
+      enabled = c.is_enabled-enabled.ensures;
+      told = c.tells.ensures;
       passive = c.is_passive.ensures ∙ ap (λ (lines : List (Given Command)). is_passive around.protocol lines c.bytes-3.result.now) c.lines_of-lines.ensures ∙ ap (λ (name : List ℕ). is_passive around.protocol (lines_of config) name) c.bytes-3.ensures;
-      cost = c.cost_of.ensures ∙ ap (λ (lines : List (Given Command)). cost_of lines face) c.lines_of-lines.ensures;
+      cost = c.cost_of.ensures ∙ ap (λ (reference : ℕ). unwrap_or (value face.cost) (cost_at reference (bandwidth_of face))) c.requires.index.reference;
       bound_in = c.is_some.ensures;
       list_in = subst (λ (o : Option (List ℕ)). IsPlaceAmong (keys_at around.lists.now.keys) c.args.router o c.place_of_list.result) c.bound_name.ensures c.place_of_list.ensures;
       list_out = subst (λ (o : Option (List ℕ)). IsPlaceAmong (keys_at around.lists.now.keys) c.args.router o c.place_of_list-2.result) c.bound_name-2.ensures c.place_of_list-2.ensures;

@@ -1,4 +1,4 @@
-use Rattle.net_build.specs.Reasons.{FindsLeast}
+use Rattle.ios_config.specs.Least.{FindsLeast}
 use Rattle.net_build.specs.Peers.{TellsUnconnected}
 use Rattle.net_build.proofs.Leasts.{LinesTo}
 use Rattle.net_build.proofs.peers.unconnected.Given as goal

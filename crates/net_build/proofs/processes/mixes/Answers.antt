@@ -1,9 +1,9 @@
 use Rattle.std.proofs.Common.{◌≡◌, ℕ, Option, sym, subst}
 use Rattle.std.specs.Prelude.{Any, IsSomeAnd, slice_get}
 use Rattle.ios_config.specs.declared.settings.ProcessText.{ProcessText}
-use Rattle.net_build.specs.Reasons.{FindsLeast}
+use Rattle.ios_config.specs.Least.{FindsLeast}
 use Rattle.net_build.specs.Routers.{NamesOtherProcess, RunsOther}
-use Rattle.net_build.proofs.Leasts.{Either, least_either}
+use Rattle.ios_config.proofs.Least.{Either, least_either}
 use Rattle.net_build.proofs.processes.mixes.Goals as goal
 
 pub returns : goal.returns

@@ -1,7 +1,7 @@
 use Rattle.std.proofs.Common.{ℕ, ◌+◌, List, Option, sym, subst}
 use Rattle.std.specs.Prelude.{Any}
 use Rattle.ios_config.specs.declared.settings.FaceText.{FaceText}
-use Rattle.net_build.specs.Reasons.{FindsLeast}
+use Rattle.ios_config.specs.Least.{FindsLeast}
 use Rattle.net_build.specs.Routers.{NamesOtherProcess}
 use Rattle.net_build.proofs.Leasts.{LinesTo, least_more, least_all}
 use Rattle.net_build.proofs.processes.other_process.Goals as goal

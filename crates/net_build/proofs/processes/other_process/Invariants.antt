@@ -1,4 +1,4 @@
-use Rattle.net_build.specs.Reasons.{FindsLeast}
+use Rattle.ios_config.specs.Least.{FindsLeast}
 use Rattle.net_build.specs.Routers.{NamesOtherProcess}
 use Rattle.net_build.proofs.Leasts.{LinesTo}
 use Rattle.net_build.proofs.processes.other_process.Given as goal

@@ -1,7 +1,7 @@
 use Rattle.std.proofs.Common.{ℕ, ◌+◌, List, Option, sym, subst}
 use Rattle.std.specs.Prelude.{Any}
 use Rattle.ios_config.specs.declared.settings.ProcessText.{ProcessText}
-use Rattle.net_build.specs.Reasons.{FindsLeast}
+use Rattle.ios_config.specs.Least.{FindsLeast}
 use Rattle.net_build.specs.Routers.{RunsOther}
 use Rattle.net_build.proofs.Leasts.{LinesTo, least_more, least_all}
 use Rattle.net_build.proofs.processes.other_protocol.Goals as goal
