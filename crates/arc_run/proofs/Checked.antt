@@ -1,6 +1,6 @@
 -- The judgement of a certificate, and what its status says.
 use Rattle.std.proofs.Common.{◌≡◌, ℕ, ◌<◌, ◌≤◌, inl, inr, List, [], ◌∷◌, refl, sym, ◌∙◌, ap, subst, arith}
-use Rattle.std.specs.Prelude.{Option, Some, None, IfSome, Ok, Vec, ◌↔◌}
+use Rattle.std.specs.Prelude.{Option, Some, None, IfSome, Ok, Err, Vec, ◌↔◌}
 use Rattle.std.specs.List.{AllZip}
 use Rattle.std.specs.declared.alloc.Global.{Global}
 use Rattle.arc_outside.specs.Files.{Files}
@@ -24,16 +24,40 @@ use Rattle.arc_run.specs.declared.outcome.Done.{Done}
 use Rattle.arc_run.specs.declared.outcome.FileRefusal.{FileRefusal}
 use Rattle.arc_run.specs.declared.outcome.Outcome.{Outcome}
 use Rattle.arc_run.specs.declared.outcome.Outcome.TheVariants as outcomes
+use Rattle.arc_run.specs.declared.outcome.Stop.{Stop}
+use Rattle.arc_run.specs.declared.outcome.Stop.TheVariants as stops
 use Rattle.arc_run.specs.Checks.{IsChecked, IsCheckRefusal, check_text, check_status}
-use Rattle.arc_run.specs.Counts.{HasFewClasses}
+use Rattle.arc_run.specs.Counts.{HasFewClasses, CountsClasses}
 use Rattle.arc_run.specs.Headline.{IsAccepted, IsRejected, IsUnchecked, IsTrueOf, TellsCheck}
 use Rattle.arc_run.specs.Inputs.{HoldsDocument, HoldsInput, IsFit, ReadsDocumentAt, ReadsFiles}
-use Rattle.arc_run.specs.Lrats.{proof_limit}
 use Rattle.arc_run.specs.Outcomes.{Answers, IsDefined, status_of}
 use Rattle.arc_run.specs.Reading.{ReadsFile}
-use Rattle.arc_run.specs.Refusals.{bytes_at, read_refusal}
+use Rattle.arc_run.specs.Refusals.{bytes_at, read_refusal, proof_limit}
 use Rattle.arc_run.specs.Runs.{Runs}
 use Rattle.arc_run.proofs.Determined.{determined}
+
+-- a document that is refused for its classes
+classes_stopped_here : (held : Option Files) (document certificate : List ℕ) (doc : Document) (v : Vec ℕ Global) (input : Input) (stop : Stop) →
+    IfSome held (λ files. ReadsDocumentAt document files (Ok doc)) → IfSome held (λ files. ReadsFile proof_limit files certificate (Ok v)) →
+    IfSome held (λ files. HoldsDocument document files doc → ReadsFiles document files (Ok input)) → CountsClasses document input.net input.doc.policies (Err stop) →
+    Answers (Check document certificate) held (Err stop)
+classes_stopped_here None document certificate doc v input (stops.Refused r) told read input_is counts = tt
+classes_stopped_here (Some files) document certificate doc v input (stops.Refused r) told read input_is counts =
+    inr (inr (inr (record {
+      held = read.0;
+      refused = inr (record { doc = input.doc; net = input.net; input = input_is told; count = counts.0; many = counts.1; told = counts.2 });
+    })))
+classes_stopped_here held document certificate doc v input stops.Memory told read input_is counts = tt
+classes_stopped_here held document certificate doc v input stops.Failed told read input_is counts = tt
+
+pub classes_stopped : (held one two : Option Files) → one ≡ held → two ≡ one → (document certificate : List ℕ) (doc : Document) (v : Vec ℕ Global) (input : Input) (stop : Stop) →
+    IfSome held (λ files. ReadsDocumentAt document files (Ok doc)) → IfSome one (λ files. ReadsFile proof_limit files certificate (Ok v)) →
+    IfSome two (λ files. HoldsDocument document files doc → ReadsFiles document files (Ok input)) → CountsClasses document input.net input.doc.policies (Err stop) →
+    Answers (Check document certificate) held (Err stop)
+classes_stopped held one two first second document certificate doc v input stop told read input_is =
+    let P : Option Files → Type 0 = λ o. IfSome o (λ files. ReadsFile proof_limit files certificate (Ok v)) in
+    let Q : Option Files → Type 0 = λ o. IfSome o (λ files. HoldsDocument document files doc → ReadsFiles document files (Ok input)) in
+    classes_stopped_here held document certificate doc v input stop told (subst P first read) (subst Q (second ∙ first) input_is)
 
 -- the judgement where nothing is refused
 judged_here : (held : Option Files) (document certificate slice : List ℕ) (doc : Document) (v : Vec ℕ Global) (input : Input) (judgement : Judgement) (done : Done) →
@@ -94,7 +118,7 @@ module _ (document certificate : List ℕ) (files : Files) where
       let R : Network → Type 0 = λ n. IsReport n no'.doc (bytes_at files certificate) in
       no'.no_report (subst R nets (subst Q docs yes'.report))
 
-  held_or_refused : (doc : Document) (net : Network) (r : FileRefusal) → HoldsInput document files doc net → read_refusal proof_limit files certificate ≡ None → HasFewClasses net doc.policies → IsCheckRefusal document certificate files r → ⊥
+  pub held_or_refused : (doc : Document) (net : Network) (r : FileRefusal) → HoldsInput document files doc net → read_refusal proof_limit files certificate ≡ None → HasFewClasses net doc.policies → IsCheckRefusal document certificate files r → ⊥
   held_or_refused doc net r input held classes (inl e) = (determined document files).not_both doc net r input (inl e)
   held_or_refused doc net r input held classes (inr (inl u)) = (determined document files).not_both doc net r input (inr (inl u))
   held_or_refused doc net r input held classes (inr (inr (inl u))) = refused_none (read_refusal proof_limit files certificate) r held u.refused

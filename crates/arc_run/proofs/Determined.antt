@@ -141,7 +141,7 @@ module _ (document : List ℕ) (files : Files) where
       let Q : Document → Type 0 = λ d. MeetsDocument yes'.net d in
       let nets : yes'.net ≡ no'.net = one_network no'.doc yes'.net no'.net (subst P docs yes'.input) no'.input in
       let R : Network → Type 0 = λ n. MeetsDocument n no'.doc in
-      no'.breaks (subst R nets (subst Q docs yes'.meets))
+      no'.meets_not (subst R nets (subst Q docs yes'.meets))
 
   pub yes_or_refused : SaysYes document files → SaysRefused document files → ⊥
   yes_or_refused yes' refused = few_not_both yes'.doc yes'.net refused.refusal yes'.input yes'.classes refused.refused

@@ -20,7 +20,7 @@ use Rattle.arc_run.specs.Outcomes.{IsDefined, status_of}
 use Rattle.arc_run.specs.Runs.{Runs}
 use Rattle.arc_run.specs.declared.outcome.Done.{Done}
 use Rattle.arc_run.specs.Verifies.{IsVerified, IsVerdictOn, verdicts_status}
-use Rattle.arc_run.specs.Headline.{SaysYes, SaysNo, SaysRefused, TellsExactly}
+use Rattle.arc_run.specs.Headline.{SaysYes, SaysNo, SaysRefused, TellsVerdicts}
 use Rattle.arc_run.proofs.Determined.{yes_or_no, yes_or_refused, no_or_refused}
 
 all_cons : {X : Type 0} (P : X → Type 0) (x : X) (xs : List X) → P x → All P xs → All P (x ∷ xs)
@@ -73,13 +73,13 @@ told_no document files d done is_one = record {
   net = done.net;
   input = done.input;
   classes = done.classes;
-  breaks = λ meets.
+  meets_not = λ meets.
       let is_zero : verdicts_status done.verdicts ≡ 0 = status_when_yes done.verdicts ((decide done.net done.valid done.doc.policies done.doc.policies done.verdicts done.judged).1 meets) in
       omega (arith, is_zero, done.status, is_one);
 }
 
 -- the outcome says the one of yes, no and refused that its status is for
-told_of : (document : List ℕ) (files : Files) (outcome : Outcome) → IsDefined (Some (Verify document)) (Some files) outcome → TellsExactly document (status_of outcome) files
+told_of : (document : List ℕ) (files : Files) (outcome : Outcome) → IsDefined (Some (Verify document)) (Some files) outcome → TellsVerdicts document (status_of outcome) files
 told_of document files outcomes.Usage defined = absurd defined
 told_of document files (outcomes.Refused r) defined =
     let says : SaysRefused document files = record { refusal = r; refused = defined } in
@@ -111,7 +111,7 @@ told_of document files (outcomes.Done d) defined =
           }
     ]
 
-told : (held : Option Files) (outcome : Outcome) (document : List ℕ) → IsDefined (Some (Verify document)) held outcome → IfSome held (TellsExactly document (status_of outcome))
+told : (held : Option Files) (outcome : Outcome) (document : List ℕ) → IsDefined (Some (Verify document)) held outcome → IfSome held (TellsVerdicts document (status_of outcome))
 told None outcome document defined = tt
 told (Some files) outcome document defined = told_of document files outcome defined
 
@@ -121,10 +121,10 @@ module _ {absent failed broken : Type 0} {held held' : Option Files} {put put' :
       let end = runs.ended below in
       (end.outcome, end.status_is, subst (λ (c : Option Command). IsDefined c held end.outcome) verify end.leaves.defined)
 
-  pub tells : code < 6 → IfSome held (TellsExactly document code)
+  pub tells : code < 6 → IfSome held (TellsVerdicts document code)
   tells below =
       let end = defined below in
-      let P : ℕ → Type 0 = λ n. IfSome held (TellsExactly document n) in
+      let P : ℕ → Type 0 = λ n. IfSome held (TellsVerdicts document n) in
       subst P (sym end.1) (told held end.0 document end.2)
 
 never : Rose 0 0 → ⊥

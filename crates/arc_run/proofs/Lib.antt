@@ -18,4 +18,6 @@ pub mod Traced
 pub mod Refuting
 pub mod Headline
 pub mod Checked
+pub mod CheckOnce
+pub mod SameInput
 pub mod VerifiedAccepted

@@ -146,7 +146,7 @@ has_trace words files done t = record { doc = t.doc; net = t.net; input = t.inpu
 pub traced_or_refused : (words : TraceWords) (files : Files) (done : Done) (r : FileRefusal) → IsTraced words files done → IsTraceRefusal words files r → ⊥
 traced_or_refused words files done r t refused = traced_or_not words files (has_trace words files done t) r refused
 
-same_done : (d e : Done) → d.text ≡ e.text → d.writes ≡ e.writes → d.status ≡ e.status → d ≡ e
+pub same_done : (d e : Done) → d.text ≡ e.text → d.writes ≡ e.writes → d.status ≡ e.status → d ≡ e
 same_done d e texts writes statuses =
     ap (λ (t : List ℕ). record { text = t; writes = d.writes; status = d.status }) texts
     ∙ ap (λ (w : List (List ℕ × List ℕ)). record { text = e.text; writes = w; status = d.status }) writes

@@ -2,23 +2,21 @@
 use Rattle.std.proofs.Common.{◌≡◌, ℕ, zero, suc, ◌+◌, ◌<◌, ◌≤◌, List, ◌++◌, length, map, refl, sym, ◌∙◌, ap, subst, arith}
 use Rattle.std.proofs.lemmas.List.{same_lists, get_or_default, get_or-map, length-map}
 use Rattle.std.proofs.lemmas.List.Kept.{AllPairs-from_increasing}
-use Rattle.std.proofs.lemmas.Option.{slice_get-get_or}
-use Rattle.std.specs.Prelude.{Option, Some, None, slice_get, AllPairs}
+use Rattle.std.specs.Prelude.{Option, Some, None, AllPairs}
 use Rattle.std.specs.List.{flat_map, range_with_len}
 use Rattle.std.specs.List.Sorted.{IsStrictlyIncreasing}
 use Rattle.arc_base.specs.declared.place.Link.{Link}
 use Rattle.arc_base.specs.declared.prefix.Prefix.{Prefix}
 use Rattle.net_model.specs.declared.rows.FaceRow.{FaceRow}
 use Rattle.net_model.specs.declared.rows.Network.{Network}
-use Rattle.net_model.specs.Forwarding.{IsHostOf}
 use Rattle.net_model.specs.Routing.{FailureSet}
 use Rattle.net_model.specs.Validity.{IsValid}
+use Rattle.net_model.proofs.Hosts.{one_host_face}
 use Rattle.net_laws.proofs.StableMaps.{one_stable_map}
 use Rattle.net_build.specs.Ordered.{AreInOrder}
-use Rattle.net_build.proofs.Hosts.{one_host}
 use Rattle.net_build.proofs.InOrder.{ordered_once}
 use Rattle.route_trace.specs.Routes.{distance_map, Owns, AreDistances, IsNextHop, AreNextHops}
-use Rattle.route_trace.specs.TraceText.{router_name, route_line, route_lines, trace_head, trace_text, IsHostFace, IsTrace}
+use Rattle.route_trace.specs.TraceText.{router_name, route_line, route_lines, trace_head, trace_text, IsTrace}
 
 -- the links stand in the order of their numbers
 abbrev IsLower : Link → Link → Type 0
@@ -45,21 +43,6 @@ module _ (net : Network) (valid : IsValid net) (failed : FailureSet) where
       ∙ one_stable_map net valid to owner failed (distance_map ds) (distance_map es) (these.stable owner owns) (those.stable owner owns) k (omega (arith, within, these.whole))
       ∙ get_or_default es k None d (omega (arith, within, these.whole, those.whole)))
 
-  same_face : (o : Option FaceRow) (f g : FaceRow) → o ≡ Some f → o ≡ Some g → f ≡ g
-  same_face o f g e h = cc
-
-  at_place : (p : Prefix) (face : FaceRow) (host : IsHostFace net p face) → slice_get net.faces host.is_face.0 ≡ Some face
-  at_place p face host = slice_get-get_or net.faces host.is_face.0 face host.is_face.1 ∙ ap Some host.is_face.2
-
-  face_once : (p : Prefix) (f g : FaceRow) → IsHostFace net p f → IsHostFace net p g → f ≡ g
-  face_once p f g this that =
-      let i = this.is_face.0 in
-      let j = that.is_face.0 in
-      let at_i : IsHostOf net p i = record { face = f; at_place = at_place p f this; lies = this.lies } in
-      let at_j : IsHostOf net p j = record { face = g; at_place = at_place p g that; lies = that.lies } in
-      let same : i ≡ j = one_host net valid p i j at_i at_j in
-      same_face (slice_get net.faces j) f g (ap (slice_get net.faces) (sym same) ∙ at_place p f this) (at_place p g that)
-
   -- functions that agree on a range give one text
   pieces_once : (f g : ℕ → List ℕ) (a n : ℕ) → ((u : ℕ) → a ≤ u → u < a + n → f u ≡ g u) → flat_map f (range_with_len a n) ≡ flat_map g (range_with_len a n)
   pieces_once f g a zero same = refl
@@ -78,8 +61,8 @@ module _ (net : Network) (valid : IsValid net) (failed : FailureSet) where
 
   pub trace_once : (from to : Prefix) (text other : List ℕ) → IsTrace net failed from to text → IsTrace net failed from to other → text ≡ other
   trace_once from to text other t s =
-      let sources : t.source ≡ s.source = face_once from t.source s.source t.is_source s.is_source in
-      let targets : t.target ≡ s.target = face_once to t.target s.target t.is_target s.is_target in
+      let sources : t.source ≡ s.source = one_host_face net valid from t.source s.source t.is_source s.is_source in
+      let targets : t.target ≡ s.target = one_host_face net valid to t.target s.target t.is_target s.is_target in
       let hosts : t.host ≡ s.host = same_host s.target.host t.host s.host (ap (λ (f : FaceRow). f.host) (sym targets) ∙ t.host_is) s.host_is in
       let owns : Owns net t.host t.target.router.0 = record { face = t.target; is_face = t.is_target.is_face; host = t.host_is; router = refl } in
       let P : Prefix → Type 0 = λ p. AreDistances net p failed s.distances in

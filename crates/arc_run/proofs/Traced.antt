@@ -1,6 +1,5 @@
 -- The outcomes of a trace, and what its status says.
 use Rattle.std.proofs.Common.{◌≡◌, ℕ, ◌<◌, ◌⊎◌, inl, inr, Bool, List, [], length, refl, sym, ◌∙◌, ap, subst, arith}
-use Rattle.std.proofs.lemmas.Option.{slice_get_within, get_or_from_slice_get}
 use Rattle.std.specs.Prelude.{Option, Some, None, IfSome, Ok, Err}
 use Rattle.arc_base.specs.declared.refusal.Kind.TheVariants.{Endpoint}
 use Rattle.arc_base.specs.declared.prefix.Prefix.{Prefix}
@@ -8,8 +7,9 @@ use Rattle.arc_outside.specs.Files.{Files}
 use Rattle.net_model.specs.declared.rows.Network.{Network}
 use Rattle.net_build.specs.Addressing.{HasEndpoints}
 use Rattle.route_trace.specs.Routes.{flagged}
-use Rattle.net_model.specs.Forwarding.{IsHostOf}
-use Rattle.route_trace.specs.TraceText.{IsTrace, HasHost}
+use Rattle.net_model.specs.Forwarding.{HasHost}
+use Rattle.net_model.proofs.Hosts.{host_at}
+use Rattle.route_trace.specs.TraceText.{IsTrace}
 use Rattle.arc_run.specs.declared.inputs.Input.{Input}
 use Rattle.arc_run.specs.declared.outcome.Done.{Done}
 use Rattle.arc_run.specs.declared.outcome.FileRefusal.{FileRefusal}
@@ -46,10 +46,6 @@ trace_from net flags down from to made text same is trace =
     let P : List Bool → Type 0 = λ fs. IsTrace net (flagged fs) from to made in
     let Q : List ℕ → Type 0 = λ t. IsTrace net (flagged down) from to t in
     subst Q (sym is) (subst P same trace)
-
--- a prefix lies in the host network of an interface of the network
-host_at : (net : Network) (p : Prefix) (place : ℕ) → IsHostOf net p place → HasHost net p
-host_at net p place host = (host.face, record { is_face = (place, slice_get_within net.faces place host.face host.at_place, get_or_from_slice_get net.faces place host.face host.face host.at_place); lies = host.lies })
 
 pub has_hosts : (net : Network) (from to : Prefix) → HasEndpoints net from to → HasHost net from × HasHost net to
 has_hosts net from to ends = (host_at net from ends.source ends.from, host_at net to ends.target ends.to)

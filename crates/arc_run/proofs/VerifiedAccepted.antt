@@ -26,6 +26,7 @@ use Rattle.arc_run.specs.Headline.{VerifiedIsAccepted}
 use Rattle.arc_run.specs.Refusals.{bytes_at}
 use Rattle.arc_run.specs.Verifies.{IsVerdictOn}
 use Rattle.arc_run.proofs.Checked.{all_true}
+use Rattle.arc_run.proofs.SameInput.{same_input}
 
 -- the lines of the witness can be counted in 32 bits
 abbrev HasFewLines : Network → Verdict → Type 0
@@ -74,18 +75,18 @@ all_few_lines net document (p ∷ ps) (v ∷ vs) failures judged =
     )
 
 pub verified_is_accepted : VerifiedIsAccepted
-verified_is_accepted document certificate files done verified holds held =
+verified_is_accepted document certificate before after done verified same holds held =
     let policies : List Policy = verified.doc.policies in
     let right : AllZip (IsRight verified.net) policies verified.verdicts = all_right verified.net policies policies verified.verdicts verified.judged in
     let P : Policy → Type 0 = λ policy. HasFewFailures policy.kind in
-    let failures : All P policies = (well_formed (bytes_at files document) verified.doc verified.input.files_are.document_is.read).few_failures in
+    let failures : All P policies = (well_formed (bytes_at before document) verified.doc verified.input.files_are.document_is.read).few_failures in
     let few : AllByRecursion (HasFewLines verified.net) verified.verdicts =
     all_few_lines verified.net policies policies verified.verdicts (recursion_from_All P policies failures) verified.judged in
-    let bytes : bytes_at files certificate ≡ report_text verified.net verified.doc verified.verdicts = ap (λ (o : Option (List ℕ)). unwrap_or o []) holds ∙ verified.text in
+    let bytes : bytes_at after certificate ≡ report_text verified.net verified.doc verified.verdicts = ap (λ (o : Option (List ℕ)). unwrap_or o []) holds ∙ verified.text in
     record {
       doc = verified.doc;
       net = verified.net;
-      input = verified.input;
+      input = same_input before after document verified.doc verified.net same verified.input;
       held = held;
       classes = verified.classes;
       report = record {

@@ -1,7 +1,5 @@
 -- The command `check DOC CERT`.
-use Rattle.std.specs.Prelude.{◌≡◌, ◌↔◌, ◌⊎◌, ℕ, List, [], ◌++◌, codes, decimal, None, Some}
-use Rattle.arc_base.specs.declared.certificate.CertKind.{CertKind}
-use Rattle.arc_base.specs.declared.certificate.CertKind.TheVariants as kinds
+use Rattle.std.specs.Prelude.{◌≡◌, ◌↔◌, ◌⊎◌, ℕ, List, [], codes, None, Some}
 use Rattle.arc_outside.specs.Files.{Files}
 use Rattle.cnf_types.specs.Words.{lines}
 use Rattle.net_model.specs.declared.policies.Document.{Document}
@@ -16,8 +14,8 @@ use Rattle.arc_run.specs.declared.outcome.Done.{Done}
 use Rattle.arc_run.specs.declared.outcome.FileRefusal.{FileRefusal}
 use Rattle.arc_run.specs.Counts.{HasFewClasses, RefusesClasses}
 use Rattle.arc_run.specs.Inputs.{HoldsDocument, HoldsInput, RefusesDocument, IsFilesRefusal}
-use Rattle.arc_run.specs.Lrats.{proof_limit}
-use Rattle.arc_run.specs.Refusals.{bytes_at, read_refusal, document_limit}
+use Rattle.arc_run.specs.Rejections.{rejected_text}
+use Rattle.arc_run.specs.Refusals.{bytes_at, read_refusal, document_limit, proof_limit}
 
 -- the document is held, and the certificate is missing or too long
 pub record RefusesCertificate (document certificate : List ℕ) (files : Files) (r : FileRefusal) : Type 0 where
@@ -37,30 +35,10 @@ IsCheckRefusal document certificate files r =
     (read_refusal document_limit files document ≡ Some r) ⊎
     (RefusesDocument document files r ⊎ (RefusesCertificate document certificate files r ⊎ RefusesBehind document certificate files r))
 
--- the word for a line that is rejected
-abbrev pub kind_word : CertKind → List ℕ
-kind_word kinds.Form = codes "form"
-kind_word kinds.NoEnd = codes "no-end"
-kind_word kinds.NoClaim = codes "no-claim"
-kind_word kinds.Edit = codes "edit"
-kind_word kinds.Price = codes "price"
-kind_word kinds.Policy = codes "policy"
-kind_word kinds.Witness = codes "witness"
-kind_word kinds.NotYes = codes "not-yes"
-kind_word kinds.IdNotRising = codes "id-not-rising"
-kind_word kinds.NegativeHint = codes "negative-hint"
-kind_word kinds.UnknownId = codes "unknown-id"
-kind_word kinds.HintNotUnit = codes "hint-not-unit"
-kind_word kinds.NoConflict = codes "no-conflict"
-kind_word kinds.BoundTooLow = codes "bound-too-low"
-kind_word kinds.BoundTooHigh = codes "bound-too-high"
-kind_word kinds.NotRefuted = codes "not-refuted"
-kind_word kinds.Memory = codes "memory"
-
 -- the line that tells an outcome, and its status
 abbrev pub check_text : Outcome → List ℕ
 check_text Accepted = codes "accepted\n"
-check_text (Rejected fault) = codes "rejected " ++ decimal fault.line ++ codes " " ++ kind_word fault.kind ++ codes "\n"
+check_text (Rejected fault) = rejected_text fault.line fault.kind
 
 abbrev pub check_status : Outcome → ℕ
 check_status Accepted = 0

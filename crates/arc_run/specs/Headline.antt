@@ -1,5 +1,5 @@
 -- What the statuses of the commands say, in the words of the subject.
-use Rattle.std.specs.Prelude.{◌≡◌, ◌↔◌, ◌⊎◌, ℕ, Bool, List, length, Some, None, Ok}
+use Rattle.std.specs.Prelude.{◌≡◌, ◌↔◌, ◌⊎◌, ℕ, Bool, List, length, Some, None, Ok, All}
 use Rattle.std.specs.List.{AllZip}
 use Rattle.arc_outside.specs.Files.{Files}
 use Rattle.net_model.specs.declared.policies.Document.{Document}
@@ -18,10 +18,10 @@ use Rattle.cnf_types.specs.Formulas.{Satisfies}
 use Rattle.proof_check.specs.Outcomes.{IsRefutation}
 use Rattle.arc_run.specs.declared.outcome.Done.{Done}
 use Rattle.arc_run.specs.declared.outcome.FileRefusal.{FileRefusal}
-use Rattle.arc_run.specs.Refusals.{bytes_at, read_refusal}
+use Rattle.arc_run.specs.Refusals.{bytes_at, read_refusal, proof_limit}
 use Rattle.command_words.specs.declared.commands.TraceWords.{TraceWords}
 use Rattle.arc_run.specs.Traces.{first_above, IsTraceRefusal}
-use Rattle.arc_run.specs.Lrats.{lrat_refusal, proof_limit}
+use Rattle.arc_run.specs.Lrats.{lrat_refusal}
 use Rattle.arc_run.specs.Checks.{IsCheckRefusal}
 use Rattle.arc_run.specs.Counts.{HasFewClasses, IsJudgingRefusal}
 use Rattle.arc_run.specs.Inputs.{HoldsDocument, HoldsInput, IsInputRefusal}
@@ -35,13 +35,13 @@ pub record SaysYes (document : List ℕ) (files : Files) : Type 0 where
   pub classes : HasFewClasses net doc.policies
   pub meets : MeetsDocument net doc
 
--- they have a network, and it breaks a policy under some set of failed links
+-- they have a network and not too many classes, and it does not meet each policy: it breaks one under some set of failed links, or a reach policy is not clear
 pub record SaysNo (document : List ℕ) (files : Files) : Type 0 where
   pub doc : Document
   pub net : Network
   pub input : HoldsInput document files doc net
   pub classes : HasFewClasses net doc.policies
-  pub breaks : ¬ MeetsDocument net doc
+  pub meets_not : ¬ MeetsDocument net doc
 
 -- they have no network, or their policies too many classes, and there is a first reason for it
 pub record SaysRefused (document : List ℕ) (files : Files) : Type 0 where
@@ -49,7 +49,7 @@ pub record SaysRefused (document : List ℕ) (files : Files) : Type 0 where
   pub refused : IsJudgingRefusal document files refusal
 
 -- Which of the three it is, the status tells: 0 for yes, 1 for no, and 5 for refused.
-pub record TellsExactly (document : List ℕ) (status : ℕ) (files : Files) : Type 0 where
+pub record TellsVerdicts (document : List ℕ) (status : ℕ) (files : Files) : Type 0 where
   pub yes_exactly : (status ≡ 0) ↔ SaysYes document files
   pub no_exactly : (status ≡ 1) ↔ SaysNo document files
   pub refused_exactly : (status ≡ 5) ↔ SaysRefused document files
@@ -89,8 +89,8 @@ pub record IsTrueOf (net : Network) (policy : Policy) (v : Verdict) : Type 0 whe
   pub are_ends : AreEnds net (subject policy) ends
   pub says : Says net ends (subject policy) policy.kind v
 
--- the document and its files have a network, and the certificate is a report on it whose verdicts are right, one for each
--- policy in order; so each of them is true
+-- the document and its files have a network and not too many classes, and the certificate is held, not too long, and a report whose verdicts
+-- are right, one for each policy in order; so each of them is true
 pub record IsAccepted (document certificate : List ℕ) (files : Files) : Type 0 where
   pub doc : Document
   pub net : Network
@@ -100,7 +100,7 @@ pub record IsAccepted (document certificate : List ℕ) (files : Files) : Type 0
   pub report : IsReport net doc (bytes_at files certificate)
   pub are_true : AllZip (IsTrueOf net) doc.policies report.verdicts
 
--- they have a network, and the certificate is no such report
+-- they have a network and not too many classes, and the certificate is held, not too long, and no such report
 pub record IsRejected (document certificate : List ℕ) (files : Files) : Type 0 where
   pub doc : Document
   pub net : Network
@@ -109,7 +109,7 @@ pub record IsRejected (document certificate : List ℕ) (files : Files) : Type 0
   pub classes : HasFewClasses net doc.policies
   pub no_report : ¬ IsReport net doc (bytes_at files certificate)
 
--- they have no network, or the certificate is missing or too long, and there is a first reason for it
+-- they have no network, or their policies too many classes, or the certificate is missing or too long, and there is a first reason for it
 pub record IsUnchecked (document certificate : List ℕ) (files : Files) : Type 0 where
   pub refusal : FileRefusal
   pub refused : IsCheckRefusal document certificate files refusal
@@ -149,7 +149,12 @@ pub record TellsRefutation (cnf proof : List ℕ) (status : ℕ) (files : Files)
   pub refused_exactly : (status ≡ 5) ↔ IsLratRefused cnf proof files
   pub nothing_else : (status ≡ 0) ⊎ ((status ≡ 1) ⊎ (status ≡ 5))
 
--- the text that `verify` put, held under a name, is an accepted certificate over the same files
+-- before and after, the same is held under the document's name, and under the name of each of its router files
+pub record HoldTheSame (document : List ℕ) (before after : Files) : Type 0 where
+  pub document_is : after document ≡ before document
+  pub routers_are : (doc : Document) → HoldsDocument document before doc → All (λ name. after name ≡ before name) doc.routers
+
+-- the text that `verify` put is an accepted certificate once it is saved under a name, where the document and its router files are still the same
 abbrev pub VerifiedIsAccepted : Type 0
-VerifiedIsAccepted = (document certificate : List ℕ) (files : Files) (done : Done) → IsVerified document files done →
-    files certificate ≡ Some done.text → read_refusal proof_limit files certificate ≡ None → IsAccepted document certificate files
+VerifiedIsAccepted = (document certificate : List ℕ) (before after : Files) (done : Done) → IsVerified document before done → HoldTheSame document before after →
+    after certificate ≡ Some done.text → read_refusal proof_limit after certificate ≡ None → IsAccepted document certificate after

@@ -1,6 +1,7 @@
 pub mod Words
 pub mod Refusals
 pub mod Reading
+pub mod Rejections
 pub mod Inputs
 pub mod Counts
 pub mod Verifies

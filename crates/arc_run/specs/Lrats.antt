@@ -1,6 +1,8 @@
 -- The command `lrat CNF PROOF`.
-use Rattle.std.specs.Prelude.{◌≡◌, ◌↔◌, ℕ, Bool, List, [], ◌++◌, codes, decimal, Option, Some, None, Result, Ok, Err}
-use Rattle.arc_base.specs.declared.refusal.Kind.TheVariants.{Limit, Missing}
+use Rattle.std.specs.Prelude.{◌≡◌, ◌↔◌, ℕ, Bool, List, [], codes, Option, Some, None, Result, Ok, Err}
+use Rattle.arc_base.specs.declared.certificate.CertKind.{CertKind}
+use Rattle.arc_base.specs.declared.certificate.CertKind.TheVariants as kinds
+use Rattle.arc_base.specs.declared.refusal.Kind.TheVariants.{Limit}
 use Rattle.arc_outside.specs.Files.{Files}
 use Rattle.cnf_types.specs.declared.clauses.Formula.{Formula}
 use Rattle.cnf_types.specs.declared.faults.CnfFault.{CnfFault}
@@ -18,42 +20,27 @@ use Rattle.proof_check.specs.Knowledge.{start}
 use Rattle.proof_check.specs.Outcomes.{log_outcome, IsRefutation}
 use Rattle.arc_run.specs.declared.outcome.Done.{Done}
 use Rattle.arc_run.specs.declared.outcome.FileRefusal.{FileRefusal}
-use Rattle.arc_run.specs.declared.outcome.Reason.{Reason}
 use Rattle.arc_run.specs.declared.outcome.Reason.TheVariants as reasons
 use Rattle.arc_run.specs.declared.outcome.Stop.{Stop}
 use Rattle.arc_run.specs.declared.outcome.Stop.TheVariants as stops
-use Rattle.arc_run.specs.Refusals.{bytes_at, read_refusal, or_else}
+use Rattle.arc_run.specs.Refusals.{bytes_at, refusal_of, read_refusal, or_else, proof_limit}
+use Rattle.arc_run.specs.Rejections.{rejected_text}
 
--- how many bytes a formula may have, and a proof
+-- how many bytes a formula may have
 abbrev pub cnf_limit : ℕ
 cnf_limit = 268435456
 
-abbrev pub proof_limit : ℕ
-proof_limit = 1099511627776
-
--- the line of a formula's fault
-abbrev pub fault_line : CnfFault → ℕ
-fault_line (faults.BadHeader line) = line
-fault_line (faults.BadNumber line) = line
-fault_line (faults.Count line) = line
-fault_line (faults.TooLarge what count) = 0
-fault_line faults.Memory = 0
-
--- the reason that it is
-abbrev pub fault_reason : CnfFault → Reason
-fault_reason (faults.BadHeader line) = reasons.BadHeader
-fault_reason (faults.BadNumber line) = reasons.BadNumber
-fault_reason (faults.Count line) = reasons.ClauseCount
-fault_reason (faults.TooLarge what count) = reasons.Kind (Limit what count)
-fault_reason faults.Memory = reasons.Kind Missing
-
--- the refusal of a text that is no formula
-abbrev pub faulty : List ℕ → CnfFault → FileRefusal
-faulty cnf fault = record { name = cnf; number = fault_line fault; reason = fault_reason fault }
+-- the refusal of a text that has this fault; want of memory is no fault of the text
+abbrev pub faulty : List ℕ → CnfFault → Option FileRefusal
+faulty cnf (faults.BadHeader line) = Some (record { name = cnf; number = line; reason = reasons.BadHeader })
+faulty cnf (faults.BadNumber line) = Some (record { name = cnf; number = line; reason = reasons.BadNumber })
+faulty cnf (faults.Count line) = Some (record { name = cnf; number = line; reason = reasons.ClauseCount })
+faulty cnf (faults.TooLarge what count) = Some (refusal_of cnf 0 (Limit what count))
+faulty cnf faults.Memory = None
 
 abbrev pub formula_refusal : List ℕ → Result Formula CnfFault → Option FileRefusal
 formula_refusal cnf (Ok f) = None
-formula_refusal cnf (Err fault) = Some (faulty cnf fault)
+formula_refusal cnf (Err fault) = faulty cnf fault
 
 -- the first refusal of a formula's file: it is missing or too long, or its first fault
 abbrev pub cnf_refusal : List ℕ → Files → Option FileRefusal
@@ -70,27 +57,27 @@ ReadsFormula cnf files (Err (stops.Refused r)) = cnf_refusal cnf files ≡ Some 
 ReadsFormula cnf files (Err stops.Memory) = Unit {0}
 ReadsFormula cnf files (Err stops.Failed) = Unit {0}
 
--- the word for a step that is not accepted
-abbrev pub fault_word : StepFault → List ℕ
-fault_word steps.IdNotRising = codes "id-not-rising"
-fault_word (steps.NegativeHint place) = codes "negative-hint"
-fault_word (steps.UnknownId place) = codes "unknown-id"
-fault_word (steps.HintNotUnit place) = codes "hint-not-unit"
-fault_word steps.NoConflict = codes "no-conflict"
-fault_word steps.BoundTooLow = codes "bound-too-low"
-fault_word steps.BoundTooHigh = codes "bound-too-high"
-fault_word steps.Memory = codes "memory"
+-- the kind of reason for which a step is not accepted
+abbrev pub fault_kind : StepFault → CertKind
+fault_kind steps.IdNotRising = kinds.IdNotRising
+fault_kind (steps.NegativeHint place) = kinds.NegativeHint
+fault_kind (steps.UnknownId place) = kinds.UnknownId
+fault_kind (steps.HintNotUnit place) = kinds.HintNotUnit
+fault_kind steps.NoConflict = kinds.NoConflict
+fault_kind steps.BoundTooLow = kinds.BoundTooLow
+fault_kind steps.BoundTooHigh = kinds.BoundTooHigh
+fault_kind steps.Memory = kinds.Memory
 
--- the word for a line that is rejected
-abbrev pub rejection_word : Rejection → List ℕ
-rejection_word rejections.Form = codes "form"
-rejection_word (rejections.Fault fault) = fault_word fault
-rejection_word rejections.NotRefuted = codes "not-refuted"
+-- the kind of reason for which a line is rejected
+abbrev pub rejection_kind : Rejection → CertKind
+rejection_kind rejections.Form = kinds.Form
+rejection_kind (rejections.Fault fault) = fault_kind fault
+rejection_kind rejections.NotRefuted = kinds.NotRefuted
 
 -- the line that tells an outcome, and its status
 abbrev pub outcome_text : Outcome → List ℕ
 outcome_text Accepted = codes "accepted\n"
-outcome_text (Rejected line rejection) = codes "rejected " ++ decimal line ++ codes " " ++ rejection_word rejection ++ codes "\n"
+outcome_text (Rejected line rejection) = rejected_text line (rejection_kind rejection)
 
 abbrev pub outcome_status : Outcome → ℕ
 outcome_status Accepted = 0

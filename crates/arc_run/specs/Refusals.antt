@@ -41,6 +41,10 @@ router_limit = 8388608
 abbrev pub routers_limit : ℕ
 routers_limit = 67108864
 
+-- how many bytes a proof or a certificate may have
+abbrev pub proof_limit : ℕ
+proof_limit = 1099511627776
+
 -- the first refusal of router files in order, where they may have so many bytes together
 abbrev pub first_refusal : ℕ → Files → List (List ℕ) → Option FileRefusal
 first_refusal room files [] = None

@@ -21,6 +21,9 @@ const ROUTER_LIMIT: u64 = 8_388_608;
 /// How many bytes all router files together may have.
 const ROUTERS_LIMIT: u64 = 67_108_864;
 
+/// How many bytes a proof or a certificate may have.
+pub const PROOF_LIMIT: u64 = 1_099_511_627_776;
+
 /// Reads a file whole, or refuses it.
 pub fn read_file<S: Store>(
     alloc: Global,

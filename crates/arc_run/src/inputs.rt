@@ -57,10 +57,7 @@ pub fn read_document<S: Store>(alloc: Global, name: &Name, store: &mut S) -> Res
     ensures faults { S.faults store.old ≤ S.faults store.new }
     ensures absences { S.absences store.old ≤ S.absences store.new }
 {
-    let bytes = match read_file(alloc, store, name, DOCUMENT_LIMIT) {
-        Ok(bytes) => bytes,
-        Err(stop) => return Err(stop),
-    };
+    let bytes = read_file(alloc, store, name, DOCUMENT_LIMIT)?;
     match document(alloc, bytes.as_slice()) {
         Ok(doc) => Ok(doc),
         Err(NetFault::Refused(refusal)) => Err(named(alloc, name, &List::make(alloc), refusal)),
@@ -84,10 +81,7 @@ pub fn read_files<S: Store>(
     ensures faults { S.faults store.old ≤ S.faults store.new }
     ensures absences { S.absences store.old ≤ S.absences store.new }
 {
-    let files = match read_routers(alloc, store, doc.routers.slice()) {
-        Ok(files) => files,
-        Err(stop) => return Err(stop),
-    };
+    let files = read_routers(alloc, store, doc.routers.slice())?;
     match network(alloc, &doc, &files) {
         Ok(built) => Ok(Input {
             doc,
@@ -107,8 +101,6 @@ pub fn read_input<S: Store>(alloc: Global, name: &Name, store: &mut S) -> Result
     ensures faults { S.faults store.old ≤ S.faults store.new }
     ensures absences { S.absences store.old ≤ S.absences store.new }
 {
-    match read_document(alloc, name, store) {
-        Ok(doc) => read_files(alloc, name, doc, store),
-        Err(stop) => Err(stop),
-    }
+    let doc = read_document(alloc, name, store)?;
+    read_files(alloc, name, doc, store)
 }

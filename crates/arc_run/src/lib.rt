@@ -11,6 +11,7 @@ pub mod laws;
 mod lrat_check;
 mod outcome;
 mod refusals;
+mod rejections;
 mod surely;
 mod top;
 mod tracing;

@@ -1,12 +1,14 @@
 //! The command `lrat CNF PROOF`.
-ghost use Rattle.std.specs.Prelude.{◌≡◌, ◌⊎◌, ◌≤◌, ◌<◌, ◌^◌, length, IfOk, IfErr, IfSome};
+ghost use Rattle.std.specs.Prelude.{◌≡◌, ◌⊎◌, ◌≤◌, ◌<◌, ◌^◌, length, IfOk, IfErr, IfSome, IsSomeAnd};
 ghost use Rattle.arc_outside.specs.Causes.{Rose};
-ghost use Rattle.arc_run.specs.Lrats.{faulty, fault_line, fault_reason, fault_word, outcome_status, outcome_text, rejection_word, ReadsFormula};
+ghost use Rattle.arc_run.specs.Lrats.{faulty, fault_kind, outcome_status, outcome_text, rejection_kind, ReadsFormula};
 ghost use Rattle.arc_run.specs.Outcomes.{Answers, HasStopCause};
 
-use crate::files::read_file;
+use crate::files::{PROOF_LIMIT, read_file};
 use crate::outcome::{Done, FileRefusal, Reason, Stop};
-use arc_base::{Kind, List, Memory, Name};
+use crate::refusals::refused;
+use crate::rejections::rejected_text;
+use arc_base::{CertKind, Kind, List, Memory, Name};
 use arc_outside::Store;
 use cnf_types::{CnfFault, Formula, formula};
 use command_words::Command;
@@ -16,44 +18,30 @@ use std::alloc::{AllocError, Global};
 // How many bytes a formula may have.
 const CNF_LIMIT: u64 = 268_435_456;
 
-/// How many bytes a proof or a certificate may have.
-pub const PROOF_LIMIT: u64 = 1_099_511_627_776;
-
-fn fault_line(fault: CnfFault) -> u32
-    ensures { result ≡ fault_line fault }
+// The refusal of the formula at a line.
+fn refused_at(alloc: Global, cnf: &Name, line: u32, reason: Reason) -> Stop
+    ensures { (result ≡ Stop.Memory) ⊎ (result ≡ Stop.Refused (record { name = cnf.now; number = line; reason = reason })) }
 {
-    match fault {
-        CnfFault::BadHeader(line) => line,
-        CnfFault::BadNumber(line) => line,
-        CnfFault::Count(line) => line,
-        CnfFault::TooLarge(_, _) => 0,
-        CnfFault::Memory => 0,
-    }
-}
-
-fn fault_reason(fault: CnfFault) -> Reason
-    ensures { result ≡ fault_reason fault }
-{
-    match fault {
-        CnfFault::BadHeader(_) => Reason::BadHeader,
-        CnfFault::BadNumber(_) => Reason::BadNumber,
-        CnfFault::Count(_) => Reason::ClauseCount,
-        CnfFault::TooLarge(what, count) => Reason::Kind(Kind::Limit(what, count)),
-        CnfFault::Memory => Reason::Kind(Kind::Missing),
+    match Name::make(alloc, cnf.bytes()) {
+        Ok(name) => Stop::Refused(FileRefusal {
+            name,
+            number: line,
+            reason,
+        }),
+        Err(Memory) => Stop::Memory,
     }
 }
 
 // The refusal of a text that is no formula.
 fn faulty(alloc: Global, cnf: &Name, fault: CnfFault) -> Stop
-    ensures { (result ≡ Stop.Memory) ⊎ (result ≡ Stop.Refused (faulty cnf.now fault)) }
+    ensures { (result ≡ Stop.Memory) ⊎ IsSomeAnd (faulty cnf.now fault) (λ r. result ≡ Stop.Refused r) }
 {
-    match Name::make(alloc, cnf.bytes()) {
-        Ok(name) => Stop::Refused(FileRefusal {
-            name,
-            number: fault_line(fault),
-            reason: fault_reason(fault),
-        }),
-        Err(Memory) => Stop::Memory,
+    match fault {
+        CnfFault::BadHeader(line) => refused_at(alloc, cnf, line, Reason::BadHeader),
+        CnfFault::BadNumber(line) => refused_at(alloc, cnf, line, Reason::BadNumber),
+        CnfFault::Count(line) => refused_at(alloc, cnf, line, Reason::ClauseCount),
+        CnfFault::TooLarge(what, count) => refused(alloc, cnf, 0, Kind::Limit(what, count)),
+        CnfFault::Memory => Stop::Memory,
     }
 }
 
@@ -65,52 +53,38 @@ fn read_formula<S: Store>(alloc: Global, cnf: &Name, store: &mut S) -> Result<Fo
     ensures faults { S.faults store.old ≤ S.faults store.new }
     ensures absences { S.absences store.old ≤ S.absences store.new }
 {
-    let bytes = match read_file(alloc, store, cnf, CNF_LIMIT) {
-        Ok(bytes) => bytes,
-        Err(stop) => return Err(stop),
-    };
+    let bytes = read_file(alloc, store, cnf, CNF_LIMIT)?;
     match formula(alloc, bytes.as_slice()) {
         Ok(formula) => Ok(formula),
-        Err(CnfFault::Memory) => Err(Stop::Memory),
         Err(fault) => Err(faulty(alloc, cnf, fault)),
     }
 }
 
-fn fault_word(fault: StepFault) -> &'static [u8]
-    ensures { result.now ≡ fault_word fault }
+// The kind of reason for which a step is not accepted.
+fn fault_kind(fault: StepFault) -> CertKind
+    ensures { result ≡ fault_kind fault }
 {
     match fault {
-        StepFault::IdNotRising => b"id-not-rising",
-        StepFault::NegativeHint(_) => b"negative-hint",
-        StepFault::UnknownId(_) => b"unknown-id",
-        StepFault::HintNotUnit(_) => b"hint-not-unit",
-        StepFault::NoConflict => b"no-conflict",
-        StepFault::BoundTooLow => b"bound-too-low",
-        StepFault::BoundTooHigh => b"bound-too-high",
-        StepFault::Memory => b"memory",
+        StepFault::IdNotRising => CertKind::IdNotRising,
+        StepFault::NegativeHint(_) => CertKind::NegativeHint,
+        StepFault::UnknownId(_) => CertKind::UnknownId,
+        StepFault::HintNotUnit(_) => CertKind::HintNotUnit,
+        StepFault::NoConflict => CertKind::NoConflict,
+        StepFault::BoundTooLow => CertKind::BoundTooLow,
+        StepFault::BoundTooHigh => CertKind::BoundTooHigh,
+        StepFault::Memory => CertKind::Memory,
     }
 }
 
-fn rejection_word(rejection: Rejection) -> &'static [u8]
-    ensures { result.now ≡ rejection_word rejection }
+// The kind of reason for which a line is rejected.
+fn rejection_kind(rejection: Rejection) -> CertKind
+    ensures { result ≡ rejection_kind rejection }
 {
     match rejection {
-        Rejection::Form => b"form",
-        Rejection::Fault(fault) => fault_word(fault),
-        Rejection::NotRefuted => b"not-refuted",
+        Rejection::Form => CertKind::Form,
+        Rejection::Fault(fault) => fault_kind(fault),
+        Rejection::NotRefuted => CertKind::NotRefuted,
     }
-}
-
-fn rejected_text(alloc: Global, line: u64, rejection: Rejection) -> Result<Vec<u8>, AllocError>
-    ensures { IfOk result (λ text. text.items ≡ outcome_text (Outcome.Rejected line rejection)) }
-{
-    let mut text = Vec::from_slice(alloc, b"rejected ")?;
-    let line = line.to_string(alloc)?;
-    text.extend_from_slice(line.as_bytes())?;
-    text.extend_from_slice(b" ")?;
-    text.extend_from_slice(rejection_word(rejection))?;
-    text.extend_from_slice(b"\n")?;
-    Ok(text)
 }
 
 // The line that tells an outcome.
@@ -119,7 +93,7 @@ fn outcome_text(alloc: Global, outcome: Outcome) -> Result<Vec<u8>, AllocError>
 {
     match outcome {
         Outcome::Accepted => Vec::from_slice(alloc, b"accepted\n"),
-        Outcome::Rejected(line, rejection) => rejected_text(alloc, line, rejection),
+        Outcome::Rejected(line, rejection) => rejected_text(alloc, line, rejection_kind(rejection)),
     }
 }
 
@@ -141,22 +115,10 @@ pub fn lrat<S: Store>(alloc: Global, cnf: &Name, proof: &Name, store: &mut S) ->
     ensures faults { S.faults store.old ≤ S.faults store.new }
     ensures absences { S.absences store.old ≤ S.absences store.new }
 {
-    let formula = match read_formula(alloc, cnf, store) {
-        Ok(formula) => formula,
-        Err(stop) => return Err(stop),
-    };
-    let bytes = match read_file(alloc, store, proof, PROOF_LIMIT) {
-        Ok(bytes) => bytes,
-        Err(stop) => return Err(stop),
-    };
-    let outcome = match check_log(alloc, &formula, bytes.as_slice()) {
-        Ok(outcome) => outcome,
-        Err(Memory) => return Err(Stop::Memory),
-    };
-    let text = match outcome_text(alloc, outcome) {
-        Ok(text) => text,
-        Err(_) => return Err(Stop::Memory),
-    };
+    let formula = read_formula(alloc, cnf, store)?;
+    let bytes = read_file(alloc, store, proof, PROOF_LIMIT)?;
+    let outcome = check_log(alloc, &formula, bytes.as_slice())?;
+    let text = outcome_text(alloc, outcome)?;
     Ok(Done {
         text: Name::of(text),
         writes: List::make(alloc),

@@ -1,7 +1,7 @@
 //! How a command ends.
 
 use arc_base::{Kind, List, Memory, Name};
-use std::alloc::{AllocError, AllocFailed};
+use std::alloc::AllocError;
 
 /// The exit status of a run: 0 for yes, 1 for no, 2 and 3 for the answers of commands to come, 4 where the words
 /// match no command, 5 for a refusal, 6 and 7 where the store or the sink failed, 8 for want of memory.
@@ -13,7 +13,7 @@ pub struct Status {
 /// Why a file is refused.
 #[derive(Clone, Copy, Debug, PartialEq, Eq)]
 pub enum Reason {
-    /// A kind of refusal that any command over a document may have.
+    /// A kind of refusal that a command over a document may have. `lrat` has `Missing`, `TooLong` and `Limit` too.
     Kind(Kind),
     /// A formula's header is missing or of another form (DIMACS).
     BadHeader,
@@ -28,7 +28,7 @@ pub enum Reason {
 pub struct FileRefusal {
     /// The name of the file that it is about.
     pub name: Name,
-    /// The line of a router file, the number of a link or policy of the document, or 0.
+    /// The line of a router file or of a formula, the number of a link or policy of the document, a number given to `--down`, or 0.
     pub number: u32,
     pub reason: Reason,
 }
@@ -81,17 +81,6 @@ impl From<AllocError> for Stop {
     ghost from_gives = { λ _ e. e ≡ stops.Memory };
 
     fn from(_error: AllocError) -> Stop {
-        Stop::Memory
-    }
-}
-
-impl<T: Drop> From<AllocFailed<T>> for Stop {
-    ghost use Rattle.std.specs.Prelude.{◌≡◌};
-    ghost use Rattle.arc_run.specs.declared.outcome.Stop.TheVariants as stops;
-
-    ghost from_gives = { λ _ e. e ≡ stops.Memory };
-
-    fn from(_error: AllocFailed<T>) -> Stop {
         Stop::Memory
     }
 }

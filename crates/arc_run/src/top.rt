@@ -1,7 +1,7 @@
 //! The top call.
 ghost use Rattle.std.specs.Prelude.{◌≡◌, ◌⊎◌, ◌<◌, ◌≤◌, List, ℕ, Some, None, IfSome, IfOk, IfErr, IsErrOf};
 ghost use Rattle.arc_outside.specs.Causes.{Rose};
-ghost use Rattle.arc_run.specs.Headline.{TellsExactly, TellsTrace, TellsCheck, TellsRefutation};
+ghost use Rattle.arc_run.specs.Headline.{TellsVerdicts, TellsTrace, TellsCheck, TellsRefutation};
 ghost use Rattle.command_words.specs.Commands.{command_of};
 ghost use Rattle.arc_run.specs.Outcomes.{Answers, HasStopCause, IsDefined, HasOutcomeCause};
 ghost use Rattle.arc_run.specs.Runs.{Runs};
@@ -92,11 +92,15 @@ pub fn run<S: Store, K: Sink>(alloc: Global, words: &[Name], store: &mut S, out:
     ensures usage { result.code ≡ 4 → command_of words.now ≡ None }
     ensures no_command { command_of words.now ≡ None → (result.code ≡ 4) ⊎ (7 ≤ result.code) }
 
+    // The four clauses below speak of a store that tells what it holds (`S.held`). Over one that tells nothing of its content they
+    // say nothing, and of the clause `runs` only the causes of the statuses are left.
+
     // The headline. Where `verify` ends with a status below 6, that is 0 exactly where the document and its router files have a
     // network and stable forwarding meets every policy in it under every set of failed links that the policy speaks of,
-    // 1 exactly where they have a network that breaks a policy, and 5 exactly where they are refused.
+    // 1 exactly where they have a network that breaks a policy or has a reach policy that is not clear, and 5 exactly where they
+    // are refused.
     ensures verified { (document : List ℕ) → command_of words.now ≡ Some (Command.Verify document) →
-        result.code < 6 → IfSome (S.held store.old) (TellsExactly document result.code) }
+        result.code < 6 → IfSome (S.held store.old) (TellsVerdicts document result.code) }
 
     // Where `trace` ends with a status below 6, that is 0 exactly where the document and its router files have a network with
     // the links and the prefixes, and 5 exactly where they are refused.

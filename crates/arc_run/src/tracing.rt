@@ -9,7 +9,7 @@ ghost use Rattle.arc_run.specs.Traces.{first_above, down_flags};
 use crate::inputs::{Input, read_document, read_files};
 use crate::outcome::{Done, Reason, Stop};
 use crate::refusals::refused;
-use arc_base::{Kind, LimitKind, List, Memory, Name};
+use arc_base::{Kind, LimitKind, List, Name};
 use arc_outside::Store;
 use command_words::{Command, TraceWords};
 use net_build::has_endpoints;
@@ -92,10 +92,7 @@ fn read_traced<S: Store>(alloc: Global, words: &TraceWords, store: &mut S) -> Re
     ensures faults { S.faults store.old ≤ S.faults store.new }
     ensures absences { S.absences store.old ≤ S.absences store.new }
 {
-    let doc = match read_document(alloc, &words.document, store) {
-        Ok(doc) => doc,
-        Err(stop) => return Err(stop),
-    };
+    let doc = read_document(alloc, &words.document, store)?;
     let above = first_above(doc.links.len(), words.down.slice());
     let input = read_files(alloc, &words.document, doc, store);
     let number = match above {
@@ -116,21 +113,12 @@ pub fn trace<S: Store>(alloc: Global, words: &TraceWords, store: &mut S) -> Resu
     ensures faults { S.faults store.old ≤ S.faults store.new }
     ensures absences { S.absences store.old ≤ S.absences store.new }
 {
-    let input = match read_traced(alloc, words, store) {
-        Ok(input) => input,
-        Err(stop) => return Err(stop),
-    };
+    let input = read_traced(alloc, words, store)?;
     if !has_endpoints(&input.net, words.from, words.to) {
         return Err(refused(alloc, &words.document, 0, Kind::Endpoint));
     }
-    let down = match down_flags(alloc, input.net.links.len(), words.down.slice()) {
-        Ok(down) => down,
-        Err(_) => return Err(Stop::Memory),
-    };
-    let text = match trace_text(alloc, &input.net, down.as_slice(), words.from, words.to) {
-        Ok(text) => text,
-        Err(Memory) => return Err(Stop::Memory),
-    };
+    let down = down_flags(alloc, input.net.links.len(), words.down.slice())?;
+    let text = trace_text(alloc, &input.net, down.as_slice(), words.from, words.to)?;
     Ok(Done {
         text: Name::of(text),
         writes: List::make(alloc),

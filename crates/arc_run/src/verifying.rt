@@ -3,7 +3,7 @@ ghost use Rattle.std.specs.Prelude.{◌≡◌, ◌≤◌, length, IfOk, IfErr};
 ghost use Rattle.std.specs.List.{AllZip, list_all};
 ghost use Rattle.arc_outside.specs.Causes.{Rose};
 ghost use Rattle.net_model.specs.Witnesses.{is_yes};
-ghost use Rattle.arc_run.specs.Counts.{CountsClasses};
+ghost use Rattle.arc_run.specs.Counts.{CountsClasses, HasFewClasses};
 ghost use Rattle.arc_run.specs.Inputs.{IsFit};
 ghost use Rattle.arc_run.specs.Outcomes.{Answers, HasStopCause};
 ghost use Rattle.arc_run.specs.Verifies.{IsVerdictOn, verdicts_status};
@@ -18,7 +18,7 @@ use net_model::Verdict;
 use policy_report::report;
 use std::alloc::Global;
 use traffic_classes::{ClassFault, all_classes};
-use verdicts::judge;
+use verdicts::{JudgeFault, judge};
 
 /// Counts the traffic classes of the policies, or refuses the document for too many.
 pub fn count_classes(alloc: Global, document: &Name, input: &Input) -> Result<(), Stop>
@@ -34,16 +34,18 @@ pub fn count_classes(alloc: Global, document: &Name, input: &Input) -> Result<()
     }
 }
 
-// The verdict on each policy of the document, in order. Once all classes are few, no policy has too many.
+// The verdict on each policy of the document, in order. All classes are few, and no policy has more than all of them.
 fn judge_all(alloc: Global, input: &Input) -> Result<List<Verdict>, Memory>
-    requires { IsFit input.now }
+    requires fit { IsFit input.now }
+    requires few { HasFewClasses input.now.net input.now.doc.policies }
     ensures { IfOk result (AllZip (IsVerdictOn input.now.net input.now.doc.policies) input.now.doc.policies) }
 {
     let mut verdicts = List::make(alloc);
     for which in 0..input.doc.policies.len() {
         match judge(alloc, &input.net, &input.doc.policies, which) {
             Ok(verdict) => verdicts.push(verdict)?,
-            Err(_) => return Err(Memory),
+            Err(JudgeFault::TooMany(_)) => unreachable!(),
+            Err(JudgeFault::Memory) => return Err(Memory),
         }
     }
     Ok(verdicts)
@@ -79,22 +81,10 @@ pub fn verify<S: Store>(alloc: Global, document: &Name, store: &mut S) -> Result
     ensures faults { S.faults store.old ≤ S.faults store.new }
     ensures absences { S.absences store.old ≤ S.absences store.new }
 {
-    let input = match read_input(alloc, document, store) {
-        Ok(input) => input,
-        Err(stop) => return Err(stop),
-    };
-    match count_classes(alloc, document, &input) {
-        Ok(()) => {}
-        Err(stop) => return Err(stop),
-    }
-    let verdicts = match judge_all(alloc, &input) {
-        Ok(verdicts) => verdicts,
-        Err(Memory) => return Err(Stop::Memory),
-    };
-    let text = match report(alloc, &input.net, &input.doc, &verdicts) {
-        Ok(text) => text,
-        Err(Memory) => return Err(Stop::Memory),
-    };
+    let input = read_input(alloc, document, store)?;
+    count_classes(alloc, document, &input)?;
+    let verdicts = judge_all(alloc, &input)?;
+    let text = report(alloc, &input.net, &input.doc, &verdicts)?;
     Ok(Done {
         text: Name::of(text),
         writes: List::make(alloc),

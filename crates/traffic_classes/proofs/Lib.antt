@@ -8,3 +8,4 @@ pub mod Uniform
 pub mod MakingUp
 pub mod Sameness
 pub mod Unions
+pub mod EachPolicy

@@ -19,7 +19,7 @@ use Rattle.traffic_classes.specs.Parts.{IsUniformFor, MakeUp}
 use Rattle.traffic_classes.specs.Laws.{HasOneListOfClasses, ClassesMakeUp, ClassesAreEqualOrDisjoint}
 use Rattle.arc_base.proofs.Items.{Contains-map, AllPairs-among, All-from}
 use Rattle.traffic_classes.proofs.Ranges.{nested, same_or_strict}
-use Rattle.traffic_classes.proofs.OneList.{HasAddress, same_leaves, leaf_holds, leaf_sizes}
+use Rattle.traffic_classes.proofs.OneList.{HasAddress, tiles, same_leaves, leaf_holds, leaf_sizes}
 use Rattle.traffic_classes.proofs.Pairs.{pair, of_pairs, in_pairs, sum_pairs, disjoint_pairs}
 use Rattle.traffic_classes.proofs.Uniform.{uniform_on}
 
@@ -124,12 +124,24 @@ module _ (net : Network) (policies : List Policy) (policy : Policy) (classes : L
 pub classes_make_up : ClassesMakeUp
 classes_make_up net policies policy classes are = make_up net policies policy classes are
 
-pub one_list : HasOneListOfClasses
+pub one_list : (net : Network) (policies : List Policy) (policy : Policy) (xs ys : List Class) → AreClasses net policies policy xs → AreClasses net policies policy ys → xs ≡ ys
 one_list net policies policy xs ys one two =
     one.pairs ∙ ap (λ (l : List Prefix). all_pairs l one.destinations)
     (same_leaves (source_marks net policies) policy.from one.sources two.sources one.sources_are two.sources_are) ∙
     ap (λ (l : List Prefix). all_pairs two.sources l)
     (same_leaves (destination_marks net policies) policy.to one.destinations two.destinations one.destinations_are two.destinations_are) ∙ sym two.pairs
+
+-- the leaves of its two prefixes give a policy its classes
+pub some_list : (net : Network) (policies : List Policy) (policy : Policy) → (classes : List Class) × AreClasses net policies policy classes
+some_list net policies policy =
+    let sources = tiles (source_marks net policies) policy.from in
+    let destinations = tiles (destination_marks net policies) policy.to in (
+      all_pairs sources.leaves destinations.leaves,
+      record { sources = sources.leaves; destinations = destinations.leaves; sources_are = sources.are; destinations_are = destinations.are; pairs = refl },
+    )
+
+pub has_one_list : HasOneListOfClasses
+has_one_list net policies policy = (some_list net policies policy, one_list net policies policy)
 
 pub policy_source : (net : Network) (policies : List Policy) (policy : Policy) → Contains policies policy → Contains (source_marks net policies) policy.from
 policy_source net policies policy h =

@@ -26,7 +26,7 @@ use Rattle.traffic_classes.specs.AllClasses.{is_same, with_class, each_once, Are
 use Rattle.traffic_classes.specs.Laws.{HaveOneListOfClasses, AllClassesTellApart}
 use Rattle.arc_base.proofs.Items.{Contains-head, Contains-tail, Contains-none, Contains-cases, Contains-filter, from_filter, Contains-piece, from_piece, All-from, AllPairs-append, AllPairs-among, AllPairs-none}
 use Rattle.traffic_classes.proofs.Sameness.{is_same-Decides, is_same-IsEquivalence, alike}
-use Rattle.traffic_classes.proofs.MakingUp.{make_up, disjoint_classes, equal_or_disjoint, one_list}
+use Rattle.traffic_classes.proofs.MakingUp.{make_up, disjoint_classes, equal_or_disjoint, one_list, some_list}
 
 abbrev pub Differ : Class → Class → Type 0
 Differ c d = is_same c d ≡ false
@@ -188,9 +188,21 @@ zip_same net policies (p ∷ ps) (a ∷ as_) [] y z = absurd z
 zip_same net policies (p ∷ ps) (a ∷ as_) (b ∷ bs) y z =
     ap (λ (l : List Class). l ∷ as_) (one_list net policies p a b (y.0) (z.0)) ∙ ap (λ (l : List (List Class)). b ∷ l) (zip_same net policies ps as_ bs (y.1) (z.1))
 
-pub one_list_of_all : HaveOneListOfClasses
+one_list_of_all : (net : Network) (policies some : List Policy) (xs ys : List Class) → AreAllClasses net policies some xs → AreAllClasses net policies some ys → xs ≡ ys
 one_list_of_all net policies some xs ys one two =
     one.once ∙ ap (λ (l : List (List Class)). each_once (flat_map (λ (x : List Class). x) l)) (zip_same net policies some one.lists two.lists one.are two.are) ∙ sym two.once
+
+some_lists : (net : Network) (policies some : List Policy) → (lists : List (List Class)) × AllZip (AreClasses net policies) some lists
+some_lists net policies [] = ([], tt)
+some_lists net policies (p ∷ ps) =
+    let first = some_list net policies p in
+    let rest = some_lists net policies ps in
+    (first.0 ∷ rest.0, (first.1, rest.1))
+
+pub have_one_list : HaveOneListOfClasses
+have_one_list net policies some =
+    let found = some_lists net policies some in
+    ((each_once (flat_map (λ (l : List Class). l) found.0), record { lists = found.0; are = found.1; once = refl }), one_list_of_all net policies some)
 
 module _ (net : Network) (policies some : List Policy) (policy : Policy) (ds cs : List Class) (known : (p : Policy) → Contains some p → Contains policies p) (marked : Contains policies policy)
     (all : AreAllClasses net policies some ds) (are : AreClasses net policies policy cs) where

@@ -1,5 +1,5 @@
 -- Laws of leaves and classes, in the words of prefixes and packets.
-use Rattle.std.specs.Prelude.{◌≡◌, ◌⊎◌, List, Contains}
+use Rattle.std.specs.Prelude.{◌≡◌, ◌≤◌, ◌⊎◌, List, Contains, length}
 use Rattle.arc_base.specs.declared.prefix.Prefix.{Prefix}
 use Rattle.net_model.specs.declared.policies.Class.{Class}
 use Rattle.net_model.specs.declared.policies.Policy.{Policy}
@@ -17,8 +17,9 @@ HasOneListOfLeaves = (marks : List Prefix) (whole : Prefix) →
 
 -- a policy has one list of classes
 abbrev pub HasOneListOfClasses : Type 0
-HasOneListOfClasses = (net : Network) (policies : List Policy) (policy : Policy) (xs ys : List Class) →
-    AreClasses net policies policy xs → AreClasses net policies policy ys → xs ≡ ys
+HasOneListOfClasses = (net : Network) (policies : List Policy) (policy : Policy) →
+    ((classes : List Class) × AreClasses net policies policy classes) ×
+    ((xs ys : List Class) → AreClasses net policies policy xs → AreClasses net policies policy ys → xs ≡ ys)
 
 -- the classes of one of the policies make up the policy's packets
 abbrev pub ClassesMakeUp : Type 0
@@ -33,10 +34,16 @@ ClassesAreEqualOrDisjoint = (net : Network) (policies : List Policy) (policy oth
 
 -- policies have one list of all their classes
 abbrev pub HaveOneListOfClasses : Type 0
-HaveOneListOfClasses = (net : Network) (policies some : List Policy) (xs ys : List Class) →
-    AreAllClasses net policies some xs → AreAllClasses net policies some ys → xs ≡ ys
+HaveOneListOfClasses = (net : Network) (policies some : List Policy) →
+    ((classes : List Class) × AreAllClasses net policies some classes) ×
+    ((xs ys : List Class) → AreAllClasses net policies some xs → AreAllClasses net policies some ys → xs ≡ ys)
 
 -- the classes of all policies tell the policies' packets apart
 abbrev pub AllClassesTellApart : Type 0
 AllClassesTellApart = (net : Network) (policies : List Policy) (classes : List Class) →
     AreAllClasses net policies policies classes → TellApart net policies classes
+
+-- one of the policies has no more classes than all of them together
+abbrev pub EachHasNoMoreClasses : Type 0
+EachHasNoMoreClasses = (net : Network) (policies : List Policy) (policy : Policy) (xs ys : List Class) →
+    Contains policies policy → AreClasses net policies policy xs → AreAllClasses net policies policies ys → length xs ≤ length ys

@@ -1,3 +1,4 @@
+//! The classes of one policy, and those of all together.
 ghost use Rattle.std.specs.Prelude.{◌<◌, ◌≤◌, length, slice_get, IfOk, IfErr, IfSome};
 ghost use Rattle.net_model.specs.Packets.{subject};
 ghost use Rattle.traffic_classes.specs.Classes.{AreClasses, HasClasses, CountsMore};

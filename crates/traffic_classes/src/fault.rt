@@ -1,3 +1,5 @@
+//! Why there are no classes: too many, or want of memory.
+
 use arc_base::Memory;
 use thiserror::Error;
 

@@ -1,3 +1,4 @@
+//! Gathering the classes of several policies, each once.
 ghost use Rattle.std.specs.Prelude.{◌≡◌, ◌+◌, ◌*◌, ◌<◌, ◌≤◌, [], fold, length, IfOk, OnOk, IfErr, count_by};
 ghost use Rattle.traffic_classes.specs.Classes.{classes_from, all_pairs, CountsMore};
 ghost use Rattle.traffic_classes.specs.AllClasses.{key_of, with_class, lies_off, IsIndexed};

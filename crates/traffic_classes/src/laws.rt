@@ -1,6 +1,6 @@
 //! Laws over the definitions alone: each is the contract of a function that does nothing.
 ghost use Rattle.traffic_classes.specs.Halves.{UnsplitIsLeaf, HalvesHaveLeaves};
-ghost use Rattle.traffic_classes.specs.Laws.{HasOneListOfLeaves, HasOneListOfClasses, ClassesMakeUp, ClassesAreEqualOrDisjoint, HaveOneListOfClasses, AllClassesTellApart};
+ghost use Rattle.traffic_classes.specs.Laws.{HasOneListOfLeaves, HasOneListOfClasses, ClassesMakeUp, ClassesAreEqualOrDisjoint, HaveOneListOfClasses, AllClassesTellApart, EachHasNoMoreClasses};
 
 /// Halving gives the leaves: a prefix that is split has those of its halves, and any other is its own one leaf.
 pub fn halving_gives_leaves()
@@ -16,8 +16,9 @@ pub fn classes_make_up_policies()
     ensures equal_or_disjoint { ClassesAreEqualOrDisjoint }
 {}
 
-/// Policies have one list of all their classes, which tells their packets apart.
+/// Policies have one list of all their classes, which tells their packets apart, and no policy has more classes than stand in it.
 pub fn all_classes_tell_packets_apart()
     ensures one { HaveOneListOfClasses }
     ensures apart { AllClassesTellApart }
+    ensures no_more { EachHasNoMoreClasses }
 {}

@@ -1,3 +1,4 @@
+//! Collecting the marks of a network and its policies.
 ghost use Rattle.std.specs.Prelude.{◌≡◌, ◌++◌, List as Items, map, IfOk, OnOk};
 ghost use Rattle.traffic_classes.specs.Classes.{source_marks, destination_marks};
 ghost use Rattle.net_model.specs.declared.lists.PacketEntry.{PacketEntry};

@@ -1,3 +1,4 @@
+//! The leaves of a policy's two prefixes, and their pairs.
 ghost use Rattle.std.specs.Prelude.{◌≡◌, ◌+◌, ◌*◌, ◌^◌, ◌≤◌, ◌++◌, length, IfOk, OnOk, IfErr};
 ghost use Rattle.traffic_classes.specs.Leaves.{AreLeaves};
 ghost use Rattle.traffic_classes.specs.Classes.{classes_from, all_pairs, CountsMore};

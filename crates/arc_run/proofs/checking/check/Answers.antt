@@ -1,12 +1,20 @@
 use Rattle.std.proofs.Common.{◌∙◌}
-use Rattle.arc_run.proofs.Checked.{judged}
+use Rattle.std.proofs.lemmas.Result.{err_from_is_err_and}
+use Rattle.arc_run.proofs.Checked.{classes_stopped, judged}
 use Rattle.arc_run.proofs.checking.check.Goals as goal
+
+pub returns-in_err-count_classes-clause-answer : goal.returns-in_err-count_classes-clause-answer
+returns-in_err-count_classes-clause-answer g c =
+    let p = err_from_is_err_and c.from_residual-in_err-count_classes.result c.from_residual-in_err-count_classes.ensures.1 in
+    rw (p.1, p.2) (classes_stopped (g.S.Store.held c.args.store.now) (g.S.Store.held c.read_document.new.store) (g.S.Store.held c.read_file.new.store) c.in_ok-doc.ensures.same c.in_ok-bytes.ensures.same
+    c.args.document.now c.args.certificate.now c.in_ok-doc.doc c.in_ok-bytes.bytes c.in_ok-input.input c.in_err-count_classes.field-0.0
+    c.in_ok-doc.ensures.told c.in_ok-bytes.ensures.told c.in_ok-input.ensures.told c.in_err-count_classes.ensures)
 
 pub returns-clause-answer : goal.returns-clause-answer
 returns-clause-answer g c =
-    judged (g.S.Store.held c.args.store.now) (g.S.Store.held c.read_document.new.store) (g.S.Store.held c.read_file.new.store) c.in-Ok.ensures.same c.in-Ok-read_file.ensures.same
-    c.args.document.now c.args.certificate.now c.as_slice.result.now c.in-Ok.doc c.in-Ok-read_file.bytes c.in-Ok-read_files.input c.in-Ok-check_report.outcome
+    judged (g.S.Store.held c.args.store.now) (g.S.Store.held c.read_document.new.store) (g.S.Store.held c.read_file.new.store) c.in_ok-doc.ensures.same c.in_ok-bytes.ensures.same
+    c.args.document.now c.args.certificate.now c.as_slice.result.now c.in_ok-doc.doc c.in_ok-bytes.bytes c.in_ok-input.input c.in_ok-outcome.outcome
     (record { text = c.of.result; writes = c.make.result; status = c.check_status.result })
-    c.in-Ok.ensures.told c.in-Ok-read_file.ensures.told c.in-Ok-read_files.ensures.told c.in-Ok-read_files.ensures.fit c.in-Ok-count_classes.ensures c.as_slice.ensures.value
-    c.in-Ok-check_report.ensures.outcome c.in-Ok-check_report.ensures.accepted
-    (c.of.ensures ∙ c.in-Ok-check_text.ensures) c.make.ensures c.check_status.ensures.value c.check_status.ensures.small
+    c.in_ok-doc.ensures.told c.in_ok-bytes.ensures.told c.in_ok-input.ensures.told c.in_ok-input.ensures.fit c.in_ok-count_classes.ensures c.as_slice.ensures.value
+    c.in_ok-outcome.ensures.outcome c.in_ok-outcome.ensures.accepted
+    (c.of.ensures ∙ c.in_ok-text.ensures) c.make.ensures c.check_status.ensures.value c.check_status.ensures.small

@@ -1,17 +1,22 @@
 use Rattle.std.proofs.Common.{◌∙◌}
+use Rattle.std.proofs.lemmas.Result.{err_from_is_err_and}
 use Rattle.arc_run.proofs.Refuting.{formula_stopped, proof_stopped, judged}
 use Rattle.arc_run.proofs.lrat_check.lrat.Goals as goal
 
-pub returns-in-Err-clause-answer : goal.returns-in-Err-clause-answer
-returns-in-Err-clause-answer g c = formula_stopped (g.S.Store.held c.args.store.now) c.args.cnf.now c.args.proof.now c.in-Err.stop c.in-Err.ensures.told
+pub returns-in_err-formula-clause-answer : goal.returns-in_err-formula-clause-answer
+returns-in_err-formula-clause-answer g c =
+    let p = err_from_is_err_and c.from_residual.result c.from_residual.ensures.1 in
+    rw (p.1, p.2) (formula_stopped (g.S.Store.held c.args.store.now) c.args.cnf.now c.args.proof.now c.in_err-formula.field-0.0 c.in_err-formula.ensures.told)
 
-pub returns-in-Err-read_file-clause-answer : goal.returns-in-Err-read_file-clause-answer
-returns-in-Err-read_file-clause-answer g c =
-    proof_stopped (g.S.Store.held c.args.store.now) (g.S.Store.held c.read_formula.new.store) c.in-Ok.ensures.same c.args.cnf.now c.args.proof.now c.in-Ok.formula c.in-Err-read_file.stop c.in-Ok.ensures.told c.in-Err-read_file.ensures.told
+pub returns-in_err-bytes-clause-answer : goal.returns-in_err-bytes-clause-answer
+returns-in_err-bytes-clause-answer g c =
+    let p = err_from_is_err_and c.from_residual-in_err-bytes.result c.from_residual-in_err-bytes.ensures.1 in
+    rw (p.1, p.2) (proof_stopped (g.S.Store.held c.args.store.now) (g.S.Store.held c.read_formula.new.store) c.in_ok-formula.ensures.same c.args.cnf.now c.args.proof.now c.in_ok-formula.formula
+    c.in_err-bytes.field-0.0 c.in_ok-formula.ensures.told c.in_err-bytes.ensures.told)
 
 pub returns-clause-answer : goal.returns-clause-answer
 returns-clause-answer g c =
-    judged (g.S.Store.held c.args.store.now) (g.S.Store.held c.read_formula.new.store) c.in-Ok.ensures.same c.args.cnf.now c.args.proof.now c.as_slice.result.now c.in-Ok.formula c.in-Ok-read_file.bytes c.in-Ok-check_log.outcome
+    judged (g.S.Store.held c.args.store.now) (g.S.Store.held c.read_formula.new.store) c.in_ok-formula.ensures.same c.args.cnf.now c.args.proof.now c.as_slice.result.now c.in_ok-formula.formula c.in_ok-bytes.bytes c.in_ok-outcome.outcome
     (record { text = c.of.result; writes = c.make.result; status = c.outcome_status.result })
-    c.in-Ok.ensures.told c.in-Ok-read_file.ensures.told c.as_slice.ensures.value c.in-Ok-check_log.ensures.outcome c.in-Ok-check_log.ensures.accepted c.in-Ok-check_log.ensures.sound
-    (c.of.ensures ∙ c.in-Ok-outcome_text.ensures) c.make.ensures c.outcome_status.ensures.value c.outcome_status.ensures.small
+    c.in_ok-formula.ensures.told c.in_ok-bytes.ensures.told c.as_slice.ensures.value c.in_ok-outcome.ensures.outcome c.in_ok-outcome.ensures.accepted c.in_ok-outcome.ensures.sound
+    (c.of.ensures ∙ c.in_ok-text.ensures) c.make.ensures c.outcome_status.ensures.value c.outcome_status.ensures.small

@@ -1,33 +1,30 @@
 use Rattle.std.proofs.Common.{◌∙◌, length, ap, sym, refl}
 use Rattle.std.proofs.lemmas.Bool.{false≢true}
 use Rattle.arc_run.specs.Traces.{down_flags}
-use Rattle.arc_run.proofs.Traced.{input_stopped, ends_refused, traced, has_hosts, flags_from, trace_from}
+use Rattle.arc_run.proofs.Traced.{ends_refused, traced, has_hosts, flags_from, trace_from}
 use Rattle.arc_run.proofs.DownFlags.{length_flags}
 use Rattle.arc_run.proofs.tracing.trace.Goals as goal
 
-pub returns-in-Err-clause-answer : goal.returns-in-Err-clause-answer
-returns-in-Err-clause-answer g c = input_stopped (g.S.Store.held c.args.store.now) c.args.words.now c.in-Err.stop c.in-Err.ensures.told
-
 pub returns-then-not-has_endpoints-clause-answer : goal.returns-then-not-has_endpoints-clause-answer
 returns-then-not-has_endpoints-clause-answer g c =
-    ends_refused (g.S.Store.held c.args.store.now) c.args.words.now c.in-Ok.input c.refused.result c.in-Ok.ensures.told c.in-Ok.ensures.links
+    ends_refused (g.S.Store.held c.args.store.now) c.args.words.now c.in_ok-input.input c.refused.result c.in_ok-input.ensures.told c.in_ok-input.ensures.links
     (λ ends. false≢true (sym c.if-not-has_endpoints.true ∙ c.has_endpoints.ensures.1 ends)) c.refused.ensures
 
 pub trace_text-requires-clause-flags : goal.trace_text-requires-clause-flags
 trace_text-requires-clause-flags g c =
-    ap length (c.as_slice.ensures.value ∙ c.in-Ok-down_flags.ensures) ∙ length_flags c.len.result c.slice.result.now ∙ c.len.ensures
+    ap length (c.as_slice.ensures.value ∙ c.in_ok-down.ensures) ∙ length_flags c.len.result c.slice.result.now ∙ c.len.ensures
 
 pub trace_text-requires-clause-from : goal.trace_text-requires-clause-from
-trace_text-requires-clause-from g c = (has_hosts c.in-Ok.input.net c.args.words.now.from c.args.words.now.to (c.has_endpoints.ensures.0 c.if-not-has_endpoints.false)).0
+trace_text-requires-clause-from g c = (has_hosts c.in_ok-input.input.net c.args.words.now.from c.args.words.now.to (c.has_endpoints.ensures.0 c.if-not-has_endpoints.false)).0
 
 pub trace_text-requires-clause-to : goal.trace_text-requires-clause-to
-trace_text-requires-clause-to g c = (has_hosts c.in-Ok.input.net c.args.words.now.from c.args.words.now.to (c.has_endpoints.ensures.0 c.if-not-has_endpoints.false)).1
+trace_text-requires-clause-to g c = (has_hosts c.in_ok-input.input.net c.args.words.now.from c.args.words.now.to (c.has_endpoints.ensures.0 c.if-not-has_endpoints.false)).1
 
 pub returns-clause-answer : goal.returns-clause-answer
 returns-clause-answer g c =
-    let links = length c.in-Ok.input.net.links in
-    let flags = flags_from c.as_slice.result.now c.in-Ok-down_flags.down.items links c.len.result c.args.words.now.down c.slice.result.now c.as_slice.ensures.value c.in-Ok-down_flags.ensures c.len.ensures c.slice.ensures.items in
-    traced (g.S.Store.held c.args.store.now) c.args.words.now c.in-Ok.input (record { text = c.of.result; writes = c.make.result; status = 0 }) c.in-Ok.ensures.told c.in-Ok.ensures.fit c.in-Ok.ensures.links
+    let links = length c.in_ok-input.input.net.links in
+    let flags = flags_from c.as_slice.result.now c.in_ok-down.down.items links c.len.result c.args.words.now.down c.slice.result.now c.as_slice.ensures.value c.in_ok-down.ensures c.len.ensures c.slice.ensures.items in
+    traced (g.S.Store.held c.args.store.now) c.args.words.now c.in_ok-input.input (record { text = c.of.result; writes = c.make.result; status = 0 }) c.in_ok-input.ensures.told c.in_ok-input.ensures.fit c.in_ok-input.ensures.links
     (c.has_endpoints.ensures.0 c.if-not-has_endpoints.false)
-    (trace_from c.in-Ok.input.net c.as_slice.result.now (down_flags links c.args.words.now.down) c.args.words.now.from c.args.words.now.to c.in-Ok-trace_text.text.items c.of.result flags c.of.ensures c.in-Ok-trace_text.ensures)
+    (trace_from c.in_ok-input.input.net c.as_slice.result.now (down_flags links c.args.words.now.down) c.args.words.now.from c.args.words.now.to c.in_ok-text.text.items c.of.result flags c.of.ensures c.in_ok-text.ensures)
     c.make.ensures refl

@@ -3,14 +3,20 @@ use Rattle.std.specs.Prelude.{slice_get}
 use Rattle.std.specs.List.{AllZip}
 use Rattle.net_model.specs.declared.verdicts.Verdict.{Verdict}
 use Rattle.arc_run.specs.Verifies.{IsVerdictOn}
+use Rattle.arc_run.proofs.ClassCounts.{never_many}
 use Rattle.arc_run.proofs.Judging.{at_place, zip_more, verdict_on}
 use Rattle.arc_run.proofs.verifying.judge_all.Goals as goal
 
 pub judge-requires-clause-ends : goal.judge-requires-clause-ends
-judge-requires-clause-ends c = at_place _ _ _ c.requires.ends
+judge-requires-clause-ends c = at_place _ _ _ c.requires.fit.ends
 
 pub judge-requires-clause-failures : goal.judge-requires-clause-failures
-judge-requires-clause-failures c = at_place _ _ _ c.requires.failures
+judge-requires-clause-failures c = at_place _ _ _ c.requires.fit.failures
+
+pub unreachable-requires : goal.unreachable-requires
+unreachable-requires c =
+    never_many c.args.input.now.net c.args.input.now.doc.policies c.loop-which.which c.in-Err-TooMany.field-0 c.in-Err-TooMany.field-0-0 c.requires.few (omega arith) c.in-Err-TooMany.field-0-is
+    c.in-Err-TooMany.ensures.many
 
 pub loop-which-preserved : goal.loop-which-preserved
 loop-which-preserved c =
