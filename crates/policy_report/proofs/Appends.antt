@@ -7,7 +7,7 @@ use Rattle.net_model.specs.declared.policies.Policy.{Policy}
 use Rattle.net_model.specs.declared.rows.RouterRow.{RouterRow}
 use Rattle.net_model.specs.declared.rows.Network.{Network}
 use Rattle.net_model.specs.declared.verdicts.Verdict.{Verdict}
-use Rattle.policy_report.specs.Lines.{spaced, line}
+use Rattle.policy_report.specs.Lines.{after_spaces, line}
 use Rattle.policy_report.specs.Reports.{link_words, side_words, block_text, blocks_text}
 
 -- a piece of what is still to be put is put
@@ -23,16 +23,16 @@ pub drop_next : {A : Type 0} (xs : List A) (i : ℕ) (d : A) → i < length xs �
 drop_next xs i d within = rw add-one (drop-cons xs i d within)
 
 -- the words of the links from one on
-pub links_next : (links : List Link) (i : ℕ) (d : Link) → i < length links → spaced (link_words (drop i links)) ≡ (32 ∷ decimal ((get_or links i d).0 + 1)) ++ spaced (link_words (drop (i + 1) links))
-links_next links i d within = ap (λ t. spaced (link_words t)) (drop_next links i d within)
+pub links_next : (links : List Link) (i : ℕ) (d : Link) → i < length links → after_spaces (link_words (drop i links)) ≡ (32 ∷ decimal ((get_or links i d).0 + 1)) ++ after_spaces (link_words (drop (i + 1) links))
+links_next links i d within = ap (λ t. after_spaces (link_words t)) (drop_next links i d within)
 
 no_flags : (routers : List RouterRow) → side_words routers [] ≡ []
 no_flags [] = refl
 no_flags (router ∷ routers) = refl
 
 side_first : (router : RouterRow) (routers : List RouterRow) (flags : List Bool) →
-    spaced (side_words (router ∷ routers) flags) ≡ cond (get_or flags 0 false) (32 ∷ router.name) [] ++ spaced (side_words routers (drop 1 flags))
-side_first router routers [] = sym (ap spaced (no_flags routers))
+    after_spaces (side_words (router ∷ routers) flags) ≡ cond (get_or flags 0 false) (32 ∷ router.name) [] ++ after_spaces (side_words routers (drop 1 flags))
+side_first router routers [] = sym (ap after_spaces (no_flags routers))
 side_first router routers (true ∷ flags) = refl
 side_first router routers (false ∷ flags) = refl
 
@@ -46,14 +46,14 @@ drop_one i xs = rw add-one (drop_suc i xs)
 
 -- the names of the routers on the side from one on
 pub side_next : (routers : List RouterRow) (side : List Bool) (i : ℕ) (d : RouterRow) → i < length routers →
-    spaced (side_words (drop i routers) (drop i side))
-    ≡ cond (get_or side i false) (32 ∷ (get_or routers i d).name) [] ++ spaced (side_words (drop (i + 1) routers) (drop (i + 1) side))
+    after_spaces (side_words (drop i routers) (drop i side))
+    ≡ cond (get_or side i false) (32 ∷ (get_or routers i d).name) [] ++ after_spaces (side_words (drop (i + 1) routers) (drop (i + 1) side))
 side_next routers side i d within =
     let at : get_or (drop i side) 0 false ≡ get_or side i false = get_or-drop i side 0 false ∙ ap (λ k. get_or side k false) (omega arith) in
-    ap (λ t. spaced (side_words t (drop i side))) (drop_next routers i d within)
+    ap (λ t. after_spaces (side_words t (drop i side))) (drop_next routers i d within)
     ∙ side_first (get_or routers i d) (drop (i + 1) routers) (drop i side)
-    ∙ ap (λ b. cond b (32 ∷ (get_or routers i d).name) [] ++ spaced (side_words (drop (i + 1) routers) (drop 1 (drop i side)))) at
-    ∙ ap (λ t. cond (get_or side i false) (32 ∷ (get_or routers i d).name) [] ++ spaced (side_words (drop (i + 1) routers) t)) (drop_one i side)
+    ∙ ap (λ b. cond b (32 ∷ (get_or routers i d).name) [] ++ after_spaces (side_words (drop (i + 1) routers) (drop 1 (drop i side)))) at
+    ∙ ap (λ t. cond (get_or side i false) (32 ∷ (get_or routers i d).name) [] ++ after_spaces (side_words (drop (i + 1) routers) t)) (drop_one i side)
 
 -- the lines of the items from one on
 pub lines_next : {A : Type 0} (form : A → List ℕ) (items : List A) (i : ℕ) (d : A) → i < length items → concat (map form (drop i items)) ≡ form (get_or items i d) ++ concat (map form (drop (i + 1) items))
@@ -68,18 +68,18 @@ blocks_next net policies verdicts i p v within same =
     ap (λ t. blocks_text (i + 1) net t (drop i verdicts)) (drop_next policies i p within)
     ∙ ap (blocks_text (i + 1) net (get_or policies i p ∷ drop (i + 1) policies)) (drop_next verdicts i v also)
 
-pub spaced-append : (a b : List (List ℕ)) → spaced (a ++ b) ≡ spaced a ++ spaced b
+pub spaced-append : (a b : List (List ℕ)) → after_spaces (a ++ b) ≡ after_spaces a ++ after_spaces b
 spaced-append [] b = refl
-spaced-append (word ∷ a) b = ap (λ t. 32 ∷ (word ++ t)) (spaced-append a b) ∙ ap (λ t. 32 ∷ t) (sym (append_assoc word (spaced a) (spaced b)))
+spaced-append (word ∷ a) b = ap (λ t. 32 ∷ (word ++ t)) (spaced-append a b) ∙ ap (λ t. 32 ∷ t) (sym (append_assoc word (after_spaces a) (after_spaces b)))
 
 -- a line of a first word and two runs of words
-pub two_runs : (old first t₁ t₂ t₃ t₄ : List ℕ) (a b : List (List ℕ)) → t₁ ≡ old ++ first → t₂ ≡ t₁ ++ spaced a → t₃ ≡ t₂ ++ spaced b → t₄ ≡ t₃ ++ 10 ∷ [] → t₄ ≡ old ++ line first (a ++ b)
+pub two_runs : (old first t₁ t₂ t₃ t₄ : List ℕ) (a b : List (List ℕ)) → t₁ ≡ old ++ first → t₂ ≡ t₁ ++ after_spaces a → t₃ ≡ t₂ ++ after_spaces b → t₄ ≡ t₃ ++ 10 ∷ [] → t₄ ≡ old ++ line first (a ++ b)
 two_runs old first t₁ t₂ t₃ t₄ a b e₁ e₂ e₃ e₄ =
-    e₄ ∙ ap (λ t. t ++ 10 ∷ []) (e₃ ∙ ap (λ t. t ++ spaced b) (e₂ ∙ ap (λ t. t ++ spaced a) e₁))
-    ∙ ap (λ t. t ++ 10 ∷ []) (append_assoc (old ++ first) (spaced a) (spaced b) ∙ ap (λ t. (old ++ first) ++ t) (sym (spaced-append a b)) ∙ append_assoc old first (spaced (a ++ b)))
-    ∙ append_assoc old (first ++ spaced (a ++ b)) (10 ∷ [])
+    e₄ ∙ ap (λ t. t ++ 10 ∷ []) (e₃ ∙ ap (λ t. t ++ after_spaces b) (e₂ ∙ ap (λ t. t ++ after_spaces a) e₁))
+    ∙ ap (λ t. t ++ 10 ∷ []) (append_assoc (old ++ first) (after_spaces a) (after_spaces b) ∙ ap (λ t. (old ++ first) ++ t) (sym (spaced-append a b)) ∙ append_assoc old first (after_spaces (a ++ b)))
+    ∙ append_assoc old (first ++ after_spaces (a ++ b)) (10 ∷ [])
 
 -- the same, where the second run is one word
-pub run_and_word : (old first t₁ t₂ t₃ t₄ : List ℕ) (a : List (List ℕ)) (word : List ℕ) → t₁ ≡ old ++ first → t₂ ≡ t₁ ++ spaced a → t₃ ≡ t₂ ++ 32 ∷ word → t₄ ≡ t₃ ++ 10 ∷ [] → t₄ ≡ old ++ line first (a ++ word ∷ [])
+pub run_and_word : (old first t₁ t₂ t₃ t₄ : List ℕ) (a : List (List ℕ)) (word : List ℕ) → t₁ ≡ old ++ first → t₂ ≡ t₁ ++ after_spaces a → t₃ ≡ t₂ ++ 32 ∷ word → t₄ ≡ t₃ ++ 10 ∷ [] → t₄ ≡ old ++ line first (a ++ word ∷ [])
 run_and_word old first t₁ t₂ t₃ t₄ a word e₁ e₂ e₃ e₄ =
     two_runs old first t₁ t₂ t₃ t₄ a (word ∷ []) e₁ e₂ (e₃ ∙ ap (λ t. t₂ ++ 32 ∷ t) (sym (append-nil word))) e₄

@@ -5,7 +5,7 @@ use Rattle.std.proofs.lemmas.Bool.{cond-false, ne_eqb}
 use Rattle.std.proofs.lemmas.List.Elements.{All-nil, All-cons, All-append, All-weaker, All-head, All-tail}
 use Rattle.std.proofs.lemmas.List.Splits.{slice_split_at, slice_split_none, join_with_byte-slice_split}
 use Rattle.cnf_types.specs.Words.{lines, is_line_feed}
-use Rattle.policy_report.specs.Lines.{spaced, line}
+use Rattle.policy_report.specs.Lines.{after_spaces, line}
 use Rattle.policy_report.specs.Readings.{line_words}
 
 -- neither a space nor a control byte stands in it
@@ -20,7 +20,7 @@ AreWords (w ∷ ws) = IsWord w × AreWords ws
 -- the words with one space between them
 abbrev pub joined : List (List ℕ) → List ℕ
 joined [] = []
-joined (w ∷ ws) = w ++ spaced ws
+joined (w ∷ ws) = w ++ after_spaces ws
 
 no_spaces : (w : List ℕ) → IsWord w → All (λ b. (b == 32) ≡ false) w
 unfolding IsWord
@@ -54,11 +54,11 @@ word_in_line : (w : List ℕ) → IsWord w → IsInLine w
 unfolding IsInLine IsWord
 word_in_line w h = All-weaker (λ b. 32 < b) (λ b. 31 < b) (λ b k. omega arith) w h
 
-spaced_in_line : (ws : List (List ℕ)) → AreWords ws → IsInLine (spaced ws)
+spaced_in_line : (ws : List (List ℕ)) → AreWords ws → IsInLine (after_spaces ws)
 unfolding IsInLine
 spaced_in_line [] h = All-nil (λ b. 31 < b)
 spaced_in_line (w ∷ ws) h =
-    All-cons (λ b. 31 < b) 32 (w ++ spaced ws) (omega arith) (All-append (λ b. 31 < b) w (spaced ws) (word_in_line w h.0) (spaced_in_line ws h.1))
+    All-cons (λ b. 31 < b) 32 (w ++ after_spaces ws) (omega arith) (All-append (λ b. 31 < b) w (after_spaces ws) (word_in_line w h.0) (spaced_in_line ws h.1))
 
 line_and_rest : (text rest : List ℕ) → IsInLine text → lines (text ++ 10 ∷ rest) ≡ text ∷ lines rest
 unfolding IsInLine
@@ -72,5 +72,5 @@ line_and_rest (b ∷ text) rest h =
 pub line_first : (first : List ℕ) (ws : List (List ℕ)) (rest : List ℕ) → AreWords (first ∷ ws) → lines (line first ws ++ rest) ≡ joined (first ∷ ws) ∷ lines rest
 line_first first ws rest h =
     let inside : IsInLine (joined (first ∷ ws)) =
-    unfold IsInLine in All-append (λ b. 31 < b) first (spaced ws) (word_in_line first h.0) (spaced_in_line ws h.1) in
+    unfold IsInLine in All-append (λ b. 31 < b) first (after_spaces ws) (word_in_line first h.0) (spaced_in_line ws h.1) in
     ap lines (append_assoc (joined (first ∷ ws)) (10 ∷ []) rest) ∙ line_and_rest (joined (first ∷ ws)) rest inside

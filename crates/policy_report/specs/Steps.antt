@@ -150,3 +150,11 @@ step net doc s text = stepped net doc (next_line s.line) s.stage text
 -- the line was read so, or memory was wanting for it
 abbrev pub IsRead : Step → ℕ → Standing → Result Got CertFault → Type 0
 IsRead expected line now result = ((now, result) ≡ expected) ⊎ ((now, result) ≡ fails line Memory)
+
+-- memory can be wanting for the words of a block only: the head is read so, and so is what follows the end or a rejected line
+abbrev pub IsSurelyRead : Stage → Step → Standing → Result Got CertFault → Type 0
+IsSurelyRead stages.Head expected now result = (now, result) ≡ expected
+IsSurelyRead (stages.Between which) expected now result = Unit {0}
+IsSurelyRead (stages.Within which draft) expected now result = Unit {0}
+IsSurelyRead stages.Ended expected now result = (now, result) ≡ expected
+IsSurelyRead (stages.Failed fault) expected now result = (now, result) ≡ expected

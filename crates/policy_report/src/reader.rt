@@ -1,6 +1,6 @@
 //! The reader of a report, line by line.
 ghost use Rattle.std.specs.Prelude.{◌≡◌};
-ghost use Rattle.policy_report.specs.Steps.{standing, start, next_line, fails, goes, goes_on, is_of, between, within, step, IsRead};
+ghost use Rattle.policy_report.specs.Steps.{standing, start, next_line, fails, goes, goes_on, is_of, between, within, step, IsRead, IsSurelyRead};
 
 use crate::drafts::{Asked, Block, Draft, Heading};
 use crate::got::{CertFault, CertForm, Got};
@@ -109,15 +109,15 @@ impl Reader {
     fn read_between(&mut self, doc: &Document, which: u64, text: &[u8]) -> Result<Got, CertFault>
         ensures { IsRead (between doc.now self.old.line which text.now) self.old.line (standing self.new) result }
     {
-        let is_last = which >= u64::from(doc.policies.len());
+        let are_all_read = which >= u64::from(doc.policies.len());
         if text == b"end".as_slice() {
-            if is_last {
+            if are_all_read {
                 return self.go(Stage::Ended, Got::End);
             }
             return self.fail(CertKind::Policy);
         }
         if text == b"log".as_slice() {
-            return self.fail(if is_last {
+            return self.fail(if are_all_read {
                 CertKind::Form
             } else {
                 CertKind::Policy
@@ -156,7 +156,8 @@ impl Reader {
     /// Reads the next line, which is given without its line feed. After a fault it answers that fault again. A fault
     /// of the kind `Memory` is want of memory, and none of the line's.
     pub fn line(&mut self, net: &Network, doc: &Document, text: &[u8]) -> Result<Got, CertFault>
-        ensures { IsRead (step net.now doc.now (standing self.old) text.now) (next_line self.old.line) (standing self.new) result }
+        ensures read { IsRead (step net.now doc.now (standing self.old) text.now) (next_line self.old.line) (standing self.new) result }
+        ensures surely { IsSurelyRead self.old.stage (step net.now doc.now (standing self.old) text.now) (standing self.new) result }
     {
         self.line = next_line(self.line);
         match mem::replace(&mut self.stage, Stage::Ended) {

@@ -1,6 +1,6 @@
 ghost use Rattle.std.specs.Prelude.{◌≡◌, ◌++◌, ◌∷◌, [], length, IfOk, OnOk};
 ghost use Rattle.net_model.specs.declared.rows.Network.{Network};
-ghost use Rattle.policy_report.specs.Lines.{spaced};
+ghost use Rattle.policy_report.specs.Lines.{after_spaces};
 ghost use Rattle.policy_report.specs.Reports.{kind_word, answer_word, answer_line, block_text, blocks_text, report_text};
 
 use crate::witness::{count_lines, push_witness};
@@ -84,7 +84,7 @@ fn push_answer(
 
 fn push_answer_words(text: &mut Vec<u8>, kind: PolicyKind, verdict: &Verdict) -> Result<(), Memory>
     ensures { OnOk result (text.new.items
-        ≡ text.old.items ++ spaced (kind_word kind ∷ answer_word verdict.now ∷ [])) }
+        ≡ text.old.items ++ after_spaces (kind_word kind ∷ answer_word verdict.now ∷ [])) }
 {
     push_word(text, kind_word(kind))?;
     push_word(text, answer_word(verdict))

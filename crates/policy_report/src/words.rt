@@ -1,7 +1,7 @@
 //! Words of a line, put at the end of a text with a space before each.
 ghost use Rattle.std.specs.Prelude.{◌≡◌, ◌++◌, [], ◌∷◌, cond, decimal, false, slice_index_or, OnOk};
 ghost use Rattle.arc_base.specs.PrefixText.{address_text, prefix_text};
-ghost use Rattle.policy_report.specs.Lines.{spaced};
+ghost use Rattle.policy_report.specs.Lines.{after_spaces};
 ghost use Rattle.policy_report.specs.Reports.{class_words, link_words, side_words};
 
 use arc_base::{Link, Memory, Prefix, push_address, push_number, push_prefix};
@@ -41,7 +41,7 @@ fn push_address_word(alloc: Global, text: &mut Vec<u8>, address: u32) -> Result<
 
 /// The two prefixes of a class.
 pub(crate) fn push_class(alloc: Global, text: &mut Vec<u8>, class: &Class) -> Result<(), Memory>
-    ensures { OnOk result (text.new.items ≡ text.old.items ++ spaced (class_words class.now)) }
+    ensures { OnOk result (text.new.items ≡ text.old.items ++ after_spaces (class_words class.now)) }
 {
     push_prefix_word(alloc, text, &class.from)?;
     push_prefix_word(alloc, text, &class.to)
@@ -50,7 +50,7 @@ pub(crate) fn push_class(alloc: Global, text: &mut Vec<u8>, class: &Class) -> Re
 /// The two addresses of a packet.
 pub(crate) fn push_packet(alloc: Global, text: &mut Vec<u8>, packet: &Packet) -> Result<(), Memory>
     ensures { OnOk result (text.new.items
-        ≡ text.old.items ++ spaced (address_text packet.now.from ∷ address_text packet.now.to ∷ [])) }
+        ≡ text.old.items ++ after_spaces (address_text packet.now.from ∷ address_text packet.now.to ∷ [])) }
 {
     push_address_word(alloc, text, packet.from)?;
     push_address_word(alloc, text, packet.to)
@@ -58,7 +58,7 @@ pub(crate) fn push_packet(alloc: Global, text: &mut Vec<u8>, packet: &Packet) ->
 
 /// The numbers of links, counted from 1.
 pub(crate) fn push_links(alloc: Global, text: &mut Vec<u8>, links: &[Link]) -> Result<(), Memory>
-    ensures { OnOk result (text.new.items ≡ text.old.items ++ spaced (link_words links.now)) }
+    ensures { OnOk result (text.new.items ≡ text.old.items ++ after_spaces (link_words links.now)) }
 {
     for link in links {
         push_count(alloc, text, u64::from(link.0) + 1)?;
@@ -72,7 +72,7 @@ pub(crate) fn push_side(
     routers: &[RouterRow],
     side: &[bool],
 ) -> Result<(), Memory>
-    ensures { OnOk result (text.new.items ≡ text.old.items ++ spaced (side_words routers.now side.now)) }
+    ensures { OnOk result (text.new.items ≡ text.old.items ++ after_spaces (side_words routers.now side.now)) }
 {
     for (place, router) in routers.iter().enumerate() {
         push_if(text, router.name.bytes(), is_on(side, place))?;

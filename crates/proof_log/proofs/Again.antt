@@ -15,7 +15,7 @@ use Rattle.proof_log.specs.declared.steps.Log.{Log}
 use Rattle.proof_log.specs.declared.numbers.Sign.{Sign}
 use Rattle.proof_log.specs.declared.numbers.Sign.TheVariants.{Adds, Drops, Bounds}
 use Rattle.proof_log.specs.Reading.{reading, log_number, numbers, is_bad, sign, sign_of, number_words, unless_sign, formed, add_of, drop_of, bound_of, is_positive as positive_number, is_negative}
-use Rattle.proof_log.specs.Texts.{literal_text, spaced, step_text, last_added, steps_text, log_text, IsId, IsLiteral, IsHint, HasLine}
+use Rattle.proof_log.specs.Texts.{literal_text, before_spaces, step_text, last_added, steps_text, log_text, IsId, IsLiteral, IsHint, HasLine}
 use Rattle.proof_log.proofs.Forms.{reads_step}
 use Rattle.proof_log.proofs.Printed.{IsPlain, IsWord, plain_word, decimal_plain, minus_plain, number_decimal, number_minus, AreWords, words_spaced, spaced_append, IsInLine, spaced_in_line, line_and_rest, no_return, no_comment, adds_by, Write, written_good, written_numbers, write_append, words_append}
 
@@ -132,23 +132,23 @@ letter_is_word b h = (omega arith, All-cons (λ c. 32 < c) b [] h (All-nil (λ c
 zero_is_word : IsWord (48 ∷ [])
 zero_is_word = letter_is_word 48 (omega arith)
 
-reads_line : (w : List ℕ) (ws : List (List ℕ)) (s : Step) → IsPlain w → AreWords ws → list_any is_bad (number_words ((w ∷ ws) ++ (48 ∷ []) ∷ [])) ≡ false → Some s ≡ formed (sign ((w ∷ ws) ++ (48 ∷ []) ∷ [])) (numbers (number_words ((w ∷ ws) ++ (48 ∷ []) ∷ []))) → reading (spaced (w ∷ ws) ++ 48 ∷ []) ≡ Ok (Some s)
+reads_line : (w : List ℕ) (ws : List (List ℕ)) (s : Step) → IsPlain w → AreWords ws → list_any is_bad (number_words ((w ∷ ws) ++ (48 ∷ []) ∷ [])) ≡ false → Some s ≡ formed (sign ((w ∷ ws) ++ (48 ∷ []) ∷ [])) (numbers (number_words ((w ∷ ws) ++ (48 ∷ []) ∷ []))) → reading (before_spaces (w ∷ ws) ++ 48 ∷ []) ≡ Ok (Some s)
 reads_line w ws s plain others good form =
-    let line = spaced (w ∷ ws) ++ 48 ∷ [] in
+    let line = before_spaces (w ∷ ws) ++ 48 ∷ [] in
     let all : words line ≡ (w ∷ ws) ++ (48 ∷ []) ∷ [] = words_spaced (w ∷ ws) (plain_word w plain, others) in
-    let off : false ≡ is_comment line = sym (ap is_comment (append_assoc (w ++ 32 ∷ []) (spaced ws) (48 ∷ []) ∙ append_assoc w (32 ∷ []) (spaced ws ++ 48 ∷ [])) ∙ no_comment w (32 ∷ (spaced ws ++ 48 ∷ [])) plain) in
-    reads_step line line s (sym (no_return (spaced (w ∷ ws)))) (not_nothing (spaced (w ∷ ws))) off (ap (λ vs. list_any is_bad (number_words vs)) all ∙ good) (form ∙ sym (ap (λ vs. formed (sign vs) (numbers (number_words vs))) all))
+    let off : false ≡ is_comment line = sym (ap is_comment (append_assoc (w ++ 32 ∷ []) (before_spaces ws) (48 ∷ []) ∙ append_assoc w (32 ∷ []) (before_spaces ws ++ 48 ∷ [])) ∙ no_comment w (32 ∷ (before_spaces ws ++ 48 ∷ [])) plain) in
+    reads_step line line s (sym (no_return (before_spaces (w ∷ ws)))) (not_nothing (before_spaces (w ∷ ws))) off (ap (λ vs. list_any is_bad (number_words vs)) all ∙ good) (form ∙ sym (ap (λ vs. formed (sign vs) (numbers (number_words vs))) all))
 
 -- the words of a line that adds a clause, but the last zero
 abbrev add_words : ℕ → List Lit → List ℤ → List (List ℕ)
 add_words id lits hints = map literal_text lits ++ (48 ∷ []) ∷ map signed_decimal hints
 
-add_text : (last id : ℕ) (lits : List Lit) (hints : List ℤ) → step_text last (Add id lits hints) ≡ spaced (decimal id ∷ add_words id lits hints) ++ 48 ∷ []
+add_text : (last id : ℕ) (lits : List Lit) (hints : List ℤ) → step_text last (Add id lits hints) ≡ before_spaces (decimal id ∷ add_words id lits hints) ++ 48 ∷ []
 add_text last id lits hints =
     let x = decimal id ++ 32 ∷ [] in
-    let a = spaced (map literal_text lits) in
+    let a = before_spaces (map literal_text lits) in
     let z : List ℕ = 48 ∷ 32 ∷ [] in
-    let b = spaced (map signed_decimal hints) in
+    let b = before_spaces (map signed_decimal hints) in
     ap (λ r. r ++ 48 ∷ []) (append_assoc (x ++ a) z b ∙ append_assoc x a (z ++ b) ∙ ap (λ r. x ++ r) (sym (spaced_append (map literal_text lits) ((48 ∷ []) ∷ map signed_decimal hints))))
 
 adds_words : (d second : List ℕ) (rest : List (List ℕ)) → sign_of second ≡ Adds → number_words (d ∷ second ∷ rest) ≡ d ∷ second ∷ rest
@@ -201,9 +201,9 @@ drop_words last ids = decimal last ∷ (map decimal ids ++ (48 ∷ []) ∷ [])
 abbrev drop_numbers : ℕ → List ℕ → List ℤ
 drop_numbers last ids = pos last ∷ (map pos ids ++ pos 0 ∷ [])
 
-drop_text : (last : ℕ) (ids : List ℕ) → step_text last (Drop ids) ≡ spaced (decimal last ∷ (100 ∷ []) ∷ map decimal ids) ++ 48 ∷ []
+drop_text : (last : ℕ) (ids : List ℕ) → step_text last (Drop ids) ≡ before_spaces (decimal last ∷ (100 ∷ []) ∷ map decimal ids) ++ 48 ∷ []
 drop_text last ids =
-    let i = spaced (map decimal ids) in
+    let i = before_spaces (map decimal ids) in
     ap (λ r. r ++ 48 ∷ []) (append_assoc (decimal last) (32 ∷ 100 ∷ 32 ∷ []) i ∙ sym (append_assoc (decimal last) (32 ∷ []) (100 ∷ 32 ∷ i)))
 
 drop_write : (last : ℕ) (ids : List ℕ) → last < 2 ^ 63 → All IsId ids → Write (drop_words last ids) (drop_numbers last ids)
@@ -222,7 +222,7 @@ drop_read last ids fits h =
     ap reading (drop_text last ids) ∙ reads_line (decimal last) ((100 ∷ []) ∷ map decimal ids) (Drop ids) (decimal_plain last (omega arith)) (letter_is_word 100 (omega arith), ids_words ids h) (written_good (drop_words last ids) (drop_numbers last ids) written) (sym form)
 
 -- a line that asserts a bound
-bound_text : (last id price : ℕ) → step_text last (Bound id price) ≡ spaced (decimal id ∷ (98 ∷ []) ∷ decimal price ∷ []) ++ 48 ∷ []
+bound_text : (last id price : ℕ) → step_text last (Bound id price) ≡ before_spaces (decimal id ∷ (98 ∷ []) ∷ decimal price ∷ []) ++ 48 ∷ []
 bound_text last id price =
     let d = decimal id in
     let p = decimal price in
@@ -259,12 +259,12 @@ ends_in_line bytes h = All-append (λ b. 31 < b) bytes (48 ∷ []) h (All-cons (
 pub step_in_line : (last : ℕ) (s : Step) → last < 2 ^ 63 → HasLine s → IsInLine (step_text last s)
 step_in_line last (Add id lits hints) fits h =
     let low = (h.0).1 in
-    subst IsInLine (sym (add_text last id lits hints)) (ends_in_line (spaced (decimal id ∷ add_words id lits hints)) (spaced_in_line (decimal id ∷ add_words id lits hints) (plain_word (decimal id) (decimal_plain id (omega (arith, low))), words_append (map literal_text lits) ((48 ∷ []) ∷ map signed_decimal hints) (lits_words lits h.1) (zero_is_word, hints_words hints h.2))))
+    subst IsInLine (sym (add_text last id lits hints)) (ends_in_line (before_spaces (decimal id ∷ add_words id lits hints)) (spaced_in_line (decimal id ∷ add_words id lits hints) (plain_word (decimal id) (decimal_plain id (omega (arith, low))), words_append (map literal_text lits) ((48 ∷ []) ∷ map signed_decimal hints) (lits_words lits h.1) (zero_is_word, hints_words hints h.2))))
 step_in_line last (Drop ids) fits h =
-    subst IsInLine (sym (drop_text last ids)) (ends_in_line (spaced (decimal last ∷ (100 ∷ []) ∷ map decimal ids)) (spaced_in_line (decimal last ∷ (100 ∷ []) ∷ map decimal ids) (plain_word (decimal last) (decimal_plain last (omega arith)), (letter_is_word 100 (omega arith), ids_words ids h))))
+    subst IsInLine (sym (drop_text last ids)) (ends_in_line (before_spaces (decimal last ∷ (100 ∷ []) ∷ map decimal ids)) (spaced_in_line (decimal last ∷ (100 ∷ []) ∷ map decimal ids) (plain_word (decimal last) (decimal_plain last (omega arith)), (letter_is_word 100 (omega arith), ids_words ids h))))
 step_in_line last (Bound id price) fits h =
     let low = (h.0).1 in let small = h.1 in
-    subst IsInLine (sym (bound_text last id price)) (ends_in_line (spaced (decimal id ∷ (98 ∷ []) ∷ decimal price ∷ [])) (spaced_in_line (decimal id ∷ (98 ∷ []) ∷ decimal price ∷ []) (plain_word (decimal id) (decimal_plain id (omega (arith, low))), (letter_is_word 98 (omega arith), (plain_word (decimal price) (decimal_plain price (omega (arith, small))), tt)))))
+    subst IsInLine (sym (bound_text last id price)) (ends_in_line (before_spaces (decimal id ∷ (98 ∷ []) ∷ decimal price ∷ [])) (spaced_in_line (decimal id ∷ (98 ∷ []) ∷ decimal price ∷ []) (plain_word (decimal id) (decimal_plain id (omega (arith, low))), (letter_is_word 98 (omega arith), (plain_word (decimal price) (decimal_plain price (omega (arith, small))), tt)))))
 
 last_fits : (last : ℕ) (s : Step) → last < 2 ^ 63 → HasLine s → last_added last s < 2 ^ 63
 last_fits last (Add id lits hints) fits h = (h.0).1

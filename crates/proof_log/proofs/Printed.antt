@@ -16,7 +16,7 @@ use Rattle.cnf_types.specs.Dimacs.{is_comment}
 use Rattle.proof_log.specs.declared.numbers.Sign.{Sign}
 use Rattle.proof_log.specs.declared.numbers.Sign.TheVariants.{Adds, Drops, Bounds}
 use Rattle.proof_log.specs.Reading.{log_number, numbers, is_bad, sign_of}
-use Rattle.proof_log.specs.Texts.{spaced}
+use Rattle.proof_log.specs.Texts.{before_spaces}
 
 folds : FoldsDigits value_after
 folds = search rules
@@ -90,26 +90,26 @@ abbrev pub AreWords : List (List ℕ) → Type 0
 AreWords [] = Unit {0}
 AreWords (w ∷ ws) = IsWord w × AreWords ws
 
-spaced_first : (w : List ℕ) (ws : List (List ℕ)) (rest : List ℕ) → spaced (w ∷ ws) ++ rest ≡ w ++ 32 ∷ (spaced ws ++ rest)
-spaced_first w ws rest = append_assoc (w ++ 32 ∷ []) (spaced ws) rest ∙ append_assoc w (32 ∷ []) (spaced ws ++ rest)
+spaced_first : (w : List ℕ) (ws : List (List ℕ)) (rest : List ℕ) → before_spaces (w ∷ ws) ++ rest ≡ w ++ 32 ∷ (before_spaces ws ++ rest)
+spaced_first w ws rest = append_assoc (w ++ 32 ∷ []) (before_spaces ws) rest ∙ append_assoc w (32 ∷ []) (before_spaces ws ++ rest)
 
-pub words_spaced : (ws : List (List ℕ)) → AreWords ws → words (spaced ws ++ 48 ∷ []) ≡ ws ++ (48 ∷ []) ∷ []
+pub words_spaced : (ws : List (List ℕ)) → AreWords ws → words (before_spaces ws ++ 48 ∷ []) ≡ ws ++ (48 ∷ []) ∷ []
 words_spaced [] h = refl
 words_spaced (w ∷ ws) h =
-    ap words (spaced_first w ws (48 ∷ [])) ∙ first_word w (spaced ws ++ 48 ∷ []) h.0 ∙ ap (λ vs. w ∷ vs) (words_spaced ws h.1)
+    ap words (spaced_first w ws (48 ∷ [])) ∙ first_word w (before_spaces ws ++ 48 ∷ []) h.0 ∙ ap (λ vs. w ∷ vs) (words_spaced ws h.1)
 
-pub spaced_append : (vs ws : List (List ℕ)) → spaced (vs ++ ws) ≡ spaced vs ++ spaced ws
+pub spaced_append : (vs ws : List (List ℕ)) → before_spaces (vs ++ ws) ≡ before_spaces vs ++ before_spaces ws
 spaced_append [] ws = refl
-spaced_append (v ∷ vs) ws = ap (λ r. (v ++ 32 ∷ []) ++ r) (spaced_append vs ws) ∙ sym (append_assoc (v ++ 32 ∷ []) (spaced vs) (spaced ws))
+spaced_append (v ∷ vs) ws = ap (λ r. (v ++ 32 ∷ []) ++ r) (spaced_append vs ws) ∙ sym (append_assoc (v ++ 32 ∷ []) (before_spaces vs) (before_spaces ws))
 
 -- no byte of them ends a line
 abbrev pub IsInLine : List ℕ → Type 0
 IsInLine bytes = All (λ b. 31 < b) bytes
 
-pub spaced_in_line : (ws : List (List ℕ)) → AreWords ws → IsInLine (spaced ws)
+pub spaced_in_line : (ws : List (List ℕ)) → AreWords ws → IsInLine (before_spaces ws)
 spaced_in_line [] h = All-nil (λ b. 31 < b)
 spaced_in_line (w ∷ ws) h =
-    All-append (λ b. 31 < b) (w ++ 32 ∷ []) (spaced ws) (All-append (λ b. 31 < b) w (32 ∷ []) (All-weaker (λ b. 32 < b) (λ b. 31 < b) (λ b k. omega (arith, k)) w (h.0).1) (All-cons (λ b. 31 < b) 32 [] (omega arith) (All-nil (λ b. 31 < b)))) (spaced_in_line ws h.1)
+    All-append (λ b. 31 < b) (w ++ 32 ∷ []) (before_spaces ws) (All-append (λ b. 31 < b) w (32 ∷ []) (All-weaker (λ b. 32 < b) (λ b. 31 < b) (λ b k. omega (arith, k)) w (h.0).1) (All-cons (λ b. 31 < b) 32 [] (omega arith) (All-nil (λ b. 31 < b)))) (spaced_in_line ws h.1)
 
 pub line_and_rest : (line rest : List ℕ) → IsInLine line → lines (line ++ 10 ∷ rest) ≡ line ∷ lines rest
 line_and_rest [] rest h = refl

@@ -14,13 +14,13 @@ abbrev pub literal_text : Lit → List ℕ
 literal_text l = if is_positive l then decimal (variable l) else 45 ∷ decimal (variable l)
 
 -- words, each with a space behind it
-abbrev pub spaced : List (List ℕ) → List ℕ
-spaced ws = flat_map (λ w. w ++ 32 ∷ []) ws
+abbrev pub before_spaces : List (List ℕ) → List ℕ
+before_spaces ws = flat_map (λ w. w ++ 32 ∷ []) ws
 
 -- the line of a step, where `last` is the id of the last clause added before it, or 0
 abbrev pub step_text : ℕ → Step → List ℕ
-step_text last (Add id lits hints) = decimal id ++ codes " " ++ spaced (map literal_text lits) ++ codes "0 " ++ spaced (map signed_decimal hints) ++ codes "0"
-step_text last (Drop ids) = decimal last ++ codes " d " ++ spaced (map decimal ids) ++ codes "0"
+step_text last (Add id lits hints) = decimal id ++ codes " " ++ before_spaces (map literal_text lits) ++ codes "0 " ++ before_spaces (map signed_decimal hints) ++ codes "0"
+step_text last (Drop ids) = decimal last ++ codes " d " ++ before_spaces (map decimal ids) ++ codes "0"
 step_text last (Bound id price) = decimal id ++ codes " b " ++ decimal price ++ codes " 0"
 
 -- the id of the last clause added, after a step

@@ -1,7 +1,7 @@
 //! The text of a proof log.
 ghost use Rattle.std.specs.Prelude.{◌≡◌, ◌<◌, ◌^◌, ◌++◌, ◌∷◌, [], All, IfOk, OnOk, string_bytes, map, decimal, codes};
 ghost use Rattle.std.specs.Fmt.{signed_decimal};
-ghost use Rattle.proof_log.specs.Texts.{spaced, HasLine, literal_text, log_text, step_text, last_added};
+ghost use Rattle.proof_log.specs.Texts.{before_spaces, HasLine, literal_text, log_text, step_text, last_added};
 
 use crate::steps::{Log, Step};
 use arc_base::Memory;
@@ -23,7 +23,7 @@ fn push_literal(text: &mut String, lit: Lit) -> Result<(), Memory>
 
 /// Writes literals, each with a space behind it.
 fn push_literals(text: &mut String, lits: &[Lit]) -> Result<(), Memory>
-    ensures { OnOk result (string_bytes text.new ≡ string_bytes text.old ++ spaced (map literal_text lits.now)) }
+    ensures { OnOk result (string_bytes text.new ≡ string_bytes text.old ++ before_spaces (map literal_text lits.now)) }
 {
     for lit in lits {
         push_literal(text, *lit)?;
@@ -33,7 +33,7 @@ fn push_literals(text: &mut String, lits: &[Lit]) -> Result<(), Memory>
 
 /// Writes hints, each with a space behind it.
 fn push_hints(text: &mut String, hints: &[i64]) -> Result<(), Memory>
-    ensures { OnOk result (string_bytes text.new ≡ string_bytes text.old ++ spaced (map signed_decimal hints.now)) }
+    ensures { OnOk result (string_bytes text.new ≡ string_bytes text.old ++ before_spaces (map signed_decimal hints.now)) }
 {
     for hint in hints {
         write!(text, "{hint} ").map_err(|_| Memory)?;
@@ -43,7 +43,7 @@ fn push_hints(text: &mut String, hints: &[i64]) -> Result<(), Memory>
 
 /// Writes ids, each with a space behind it.
 fn push_ids(text: &mut String, ids: &[u64]) -> Result<(), Memory>
-    ensures { OnOk result (string_bytes text.new ≡ string_bytes text.old ++ spaced (map decimal ids.now)) }
+    ensures { OnOk result (string_bytes text.new ≡ string_bytes text.old ++ before_spaces (map decimal ids.now)) }
 {
     for id in ids {
         write!(text, "{id} ").map_err(|_| Memory)?;
@@ -54,7 +54,7 @@ fn push_ids(text: &mut String, ids: &[u64]) -> Result<(), Memory>
 /// Writes the line of a step that adds a clause.
 fn push_add(text: &mut String, id: u64, lits: &[Lit], hints: &[i64]) -> Result<(), Memory>
     ensures { OnOk result (string_bytes text.new ≡ string_bytes text.old
-        ++ (decimal id ++ codes " " ++ spaced (map literal_text lits.now) ++ codes "0 " ++ spaced (map signed_decimal hints.now) ++ codes "0\n")) }
+        ++ (decimal id ++ codes " " ++ before_spaces (map literal_text lits.now) ++ codes "0 " ++ before_spaces (map signed_decimal hints.now) ++ codes "0\n")) }
 {
     write!(text, "{id} ").map_err(|_| Memory)?;
     push_literals(text, lits)?;
@@ -67,7 +67,7 @@ fn push_add(text: &mut String, id: u64, lits: &[Lit], hints: &[i64]) -> Result<(
 /// Writes the line of a step that drops clauses.
 fn push_drop(text: &mut String, last: u64, ids: &[u64]) -> Result<(), Memory>
     ensures { OnOk result (string_bytes text.new ≡ string_bytes text.old
-        ++ (decimal last ++ codes " d " ++ spaced (map decimal ids.now) ++ codes "0\n")) }
+        ++ (decimal last ++ codes " d " ++ before_spaces (map decimal ids.now) ++ codes "0\n")) }
 {
     write!(text, "{last} d ").map_err(|_| Memory)?;
     push_ids(text, ids)?;

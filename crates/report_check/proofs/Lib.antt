@@ -1,4 +1,4 @@
-mod OneOutcome
+pub mod OneOutcome
 mod Rights
 mod Zipped
 mod Readable
@@ -6,4 +6,3 @@ mod Exactly
 mod AtPlaces
 mod Leading
 mod Feeding
-mod ExampleEnds

@@ -85,8 +85,9 @@ fn judge_line(
     Ok(next)
 }
 
-/// Judges a text as a report over the network, for the policies of the document. It takes time linear in the bytes and
-/// in the judging of the witnesses, and memory for one block at a time.
+/// Judges a text as a report over the network, for the policies of the document. Reading takes time linear in the bytes, and
+/// for each `closed` or `side` line in the routers. A witness is judged by going over the network for each of its lines; the
+/// `closed` lines of a block are also compared pair by pair. It takes memory for one block at a time.
 pub fn check_report(
     alloc: Global,
     net: &Network,

@@ -3,13 +3,9 @@
 //! block is not right is told.
 #![tactic(auto)]
 
-#[cfg(test)]
-mod example;
 mod judging;
 pub mod laws;
 mod outcome;
-#[cfg(test)]
-mod tests;
 
 pub use judging::check_report;
 pub use outcome::Outcome;
