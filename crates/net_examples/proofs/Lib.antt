@@ -1,0 +1,5 @@
+pub mod TwoRouters
+pub mod Ends
+pub mod Hosts
+pub mod Additions
+pub mod EvenSquare

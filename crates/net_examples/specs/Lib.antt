@@ -1,0 +1,2 @@
+pub mod TwoRouters
+pub mod Square

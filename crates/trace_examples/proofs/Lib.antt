@@ -1,3 +1,0 @@
-pub mod Hosts
-pub mod Rows
-pub mod SquareIsValid
