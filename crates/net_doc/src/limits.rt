@@ -7,13 +7,16 @@ use crate::drafts::{Draft, KindText, PolicyText};
 use crate::fault::Refusal;
 use arc_base::{Kind, LimitKind};
 
-/// How many routers, links and policies a document may have, and how many failures a policy may speak of.
+/// How many routers a document may have.
 const ROUTERS: u64 = 256;
 
+/// How many links a document may have.
 const LINKS: u64 = 1024;
 
+/// How many policies a document may have.
 const POLICIES: u64 = 256;
 
+/// How many failures a policy may speak of.
 const FAILURES: u64 = 16;
 
 /// The first count that passes its limit.
