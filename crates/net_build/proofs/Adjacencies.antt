@@ -17,7 +17,8 @@ use Rattle.net_build.specs.Settings.{is_point_to_point}
 use Rattle.net_build.specs.Sites.{Site, sites, full_names}
 use Rattle.net_build.specs.Rows.{AreRows}
 use Rattle.net_build.specs.Reasons.{IsBefore, IsClear, IsFirst, TriedAlone, InFiles, InDocument}
-use Rattle.net_build.specs.Linking.{TypesDiffer, RefusesTypes, RepeatsRouterId, RefusesAdjacencyForm}
+use Rattle.net_build.specs.Routers.{Repeats}
+use Rattle.net_build.specs.Linking.{TypesDiffer, RefusesTypes, router_id_of, RefusesAdjacencyForm}
 use Rattle.net_build.proofs.SameNetwork.{same_rows, tried_same}
 
 -- the network type of an interface that was found
@@ -83,12 +84,12 @@ module _ (doc : Document) (configs : List Config) (distinct : AreDistinct (full_
   types_fail Memory said = tt
 
   -- where the links are clear, the files decide
-  pub ids_decide : IsClear (InDocument kinds.AdjacencyForm (DiffersAt configs) net.links) → (result : Result (Unit {0}) NetFault) → TriedAlone (InFiles kinds.AdjacencyForm (RepeatsRouterId configs) configs) result → TriedAlone (RefusesAdjacencyForm doc configs) result
-  ids_decide clear result said = tried_same (InFiles kinds.AdjacencyForm (RepeatsRouterId configs) configs) (RefusesAdjacencyForm doc configs) (λ (done : Unit {0}). Unit {0}) result to from said
+  pub ids_decide : IsClear (InDocument kinds.AdjacencyForm (DiffersAt configs) net.links) → (result : Result (Unit {0}) NetFault) → TriedAlone (InFiles kinds.AdjacencyForm (Repeats router_id_of configs) configs) result → TriedAlone (RefusesAdjacencyForm doc configs) result
+  ids_decide clear result said = tried_same (InFiles kinds.AdjacencyForm (Repeats router_id_of configs) configs) (RefusesAdjacencyForm doc configs) (λ (done : Unit {0}). Unit {0}) result to from said
     where
-      to : (r : Refusal) → InFiles kinds.AdjacencyForm (RepeatsRouterId configs) configs r → RefusesAdjacencyForm doc configs r
+      to : (r : Refusal) → InFiles kinds.AdjacencyForm (Repeats router_id_of configs) configs r → RefusesAdjacencyForm doc configs r
       to r bad = inr bad
 
-      from : (r : Refusal) → RefusesAdjacencyForm doc configs r → InFiles kinds.AdjacencyForm (RepeatsRouterId configs) configs r
+      from : (r : Refusal) → RefusesAdjacencyForm doc configs r → InFiles kinds.AdjacencyForm (Repeats router_id_of configs) configs r
       from r (inl bad) = absurd (clear r (from_types r bad))
       from r (inr bad) = bad

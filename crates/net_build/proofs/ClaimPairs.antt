@@ -4,32 +4,32 @@ use Rattle.std.proofs.lemmas.Bool.{cases_lt}
 use Rattle.std.proofs.lemmas.List.{get_or_default}
 use Rattle.std.proofs.lemmas.List.Elements.{pair_read}
 use Rattle.net_build.specs.declared.claims.Claim.{Claim}
-use Rattle.net_build.specs.Claims.{AreAtPeace}
+use Rattle.net_build.specs.Claims.{AreLinkedOrApart}
 use Rattle.net_build.specs.Sorting.{IsPackedAt}
 
 module _ (claims : List Claim) (j : ℕ) (y : Claim) (within : j < length claims) (at_j : y ≡ get_or claims j y) where
-  peace_at : (i : ℕ) (x : Claim) → i < j → x ≡ get_or claims i x → AreAtPeace x y → (d : Claim) → AreAtPeace (get_or claims i d) (get_or claims j d)
-  peace_at i x above at_i peace = pair_read claims AreAtPeace i j x y (omega (arith, above, within)) within at_i at_j peace
+  free_at : (i : ℕ) (x : Claim) → i < j → x ≡ get_or claims i x → AreLinkedOrApart x y → (d : Claim) → AreLinkedOrApart (get_or claims i d) (get_or claims j d)
+  free_at i x above at_i free = pair_read claims AreLinkedOrApart i j x y (omega (arith, above, within)) within at_i at_j free
 
   -- the second claim has one before it
-  pub packed_after_one : (x : Claim) → 1 ≤ j → j < 2 → x ≡ get_or claims (j - 1) x → AreAtPeace x y → IsPackedAt claims j
-  packed_after_one x some few at_i peace i d above near =
+  pub packed_after_one : (x : Claim) → 1 ≤ j → j < 2 → x ≡ get_or claims (j - 1) x → AreLinkedOrApart x y → IsPackedAt claims j
+  packed_after_one x some few at_i free i d above near =
       let is : j - 1 ≡ i = omega (arith, some, few, above) in
-      subst (λ (k : ℕ). AreAtPeace (get_or claims k d) (get_or claims j d)) is (peace_at (j - 1) x (omega (arith, some)) at_i peace d)
+      subst (λ (k : ℕ). AreLinkedOrApart (get_or claims k d) (get_or claims j d)) is (free_at (j - 1) x (omega (arith, some)) at_i free d)
 
   -- a later one has two
-  pub packed_after_two : (x z : Claim) → 2 ≤ j → x ≡ get_or claims (j - 1) x → AreAtPeace x y → z ≡ get_or claims (j - 2) z → AreAtPeace z y → IsPackedAt claims j
-  packed_after_two x z some at_x near_peace at_z far_peace i d above near = elim (cases_lt (i + 1) j) [
+  pub packed_after_two : (x z : Claim) → 2 ≤ j → x ≡ get_or claims (j - 1) x → AreLinkedOrApart x y → z ≡ get_or claims (j - 2) z → AreLinkedOrApart z y → IsPackedAt claims j
+  packed_after_two x z some at_x near_free at_z far_free i d above near = elim (cases_lt (i + 1) j) [
     | inl far ↦
         let is : j - 2 ≡ i = omega (arith, far, near) in
-        subst (λ (k : ℕ). AreAtPeace (get_or claims k d) (get_or claims j d)) is (peace_at (j - 2) z (omega (arith, some)) at_z far_peace d)
+        subst (λ (k : ℕ). AreLinkedOrApart (get_or claims k d) (get_or claims j d)) is (free_at (j - 2) z (omega (arith, some)) at_z far_free d)
     | inr close ↦
         let is : j - 1 ≡ i = omega (arith, close, above) in
-        subst (λ (k : ℕ). AreAtPeace (get_or claims k d) (get_or claims j d)) is (peace_at (j - 1) x (omega (arith, some)) at_x near_peace d)
+        subst (λ (k : ℕ). AreLinkedOrApart (get_or claims k d) (get_or claims j d)) is (free_at (j - 1) x (omega (arith, some)) at_x near_free d)
   ]
 
   -- what is said of the one is said of either
-  pub from_packed : (i : ℕ) (x : Claim) → i < j → j ≤ i + 2 → x ≡ get_or claims i x → IsPackedAt claims j → AreAtPeace x y
+  pub from_packed : (i : ℕ) (x : Claim) → i < j → j ≤ i + 2 → x ≡ get_or claims i x → IsPackedAt claims j → AreLinkedOrApart x y
   from_packed i x above near at_i packed =
-      subst (λ (v : Claim). AreAtPeace v y) (sym at_i)
-      (subst (λ (w : Claim). AreAtPeace (get_or claims i x) w) (sym (at_j ∙ get_or_default claims j y x within)) (packed i x above near))
+      subst (λ (v : Claim). AreLinkedOrApart v y) (sym at_i)
+      (subst (λ (w : Claim). AreLinkedOrApart (get_or claims i x) w) (sym (at_j ∙ get_or_default claims j y x within)) (packed i x above near))

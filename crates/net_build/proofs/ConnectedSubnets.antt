@@ -1,13 +1,8 @@
 -- The connected subnets of interfaces as they are gathered.
-use Rattle.std.proofs.Common.{◌≡◌, ℕ, ◌⊎◌, inl, inr, Option, Some, None, List, [], sym, subst, ◌↔◌}
-use Rattle.std.specs.Prelude.{Any}
+use Rattle.std.proofs.Common.{◌≡◌, ℕ, ◌⊎◌, inl, inr, Option, Some, None, List, [], subst, ◌↔◌}
 use Rattle.std.proofs.lemmas.Option.{none-some, same_Some}
 use Rattle.arc_base.specs.declared.prefix.Prefix.{Prefix}
 use Rattle.arc_base.proofs.Items.{Contains-none}
-use Rattle.ios_words.specs.declared.commands.Command.TheVariants as commands
-use Rattle.ios_words.specs.declared.commands.Command.{Command}
-use Rattle.ios_config.specs.declared.settings.Given.{Given}
-use Rattle.ios_config.specs.declared.settings.Config.{Config}
 use Rattle.ios_config.specs.declared.settings.FaceText.{FaceText}
 use Rattle.net_build.specs.Settings.{address_of}
 use Rattle.net_build.specs.Rows.{IsSubnet}

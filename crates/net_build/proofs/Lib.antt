@@ -11,10 +11,9 @@ mod Distinct
 mod Keys
 mod NameLists
 mod Grown
-mod AsNumbers
+mod Repeated
 mod LinkFaces
 mod Picks
-mod RouterIds
 mod AreaLines
 mod SiteFacts
 mod FewFaces
@@ -24,7 +23,7 @@ mod ValidLists
 mod ValidSessions
 mod ValidNetwork
 mod Ranges
-mod Peace
+mod SortedClaims
 mod Partners
 mod Overlaps
 mod ClaimPairs

@@ -1,15 +1,12 @@
 -- The rows of packet lists and of route lists, read both ways.
-use Rattle.std.proofs.Common.{◌≡◌, ℕ, ◌+◌, ◌<◌, ◌≤◌, Bool, Some, List, [], length, get_or, sym, ◌∙◌, ap}
-use Rattle.std.specs.Prelude.{slice_get, option_map}
-use Rattle.net_model.specs.declared.lists.PacketEntry.{PacketEntry}
+use Rattle.std.proofs.Common.{◌≡◌, ℕ, ◌+◌, ◌<◌, ◌≤◌, Some, List, [], length, get_or, sym, ap}
+use Rattle.std.specs.Prelude.{slice_get}
 use Rattle.net_model.specs.declared.lists.PacketList.{PacketList}
-use Rattle.net_model.specs.declared.lists.RouteEntry.{RouteEntry}
 use Rattle.net_model.specs.declared.lists.RouteList.{RouteList}
 use Rattle.ios_config.specs.declared.settings.Config.{Config}
 use Rattle.net_build.specs.Ordered.{AreInOrder, IsNameBefore, IsPairBefore}
-use Rattle.net_build.specs.Lists.{IsBoundPacketList, IsBoundRouteList, IsPacketListRow, IsRouteListRow, packet_list_named, route_list_named, packet_entries, ArePacketLists, AreRouteLists}
-use Rattle.net_build.specs.ListTables.{if_defined, packet_row, route_row, packet_row_at, route_row_at, AddsPacketRows, AddsRouteRows}
-use Rattle.net_build.proofs.ListsTables.{defined_parts, defined_from}
+use Rattle.net_build.specs.Lists.{IsBoundPacketList, IsBoundRouteList, IsPacketListRow, IsRouteListRow, packet_list_named, route_list_named, ArePacketLists, AreRouteLists, if_defined, packet_row, route_row, packet_row_at, route_row_at}
+use Rattle.net_build.specs.ListTables.{AddsPacketRows, AddsRouteRows}
 use Rattle.net_build.proofs.ListsRows.{option_parts, rows_none, rows_more, rows_all}
 
 abbrev pub packet_router : PacketList → ℕ
@@ -25,29 +22,11 @@ packet_names_it router config name row is =
 
 pub to_packet_row : (configs : List Config) (config : Config) (row : PacketList) → slice_get configs (packet_router row) ≡ Some config → IsBoundPacketList config (packet_name row) →
     packet_row_at (packet_router row) config (packet_name row) ≡ Some row → IsPacketListRow configs row
-to_packet_row configs config row at bound is =
-    let made = option_parts (packet_row (packet_router row) (packet_name row)) (if_defined (packet_list_named config (packet_name row))) row is in
-    record {
-      config = config;
-      at_router = at;
-      bound = bound;
-      list = made.0;
-      defined = defined_parts (packet_list_named config (packet_name row)) made.0 made.1;
-      extended = sym (ap (λ (r : PacketList). r.extended) made.2);
-      entries = sym (ap (λ (r : PacketList). r.entries) made.2);
-    }
+to_packet_row configs config row at bound is = record { config = config; at_router = at; bound = bound; defined = is }
 
 pub from_packet_row : (configs : List Config) (row : PacketList) → IsPacketListRow configs row → (config : Config) × (slice_get configs (packet_router row) ≡ Some config) × IsBoundPacketList config (packet_name row) ×
     (packet_row_at (packet_router row) config (packet_name row) ≡ Some row)
-from_packet_row configs row is = (is.config, is.at_router, is.bound, made)
-  where
-    parts : packet_row (packet_router row) (packet_name row) is.list ≡ row
-    parts =
-        ap (λ (e : Bool). record row { extended = e; entries = packet_entries is.list }) (sym is.extended) ∙
-        ap (λ (es : List PacketEntry). record row { entries = es }) (sym is.entries)
-
-    made : packet_row_at (packet_router row) is.config (packet_name row) ≡ Some row
-    made = ap (option_map (packet_row (packet_router row) (packet_name row))) (defined_from (packet_list_named is.config (packet_name row)) is.list is.defined) ∙ ap Some parts
+from_packet_row configs row is = (is.config, is.at_router, is.bound, is.defined)
 
 abbrev pub route_router : RouteList → ℕ
 route_router row = row.router.0
@@ -62,26 +41,11 @@ route_names_it router config name row is =
 
 pub to_route_row : (configs : List Config) (config : Config) (row : RouteList) → slice_get configs (route_router row) ≡ Some config → IsBoundRouteList config (route_name row) →
     route_row_at (route_router row) config (route_name row) ≡ Some row → IsRouteListRow configs row
-to_route_row configs config row at bound is =
-    let made = option_parts (route_row (route_router row) (route_name row)) (if_defined (route_list_named config (route_name row))) row is in
-    record {
-      config = config;
-      at_router = at;
-      bound = bound;
-      list = made.0;
-      defined = defined_parts (route_list_named config (route_name row)) made.0 made.1;
-      entries = sym (ap (λ (r : RouteList). r.entries) made.2);
-    }
+to_route_row configs config row at bound is = record { config = config; at_router = at; bound = bound; defined = is }
 
 pub from_route_row : (configs : List Config) (row : RouteList) → IsRouteListRow configs row → (config : Config) × (slice_get configs (route_router row) ≡ Some config) × IsBoundRouteList config (route_name row) ×
     (route_row_at (route_router row) config (route_name row) ≡ Some row)
-from_route_row configs row is = (is.config, is.at_router, is.bound, made)
-  where
-    parts : route_row (route_router row) (route_name row) is.list ≡ row
-    parts = ap (λ (es : List RouteEntry). record row { entries = es }) (sym is.entries)
-
-    made : route_row_at (route_router row) is.config (route_name row) ≡ Some row
-    made = ap (option_map (route_row (route_router row) (route_name row))) (defined_from (route_list_named is.config (route_name row)) is.list is.defined) ∙ ap Some parts
+from_route_row configs row is = (is.config, is.at_router, is.bound, is.defined)
 
 -- the rows of the packet lists of the first files
 abbrev pub ArePacketRowsTo : List Config → ℕ → List PacketList → Type 0

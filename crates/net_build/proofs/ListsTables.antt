@@ -9,7 +9,7 @@ use Rattle.std.proofs.lemmas.Cmp.{nat_eq_equiv}
 use Rattle.std.proofs.lemmas.List.{take_more}
 use Rattle.std.proofs.lemmas.List.Elements.{filter_map-append}
 use Rattle.std.proofs.lemmas.Map.Entries.{place_from_lookup, lookup_from_place}
-use Rattle.std.proofs.lemmas.Option.{none-some, same_Some, cond_some}
+use Rattle.std.proofs.lemmas.Option.{none-some, same_Some}
 use Rattle.std.proofs.lemmas.Slice.Eq.{bytes_eq-Decides}
 use denote.Ref.{Bor}
 use Rattle.ios_words.specs.declared.commands.Command.{Command}
@@ -18,8 +18,8 @@ use Rattle.ios_config.specs.declared.settings.Given.{Given}
 use Rattle.ios_config.specs.declared.settings.ListText.{ListText}
 use Rattle.net_build.specs.Settings.{last_said}
 use Rattle.net_build.specs.Neighbors.{says_filter}
-use Rattle.net_build.specs.Lists.{IsDefined}
-use Rattle.net_build.specs.ListTables.{route_binding, is_of_kind, list_if, has_entries, if_defined}
+use Rattle.net_build.specs.Lists.{is_of_kind, has_entries, if_defined}
+use Rattle.net_build.specs.ListTables.{route_binding, list_if}
 use Rattle.net_build.proofs.Lasts.{last_more}
 use Rattle.arc_base.proofs.Items.{Contains-map, from_map}
 use Rattle.net_build.proofs.Distinct.{Contains-at, at_Contains}
@@ -91,19 +91,13 @@ pub is_some-map : {X Y : Type 0} (f : X → Y) (o : Option X) → is_some (optio
 is_some-map f None = refl
 is_some-map f (Some x) = refl
 
--- a list that was found and has an entry
-pub defined_parts : (found : Option ListText) (list : ListText) → if_defined found ≡ Some list → IsDefined found list
-defined_parts None list e = absurd (none-some list e)
-defined_parts (Some l) list e =
-    let parts : (has_entries l.entries ≡ true) × (l ≡ list) = cond_some (has_entries l.entries) l list e in
-    (ap Some parts.1, λ none. true≢false (sym (ap (λ (k : ListText). has_entries k.entries) (sym parts.1) ∙ parts.0) ∙ ap has_entries none))
-
-pub has_some : (entries : List (Given Command)) → entries ≢ [] → has_entries entries ≡ true
+-- a list that was found, with an entry and without
+has_some : (entries : List (Given Command)) → entries ≢ [] → has_entries entries ≡ true
 has_some [] some = absurd (some refl)
 has_some (entry ∷ entries) some = refl
 
-pub defined_from : (found : Option ListText) (list : ListText) → IsDefined found list → if_defined found ≡ Some list
-defined_from found list (is, some) = ap if_defined is ∙ cond-true (has_entries list.entries) (Some list) None (has_some list.entries some)
+pub defined_some : (found : Option ListText) (list : ListText) → found ≡ Some list → list.entries ≢ [] → if_defined found ≡ Some list
+defined_some found list is some = ap if_defined is ∙ cond-true (has_entries list.entries) (Some list) None (has_some list.entries some)
 
 pub defined_none : (found : Option ListText) (list : ListText) → found ≡ Some list → list.entries ≡ [] → if_defined found ≡ None
 defined_none found list is none = ap if_defined is ∙ ap (λ (l : List (Given Command)). if has_entries l then Some list else None) none

@@ -1,4 +1,4 @@
--- The claims of interfaces are at peace exactly where no interfaces overlap.
+-- The claims of interfaces are linked or apart exactly where no interfaces overlap.
 use Rattle.std.proofs.Common.{◌≡◌, ◌≢◌, ℕ, zero, suc, ◌<◌, ◌≤◌, ◌⊎◌, inl, inr, Bool, true, false, MatchBool, Option, Some, None, List, [], ◌∷◌, ◌++◌, ◌+◌, length, get_or, take, refl, sym, ◌∙◌, ap, subst, arith}
 use Rattle.std.specs.Prelude.{AllPairs, IfSome, slice_get, option_map}
 use Rattle.std.specs.List.{cons_option}
@@ -14,7 +14,7 @@ use Rattle.net_model.specs.declared.rows.LinkRow.{LinkRow}
 use Rattle.net_model.specs.declared.rows.Network.{Network}
 use Rattle.net_model.specs.Validity.{AreLinked, AreApart, EndsAt}
 use Rattle.net_build.specs.declared.claims.Claim.{Claim}
-use Rattle.net_build.specs.Claims.{ArePartners, AreAtPeace, AreOfPartners, IsClaimOf, AreClaimsOf, ClearBelow, claim_of}
+use Rattle.net_build.specs.Claims.{ArePartners, AreLinkedOrApart, AreOfPartners, IsClaimOf, AreClaimsOf, ClearBelow, claim_of}
 use Rattle.arc_base.proofs.Items.{Contains-head, Contains-cases, Contains-none}
 
 taken : {X : Type 0} (xs : List X) (n i : ℕ) (x : X) → i < n → slice_get xs i ≡ Some x → slice_get (take n xs) i ≡ Some x
@@ -87,8 +87,8 @@ module _ (net : Network) (partners : List ℕ) (are : ArePartners (length net.li
             same_Some y.partner x.place (sym of_y.partner ∙ linked_partner y.place x.place (λ same. differ (sym same)) (turn_linked net x.place y.place linked))
 
     -- what is between two interfaces is between their claims
-    to_peace : (x y : Claim) → IsClaimOf (take n net.faces) partners x → IsClaimOf (take n net.faces) partners y → x.place ≢ y.place → ClearBelow net n → AreAtPeace x y
-    to_peace x y of_x of_y differ clear = elim (cases_lt x.place y.place) [
+    to_claims : (x y : Claim) → IsClaimOf (take n net.faces) partners x → IsClaimOf (take n net.faces) partners y → x.place ≢ y.place → ClearBelow net n → AreLinkedOrApart x y
+    to_claims x y of_x of_y differ clear = elim (cases_lt x.place y.place) [
       | inl lower ↦ elim (clear x.place y.place of_x.face of_y.face lower in_y.0 in_x.1 in_y.1) [
         | inl linked ↦ inl (same_Some x.partner y.place (sym of_x.partner ∙ linked_partner x.place y.place differ linked))
         | inr apart ↦ inr (from_apart of_x.face of_y.face x.subnet y.subnet of_x.subnet of_y.subnet apart)
@@ -115,16 +115,16 @@ module _ (net : Network) (partners : List ℕ) (are : ArePartners (length net.li
           | inr other ↦ absurd (differ (omega (arith, h, other)))
         ]
 
-    pub peace_from_clear : ClearBelow net n → AllPairs AreAtPeace claims
-    peace_from_clear clear a b d l m = to_peace (get_or claims a d) (get_or claims b d) (claim_at a d (omega arith)) (claim_at b d m) (known.apart a b d l m) clear
+    pub claims_from_clear : ClearBelow net n → AllPairs AreLinkedOrApart claims
+    claims_from_clear clear a b d l m = to_claims (get_or claims a d) (get_or claims b d) (claim_at a d (omega arith)) (claim_at b d m) (known.apart a b d l m) clear
 
     -- what is between two claims is between their interfaces
-    from_peace : (x y : Claim) (f g : FaceRow) → IsClaimOf (take n net.faces) partners x → x.place ≢ y.place → f.subnet ≡ Some x.subnet → g.subnet ≡ Some y.subnet → AreAtPeace x y → AreLinked net x.place y.place ⊎ AreApart f g
-    from_peace x y f g of_x differ f_is g_is (inl partner) = inl (partner_linked x.place y.place differ (of_x.partner ∙ ap Some partner))
-    from_peace x y f g of_x differ f_is g_is (inr disjoint) = inr (apart_from f g x.subnet y.subnet f_is g_is disjoint)
+    from_claims : (x y : Claim) (f g : FaceRow) → IsClaimOf (take n net.faces) partners x → x.place ≢ y.place → f.subnet ≡ Some x.subnet → g.subnet ≡ Some y.subnet → AreLinkedOrApart x y → AreLinked net x.place y.place ⊎ AreApart f g
+    from_claims x y f g of_x differ f_is g_is (inl partner) = inl (partner_linked x.place y.place differ (of_x.partner ∙ ap Some partner))
+    from_claims x y f g of_x differ f_is g_is (inr disjoint) = inr (apart_from f g x.subnet y.subnet f_is g_is disjoint)
 
-    pub clear_from_peace : AllPairs AreAtPeace claims → ClearBelow net n
-    clear_from_peace peace i j f g lower below at_f at_g = by f.subnet g.subnet refl refl
+    pub clear_from_claims : AllPairs AreLinkedOrApart claims → ClearBelow net n
+    clear_from_claims free i j f g lower below at_f at_g = by f.subnet g.subnet refl refl
       where
         whole : (p q : Prefix) → f.subnet ≡ Some p → g.subnet ≡ Some q → AreLinked net i j ⊎ AreApart f g
         whole p q f_is g_is =
@@ -139,14 +139,14 @@ module _ (net : Network) (partners : List ℕ) (are : ArePartners (length net.li
             let differ : x.0.place ≢ y.0.place = λ e. omega (arith, x.2, y.2, e, lower) in
             elim (cases_lt x.1.0 y.1.0) [
               | inl before ↦
-                  let pair : AreAtPeace x.0 y.0 =
-                  subst (λ (c : Claim). AreAtPeace x.0 c) (get_or_default claims y.1.0 x.0 y.0 y.1.1 ∙ y.1.2) (subst (λ (c : Claim). AreAtPeace c (get_or claims y.1.0 x.0)) x.1.2 (peace x.1.0 y.1.0 x.0 before y.1.1)) in
-                  moved x.0 y.0 x.2 y.2 (from_peace x.0 y.0 f g of_x differ f_sub g_sub pair)
+                  let pair : AreLinkedOrApart x.0 y.0 =
+                  subst (λ (c : Claim). AreLinkedOrApart x.0 c) (get_or_default claims y.1.0 x.0 y.0 y.1.1 ∙ y.1.2) (subst (λ (c : Claim). AreLinkedOrApart c (get_or claims y.1.0 x.0)) x.1.2 (free x.1.0 y.1.0 x.0 before y.1.1)) in
+                  moved x.0 y.0 x.2 y.2 (from_claims x.0 y.0 f g of_x differ f_sub g_sub pair)
               | inr not_before ↦ elim (cases_lt y.1.0 x.1.0) [
                 | inl after ↦
-                    let pair : AreAtPeace y.0 x.0 =
-                    subst (λ (c : Claim). AreAtPeace y.0 c) (get_or_default claims x.1.0 y.0 x.0 x.1.1 ∙ x.1.2) (subst (λ (c : Claim). AreAtPeace c (get_or claims x.1.0 y.0)) y.1.2 (peace y.1.0 x.1.0 y.0 after x.1.1)) in
-                    turned x.0 y.0 x.2 y.2 (from_peace y.0 x.0 g f of_y (λ e. differ (sym e)) g_sub f_sub pair)
+                    let pair : AreLinkedOrApart y.0 x.0 =
+                    subst (λ (c : Claim). AreLinkedOrApart y.0 c) (get_or_default claims x.1.0 y.0 x.0 x.1.1 ∙ x.1.2) (subst (λ (c : Claim). AreLinkedOrApart c (get_or claims x.1.0 y.0)) y.1.2 (free y.1.0 x.1.0 y.0 after x.1.1)) in
+                    turned x.0 y.0 x.2 y.2 (from_claims y.0 x.0 g f of_y (λ e. differ (sym e)) g_sub f_sub pair)
                 | inr same ↦
                     let one : x.1.0 ≡ y.1.0 = omega (arith, not_before, same) in
                     absurd (differ (ap (λ (c : Claim). c.place) (sym x.1.2 ∙ ap (λ (k : ℕ). get_or claims k x.0) one ∙ get_or_default claims y.1.0 x.0 y.0 y.1.1 ∙ y.1.2)))
@@ -172,9 +172,9 @@ module _ (net : Network) (partners : List ℕ) (are : ArePartners (length net.li
         by (Some p) (Some q) f_is g_is = whole p q f_is g_is
 
     -- the answer on the claims is that on the interfaces
-    pub clear_by_claims : (answer : Bool) → MatchBool answer (AllPairs AreAtPeace claims) (¬ AllPairs AreAtPeace claims) → MatchBool answer (ClearBelow net n) (¬ ClearBelow net n)
-    clear_by_claims true peace = clear_from_peace peace
-    clear_by_claims false war = λ clear. war (peace_from_clear clear)
+    pub clear_by_claims : (answer : Bool) → MatchBool answer (AllPairs AreLinkedOrApart claims) (¬ AllPairs AreLinkedOrApart claims) → MatchBool answer (ClearBelow net n) (¬ ClearBelow net n)
+    clear_by_claims true free = clear_from_claims free
+    clear_by_claims false overlap = λ clear. overlap (claims_from_clear clear)
 
 -- one more interface
 pub claims_more : (faces : List FaceRow) (partners : List ℕ) (claims next : List Claim) (n partner : ℕ) (face : FaceRow) → n < length faces → face ≡ get_or faces n face → slice_get partners n ≡ Some partner →

@@ -17,7 +17,8 @@ use Rattle.ios_words.specs.declared.commands.Command.TheVariants as commands
 use Rattle.ios_config.specs.declared.settings.Given.{Given}
 use Rattle.net_build.specs.Neighbors.{names_peer, says_remote, remote_of}
 use Rattle.ios_config.specs.Least.{IsLeast, FindsLeast}
-use Rattle.net_build.specs.FarEnds.{LeadsTo, LinkLeadsTo, AddsFarEnd, NamesOther, IsListed, IsReached, gives_remote}
+use Rattle.net_build.specs.FarEnds.{LeadsTo, LinkLeadsTo, AddsFarEnd, IsListed, IsReached, gives_remote}
+use Rattle.net_build.specs.Peers.{NamesOther}
 use Rattle.net_build.specs.Settings.{lines_of}
 use Rattle.ios_config.specs.declared.settings.Config.{Config}
 use Rattle.net_build.proofs.Anys.{Any-none, Any-before, Any-now, Any-either}

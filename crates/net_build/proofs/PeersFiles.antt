@@ -22,8 +22,8 @@ use Rattle.net_build.specs.Names.{AreDistinct}
 use Rattle.net_build.specs.Lists.{packet_list_key}
 use Rattle.net_build.specs.Rows.{IsFaceRow, IsLinkRow, AreBaseRows}
 use Rattle.net_build.specs.Reasons.{IsClear, IsFirst, InFiles, TriedAlone}
-use Rattle.net_build.specs.Peers.{IsFarEnd, IsKnown, NamesUnknown, RefusesNeighbor}
-use Rattle.net_build.specs.FarEnds.{LeadsTo, LinkLeadsTo, NamesOther, IsReached}
+use Rattle.net_build.specs.Peers.{IsFarEnd, IsKnown, NamesOther, RefusesNeighbor}
+use Rattle.net_build.specs.FarEnds.{LeadsTo, LinkLeadsTo, IsReached}
 use Rattle.net_build.proofs.PeersEnds.{others_same}
 use Rattle.net_build.proofs.Distinct.{Contains-at, at_Contains, one_place}
 use Rattle.arc_base.proofs.Items.{Contains-map, Contains-piece}
@@ -139,7 +139,7 @@ module _ (doc : Document) (configs : List Config) (net : Network) (base : AreBas
   Reached ends place config line = Any (NamesOther (IsReached ends place config) line) (lines_of config)
 
   abbrev Unknown : ℕ → Config → ℕ → Type 0
-  Unknown place config line = Any (NamesUnknown doc configs config line) (lines_of config)
+  Unknown place config line = Any (NamesOther (IsKnown doc configs config) line) (lines_of config)
 
   module _ (ends : List (ℕ × ℕ)) (are : (pair : ℕ × ℕ) → Contains ends pair ↔ Any (LinkLeadsTo net.faces pair) net.links) where
     to : (place : ℕ) (config : Config) (n : ℕ) → slice_get configs place ≡ Some config → Reached ends place config n → Unknown place config n

@@ -19,8 +19,8 @@ use Rattle.net_build.specs.Neighbors.{remote_of, is_down, filter_of}
 use Rattle.net_build.specs.Sites.{Site, sites, ends_of}
 use Rattle.net_build.specs.Lists.{IsPlaceAmong, packet_list_key}
 use Rattle.net_build.specs.Ordered.{AreInOrder}
-use Rattle.net_build.specs.Rows.{IsFaceRow, IsSessionOf, IsSession, IsSessionBefore}
-use Rattle.net_build.specs.Sessions.{IsConfigured, IsSessionOver, AddsOne, AreFilesOf, end_place, IsSessionTo, AreSessionsTo}
+use Rattle.net_build.specs.Rows.{IsFaceRow, IsConfigured, IsSessionOf, IsSession, IsSessionBefore}
+use Rattle.net_build.specs.Sessions.{IsSessionOver, AddsOne, AreFilesOf, end_place, IsSessionTo, AreSessionsTo}
 use Rattle.arc_base.proofs.Items.{Contains-cases, Contains-head, Contains-none}
 use Rattle.net_build.proofs.Zips.{AllZip-left, AllZip-right}
 use Rattle.net_build.proofs.SameRows.{one_list_place}
@@ -56,7 +56,6 @@ to_over configs net lists files router config at link from s one own =
     let far = AllZip-right R (sites configs) net.faces files.base.faces (head_end one.row from).0 one.far one.at_far in
     let file : one.near.config ≡ config = same_Some one.near.config config
     (sym (site_file configs s.face.0 one.near one.at_near) ∙ ap (λ (k : ℕ). slice_get configs k) own ∙ at) in
-    let here : IsConfigured lists one.near.router one.near.config s = record { remote = one.remote; down = one.down; bound = one.bound; filter = one.filter } in
     record {
       near_row = near.0;
       at_near = ap (λ (k : ℕ). slice_get net.faces k) one.near_end ∙ near.1;
@@ -65,7 +64,7 @@ to_over configs net lists files router config at link from s one own =
       at_far = far.1;
       face = ap (λ (n : ℕ). let face : Face = record { 0 = n } in face) (sym one.near_end);
       peer = far.2.addr ∙ one.peer;
-      configured = subst (λ (c : Config). IsConfigured lists router c s) file (subst (λ (r : ℕ). IsConfigured lists r one.near.config s) own here);
+      configured = subst (λ (c : Config). IsConfigured lists router c s) file (subst (λ (r : ℕ). IsConfigured lists r one.near.config s) own one.configured);
     }
 
 -- and what the rows show, of the files
@@ -91,10 +90,7 @@ from_over configs net lists files router config at link from row at_link s over 
         far = far.0;
         at_far = far.1;
         peer = sym far.2.addr ∙ over.peer;
-        remote = here.remote;
-        down = here.down;
-        bound = here.bound;
-        filter = here.filter;
+        configured = here;
       },
       own,
     )

@@ -78,7 +78,7 @@ module _ (doc : Document) (configs : List Config) (net : Network) (k : AreKnown 
       get_or_from_slice_get net.links link of.row of.row of.at_link,
       subst (λ (face : ℕ). EndsAt of.row face) of.near_end (ends_at of.row from_a),
     );
-    filter = filter_within (filter_of (lines_of of.near.config) session.peer) of.near.router session.bound session.filter of.bound of.filter;
+    filter = filter_within (filter_of (lines_of of.near.config) session.peer) of.near.router session.bound session.filter of.configured.bound of.configured.filter;
   }
     where
       face_count : length (sites configs) ≡ length net.faces

@@ -17,8 +17,8 @@ pub record ArePartners (n : ℕ) (links : List LinkRow) (partners : List ℕ) : 
       × (((link.a.0 ≡ k) × (link.b.0 ≡ partner)) ⊎ ((link.b.0 ≡ k) × (link.a.0 ≡ partner))))
 
 -- the claims are those of the two ends of a link, or have no address in common
-abbrev pub AreAtPeace : Claim → Claim → Type 0
-AreAtPeace x y = (x.partner ≡ y.place) ⊎ AreDisjoint x.subnet y.subnet
+abbrev pub AreLinkedOrApart : Claim → Claim → Type 0
+AreLinkedOrApart x y = (x.partner ≡ y.place) ⊎ AreDisjoint x.subnet y.subnet
 
 -- no two claims are of one interface, and the one is the other's partner both ways
 abbrev pub AreOfPartners : List Claim → Type 0

@@ -5,10 +5,9 @@ use Rattle.net_model.specs.declared.rows.FaceRow.{FaceRow}
 use Rattle.net_model.specs.declared.rows.LinkRow.{LinkRow}
 use Rattle.ios_words.specs.declared.commands.Command.{Command}
 use Rattle.ios_words.specs.declared.commands.Command.TheVariants as commands
-use Rattle.ios_config.specs.declared.settings.Given.{Given}
 use Rattle.ios_config.specs.declared.settings.Config.{Config}
 use Rattle.net_build.specs.Settings.{lines_of}
-use Rattle.net_build.specs.Neighbors.{names_peer, remote_of}
+use Rattle.net_build.specs.Neighbors.{remote_of}
 
 -- what was found is the only thing with the property, or there is none
 abbrev pub FindsOnly : {X : Type 0} → (X → Type 0) → Option X → Type 0
@@ -28,10 +27,6 @@ LinkLeadsTo faces pair link = LeadsTo faces link.a link.b pair ⊎ LeadsTo faces
 -- the pair that the two interfaces make was added, if they make one
 abbrev pub AddsFarEnd : List FaceRow → Face → Face → List (ℕ × ℕ) → List (ℕ × ℕ) → Type 0
 AddsFarEnd faces near far old new = (pair : ℕ × ℕ) → Contains new pair ↔ (Contains old pair ⊎ LeadsTo faces near far pair)
-
--- the line names a neighbour that is none of those known
-abbrev pub NamesOther : (ℕ → Type 0) → ℕ → Given Command → Type 0
-NamesOther IsKnown line g = (line ≡ g.line) × ((peer : ℕ) × (names_peer g.value ≡ Some peer) × ¬ IsKnown peer)
 
 -- the neighbour is among these far ends of the router and among those with an AS
 abbrev pub IsListed : List (ℕ × ℕ) → List ℕ → ℕ → ℕ → Type 0

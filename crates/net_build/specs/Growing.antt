@@ -1,20 +1,6 @@
 -- What is added to the indexes that are kept while the files are gone through.
 use Rattle.std.specs.Prelude.{◌≡◌, ℕ, Option, Some, None, IsSomeAnd, List, [], Contains, MatchOption, ◌⊎◌, ◌≤◌, nat_lt, ◌==◌, if◌then◌else◌}
 use Rattle.ios_config.specs.declared.settings.Given.{Given}
-use Rattle.ios_config.specs.declared.settings.ProcessText.{ProcessText}
-use Rattle.ios_config.specs.declared.settings.ProcessKind.TheVariants as processes
-
--- the process has this AS
-abbrev pub HasAsNumber : Option ProcessText → ℕ → Type 0
-HasAsNumber process asn = IsSomeAnd process (λ p. (p.kind ≡ processes.Bgp) × (p.number ≡ asn))
-
--- the AS of the process was added, if it has one that is new; else this is the line that gives it
-abbrev pub AddsAs : List ℕ → List ℕ → Option ProcessText → Option ℕ → Type 0
-AddsAs old new process found =
-    MatchOption found
-    (((asn : ℕ) → HasAsNumber process asn → ¬ Contains old asn) × ((asn : ℕ) → Contains new asn → Contains old asn ⊎ HasAsNumber process asn)
-    × ((asn : ℕ) → Contains old asn → Contains new asn) × ((asn : ℕ) → HasAsNumber process asn → Contains new asn))
-    (λ line. (p : ProcessText) × (process ≡ Some p) × (p.kind ≡ processes.Bgp) × (line ≡ p.head) × Contains old p.number)
 
 -- the area at the lesser line
 abbrev pub sooner : Option (Given ℕ) → Given ℕ → Given ℕ

@@ -1,5 +1,5 @@
 -- What is asked of the document's links: interfaces that are there and free, and ends that fit. One definition for each reason.
-use Rattle.std.specs.Prelude.{◌≡◌, ◌≢◌, ℕ, ◌⊎◌, true, false, Option, Some, None, IfSome, IsSomeAnd, option_map, Bool, List, take, slice_get, Any, Contains}
+use Rattle.std.specs.Prelude.{◌≡◌, ◌≢◌, ℕ, ◌⊎◌, true, false, Option, Some, None, IfSome, IsSomeAnd, option_map, Bool, List, take, slice_get, Contains}
 use Rattle.std.specs.List.{filter_map, last_or}
 use Rattle.arc_base.specs.declared.refusal.Kind.TheVariants as kinds
 use Rattle.net_doc.specs.declared.fault.Refusal.{Refusal}
@@ -15,6 +15,7 @@ use Rattle.ios_config.specs.declared.settings.Config.{Config}
 use Rattle.net_build.specs.Kinds.{kind_of, is_loopback}
 use Rattle.net_build.specs.Settings.{lines_of, is_point_to_point}
 use Rattle.net_build.specs.Sites.{FullName, sites, full_names, a_end, b_end, ends_of}
+use Rattle.net_build.specs.Routers.{Repeats}
 use Rattle.net_build.specs.Rows.{AreRows}
 use Rattle.net_build.specs.Reasons.{InFiles, InDocument}
 
@@ -81,15 +82,6 @@ router_id_line g = option_map (λ id. record { value = id; line = g.line }) (say
 abbrev pub router_id_of : Config → Option (Given ℕ)
 router_id_of config = last_or None (filter_map router_id_line (lines_of config))
 
--- the file sets this router id
-abbrev pub HasRouterId : ℕ → Config → Type 0
-HasRouterId id config = IsSomeAnd (router_id_of config) (λ given. given.value ≡ id)
-
--- one of the routers before has the same router id, which this line sets
-abbrev pub RepeatsRouterId : List Config → ℕ → Config → ℕ → Type 0
-RepeatsRouterId configs place config line =
-    IsSomeAnd (router_id_of config) (λ given. (line ≡ given.line) × Any (HasRouterId given.value) (take place configs))
-
 -- a link whose ends have different types, or a router id that repeats
 abbrev pub RefusesAdjacencyForm : Document → List Config → Refusal → Type 0
-RefusesAdjacencyForm doc configs r = RefusesTypes doc configs r ⊎ InFiles kinds.AdjacencyForm (RepeatsRouterId configs) configs r
+RefusesAdjacencyForm doc configs r = RefusesTypes doc configs r ⊎ InFiles kinds.AdjacencyForm (Repeats router_id_of configs) configs r

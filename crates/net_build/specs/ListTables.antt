@@ -1,5 +1,5 @@
 -- The tables from which the rows of lists are made: names, and lists by their names, held by reference.
-use Rattle.std.specs.Prelude.{◌≡◌, ℕ, ◌↔◌, ◌⊎◌, ◌&&◌, not, Bool, true, false, Option, Some, None, List, [], ◌∷◌, ◌++◌, Contains, map, find, option_map, option_and_then, bytes_eq, if◌then◌else◌}
+use Rattle.std.specs.Prelude.{◌≡◌, ℕ, ◌↔◌, ◌⊎◌, ◌&&◌, Bool, Option, Some, None, List, ◌++◌, Contains, map, option_map, bytes_eq, if◌then◌else◌}
 use Rattle.std.specs.List.{filter_map}
 use Rattle.std.specs.Cmp.Lexicographic.{slice_cmp}
 use Rattle.std.specs.Ordering.{nat_cmp}
@@ -9,11 +9,10 @@ use Rattle.net_model.specs.declared.lists.PacketList.{PacketList}
 use Rattle.net_model.specs.declared.lists.RouteList.{RouteList}
 use Rattle.ios_words.specs.declared.commands.Command.{Command}
 use Rattle.ios_words.specs.declared.commands.Command.TheVariants as commands
-use Rattle.ios_config.specs.declared.settings.Given.{Given}
 use Rattle.ios_config.specs.declared.settings.Config.{Config}
 use Rattle.ios_config.specs.declared.settings.ListText.{ListText}
 use Rattle.net_build.specs.Ordered.{AreInOrder, IsNameBefore}
-use Rattle.net_build.specs.Lists.{is_packet_kind, is_extended_kind, packet_entries, route_entries, packet_list_named, route_list_named, IsBoundPacketList, IsBoundRouteList}
+use Rattle.net_build.specs.Lists.{is_of_kind, packet_row_at, route_row_at, IsBoundPacketList, IsBoundRouteList}
 
 -- the names that a set holds by reference
 abbrev pub texts_at : List (Bor (List ℕ)) → List (List ℕ)
@@ -32,42 +31,9 @@ route_binding other = None
 abbrev pub list_at : BTreeMap (Bor (List ℕ)) (Bor ListText) → List ℕ → Option ListText
 list_at lists name = option_map (λ l. l.now) (get_by (λ k. slice_cmp nat_cmp name k.now) lists)
 
--- whether the list is a packet list, or whether it is a route list
-abbrev pub is_of_kind : Bool → ListText → Bool
-is_of_kind true list = is_packet_kind list.kind
-is_of_kind false list = not (is_packet_kind list.kind)
-
 -- the list, if it is of the kind and has this name
 abbrev pub list_if : Bool → ListText → List ℕ → Option ListText
 list_if packet list name = if bytes_eq list.name name && is_of_kind packet list then Some list else None
-
--- the file's list of this kind and name
-abbrev pub list_named : Bool → Config → List ℕ → Option ListText
-list_named packet config name = find (λ list. bytes_eq list.name name && is_of_kind packet list) config.lists
-
-abbrev pub has_entries : List (Given Command) → Bool
-has_entries [] = false
-has_entries (entry ∷ entries) = true
-
--- the list that was found, if it has an entry
-abbrev pub if_defined : Option ListText → Option ListText
-if_defined found = option_and_then (λ list. if has_entries list.entries then Some list else None) found
-
--- the row of a packet list
-abbrev pub packet_row : ℕ → List ℕ → ListText → PacketList
-packet_row router name list = record { router = record { 0 = router }; name = name; extended = is_extended_kind list.kind; entries = packet_entries list }
-
--- the row of a route list
-abbrev pub route_row : ℕ → List ℕ → ListText → RouteList
-route_row router name list = record { router = record { 0 = router }; name = name; entries = route_entries list }
-
--- the row of the file's packet list of this name, if it is defined
-abbrev pub packet_row_at : ℕ → Config → List ℕ → Option PacketList
-packet_row_at router config name = option_map (packet_row router name) (if_defined (packet_list_named config name))
-
--- the row of the file's route list of this name, if it is defined
-abbrev pub route_row_at : ℕ → Config → List ℕ → Option RouteList
-route_row_at router config name = option_map (route_row router name) (if_defined (route_list_named config name))
 
 -- the rows of the packet lists of a file were added, in byte order of their names
 pub record AddsPacketRows (router : ℕ) (config : Config) (old new : List PacketList) : Type 0 where

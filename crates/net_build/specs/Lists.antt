@@ -1,5 +1,5 @@
 -- The lists of a router file: the names that it gives or binds, and the rows of those that are bound and defined.
-use Rattle.std.specs.Prelude.{◌≡◌, ◌≢◌, ℕ, ◌⊎◌, Bool, true, false, Option, Some, None, IsSomeAnd, IfSome, List, [], map, Any, Contains, slice_get, find, bytes_eq, ◌&&◌, not}
+use Rattle.std.specs.Prelude.{◌≡◌, ℕ, ◌⊎◌, Bool, true, false, Option, Some, None, IsSomeAnd, IfSome, List, [], ◌∷◌, map, Any, Contains, slice_get, find, bytes_eq, ◌&&◌, not, option_map, option_and_then, if◌then◌else◌}
 use Rattle.std.specs.List.{filter_map}
 use denote.Ref.{Bor}
 use Rattle.arc_base.specs.declared.place.ListId.{ListId}
@@ -9,6 +9,7 @@ use Rattle.net_model.specs.declared.lists.RouteEntry.{RouteEntry}
 use Rattle.net_model.specs.declared.lists.RouteList.{RouteList}
 use Rattle.ios_words.specs.declared.commands.Command.{Command}
 use Rattle.ios_words.specs.declared.commands.Command.TheVariants as commands
+use Rattle.ios_config.specs.declared.settings.Given.{Given}
 use Rattle.ios_config.specs.declared.settings.Config.{Config}
 use Rattle.ios_config.specs.declared.settings.FaceText.{FaceText}
 use Rattle.ios_config.specs.declared.settings.ListText.{ListText}
@@ -69,36 +70,61 @@ IsListName config name = Any (λ l. l.name ≡ name) config.lists ⊎ (IsBoundPa
 abbrev pub AreListNames : Config → List (List ℕ) → Type 0
 AreListNames config names = AreInOrder IsNameBefore (IsListName config) names
 
+-- whether the list is a packet list, or whether it is a route list
+abbrev pub is_of_kind : Bool → ListText → Bool
+is_of_kind true list = is_packet_kind list.kind
+is_of_kind false list = not (is_packet_kind list.kind)
+
+-- the file's list of this kind and name
+abbrev pub list_named : Bool → Config → List ℕ → Option ListText
+list_named packet config name = find (λ list. bytes_eq list.name name && is_of_kind packet list) config.lists
+
 -- the file's packet list of this name
 abbrev pub packet_list_named : Config → List ℕ → Option ListText
-packet_list_named config name = find (λ list. bytes_eq list.name name && is_packet_kind list.kind) config.lists
+packet_list_named config name = list_named true config name
 
 -- the file's route list of this name
 abbrev pub route_list_named : Config → List ℕ → Option ListText
-route_list_named config name = find (λ list. bytes_eq list.name name && not (is_packet_kind list.kind)) config.lists
+route_list_named config name = list_named false config name
 
--- this list was found, and it is defined: it has an entry
-abbrev pub IsDefined : Option ListText → ListText → Type 0
-IsDefined found list = (found ≡ Some list) × (list.entries ≢ [])
+-- whether there are entries
+abbrev pub has_entries : List (Given Command) → Bool
+has_entries [] = false
+has_entries (entry ∷ entries) = true
 
--- the row of a packet list: some file binds and defines it
+-- the list that was found, if it has an entry
+abbrev pub if_defined : Option ListText → Option ListText
+if_defined found = option_and_then (λ list. if has_entries list.entries then Some list else None) found
+
+-- the row of a packet list
+abbrev pub packet_row : ℕ → List ℕ → ListText → PacketList
+packet_row router name list = record { router = record { 0 = router }; name = name; extended = is_extended_kind list.kind; entries = packet_entries list }
+
+-- the row of a route list
+abbrev pub route_row : ℕ → List ℕ → ListText → RouteList
+route_row router name list = record { router = record { 0 = router }; name = name; entries = route_entries list }
+
+-- the row of the file's packet list of this name, if it is defined
+abbrev pub packet_row_at : ℕ → Config → List ℕ → Option PacketList
+packet_row_at router config name = option_map (packet_row router name) (if_defined (packet_list_named config name))
+
+-- the row of the file's route list of this name, if it is defined
+abbrev pub route_row_at : ℕ → Config → List ℕ → Option RouteList
+route_row_at router config name = option_map (route_row router name) (if_defined (route_list_named config name))
+
+-- some file binds and defines the packet list that has this row
 pub record IsPacketListRow (configs : List Config) (row : PacketList) : Type 0 where
   pub config : Config
   pub at_router : slice_get configs row.router.0 ≡ Some config
   pub bound : IsBoundPacketList config row.name
-  pub list : ListText
-  pub defined : IsDefined (packet_list_named config row.name) list
-  pub extended : row.extended ≡ is_extended_kind list.kind
-  pub entries : row.entries ≡ packet_entries list
+  pub defined : packet_row_at row.router.0 config row.name ≡ Some row
 
--- the row of a route list: some file binds and defines it
+-- some file binds and defines the route list that has this row
 pub record IsRouteListRow (configs : List Config) (row : RouteList) : Type 0 where
   pub config : Config
   pub at_router : slice_get configs row.router.0 ≡ Some config
   pub bound : IsBoundRouteList config row.name
-  pub list : ListText
-  pub defined : IsDefined (route_list_named config row.name) list
-  pub entries : row.entries ≡ route_entries list
+  pub defined : route_row_at row.router.0 config row.name ≡ Some row
 
 -- these are the rows of all packet lists, by router and then in byte order of names
 abbrev pub ArePacketLists : List Config → List PacketList → Type 0

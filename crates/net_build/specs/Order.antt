@@ -63,13 +63,15 @@ abbrev pub AreClear : (Try → Refusal → Type 0) → List Try → Type 0
 AreClear Makes [] = Unit {0}
 AreClear Makes (t ∷ ts) = IsClear (Makes t) × AreClear Makes ts
 
--- the tries of the routers by themselves, of the links and what stands on them, and of the network
+-- the tries of the routers by themselves
 abbrev pub router_tries : List Try
 router_tries = Hostname ∷ Protocol ∷ TwoAreas ∷ SameAs ∷ []
 
+-- the tries of the links, and of the neighbours and networks that the lines of BGP name
 abbrev pub link_tries : List Try
 link_tries = LinkFace ∷ NeighborUnknown ∷ NetworkNotConnected ∷ []
 
+-- the tries of the whole network
 abbrev pub network_tries : List Try
 network_tries = Overlap ∷ LinkSubnets ∷ ListStopsSession ∷ AdjacencyForm ∷ Interfaces ∷ Entries ∷ Endpoint ∷ []
 

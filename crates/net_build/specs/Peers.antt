@@ -29,14 +29,14 @@ pub record IsKnown (doc : Document) (configs : List Config) (config : Config) (p
   pub far_end : IsFarEnd doc configs config peer
   pub remote : IsSome (remote_of (lines_of config) peer)
 
--- the line names a neighbour that is not known
-abbrev pub NamesUnknown : Document → List Config → Config → ℕ → Given Command → Type 0
-NamesUnknown doc configs config line g =
-    (line ≡ g.line) × ((peer : ℕ) × (names_peer g.value ≡ Some peer) × ¬ IsKnown doc configs config peer)
+-- the line names a neighbour that is none of those known
+abbrev pub NamesOther : (ℕ → Type 0) → ℕ → Given Command → Type 0
+NamesOther IsAmong line g = (line ≡ g.line) × ((peer : ℕ) × (names_peer g.value ≡ Some peer) × ¬ IsAmong peer)
 
+-- a line of BGP that names a neighbour which is not known
 abbrev pub RefusesNeighbor : Document → List Config → Refusal → Type 0
 RefusesNeighbor doc configs =
-    InFiles kinds.NeighborUnknown (λ place config line. Any (NamesUnknown doc configs config line) (lines_of config)) configs
+    InFiles kinds.NeighborUnknown (λ place config line. Any (NamesOther (IsKnown doc configs config) line) (lines_of config)) configs
 
 -- the prefix is the connected subnet of the interface
 abbrev pub IsConnectedAt : FaceText → Prefix → Type 0
@@ -51,6 +51,7 @@ abbrev pub TellsUnconnected : Config → ℕ → Given Command → Type 0
 TellsUnconnected config line g =
     (line ≡ g.line) × ((p : Prefix) × (g.value ≡ commands.Tells p) × ¬ IsConnected config.faces p)
 
+-- a BGP network statement for a prefix that is not connected
 abbrev pub RefusesNetwork : List Config → Refusal → Type 0
 RefusesNetwork configs =
     InFiles kinds.NetworkNotConnected (λ place config line. Any (TellsUnconnected config line) (lines_of config)) configs

@@ -1,5 +1,5 @@
 -- What is asked of the routers by themselves: a name, one process, one area, an AS of its own. One definition for each reason.
-use Rattle.std.specs.Prelude.{◌≡◌, ◌≢◌, ℕ, ◌<◌, ◌⊎◌, Option, Some, None, IsSomeAnd, unwrap_or, List, [], ◌∷◌, ◌++◌, take, slice_get, Any, Contains, MatchOption, option_map}
+use Rattle.std.specs.Prelude.{◌≡◌, ◌≢◌, ℕ, ◌<◌, ◌⊎◌, Option, Some, None, IsSomeAnd, unwrap_or, List, [], ◌∷◌, ◌++◌, take, slice_get, Any, Contains, MatchOption, option_map, option_and_then}
 use Rattle.std.specs.List.{filter_map}
 use Rattle.arc_base.specs.declared.refusal.Kind.TheVariants as kinds
 use Rattle.net_doc.specs.declared.fault.Refusal.{Refusal}
@@ -25,6 +25,7 @@ abbrev pub HasNoOwnName : List Config → ℕ → Config → ℕ → Type 0
 HasNoOwnName configs place config line =
     MatchOption config.hostname (line ≡ 0) (λ s. (line ≡ s.line) × Any (NamesRouter s.name) (take place configs))
 
+-- a router that has no name of its own
 abbrev pub RefusesHostname : List Config → Refusal → Type 0
 RefusesHostname configs = InFiles kinds.Hostname (HasNoOwnName configs) configs
 
@@ -57,6 +58,7 @@ abbrev pub HasNoOwnProcess : List Config → ℕ → Config → ℕ → Type 0
 HasNoOwnProcess configs place config line =
     MatchOption (process_of config) (line ≡ 0) (λ process. MixesProcesses (protocol_of configs) config process line)
 
+-- a router that has not just one process, of the network's protocol
 abbrev pub RefusesProtocol : List Config → Refusal → Type 0
 RefusesProtocol configs = InFiles kinds.Protocol (HasNoOwnProcess configs) configs
 
@@ -97,17 +99,28 @@ pub record NamesOtherArea (configs : List Config) (config : Config) (line : ℕ)
   pub is_first : IsFirstArea configs first
   pub other : Any (IsOther first line) (areas_of config)
 
+-- a line that names another OSPF area than the first
 abbrev pub RefusesTwoAreas : List Config → Refusal → Type 0
 RefusesTwoAreas configs = InFiles kinds.TwoAreas (λ place config line. NamesOtherArea configs config line) configs
 
--- the file's process is of BGP and has this AS
-abbrev pub HasAs : ℕ → Config → Type 0
-HasAs asn config = IsSomeAnd (process_of config) (λ p. (p.kind ≡ processes.Bgp) × (p.number ≡ asn))
+-- the file gives this number, where it may give one at a line
+abbrev pub Gives : (Config → Option (Given ℕ)) → ℕ → Config → Type 0
+Gives number_of n config = IsSomeAnd (number_of config) (λ given. given.value ≡ n)
 
--- one of the routers before has the same AS, which this line gives
-abbrev pub HasNoOwnAs : List Config → ℕ → Config → ℕ → Type 0
-HasNoOwnAs configs place config line =
-    IsSomeAnd (process_of config) (λ p. (line ≡ p.head) × (p.kind ≡ processes.Bgp) × Any (HasAs p.number) (take place configs))
+-- one of the files before gives the same number as this one, which gives it at this line
+abbrev pub Repeats : (Config → Option (Given ℕ)) → List Config → ℕ → Config → ℕ → Type 0
+Repeats number_of configs place config line =
+    IsSomeAnd (number_of config) (λ given. (line ≡ given.line) × Any (Gives number_of given.value) (take place configs))
 
+-- the AS of a BGP process, with the line at which its block begins
+abbrev pub as_of_process : ProcessKind → ProcessText → Option (Given ℕ)
+as_of_process processes.Ospf process = None
+as_of_process processes.Bgp process = Some (record { value = process.number; line = process.head })
+
+-- the AS of the file's process
+abbrev pub as_of : Config → Option (Given ℕ)
+as_of config = option_and_then (λ p. as_of_process p.kind p) (process_of config)
+
+-- a router with the same AS as one before it
 abbrev pub RefusesSameAs : List Config → Refusal → Type 0
-RefusesSameAs configs = InFiles kinds.SameAs (HasNoOwnAs configs) configs
+RefusesSameAs configs = InFiles kinds.SameAs (Repeats as_of configs) configs

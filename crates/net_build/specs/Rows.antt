@@ -90,7 +90,14 @@ pub record IsLinkRow (names : List FullName) (link : LinkText) (row : LinkRow) :
   pub b : slice_get names row.b.0 ≡ Some (b_end link)
   pub waypoint : row.waypoint ≡ link.waypoint
 
--- at this end of a link the file of the interface configures a neighbour, with the address of the far end; the route lists have these routers and names
+-- the file, which is that of this router, configures the session's neighbour as the session says; the route lists have these routers and names
+pub record IsConfigured (lists : List (ℕ × List ℕ)) (router : ℕ) (config : Config) (session : SessionRow) : Type 0 where
+  pub remote : remote_of (lines_of config) session.peer ≡ Some session.remote
+  pub down : session.down ≡ is_down (lines_of config) session.peer
+  pub bound : session.bound ≡ is_some (filter_of (lines_of config) session.peer)
+  pub filter : IsPlaceAmong lists router (filter_of (lines_of config) session.peer) session.filter
+
+-- at this end of a link the file of the interface configures a neighbour, with the address of the far end
 pub record IsSessionOf (configs : List Config) (links : List LinkRow) (lists : List (ℕ × List ℕ)) (link : ℕ) (from_a : Bool) (session : SessionRow) : Type 0 where
   pub row : LinkRow
   pub at_link : slice_get links link ≡ Some row
@@ -100,10 +107,7 @@ pub record IsSessionOf (configs : List Config) (links : List LinkRow) (lists : L
   pub far : Site
   pub at_far : slice_get (sites configs) (head_end row from_a).0 ≡ Some far
   pub peer : option_map (λ a. a.0) (address_of far.face) ≡ Some session.peer
-  pub remote : remote_of (lines_of near.config) session.peer ≡ Some session.remote
-  pub down : session.down ≡ is_down (lines_of near.config) session.peer
-  pub bound : session.bound ≡ is_some (filter_of (lines_of near.config) session.peer)
-  pub filter : IsPlaceAmong lists near.router (filter_of (lines_of near.config) session.peer) session.filter
+  pub configured : IsConfigured lists near.router near.config session
 
 -- a session is that of some end of a link
 pub record IsSession (configs : List Config) (links : List LinkRow) (lists : List (ℕ × List ℕ)) (session : SessionRow) : Type 0 where

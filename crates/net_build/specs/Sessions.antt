@@ -1,5 +1,5 @@
 -- The sessions that are made router by router, over one end of a link after another.
-use Rattle.std.specs.Prelude.{◌≡◌, ℕ, ◌+◌, ◌*◌, ◌<◌, ◌⊎◌, ◌↔◌, Bool, true, false, Some, is_some, List, [], ◌∷◌, ◌++◌, slice_get, AllPairs, Contains, map}
+use Rattle.std.specs.Prelude.{◌≡◌, ℕ, ◌+◌, ◌*◌, ◌<◌, ◌⊎◌, ◌↔◌, Bool, true, false, Some, List, [], ◌∷◌, ◌++◌, slice_get, AllPairs, Contains, map}
 use Rattle.arc_base.specs.declared.place.Face.{Face}
 use Rattle.net_model.specs.declared.policies.Document.{Document}
 use Rattle.net_model.specs.declared.rows.FaceRow.{FaceRow}
@@ -7,20 +7,11 @@ use Rattle.net_model.specs.declared.rows.SessionRow.{SessionRow}
 use Rattle.net_model.specs.declared.rows.LinkRow.{LinkRow}
 use Rattle.net_model.specs.declared.rows.Network.{Network}
 use Rattle.ios_config.specs.declared.settings.Config.{Config}
-use Rattle.net_build.specs.Settings.{lines_of}
-use Rattle.net_build.specs.Neighbors.{remote_of, is_down, filter_of}
 use Rattle.net_build.specs.Names.{AreDistinct}
-use Rattle.net_build.specs.Lists.{IsPlaceAmong, route_list_key}
+use Rattle.net_build.specs.Lists.{route_list_key}
 use Rattle.net_build.specs.Reasons.{IsClear}
 use Rattle.net_build.specs.Linking.{RefusesLinkFace}
-use Rattle.net_build.specs.Rows.{AreBaseRows, IsSessionOf, IsSessionBefore}
-
--- the file, which is that of this router, configures the session's neighbour as the session says
-pub record IsConfigured (lists : List (ℕ × List ℕ)) (router : ℕ) (config : Config) (session : SessionRow) : Type 0 where
-  pub remote : remote_of (lines_of config) session.peer ≡ Some session.remote
-  pub down : session.down ≡ is_down (lines_of config) session.peer
-  pub bound : session.bound ≡ is_some (filter_of (lines_of config) session.peer)
-  pub filter : IsPlaceAmong lists router (filter_of (lines_of config) session.peer) session.filter
+use Rattle.net_build.specs.Rows.{AreBaseRows, IsConfigured, IsSessionOf, IsSessionBefore}
 
 -- the router of this file has the session over a link that leads from the one interface, which is its own, to the other
 pub record IsSessionOver (faces : List FaceRow) (lists : List (ℕ × List ℕ)) (router : ℕ) (config : Config) (near far : Face) (session : SessionRow) : Type 0 where

@@ -1,5 +1,5 @@
 //! What two routers must have alike or different to become neighbours: network types and router ids.
-ghost use Rattle.std.specs.Prelude.{◌≡◌, ◌≤◌, ◌↔◌, length, IfOk, None, IsTrue, option_map, slice_get};
+ghost use Rattle.std.specs.Prelude.{◌≡◌, ◌≤◌, ◌↔◌, length, None, IsTrue, option_map, slice_get};
 ghost use Rattle.net_build.specs.Settings.{is_point_to_point};
 ghost use Rattle.net_build.specs.Sites.{full_names, sites};
 ghost use Rattle.net_build.specs.Names.{AreDistinct};
@@ -7,15 +7,16 @@ ghost use Rattle.arc_base.specs.declared.refusal.Kind.TheVariants as kinds;
 ghost use Rattle.net_model.specs.declared.policies.Document.{Document};
 ghost use Rattle.net_build.specs.Reasons.{TriedAlone, InFiles, InDocument};
 ghost use Rattle.net_build.specs.Rows.{AreRows};
-ghost use Rattle.net_build.specs.Linking.{RefusesAdjacencyForm, TypesDiffer, RepeatsRouterId, says_router_id, router_id_line, router_id_of};
-ghost use Rattle.net_build.specs.Growing.{AddsGiven};
+ghost use Rattle.net_build.specs.Linking.{RefusesAdjacencyForm, TypesDiffer, says_router_id, router_id_line, router_id_of};
+ghost use Rattle.net_build.specs.Routers.{Repeats};
 ghost use Rattle.std.specs.List.{filter_map, last_or};
 
 use crate::faces::has_point_type;
 use crate::processes::lines_of;
 use crate::reasons::{in_document, in_file};
+use crate::repeats::add_given;
 use crate::spots::spot_at;
-use arc_base::{Face, Kind, List, Memory};
+use arc_base::{Face, Kind, List};
 use indexmap::IndexSet;
 use ios_config::{Config, Given};
 use ios_words::Command;
@@ -84,20 +85,6 @@ fn router_id_of(config: &Config) -> Option<Given<u32>>
     last_router_id(lines_of(config))
 }
 
-/// Adds the router id of a file, or tells the line that refuses it.
-fn add_router_id(ids: &mut IndexSet<u32>, config: &Config) -> Result<Option<u32>, Memory>
-    ensures { IfOk result (AddsGiven ids.old.keys ids.new.keys (router_id_of config.now)) }
-{
-    let Some(given) = router_id_of(config) else {
-        return Ok(None);
-    };
-    let (_place, new) = ids.insert_full(given.value)?;
-    if new {
-        return Ok(None);
-    }
-    Ok(Some(given.line))
-}
-
 fn try_types(net: &Network, configs: &List<Config>) -> Result<(), NetFault>
     requires { length net.now.links ≤ 1024 }
     ensures { TriedAlone (InDocument kinds.AdjacencyForm (λ place link. TypesDiffer configs.now link) net.now.links) result }
@@ -112,11 +99,11 @@ fn try_types(net: &Network, configs: &List<Config>) -> Result<(), NetFault>
 
 fn try_router_ids(alloc: Global, configs: &List<Config>) -> Result<(), NetFault>
     requires { length configs.now ≤ 256 }
-    ensures { TriedAlone (InFiles kinds.AdjacencyForm (RepeatsRouterId configs.now) configs.now) result }
+    ensures { TriedAlone (InFiles kinds.AdjacencyForm (Repeats router_id_of configs.now) configs.now) result }
 {
     let mut ids = IndexSet::new(alloc);
     for (place, config) in configs.slice().iter().enumerate() {
-        match add_router_id(&mut ids, config)? {
+        match add_given(&mut ids, router_id_of(config))? {
             Some(line) => return Err(in_file(place, line, Kind::AdjacencyForm)),
             None => {}
         }

@@ -11,34 +11,34 @@ pub struct Claim {
 }
 
 impl Claim {
-    ghost use Rattle.net_build.specs.Claims.{AreAtPeace};
+    ghost use Rattle.net_build.specs.Claims.{AreLinkedOrApart};
     ghost use Rattle.net_build.specs.Sorting.{IsPackedAt, ArePacked};
 
     /// Whether the two claims are those of the ends of one link or have no address in common.
-    pub fn is_at_peace(&self, other: &Claim) -> bool
-        ensures { IsTrue result ↔ AreAtPeace self.now other.now }
+    pub fn is_linked_or_apart(&self, other: &Claim) -> bool
+        ensures { IsTrue result ↔ AreLinkedOrApart self.now other.now }
     {
         self.partner == other.place || self.subnet.disjoint(&other.subnet)
     }
 
-    /// Whether the claim at a place is at peace with the one before it, and with the one before that.
+    /// Whether the claim at a place is linked to or apart from the two before it.
     fn is_packed_at(claims: &[Claim], place: usize) -> bool
         requires some { 1 ≤ place }
         requires within { place < length claims.now }
         ensures { IsTrue result ↔ IsPackedAt claims.now place }
     {
         let claim = claims[place];
-        if !claims[place - 1].is_at_peace(&claim) {
+        if !claims[place - 1].is_linked_or_apart(&claim) {
             return false;
         }
         if place < 2 {
             return true;
         }
-        claims[place - 2].is_at_peace(&claim)
+        claims[place - 2].is_linked_or_apart(&claim)
     }
 
-    /// Whether each claim is at peace with the next one, and with the one after that.
-    pub fn neighbours_are_at_peace(claims: &[Claim]) -> bool
+    /// Whether each claim is linked to or apart from the two after it.
+    pub fn neighbours_are_linked_or_apart(claims: &[Claim]) -> bool
         ensures { IsTrue result ↔ ArePacked claims.now }
     {
         for place in 1..claims.len() {

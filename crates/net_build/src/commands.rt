@@ -1,14 +1,13 @@
-//! What the lines of a process say: of the reference bandwidth, of an interface, of a neighbour. The last line that speaks
-//! of a matter decides.
+//! What the lines of a process say of the reference bandwidth and of a neighbour. The last line that speaks of a matter
+//! decides.
 ghost use Rattle.std.specs.Prelude.{◌≡◌};
 ghost use Rattle.std.specs.Option.{option_copied};
-ghost use Rattle.net_build.specs.Settings.{last_said, says_reference, reference_of, says_passive, is_passive};
+ghost use Rattle.net_build.specs.Settings.{last_said, says_reference, reference_of};
 ghost use Rattle.net_build.specs.Neighbors.{says_remote, says_down, says_filter, remote_of, is_down, filter_of};
 
 use arc_base::Name;
 use ios_config::Given;
 use ios_words::Command;
-use net_model::Protocol;
 
 fn says_reference(command: &Command) -> Option<u32>
     ensures { result ≡ says_reference command.now }
@@ -34,36 +33,6 @@ pub fn reference(lines: &[Given<Command>]) -> u64
     ensures { result ≡ reference_of lines.now }
 {
     u64::from(last_reference(lines).unwrap_or(100)) * 1000
-}
-
-fn says_passive(command: &Command, name: &[u8]) -> Option<bool>
-    ensures { result ≡ says_passive name.now command.now }
-{
-    match command {
-        Command::Passive(on, None) => Some(*on),
-        Command::Passive(on, Some(face)) => { if face.is(name) { Some(*on) } else { None } }
-        _ => None,
-    }
-}
-
-fn last_passive(lines: &[Given<Command>], name: &[u8]) -> Option<bool>
-    ensures { result ≡ last_said (says_passive name.now) lines.now }
-{
-    let mut last = None;
-    for line in lines {
-        last = says_passive(&line.value, name).or(last);
-    }
-    last
-}
-
-/// Whether the interface of this name is passive.
-pub fn is_passive(protocol: Protocol, lines: &[Given<Command>], name: &[u8]) -> bool
-    ensures { result ≡ is_passive protocol lines.now name.now }
-{
-    match protocol {
-        Protocol::Ospf => last_passive(lines, name).unwrap_or(false),
-        Protocol::Bgp => false,
-    }
 }
 
 fn says_remote(command: &Command, peer: u32) -> Option<u32>

@@ -9,14 +9,13 @@ ghost use Rattle.net_build.specs.Lists.{keys_at};
 ghost use Rattle.net_build.specs.Indexes.{IsIndex};
 ghost use Rattle.net_build.specs.Rows.{IsRouterRow, asn_of, IsSubnet, is_host_route, host_address_of, TellsHost, IsFaceRow};
 
-use crate::commands::is_passive;
 use crate::kinds::FaceKind;
 use crate::lists::list_names;
 use crate::names::{FullName, contains_name, host_name};
 use crate::places_of_lists::{ListKey, bound_name, place_of_list};
 use crate::prefixes::prefix_at;
 use crate::process_index::{ProcessIndex, index_process};
-use crate::processes::{lines_of, process_of};
+use crate::processes::process_of;
 use arc_base::{List, Memory, Name, Prefix, Router};
 use indexmap::IndexSet;
 use ios_config::{Config, FaceText, Given};
@@ -230,7 +229,6 @@ fn face_row(
     ensures { IfOk result (IsFaceRow around.now.protocol (names_at around.now.ends.now.keys) (keys_at around.now.lists.now.keys)
         (record { router = router; config = index.now.config.now; face = face.now })) }
 {
-    let lines = lines_of(index.config);
     let is_end = contains_name(around.ends, host_name(index.config), face.name.bytes());
     let address = address_of(face);
     let host = host_of(around.protocol, face, is_end);
@@ -244,7 +242,7 @@ fn face_row(
         up: is_up(face),
         enabled,
         told: tells(around.protocol, index, &host, enabled),
-        passive: is_passive(around.protocol, lines, face.name.bytes()),
+        passive: index.is_passive(around.protocol, face.name.bytes()),
         cost: cost_of(index.reference, face),
         bound_in: face.list_in.is_some(),
         list_in: place_of_list(around.lists, router, bound_name(&face.list_in)),

@@ -28,6 +28,7 @@ mod prefixes;
 mod process_index;
 mod processes;
 mod reasons;
+mod repeats;
 mod routers;
 mod sessions;
 mod spots;
@@ -36,5 +37,4 @@ mod subnets;
 
 pub use built::{Built, FacePlace, ListPlace, Places};
 pub use endpoints::has_endpoints;
-pub use kinds::FaceKind;
 pub use networks::network;

@@ -45,12 +45,9 @@ pub fn try_entries(configs: &List<Config>) -> Result<(), NetFault>
     ensures { TriedAlone (RefusesEntries configs.now) result }
 {
     for (place, config) in configs.slice().iter().enumerate() {
-        match long_list(config) {
-            Some(list) => {
-                let kind = Kind::Limit(LimitKind::Entries, u64::from(list.entries.len()));
-                return Err(in_file(place, 0, kind));
-            }
-            None => {}
+        if let Some(list) = long_list(config) {
+            let kind = Kind::Limit(LimitKind::Entries, u64::from(list.entries.len()));
+            return Err(in_file(place, 0, kind));
         }
     }
     Ok(())

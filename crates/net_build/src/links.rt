@@ -1,8 +1,8 @@
 //! The links of the document: the interfaces that they join.
-ghost use Rattle.std.specs.Prelude.{◌≡◌, ◌≢◌, ◌⊎◌, ◌≤◌, ◌<◌, ◌^◌, [], ◌∷◌, ◌++◌, All, Contains, IfOk, OnOk, IsTrue, ◌↔◌, MatchBool, MatchOption, length};
+ghost use Rattle.std.specs.Prelude.{◌≡◌, ◌≢◌, ◌⊎◌, ◌≤◌, [], ◌∷◌, ◌++◌, Contains, IfOk, OnOk, MatchBool, MatchOption, length};
 ghost use Rattle.std.specs.List.{AllZip};
 ghost use Rattle.net_build.specs.Sites.{a_end, b_end, ends_of, full_names};
-ghost use Rattle.net_build.specs.Names.{AreDistinct, names_at};
+ghost use Rattle.net_build.specs.Names.{names_at};
 ghost use Rattle.net_build.specs.Rows.{IsLinkRow};
 ghost use Rattle.net_build.specs.Reasons.{Tried};
 ghost use Rattle.net_build.specs.Linking.{JoinsNamed, RefusesLinkFace};

@@ -1,9 +1,9 @@
 //! The lists of router files: their names, and the rows of those that are bound and defined.
 ghost use Rattle.std.specs.Prelude.{◌≡◌, ◌≤◌, ◌<◌, ◌^◌, ◌-◌, ◌++◌, ℕ, List, Any, IfOk, OnOk, option_map, length, AllPairs};
 ghost use Rattle.std.specs.Option.{option_copied, option_or, option_to_list};
-ghost use Rattle.net_build.specs.Lists.{AreListNames, ArePacketLists, AreRouteLists, is_packet_kind, is_extended_kind, packet_entry, route_entry, packet_entries, route_entries};
+ghost use Rattle.net_build.specs.Lists.{AreListNames, ArePacketLists, AreRouteLists, is_packet_kind, is_extended_kind, packet_entry, route_entry, packet_entries, route_entries, is_of_kind, list_named, if_defined, packet_row, route_row};
 ghost use Rattle.net_build.specs.Ordered.{IsNameBefore};
-ghost use Rattle.net_build.specs.ListTables.{texts_at, Adds, list_at, is_of_kind, list_if, list_named, if_defined, packet_row, route_row, AddsPacketRows, AddsRouteRows};
+ghost use Rattle.net_build.specs.ListTables.{texts_at, Adds, list_at, list_if, AddsPacketRows, AddsRouteRows};
 
 use crate::bound_lists::{Names, add_bound_packet, add_bound_route};
 use arc_base::{List, Memory, Name, Router};

@@ -3,7 +3,7 @@ ghost use Rattle.std.specs.Prelude.{[], ◌++◌, ◌≡◌, ◌≢◌, ◌↔�
 ghost use Rattle.std.specs.List.{range_with_len, cons_option};
 ghost use Rattle.net_model.specs.Validity.{AreLinksApart};
 ghost use Rattle.net_model.specs.declared.policies.Document.{Document};
-ghost use Rattle.net_build.specs.Claims.{AreAtPeace, AreOfPartners, ArePartners, AreClaimsOf, ClearBelow, claim_of};
+ghost use Rattle.net_build.specs.Claims.{AreLinkedOrApart, AreOfPartners, ArePartners, AreClaimsOf, ClearBelow, claim_of};
 ghost use Rattle.std.specs.Option.{option_map_or};
 ghost use Rattle.net_build.specs.Names.{AreDistinct};
 ghost use Rattle.net_build.specs.Sites.{full_names, sites};
@@ -21,13 +21,13 @@ use net_model::{FaceRow, LinkRow, Network};
 use std::alloc::Global;
 
 /// Whether no two claims overlap, but for those of the two ends of a link.
-fn are_at_peace(claims: Vec<Claim>) -> Result<bool, Memory>
+fn are_linked_or_apart(claims: Vec<Claim>) -> Result<bool, Memory>
     requires { AreOfPartners claims.items }
-    ensures { IfOk result (λ peace. MatchBool peace (AllPairs AreAtPeace claims.items) (¬ AllPairs AreAtPeace claims.items)) }
+    ensures { IfOk result (λ free. MatchBool free (AllPairs AreLinkedOrApart claims.items) (¬ AllPairs AreLinkedOrApart claims.items)) }
 {
     let mut sorted = claims;
     sorted.sort_by_key(|claim| claim.subnet.addr)?;
-    Ok(Claim::neighbours_are_at_peace(&sorted))
+    Ok(Claim::neighbours_are_linked_or_apart(&sorted))
 }
 
 /// The numbers below this one.
@@ -103,7 +103,7 @@ fn is_clear(alloc: Global, net: &Network, partners: &[u32], count: usize) -> Res
     ensures { IfOk result (λ clear. MatchBool clear (ClearBelow net.now count) (¬ ClearBelow net.now count)) }
 {
     let claims = claims(alloc, &net.faces.slice()[..count], partners)?;
-    are_at_peace(claims)
+    are_linked_or_apart(claims)
 }
 
 /// The place of the first interface that overlaps one before it.

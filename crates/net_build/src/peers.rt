@@ -13,8 +13,8 @@ ghost use Rattle.net_build.specs.Reasons.{TriedAlone, InFiles};
 ghost use Rattle.net_build.specs.Rows.{AreBaseRows};
 ghost use Rattle.net_build.specs.Names.{AreDistinct};
 ghost use Rattle.net_build.specs.Sites.{full_names};
-ghost use Rattle.net_build.specs.FarEnds.{FindsOnly, LeadsTo, LinkLeadsTo, AddsFarEnd, NamesOther, IsListed, IsReached, gives_remote};
-ghost use Rattle.net_build.specs.Peers.{RefusesNeighbor, RefusesNetwork, IsConnectedAt, TellsUnconnected};
+ghost use Rattle.net_build.specs.FarEnds.{FindsOnly, LeadsTo, LinkLeadsTo, AddsFarEnd, IsListed, IsReached, gives_remote};
+ghost use Rattle.net_build.specs.Peers.{NamesOther, RefusesNeighbor, RefusesNetwork, IsConnectedAt, TellsUnconnected};
 ghost use Rattle.net_build.specs.Prefixes.{HasPrefix};
 ghost use Rattle.net_build.specs.Indexes.{AreSubnets};
 

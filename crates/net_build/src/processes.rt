@@ -132,9 +132,8 @@ pub fn try_processes(configs: &List<Config>) -> Result<(), NetFault>
 {
     let protocol = protocol_of(configs);
     for (place, config) in configs.slice().iter().enumerate() {
-        match has_no_own_process(protocol, config) {
-            Some(line) => return Err(in_file(place, line, Kind::Protocol)),
-            None => {}
+        if let Some(line) = has_no_own_process(protocol, config) {
+            return Err(in_file(place, line, Kind::Protocol));
         }
     }
     Ok(())

@@ -1,15 +1,14 @@
 //! What is asked of each router by itself: a name and an AS of its own.
 ghost use Rattle.std.specs.Prelude.{◌≡◌, ◌≤◌, ◌+◌, ◌<◌, ◌^◌, [], ◌∷◌, ◌++◌, length, IfOk, MatchOption, Contains, IsSomeAnd, map};
 ghost use Rattle.net_build.specs.Reasons.{TriedAlone};
-ghost use Rattle.net_build.specs.Routers.{RefusesHostname, RefusesSameAs};
-ghost use Rattle.net_build.specs.Settings.{process_of};
-ghost use Rattle.net_build.specs.Growing.{AddsAs};
+ghost use Rattle.net_build.specs.Routers.{RefusesHostname, RefusesSameAs, as_of_process, as_of};
 
 use crate::processes::process_of;
 use crate::reasons::in_file;
+use crate::repeats::add_given;
 use arc_base::{Kind, List, Memory};
 use indexmap::IndexSet;
-use ios_config::{Config, ProcessKind};
+use ios_config::{Config, Given, ProcessKind, ProcessText};
 use net_doc::NetFault;
 use std::alloc::Global;
 
@@ -50,22 +49,26 @@ pub fn try_hostnames(alloc: Global, configs: &List<Config>) -> Result<(), NetFau
     Ok(())
 }
 
-/// Adds the AS of a router, or tells the line that refuses it.
-fn add_as(numbers: &mut IndexSet<u32>, config: &Config) -> Result<Option<u32>, Memory>
-    ensures { IfOk result (AddsAs numbers.old.keys numbers.new.keys (process_of config.now)) }
+/// The AS of a BGP process, with the line at which its block begins.
+fn as_of_process(process: &ProcessText) -> Option<Given<u32>>
+    ensures { result ≡ as_of_process process.now.kind process.now }
 {
-    let Some(process) = process_of(config) else {
-        return Ok(None);
-    };
     match process.kind {
-        ProcessKind::Ospf => Ok(None),
-        ProcessKind::Bgp => {
-            let (_place, new) = numbers.insert_full(process.number)?;
-            if new {
-                return Ok(None);
-            }
-            Ok(Some(process.head))
-        }
+        ProcessKind::Ospf => None,
+        ProcessKind::Bgp => Some(Given {
+            value: process.number,
+            line: process.head,
+        }),
+    }
+}
+
+/// The AS of the file's process.
+fn as_of(config: &Config) -> Option<Given<u32>>
+    ensures { result ≡ as_of config.now }
+{
+    match process_of(config) {
+        Some(process) => as_of_process(process),
+        None => None,
     }
 }
 
@@ -76,7 +79,7 @@ pub fn try_as_numbers(alloc: Global, configs: &List<Config>) -> Result<(), NetFa
 {
     let mut numbers = IndexSet::new(alloc);
     for (place, config) in configs.slice().iter().enumerate() {
-        match add_as(&mut numbers, config)? {
+        match add_given(&mut numbers, as_of(config))? {
             Some(line) => return Err(in_file(place, line, Kind::SameAs)),
             None => {}
         }

@@ -9,8 +9,8 @@ ghost use Rattle.net_build.specs.Names.{AreDistinct};
 ghost use Rattle.net_build.specs.Lists.{keys_at, route_list_key};
 ghost use Rattle.net_build.specs.Reasons.{IsClear};
 ghost use Rattle.net_build.specs.Linking.{RefusesLinkFace};
-ghost use Rattle.net_build.specs.Rows.{AreBaseRows, AreSessions};
-ghost use Rattle.net_build.specs.Sessions.{IsConfigured, IsSessionOver, AddsOne, AddsSessions};
+ghost use Rattle.net_build.specs.Rows.{AreBaseRows, IsConfigured, AreSessions};
+ghost use Rattle.net_build.specs.Sessions.{IsSessionOver, AddsOne, AddsSessions};
 
 use crate::commands::{filter_of, is_down, remote_of};
 use crate::places_of_lists::{ListKey, place_of_list};

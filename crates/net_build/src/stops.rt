@@ -1,5 +1,5 @@
 //! Packet lists that stop the routing protocol's own packets.
-ghost use Rattle.std.specs.Prelude.{◌≡◌, ◌↔◌, ◌≤◌, ◌+◌, IsTrue, Any, IsFalse, Some, IfSome, MatchOption, IsSomeAnd, slice_get, length};
+ghost use Rattle.std.specs.Prelude.{◌≡◌, ◌↔◌, ◌≤◌, IsTrue, Some, slice_get, length};
 ghost use Rattle.net_model.specs.declared.policies.Document.{Document};
 ghost use Rattle.net_model.specs.Lists.{permits};
 ghost use Rattle.net_build.specs.Reasons.{TriedAlone};

@@ -1,7 +1,5 @@
 //! The addresses at the two ends of a link.
 ghost use Rattle.std.specs.Prelude.{◌≡◌, ◌≤◌, ◌↔◌, IsTrue, length};
-ghost use Rattle.net_model.specs.declared.policies.Document.{Document};
-ghost use Rattle.ios_config.specs.declared.settings.Config.{Config};
 ghost use Rattle.net_build.specs.Reasons.{TriedAlone, InDocument};
 ghost use Rattle.net_build.specs.Linking.{HaveOneSubnet, FitsSubnets};
 ghost use Rattle.arc_base.specs.declared.refusal.Kind.TheVariants as kinds;

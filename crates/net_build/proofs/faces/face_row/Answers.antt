@@ -1,8 +1,6 @@
 use Rattle.std.proofs.Common.{◌≡◌, refl, ◌∙◌, ap, subst, IsTrue, ◌↔◌, List, Option, ℕ}
 use Rattle.std.specs.Prelude.{Contains, option_map, unwrap_or}
 use Rattle.arc_base.proofs.Agreement.{false-from}
-use Rattle.ios_words.specs.declared.commands.Command.{Command}
-use Rattle.ios_config.specs.declared.settings.Given.{Given}
 use Rattle.net_build.specs.Settings.{value, lines_of, bandwidth_of, is_passive, cost_at}
 use Rattle.net_build.specs.Lists.{keys_at, IsPlaceAmong}
 use Rattle.net_build.specs.Rows.{IsSubnet}
@@ -31,7 +29,7 @@ returns c =
       up = c.is_up.ensures;
       enabled = c.is_enabled-enabled.ensures;
       told = c.tells.ensures;
-      passive = c.is_passive.ensures ∙ ap (λ (lines : List (Given Command)). is_passive around.protocol lines c.bytes-3.result.now) c.lines_of-lines.ensures ∙ ap (λ (name : List ℕ). is_passive around.protocol (lines_of config) name) c.bytes-3.ensures;
+      passive = c.is_passive.ensures ∙ ap (λ (name : List ℕ). is_passive around.protocol (lines_of config) name) c.bytes-3.ensures;
       cost = c.cost_of.ensures ∙ ap (λ (reference : ℕ). unwrap_or (value face.cost) (cost_at reference (bandwidth_of face))) c.requires.index.reference;
       bound_in = c.is_some.ensures;
       list_in = subst (λ (o : Option (List ℕ)). IsPlaceAmong (keys_at around.lists.now.keys) c.args.router o c.place_of_list.result) c.bound_name.ensures c.place_of_list.ensures;

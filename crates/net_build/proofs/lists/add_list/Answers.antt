@@ -6,7 +6,8 @@ use Rattle.std.specs.Ordering.{nat_cmp}
 use Rattle.std.proofs.lemmas.Map.Text.{btree_map_updates_str}
 use denote.Ref.{Bor}
 use Rattle.ios_config.specs.declared.settings.ListText.{ListText}
-use Rattle.net_build.specs.ListTables.{list_at, is_of_kind}
+use Rattle.net_build.specs.Lists.{is_of_kind}
+use Rattle.net_build.specs.ListTables.{list_at}
 use Rattle.net_build.proofs.ListsTables.{kept_other, kept_there, put_new, map_cond, is_some-map}
 use Rattle.net_build.proofs.lists.add_list.Goals as goal
 

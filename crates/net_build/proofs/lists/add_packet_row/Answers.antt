@@ -3,7 +3,7 @@ use Rattle.std.specs.Prelude.{option_map}
 use Rattle.std.specs.Option.{option_copied, option_to_list}
 use Rattle.std.proofs.lemmas.List.{append-nil}
 use Rattle.net_model.specs.declared.lists.PacketList.{PacketList}
-use Rattle.net_build.specs.ListTables.{if_defined, packet_row}
+use Rattle.net_build.specs.Lists.{if_defined, packet_row}
 use Rattle.net_build.proofs.lists.add_packet_row.Goals as goal
 
 pub returns-in_ok-push-in-Some : goal.returns-in_ok-push-in-Some

@@ -3,7 +3,7 @@ use Rattle.std.specs.Prelude.{option_map}
 use Rattle.std.specs.Option.{option_copied, option_to_list}
 use Rattle.std.proofs.lemmas.List.{append-nil}
 use Rattle.net_model.specs.declared.lists.RouteList.{RouteList}
-use Rattle.net_build.specs.ListTables.{if_defined, route_row}
+use Rattle.net_build.specs.Lists.{if_defined, route_row}
 use Rattle.net_build.proofs.lists.add_route_row.Goals as goal
 
 pub returns-in_ok-push-in-Some : goal.returns-in_ok-push-in-Some

@@ -2,7 +2,8 @@ use Rattle.std.proofs.Common.{Bool, ◌&&◌, ◌∙◌, ap}
 use Rattle.std.specs.Prelude.{find, bytes_eq}
 use Rattle.std.proofs.lemmas.List.{take_all}
 use Rattle.ios_config.specs.declared.settings.ListText.{ListText}
-use Rattle.net_build.specs.ListTables.{list_at, is_of_kind}
+use Rattle.net_build.specs.Lists.{is_of_kind}
+use Rattle.net_build.specs.ListTables.{list_at}
 use Rattle.net_build.proofs.ListsTables.{found_more}
 use Rattle.net_build.proofs.lists.by_name.Goals as goal
 

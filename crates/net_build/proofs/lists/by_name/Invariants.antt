@@ -1,7 +1,8 @@
 use Rattle.std.proofs.Common.{◌≡◌, ℕ, List, take, ◌&&◌}
 use Rattle.std.specs.Prelude.{find, bytes_eq}
 use Rattle.ios_config.specs.declared.settings.ListText.{ListText}
-use Rattle.net_build.specs.ListTables.{list_at, is_of_kind}
+use Rattle.net_build.specs.Lists.{is_of_kind}
+use Rattle.net_build.specs.ListTables.{list_at}
 use Rattle.net_build.proofs.lists.by_name.Given as goal
 
 abbrev pub invariant-loop-list : goal.invariant-loop-list

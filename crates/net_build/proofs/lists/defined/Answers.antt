@@ -1,8 +1,8 @@
 use Rattle.std.proofs.Common.{sym, ◌∙◌, ap}
 use Rattle.std.specs.Option.{option_copied}
 use Rattle.std.proofs.lemmas.Bool.{false≢true}
-use Rattle.net_build.specs.ListTables.{if_defined}
-use Rattle.net_build.proofs.ListsTables.{defined_none, defined_from}
+use Rattle.net_build.specs.Lists.{if_defined}
+use Rattle.net_build.proofs.ListsTables.{defined_none, defined_some}
 use Rattle.net_build.proofs.lists.defined.Goals as goal
 
 pub returns-then-is_empty : goal.returns-then-is_empty
@@ -10,7 +10,7 @@ returns-then-is_empty c = sym (defined_none (option_copied c.args.found) c.in-So
 
 pub returns-else-is_empty : goal.returns-else-is_empty
 returns-else-is_empty c =
-    sym (defined_from (option_copied c.args.found) c.in-Some.list.now (ap option_copied c.in-Some.is, λ none. false≢true (sym c.if-is_empty.false ∙ c.is_empty.ensures.1 none)))
+    sym (defined_some (option_copied c.args.found) c.in-Some.list.now (ap option_copied c.in-Some.is) (λ none. false≢true (sym c.if-is_empty.false ∙ c.is_empty.ensures.1 none)))
 
 pub returns-in-None : goal.returns-in-None
 returns-in-None c = sym (ap if_defined (ap option_copied c.in-None.is))

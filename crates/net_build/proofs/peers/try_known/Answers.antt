@@ -6,7 +6,8 @@ use Rattle.ios_config.specs.declared.settings.Config.{Config}
 use Rattle.net_build.specs.Settings.{lines_of}
 use Rattle.ios_config.specs.Least.{FindsLeast}
 use Rattle.net_build.specs.Reasons.{IsFirst, IsClear, InFiles}
-use Rattle.net_build.specs.FarEnds.{NamesOther, IsReached}
+use Rattle.net_build.specs.Peers.{NamesOther}
+use Rattle.net_build.specs.FarEnds.{IsReached}
 use Rattle.net_build.proofs.Firsts.{tried_refused, first_found, clear_more, clear_all}
 use Rattle.net_build.proofs.peers.try_known.Goals as goal
 

@@ -3,7 +3,8 @@ use Rattle.std.specs.Prelude.{Any}
 use Rattle.ios_config.specs.declared.settings.Config.{Config}
 use Rattle.arc_base.specs.declared.refusal.Kind.TheVariants as kinds
 use Rattle.net_build.specs.Settings.{lines_of}
-use Rattle.net_build.specs.FarEnds.{NamesOther, IsReached}
+use Rattle.net_build.specs.Peers.{NamesOther}
+use Rattle.net_build.specs.FarEnds.{IsReached}
 use Rattle.net_build.proofs.Firsts.{ClearTo}
 use Rattle.net_build.proofs.peers.try_known.Given as goal
 

@@ -2,7 +2,8 @@ use Rattle.std.proofs.Common.{ℕ, ◌+◌, List, Option, sym, subst}
 use Rattle.ios_words.specs.declared.commands.Command.{Command}
 use Rattle.ios_config.specs.declared.settings.Given.{Given}
 use Rattle.ios_config.specs.Least.{FindsLeast}
-use Rattle.net_build.specs.FarEnds.{NamesOther, IsListed}
+use Rattle.net_build.specs.Peers.{NamesOther}
+use Rattle.net_build.specs.FarEnds.{IsListed}
 use Rattle.net_build.proofs.Leasts.{LinesTo, least_more, least_all}
 use Rattle.net_build.proofs.PeersEnds.{least_reached}
 use Rattle.net_build.proofs.peers.unknown_peer.Goals as goal

@@ -1,5 +1,6 @@
 use Rattle.ios_config.specs.Least.{FindsLeast}
-use Rattle.net_build.specs.FarEnds.{NamesOther, IsListed}
+use Rattle.net_build.specs.Peers.{NamesOther}
+use Rattle.net_build.specs.FarEnds.{IsListed}
 use Rattle.net_build.proofs.Leasts.{LinesTo}
 use Rattle.net_build.proofs.peers.unknown_peer.Given as goal
 

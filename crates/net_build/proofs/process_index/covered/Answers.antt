@@ -1,13 +1,11 @@
 use Rattle.std.proofs.Common.{◌≡◌, ◌⊎◌, Option, Some, refl, subst, ◌↔◌}
-use Rattle.std.specs.Option.{option_copied}
 use Rattle.arc_base.specs.declared.prefix.Prefix.{Prefix}
 use Rattle.ios_words.specs.declared.commands.Command.{Command}
-use Rattle.ios_words.specs.declared.commands.Command.TheVariants as commands
 use Rattle.ios_config.specs.declared.settings.Given.{Given}
 use Rattle.net_build.specs.Prefixes.{HasPrefix}
 use Rattle.net_build.specs.Indexes.{covered_prefix}
 use Rattle.net_build.proofs.Gathered.{gathered_more, gathered_all}
-use Rattle.net_build.proofs.IndexLines.{no_prefixes, told_added}
+use Rattle.net_build.proofs.IndexLines.{no_prefixes}
 use Rattle.net_build.proofs.process_index.covered.Goals as goal
 
 abbrev P : Prefix → Given Command → Type 0

@@ -1,10 +1,9 @@
-use Rattle.std.proofs.Common.{◌≡◌, ℕ, Some, List, ◌∙◌, ap, subst, ◌↔◌}
+use Rattle.std.proofs.Common.{◌≡◌, Some, List, ◌∙◌, ap, subst, ◌↔◌}
 use Rattle.std.specs.Prelude.{Any}
-use Rattle.arc_base.specs.declared.prefix.Prefix.{Prefix}
 use Rattle.ios_words.specs.declared.commands.Command.{Command}
 use Rattle.ios_words.specs.declared.commands.Command.TheVariants as commands
 use Rattle.ios_config.specs.declared.settings.Given.{Given}
-use Rattle.net_build.specs.Settings.{reference_of}
+use Rattle.net_build.specs.Settings.{reference_of, last_said, says_passive}
 use Rattle.net_build.specs.Prefixes.{HasPrefix}
 use Rattle.net_build.specs.Indexes.{covered_prefix}
 use Rattle.net_build.proofs.process_index.index_process.Goals as goal
@@ -14,4 +13,5 @@ returns-clause-index c = record {
   reference = c.reference.ensures ∙ ap reference_of c.lines_of-lines.ensures;
   told = λ p. subst (λ (lines : List (Given Command)). HasPrefix c.in_ok-told.field-0.keys p ↔ Any (λ (g : Given Command). g.value ≡ commands.Tells p) lines) c.lines_of-lines.ensures (c.in_ok-told.ensures p);
   covered = λ p. subst (λ (lines : List (Given Command)). HasPrefix c.in_ok-covered.field-0.keys p ↔ Any (λ (g : Given Command). covered_prefix g.value ≡ Some p) lines) c.lines_of-lines.ensures (c.in_ok-covered.ensures p);
+  passive = λ name. c.in_ok-passive.ensures name ∙ ap (λ (lines : List (Given Command)). last_said (says_passive name) lines) c.lines_of-lines.ensures;
 }

@@ -1,11 +1,10 @@
-use Rattle.std.proofs.Common.{◌≡◌, Some, take, ◌↔◌}
+use Rattle.std.proofs.Common.{◌≡◌, take, ◌↔◌}
 use Rattle.std.specs.Prelude.{Any}
 use Rattle.arc_base.specs.declared.prefix.Prefix.{Prefix}
 use Rattle.ios_words.specs.declared.commands.Command.{Command}
 use Rattle.ios_words.specs.declared.commands.Command.TheVariants as commands
 use Rattle.ios_config.specs.declared.settings.Given.{Given}
 use Rattle.net_build.specs.Prefixes.{HasPrefix}
-use Rattle.net_build.specs.Indexes.{covered_prefix}
 use Rattle.net_build.proofs.process_index.told.Given as goal
 
 abbrev pub invariant-loop-line : goal.invariant-loop-line

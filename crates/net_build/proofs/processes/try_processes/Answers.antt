@@ -21,7 +21,7 @@ pub loop-place-preserved : goal.loop-place-preserved
 loop-place-preserved c =
     let items : List Config = c.slice-config-items.result.now in
     clear_more kinds.Protocol (HasNoOwnProcess items) items c.loop-place.place c.config-item.result c.loop-place-test.true c.config-item.is c.loop-place.invariant
-    (none_wrong items c.args.configs.now c.protocol_of-protocol.result c.slice-config-items.ensures.items c.protocol_of-protocol.ensures c.loop-place.place c.config-item.result c.in-None.ensures)
+    (none_wrong items c.args.configs.now c.protocol_of-protocol.result c.slice-config-items.ensures.items c.protocol_of-protocol.ensures c.loop-place.place c.config-item.result c.in_default.ensures)
 
 pub returns : goal.returns
 returns c =

@@ -1,4 +1,3 @@
-use Rattle.std.proofs.Common.{◌↔◌}
 use Rattle.net_build.specs.Settings.{lines_of}
 use Rattle.net_build.proofs.IndexLines.{covered_where}
 use Rattle.net_build.proofs.process_index.ProcessIndex.is_covered.Goals as goal

@@ -1,6 +1,6 @@
 use Rattle.std.proofs.Common.{arith, below_more, refl, sym, ◌∙◌}
 use Rattle.std.proofs.lemmas.Bool.{false≢true}
-use Rattle.net_build.proofs.claims.Claim.neighbours_are_at_peace.Goals as goal
+use Rattle.net_build.proofs.claims.Claim.neighbours_are_linked_or_apart.Goals as goal
 
 pub returns-then-not-is_packed_at : goal.returns-then-not-is_packed_at
 returns-then-not-is_packed_at c = (

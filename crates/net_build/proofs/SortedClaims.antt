@@ -1,4 +1,4 @@
--- Sorted claims of which each is at peace with the next two are all at peace.
+-- Sorted claims of which each is linked to or apart from the next two are all so.
 use Rattle.std.proofs.Common.{◌≡◌, ◌≢◌, ℕ, ◌+◌, ◌<◌, ◌≤◌, ◌⊎◌, inl, inr, List, length, get_or, set, refl, sym, ◌∙◌, ap, subst, arith, Bool, true, false, MatchBool, IsTrue, ◌↔◌}
 use Rattle.std.specs.Prelude.{AllPairs}
 use Rattle.std.specs.List.{swap}
@@ -9,7 +9,7 @@ use Rattle.std.proofs.lemmas.List.{get_or-set_same, get_or-set_other, length-set
 use Rattle.std.proofs.lemmas.List.Edits.{length-swap, swap_is}
 use Rattle.std.proofs.lemmas.List.Sorted.{IsPermutation-keeps, IsPermutation-sym}
 use Rattle.net_build.specs.declared.claims.Claim.{Claim}
-use Rattle.net_build.specs.Claims.{AreAtPeace, AreOfPartners}
+use Rattle.net_build.specs.Claims.{AreLinkedOrApart, AreOfPartners}
 use Rattle.net_build.specs.Sorting.{ArePacked}
 use Rattle.net_build.proofs.Ranges.{past, disjoint_from_order, order_from_disjoint}
 
@@ -21,13 +21,13 @@ abbrev pub OfPartners : Claim → Claim → Type 0
 OfPartners x y = (x.place ≢ y.place) × (x.partner ≡ y.place → y.partner ≡ x.place) × (y.partner ≡ x.place → x.partner ≡ y.place)
 
 -- a claim that begins inside another one is that of its partner, or the other ends before it
-early : (x y : Claim) → x.subnet.addr ≤ y.subnet.addr → y.subnet.addr < past x.subnet → AreAtPeace x y → x.partner ≡ y.place
+early : (x y : Claim) → x.subnet.addr ≤ y.subnet.addr → y.subnet.addr < past x.subnet → AreLinkedOrApart x y → x.partner ≡ y.place
 early x y order inside (inl partner) = partner
 early x y order inside (inr disjoint) = absurd (omega (arith, inside, order_from_disjoint x.subnet y.subnet order disjoint))
 
 module _ (xs : List Claim) (sorted : IsNonDecreasingBy addr_of xs) (partners : AreOfPartners xs) (packed : ArePacked xs) where
-  at_peace : (i j : ℕ) (d : Claim) → i < j → j < length xs → AreAtPeace (get_or xs i d) (get_or xs j d)
-  at_peace i j d l m = elim (eqb_tells (get_or xs i d).partner (get_or xs j d).place) [
+  is_free : (i j : ℕ) (d : Claim) → i < j → j < length xs → AreLinkedOrApart (get_or xs i d) (get_or xs j d)
+  is_free i j d l m = elim (eqb_tells (get_or xs i d).partner (get_or xs j d).place) [
     | inl partner ↦ inl partner.1
     | inr other ↦ elim (cases_lt (get_or xs j d).subnet.addr (past (get_or xs i d).subnet)) [
       | inr after ↦ inr (disjoint_from_order (get_or xs i d).subnet (get_or xs j d).subnet after)
@@ -57,11 +57,11 @@ module _ (xs : List Claim) (sorted : IsNonDecreasingBy addr_of xs) (partners : A
             subst (λ (k : ℕ). (get_or xs (i + 2) d).subnet.addr ≤ (get_or xs k d).subnet.addr) same (omega arith)
       ]
 
-  pub all_at_peace : AllPairs AreAtPeace xs
-  all_at_peace i j d l m = at_peace i j d l m
+  pub all_free : AllPairs AreLinkedOrApart xs
+  all_free i j d l m = is_free i j d l m
 
-pub packed_from_peace : (xs : List Claim) → AllPairs AreAtPeace xs → ArePacked xs
-packed_from_peace xs all i j d l close m = all i j d l m
+pub packed_from_claims : (xs : List Claim) → AllPairs AreLinkedOrApart xs → ArePacked xs
+packed_from_claims xs all i j d l close m = all i j d l m
 
 -- where an item of a list after a swap stood before
 abbrev How : ℕ → ℕ → ℕ → ℕ → Type 0
@@ -139,29 +139,29 @@ pub AllPairs-permutation : {X : Type 0} (R : X → X → Type 0) → ((x y : X) 
 AllPairs-permutation R turn xs ys moved all =
     IsPermutation-keeps xs (AllPairs R) all (λ l i j in_i in_j h. swapped R turn l i j in_i in_j h) ys moved
 
--- claims at peace of which the one is the other's partner both ways
-abbrev AtPeaceBothWays : Claim → Claim → Type 0
-AtPeaceBothWays x y = AreAtPeace x y × OfPartners x y
+-- claims that are linked or apart, of which the one is the other's partner both ways
+abbrev LinkedOrApartBothWays : Claim → Claim → Type 0
+LinkedOrApartBothWays x y = AreLinkedOrApart x y × OfPartners x y
 
 turn_partners : (x y : Claim) → OfPartners x y → OfPartners y x
 turn_partners x y h = (λ e. h.0 (sym e), h.2, h.1)
 
-turn_both : (x y : Claim) → AtPeaceBothWays x y → AtPeaceBothWays y x
-turn_both x y (peace, partners) = (turned peace, turn_partners x y partners)
+turn_both : (x y : Claim) → LinkedOrApartBothWays x y → LinkedOrApartBothWays y x
+turn_both x y (free, partners) = (turned free, turn_partners x y partners)
   where
-    turned : AreAtPeace x y → AreAtPeace y x
+    turned : AreLinkedOrApart x y → AreLinkedOrApart y x
     turned (inl partner) = inl (partners.1 partner)
     turned (inr disjoint) = inr (λ a in_y in_x. disjoint a in_x in_y)
 
 -- the answer on the neighbours of the sorted claims is that on all pairs
-pub peace_by_sorting : (xs ys : List Claim) (answer : Bool) → IsPermutation xs ys → IsNonDecreasingBy addr_of ys → AreOfPartners xs → (IsTrue answer ↔ ArePacked ys) →
-    MatchBool answer (AllPairs AreAtPeace xs) (¬ AllPairs AreAtPeace xs)
-peace_by_sorting xs ys true moved sorted partners says =
+pub free_by_sorting : (xs ys : List Claim) (answer : Bool) → IsPermutation xs ys → IsNonDecreasingBy addr_of ys → AreOfPartners xs → (IsTrue answer ↔ ArePacked ys) →
+    MatchBool answer (AllPairs AreLinkedOrApart xs) (¬ AllPairs AreLinkedOrApart xs)
+free_by_sorting xs ys true moved sorted partners says =
     let partners_sorted : AreOfPartners ys = AllPairs-permutation OfPartners turn_partners xs ys moved partners in
-    let peace_sorted : AllPairs AreAtPeace ys = all_at_peace ys sorted partners_sorted (says.0 refl) in
-    let both : AllPairs AtPeaceBothWays xs = AllPairs-permutation AtPeaceBothWays turn_both ys xs (IsPermutation-sym xs ys moved) (λ i j d l m. (peace_sorted i j d l m, partners_sorted i j d l m)) in
+    let free_sorted : AllPairs AreLinkedOrApart ys = all_free ys sorted partners_sorted (says.0 refl) in
+    let both : AllPairs LinkedOrApartBothWays xs = AllPairs-permutation LinkedOrApartBothWays turn_both ys xs (IsPermutation-sym xs ys moved) (λ i j d l m. (free_sorted i j d l m, partners_sorted i j d l m)) in
     λ i j d l m. (both i j d l m).0
-peace_by_sorting xs ys false moved sorted partners says =
+free_by_sorting xs ys false moved sorted partners says =
     λ all.
-    let both : AllPairs AtPeaceBothWays ys = AllPairs-permutation AtPeaceBothWays turn_both xs ys moved (λ i j d l m. (all i j d l m, partners i j d l m)) in
-    false≢true (says.1 (packed_from_peace ys (λ i j d l m. (both i j d l m).0)))
+    let both : AllPairs LinkedOrApartBothWays ys = AllPairs-permutation LinkedOrApartBothWays turn_both xs ys moved (λ i j d l m. (all i j d l m, partners i j d l m)) in
+    false≢true (says.1 (packed_from_claims ys (λ i j d l m. (both i j d l m).0)))
