@@ -1,0 +1,24 @@
+//! The core of a solver for formulas in conjunctive normal form: the live clauses, the trail of the literals that are
+//! true, and unit propagation, which is complete. Contracts see a core as its clauses and its trail.
+#![tactic(auto)]
+
+mod adding;
+mod assigned;
+mod engine;
+mod examining;
+pub mod laws;
+mod levels;
+mod numbered;
+mod progress;
+mod propagating;
+mod reading;
+mod row;
+mod store;
+mod trail;
+
+pub use assigned::{Assigned, Held};
+pub use engine::Core;
+pub use numbered::Numbered;
+
+#[cfg(test)]
+mod tests;
