@@ -1,0 +1,5 @@
+pub mod Live
+pub mod Passes
+pub mod Searches
+pub mod Orders
+pub mod Learners

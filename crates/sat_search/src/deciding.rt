@@ -1,0 +1,91 @@
+//! Decisions: variables are set one after another, until there is a conflict or all are set.
+ghost use Rattle.std.specs.Prelude.{◌≡◌, ◌≤◌, ◌<◌, ℕ, IsTrue, IsNone, IfSome, IsSomeAnd};
+ghost use Rattle.sat_core.specs.Trails.{is_on, clause_at, IsFalsified};
+ghost use Rattle.sat_core.specs.Rest.{IsAtRest};
+ghost use Rattle.sat_core.specs.States.{IsSound};
+ghost use Rattle.sat_search.specs.Orders.{IsOrder, is_set, KeepsClauses, KeepsTrue};
+
+use crate::order::Order;
+use cnf_types::Lit;
+use sat_core::{Core, Held};
+
+impl Order {
+    /// Propagates and decides until a clause is falsified, which is then the answer, or all variables are set.
+    pub fn dive(&self, core: &mut Core) -> Option<Held>
+        requires { IsOrder core.old.vars self.now }
+        ensures sound { IsSound core.new }
+        ensures kept { KeepsClauses core.old core.new }
+        ensures conflict { IfSome result (λ held. IsSomeAnd (clause_at core.new.clauses held) (IsFalsified core.new.trail)) }
+        ensures rest { IsNone result → IsAtRest core.new.clauses (is_on core.new.trail) }
+        ensures all_set { IsNone result → (var : ℕ) → 1 ≤ var → var ≤ core.new.vars → IsTrue (is_set core.new.trail var) }
+    {
+        if let Some(held) = core.propagate() {
+            return Some(held);
+        }
+        if let Some(held) = self.walk(core) {
+            return Some(held);
+        }
+        self.scan(core)
+    }
+
+    /// Sets the variables that recent conflicts met, those of the latest first.
+    fn walk(&self, core: &mut Core) -> Option<Held>
+        requires order { IsOrder core.old.vars self.now }
+        requires sound { IsSound core.old }
+        requires rest { IsAtRest core.old.clauses (is_on core.old.trail) }
+        ensures sound { IsSound core.new }
+        ensures kept { KeepsClauses core.old core.new }
+        ensures conflict { IfSome result (λ held. IsSomeAnd (clause_at core.new.clauses held) (IsFalsified core.new.trail)) }
+        ensures rest { IsNone result → IsAtRest core.new.clauses (is_on core.new.trail) }
+    {
+        for place in (0..self.recent.len()).rev() {
+            let lit = self.recent[place];
+            if let Some(held) = self.assume(core, lit.var()) {
+                return Some(held);
+            }
+        }
+        None
+    }
+
+    /// Sets all variables that are left.
+    fn scan(&self, core: &mut Core) -> Option<Held>
+        requires order { IsOrder core.old.vars self.now }
+        requires sound { IsSound core.old }
+        requires rest { IsAtRest core.old.clauses (is_on core.old.trail) }
+        ensures sound { IsSound core.new }
+        ensures kept { KeepsClauses core.old core.new }
+        ensures conflict { IfSome result (λ held. IsSomeAnd (clause_at core.new.clauses held) (IsFalsified core.new.trail)) }
+        ensures rest { IsNone result → IsAtRest core.new.clauses (is_on core.new.trail) }
+        ensures all_set { IsNone result → (var : ℕ) → 1 ≤ var → var ≤ core.new.vars → IsTrue (is_set core.new.trail var) }
+    {
+        let vars = core.vars();
+        for var in 1..vars + 1 {
+            if let Some(held) = self.assume(core, var) {
+                return Some(held);
+            }
+        }
+        None
+    }
+
+    /// Decides a variable that is unset, and propagates.
+    fn assume(&self, core: &mut Core, var: u64) -> Option<Held>
+        requires order { IsOrder core.old.vars self.now }
+        requires least { 1 ≤ var }
+        requires most { var ≤ core.old.vars }
+        requires sound { IsSound core.old }
+        requires rest { IsAtRest core.old.clauses (is_on core.old.trail) }
+        ensures sound { IsSound core.new }
+        ensures kept { KeepsClauses core.old core.new }
+        ensures stays { KeepsTrue core.old.trail core.new.trail }
+        ensures conflict { IfSome result (λ held. IsSomeAnd (clause_at core.new.clauses held) (IsFalsified core.new.trail)) }
+        ensures rest { IsNone result → IsAtRest core.new.clauses (is_on core.new.trail) }
+        ensures set { IsTrue (is_set core.new.trail var) }
+    {
+        let lit = Lit::make(var, self.saved[var as usize]);
+        if core.value(lit).is_some() {
+            return None;
+        }
+        core.decide(lit);
+        core.propagate()
+    }
+}

@@ -1,0 +1,203 @@
+//! The lemma of a conflict.
+ghost use Rattle.std.specs.Prelude.{◌≡◌, ◌+◌, ◌*◌, ◌<◌, ◌≤◌, ◌^◌, ◌||◌, ◌==◌, if◌then◌else◌, ◌∷◌, ◌++◌, [], length, reverse, All, IsTrue, IsSomeAnd, IfOk, IfSome, OnOk, Some, option_to_list, false};
+ghost use Rattle.cnf_types.specs.Literals.{negated};
+ghost use Rattle.cnf_types.specs.declared.literal.Lit.{Lit};
+ghost use Rattle.proof_check.specs.Propagation.{same};
+ghost use Rattle.sat_core.specs.Trails.{is_on, clause_at, id_at, IsOf, IsFalsified};
+ghost use Rattle.sat_core.specs.States.{IsSound};
+ghost use Rattle.sat_search.specs.Passes.{open_in, is_marked, resolving_reason, IsCleared, IsJoined, IsPass, HasRoom, hint_at};
+ghost use Rattle.sat_search.specs.Searches.{IsLearnt};
+
+use crate::marks::Marks;
+use arc_base::{List, Memory};
+use cnf_types::Lit;
+use sat_core::{Assigned, Core, Held};
+use std::alloc::Global;
+
+/// What a conflict teaches, while the pass through the trail goes on: the literals that stay, the ids of the clauses
+/// that were resolved, the conflict's first, how many marked literals are of the current level, and the literals that
+/// were met.
+#[derive(Debug, Drop)]
+pub(crate) struct Lesson {
+    pub lits: Vec<Lit>,
+    pub hints: Vec<i64>,
+    pub met: Vec<Lit>,
+    pub current: usize,
+}
+
+/// Whether a literal is false.
+fn is_false(core: &Core, lit: Lit) -> bool
+    requires sound { IsSound core.now }
+    requires range { IsOf core.now.vars lit }
+    ensures { result ≡ is_on core.now.trail (negated lit) }
+{
+    match core.value(lit) {
+        Some(value) => !value,
+        None => false,
+    }
+}
+
+/// The hint that names a clause.
+fn hint(core: &Core, held: Held) -> i64
+    requires held { held.0 < length core.now.clauses }
+    requires sound { IsSound core.now }
+    requires ids { core.now.last_id < 2 ^ 63 }
+    ensures { hint_at core.now.clauses held ≡ Some result }
+{
+    core.id(held) as i64
+}
+
+impl Lesson {
+    /// The reason with which an entry is resolved away, where it is: on level 0, and on the current level as long as
+    /// other literals of this level are marked.
+    fn resolving_reason(&self, entry: Assigned, level: u32) -> Option<Held>
+        ensures { result ≡ resolving_reason level self.now.current entry }
+    {
+        if entry.level == 0 || (entry.level == level && self.current > 1) {
+            entry.reason
+        } else {
+            None
+        }
+    }
+
+    /// Marks a literal, where it is false.
+    fn meet(&mut self, marks: &mut Marks, core: &Core, lit: Lit) -> Result<(), Memory>
+        requires sound { IsSound core.now }
+        requires room { HasRoom core.now marks.old }
+        requires range { IsOf core.now.vars lit }
+        requires counted { self.old.current ≡ open_in core.now.level core.now.trail marks.old }
+        requires met { All (IsOf core.now.vars) self.old.met.items }
+        ensures joined { OnOk result (IsJoined core.now.trail marks.old marks.new (lit ∷ [])) }
+        ensures counted { OnOk result (self.new.current ≡ open_in core.now.level core.now.trail marks.new) }
+        ensures met { OnOk result (All (IsOf core.now.vars) self.new.met.items) }
+        ensures size { length marks.new ≡ length marks.old }
+        ensures lits { self.new.lits.items ≡ self.old.lits.items }
+        ensures hints { self.new.hints.items ≡ self.old.hints.items }
+    {
+        if marks.has(lit) || !is_false(core, lit) {
+            return Ok(());
+        }
+        self.met.push(lit)?;
+        marks.mark(lit);
+        if core.level_of(lit.var()) == core.level() {
+            self.current += 1;
+        }
+        Ok(())
+    }
+
+    /// Marks the literals of a clause that are false, and takes its id as a hint.
+    fn join(&mut self, marks: &mut Marks, core: &Core, held: Held) -> Result<(), Memory>
+        requires held { held.0 < length core.now.clauses }
+        requires sound { IsSound core.now }
+        requires room { HasRoom core.now marks.old }
+        requires ids { core.now.last_id < 2 ^ 63 }
+        requires counted { self.old.current ≡ open_in core.now.level core.now.trail marks.old }
+        requires met { All (IsOf core.now.vars) self.old.met.items }
+        ensures joined { OnOk result (IfSome (clause_at core.now.clauses held) (IsJoined core.now.trail marks.old marks.new)) }
+        ensures hint { OnOk result (self.new.hints.items ≡ self.old.hints.items ++ option_to_list (hint_at core.now.clauses held)) }
+        ensures counted { OnOk result (self.new.current ≡ open_in core.now.level core.now.trail marks.new) }
+        ensures met { OnOk result (All (IsOf core.now.vars) self.new.met.items) }
+        ensures size { length marks.new ≡ length marks.old }
+        ensures lits { self.new.lits.items ≡ self.old.lits.items }
+    {
+        self.hints.push(hint(core, held))?;
+        let lits = core.clause(held);
+        for lit in lits {
+            self.meet(marks, core, *lit)?;
+        }
+        Ok(())
+    }
+
+    /// Unmarks the negation of an entry's literal.
+    fn leave(&mut self, marks: &mut Marks, level: u32, entry: Assigned)
+        requires code { (negated entry.lit).code < length marks.old }
+        requires some { entry.level ≡ level → 1 ≤ self.old.current }
+        ensures cleared { IsCleared marks.old marks.new (negated entry.lit) }
+        ensures size { length marks.new ≡ length marks.old }
+        ensures less { self.old.current ≡ self.new.current + (if entry.level == level then 1 else 0) }
+        ensures lits { self.new.lits.items ≡ self.old.lits.items }
+        ensures hints { self.new.hints.items ≡ self.old.hints.items }
+        ensures met { self.new.met.items ≡ self.old.met.items }
+    {
+        marks.clear(entry.lit.negated());
+        if entry.level == level {
+            self.current -= 1;
+        }
+    }
+
+    /// Goes through the entry of the trail at a place. Where its negation is in the clause so far, the entry is resolved
+    /// away with its reason, or the negation stays.
+    fn visit(&mut self, marks: &mut Marks, core: &Core, place: usize) -> Result<(), Memory>
+        requires place { place < length core.now.trail }
+        requires sound { IsSound core.now }
+        requires room { HasRoom core.now marks.old }
+        requires ids { core.now.last_id < 2 ^ 63 }
+        requires met { All (IsOf core.now.vars) self.old.met.items }
+        requires pass { IsPass core.now (place + 1) marks.old self.old.lits.items (reverse self.old.hints.items) self.old.current }
+        ensures pass { OnOk result (IsPass core.now place marks.new self.new.lits.items (reverse self.new.hints.items) self.new.current) }
+        ensures met { OnOk result (All (IsOf core.now.vars) self.new.met.items) }
+        ensures size { length marks.new ≡ length marks.old }
+    {
+        let entry = core.trail()[place];
+        let negation = entry.lit.negated();
+        if !marks.has(negation) {
+            return Ok(());
+        }
+        let reason = self.resolving_reason(entry, core.level());
+        self.leave(marks, core.level(), entry);
+        match reason {
+            Some(held) => self.join(marks, core, held),
+            None => {
+                self.lits.push(negation)?;
+                Ok(())
+            }
+        }
+    }
+
+    /// What a conflict teaches. The literals are those that the pass through the trail leaves, with one alone of the
+    /// current level; the hints stand in the order of the trail, and the conflict's clause is the last one.
+    pub fn of(
+        alloc: Global,
+        marks: &mut Marks,
+        core: &Core,
+        conflict: Held,
+    ) -> Result<Lesson, Memory>
+        requires conflict { IsSomeAnd (clause_at core.now.clauses conflict) (IsFalsified core.now.trail) }
+        requires size { length marks.old ≡ 2 * core.now.vars + 2 }
+        requires none { (l : Lit) → is_marked marks.old l ≡ false }
+        requires ids { core.now.last_id < 2 ^ 63 }
+        ensures sound { IsSound core.now }
+        ensures learnt { IfOk result (λ lesson. IsLearnt core.now.clauses core.now.vars lesson.lits.items lesson.hints.items) }
+        ensures met { IfOk result (λ lesson. All (IsOf core.now.vars) lesson.met.items) }
+        ensures none { OnOk result ((l : Lit) → is_marked marks.new l ≡ false) }
+        ensures size { length marks.new ≡ length marks.old }
+    {
+        let entries = core.trail().len();
+        let mut lesson = Lesson {
+            lits: Vec::new(alloc),
+            hints: Vec::new(alloc),
+            met: Vec::new(alloc),
+            current: 0,
+        };
+        lesson.join(marks, core, conflict)?;
+        for place in (0..entries).rev() {
+            lesson.visit(marks, core, place)?;
+        }
+        lesson.hints.reverse();
+        Ok(lesson)
+    }
+
+    /// The literals and the hints.
+    pub fn into_parts(self) -> Result<(List<Lit>, List<i64>), Memory>
+        ensures { IfOk result (λ parts. (parts.0 ≡ self.lits.items) × (parts.1 ≡ self.hints.items)) }
+    {
+        let Lesson {
+            lits,
+            hints,
+            met,
+            current: _,
+        } = self;
+        drop(met);
+        Ok((List::of(lits)?, List::of(hints)?))
+    }
+}

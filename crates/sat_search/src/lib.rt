@@ -1,0 +1,16 @@
+//! A search for a model of a core's clauses that learns a lemma at each conflict. It goes back to level 0 after each
+//! conflict, and writes each lemma with its hints as a step of a proof log, so that a refutation can be checked. The
+//! contracts say that the steps are accepted, that a model satisfies all clauses, and that lemmas are new.
+#![tactic(auto)]
+
+mod deciding;
+mod found;
+mod learner;
+mod lesson;
+mod marks;
+mod order;
+mod searching;
+mod values;
+
+pub use found::Found;
+pub use searching::search;

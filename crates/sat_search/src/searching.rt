@@ -1,0 +1,99 @@
+//! The search.
+ghost use Rattle.std.specs.Prelude.{◌≡◌, ◌+◌, ◌≤◌, ◌<◌, ◌^◌, ◌++◌, ◌↔◌, ℕ, Option, List as Items, All, length, IsTrue, IsFalse, IfOk};
+ghost use Rattle.std.specs.List.{list_any};
+ghost use Rattle.cnf_types.specs.declared.literal.Lit.{Lit};
+ghost use Rattle.cnf_types.specs.declared.clauses.Formula.{Formula};
+ghost use Rattle.proof_log.specs.Texts.{HasLine};
+ghost use Rattle.proof_check.specs.Knowledge.{Knowledge, start};
+ghost use Rattle.proof_check.specs.Logs.{adds_empty, after_all, IsAccepted, IsRefuting};
+ghost use Rattle.clean_logs.specs.CleanLogs.{IsClean, IsSpent, additions};
+ghost use Rattle.sat_search.specs.Searches.{is_addition, appended, added_clauses, ends_empty, AddsFrom, HasLiveHints, IfModel, IsModelOf, Knows, Searched};
+
+use crate::found::Found;
+use crate::learner::Learner;
+use crate::values::values;
+use arc_base::Memory;
+use proof_log::{Log, Step};
+use sat_core::Core;
+use std::alloc::Global;
+
+/// Looks for a model of the core's clauses. At each conflict it learns a lemma, which it adds to the core and, as a step
+/// with its hints, to the log; it ends where the lemma is empty, and where the log adds `limit` clauses already.
+/// Want of memory stands for 2^32 - 1 clauses or more, too.
+pub fn search(alloc: Global, core: &mut Core, log: &mut Log, limit: u64) -> Result<Found, Memory>
+    requires level { core.old.level ≡ 0 }
+    requires numbers { core.old.last_id + limit < 2 ^ 63 }
+    requires few { limit ≤ 200000 }
+    requires room { additions log.old.steps < limit }
+    requires filled { IsFalse (list_any adds_empty log.old.steps) }
+    requires short { length log.old.steps < 2 ^ 31 }
+    ensures keeps { log.new.steps ≡ log.old.steps ++ appended log.old.steps log.new.steps }
+    ensures ids { AddsFrom core.old.last_id (appended log.old.steps log.new.steps) }
+    ensures accepted { (k : Knowledge) → Knows k core.old → IsAccepted k (appended log.old.steps log.new.steps) }
+    ensures hints { (k : Knowledge) → Knows k core.old → HasLiveHints k (appended log.old.steps log.new.steps) }
+    ensures limit { additions log.new.steps ≤ limit }
+    ensures lines { All (λ c. 1 ≤ c.id) core.old.clauses → All HasLine log.old.steps → All HasLine log.new.steps }
+    ensures refuted { IfOk result (λ found. (found ≡ Found.Refuted) ↔ IsTrue (ends_empty (appended log.old.steps log.new.steps))) }
+    ensures refuting { IfOk result (λ found. found ≡ Found.Refuted → IsRefuting log.new.steps) }
+    ensures exhausted { IfOk result (λ found. found ≡ Found.Budget → additions log.new.steps ≡ limit) }
+    ensures none_empty { IfOk result (λ found. found ≡ Found.Budget → IsFalse (list_any adds_empty log.new.steps)) }
+    ensures model { IfOk result (λ found. IfModel found (IsModelOf core.new)) }
+    ensures clauses { IfOk result (λ found. IfModel found (λ values. core.new.clauses ≡ core.old.clauses ++ added_clauses (appended log.old.steps log.new.steps))) }
+    ensures knows { IfOk result (λ found. IfModel found (λ values. (k : Knowledge) → Knows k core.old → Knows (after_all k (appended log.old.steps log.new.steps)) core.new)) }
+    ensures last_id { IfOk result (λ found. IfModel found (λ values. core.new.last_id ≡ core.old.last_id + length (appended log.old.steps log.new.steps))) }
+    ensures level { IfOk result (λ found. IfModel found (λ values. core.new.level ≡ 0)) }
+    ensures vars { IfOk result (λ found. IfModel found (λ values. core.new.vars ≡ core.old.vars)) }
+    ensures clean { (f : Formula) (least : Option ℕ) (tops : Items Lit) → Knows (after_all (start f least tops) log.old.steps) core.old → IsClean f least tops log.old.steps
+        → IfOk result (λ found. IfModel found (λ values. IsClean f least tops log.new.steps)) }
+    ensures spent { (f : Formula) (least : Option ℕ) (tops : Items Lit) → Knows (after_all (start f least tops) log.old.steps) core.old → IsClean f least tops log.old.steps
+        → IfOk result (λ found. found ≡ Found.Budget → IsSpent f least tops limit log.new.steps) }
+{
+    run(alloc, core, log, limit)
+}
+
+/// Propagates and decides until there is a conflict, learns from it, and begins again.
+fn run(alloc: Global, core: &mut Core, log: &mut Log, limit: u64) -> Result<Found, Memory>
+    requires level { core.old.level ≡ 0 }
+    requires numbers { core.old.last_id + limit < 2 ^ 63 }
+    requires few { limit ≤ 200000 }
+    requires room { additions log.old.steps < limit }
+    requires short { length log.old.steps < 2 ^ 31 }
+    ensures { Searched core.old log.old.steps limit core.new log.new.steps result }
+{
+    let mut learner = Learner::make(alloc, core.vars())?;
+    let mut added = count_additions(log.steps.slice());
+    loop {
+        let Some(conflict) = learner.order.dive(core) else {
+            let values = values(alloc, core)?;
+            core.back_to(0);
+            return Ok(Found::Model(values));
+        };
+        if added == limit {
+            core.back_to(0);
+            return Ok(Found::Budget);
+        }
+        if learner.learn(core, log, conflict)? {
+            return Ok(Found::Refuted);
+        }
+        added += 1;
+    }
+}
+
+/// How many steps add a clause.
+fn count_additions(steps: &[Step]) -> u64
+    ensures { result ≡ additions steps.now }
+{
+    let mut count = 0;
+    for step in steps {
+        if is_addition(step) {
+            count += 1;
+        }
+    }
+    count
+}
+
+fn is_addition(step: &Step) -> bool
+    ensures { result ≡ is_addition step.now }
+{
+    matches!(step, Step::Add { .. })
+}
