@@ -28,10 +28,13 @@ abbrev pub verify_rules : List Rule
 verify_rules = place_rule 1 (codes "document") ∷ []
 
 abbrev pub trace_rules : List Rule
-trace_rules = place_rule 1 (codes "document") ∷ place_rule 2 (codes "from") ∷ place_rule 3 (codes "to") ∷ option_rule (codes "down") ∷ []
+trace_rules = place_rule 1 (codes "document") ∷ place_rule 2 (codes "from") ∷ place_rule 3 (codes "to") ∷ option_rule false (codes "down") ∷ []
 
 abbrev pub check_rules : List Rule
 check_rules = place_rule 1 (codes "document") ∷ place_rule 2 (codes "certificate") ∷ []
+
+abbrev pub solve_rules : List Rule
+solve_rules = place_rule 1 (codes "formula") ∷ option_rule true (codes "proof") ∷ option_rule false (codes "conflicts") ∷ []
 
 abbrev pub lrat_rules : List Rule
 lrat_rules = place_rule 1 (codes "formula") ∷ place_rule 2 (codes "proof") ∷ []
@@ -40,13 +43,13 @@ abbrev top : Shape
 top = (built app).top
 
 abbrev pub commands : List Shape
-commands = leaf (codes "verify") verify_rules ∷ leaf (codes "trace") trace_rules ∷ leaf (codes "check") check_rules ∷ leaf (codes "lrat") lrat_rules ∷ []
+commands = leaf (codes "verify") verify_rules ∷ leaf (codes "trace") trace_rules ∷ leaf (codes "check") check_rules ∷ leaf (codes "solve") solve_rules ∷ leaf (codes "lrat") lrat_rules ∷ []
 
 built_is : built app ≡ record { top = top; subs = commands }
 built_is = refl
 
 abbrev pub names : Names
-names = (codes "verify", []) ∷ (codes "trace", []) ∷ (codes "check", []) ∷ (codes "lrat", []) ∷ []
+names = (codes "verify", []) ∷ (codes "trace", []) ∷ (codes "check", []) ∷ (codes "solve", []) ∷ (codes "lrat", []) ∷ []
 
 -- ---- after a command's name
 

@@ -243,7 +243,7 @@ kept : {X : Type 0} (o : Option X) (x : X) → or_last o false x ≡ o
 kept None x = refl
 kept (Some y) x = refl
 
-module _ (c : List Rule) (ids options : List Text) (r : Reads c ids options) where
+module _ (c : List Rule) (ids options needed : List Text) (r : Reads c ids options needed) where
   pub record Holds (rows : List Row) (past : List Given) : Type 0 where
     pub ones : Ones rows
     pub places : (j : ℕ) (id : Text) → slice_get ids j ≡ Some id → first_of id rows ≡ slice_get (positionals past) j
@@ -261,7 +261,7 @@ module _ (c : List Rule) (ids options : List Text) (r : Reads c ids options) whe
   not_option : (i : ℕ) (a name : Text) → slice_get ids i ≡ Some a → names_one options name ≡ true → a ≡ name → ⊥
   not_option i a name at known same =
       let first : arg_by_id c a ≡ Some (place_rule (suc i) a) = r.of_place i a at in
-      let second : arg_by_id c a ≡ Some (option_rule name) = ap (arg_by_id c) same ∙ r.of_option name known in
+      let second : arg_by_id c a ≡ Some (option_rule (names_one needed name) name) = ap (arg_by_id c) same ∙ r.of_option name known in
       let places : Some (suc i) ≡ None = ap (λ (o : Option Rule). option_and_then (λ (a : Rule). a.index) o) (sym first ∙ second) in
       absurd (cc)
 

@@ -1,5 +1,5 @@
 -- What `clap` makes of the words that follow a command's name: the values that they give it, or a refusal.
-use Rattle.std.proofs.Common.{◌≡◌, ◌∙◌, ◌⊎◌, inl, inr, ℕ, zero, suc, ◌<◌, ◌≤◌, ◌==◌, ◌||◌, Bool, true, false, not, List, [], ◌∷◌, length, Option, Some, None, refl, sym, ap, subst, slice_get, cond, if◌then◌else◌, option_and_then, arith, is_some}
+use Rattle.std.proofs.Common.{◌≡◌, ◌∙◌, ◌⊎◌, inl, inr, ℕ, zero, suc, ◌<◌, ◌≤◌, ◌==◌, ◌||◌, ◌&&◌, Bool, true, false, not, List, [], ◌∷◌, length, Option, Some, None, refl, sym, ap, ap₂, subst, slice_get, cond, if◌then◌else◌, option_and_then, arith, is_some}
 use Rattle.std.specs.List.{list_any, list_all}
 use Rattle.std.specs.Str.{is_utf8}
 use Rattle.std.proofs.lemmas.Bool.{eqb-true, eqb-false, ne_eqb}
@@ -29,6 +29,18 @@ pub none_missing : (p : Text → Bool) (xs : List Text) → ((k : ℕ) (x : Text
 none_missing p [] h = refl
 none_missing p (y ∷ ys) h = rw (h 0 y refl) (none_missing p ys (λ k x at. h (suc k) x at))
 
+any_not : (p q : Text → Bool) (xs : List Text) → ((k : ℕ) (x : Text) → slice_get xs k ≡ Some x → p x ≡ not (q x)) → list_any p xs ≡ not (list_all q xs)
+any_not p q [] h = refl
+any_not p q (x ∷ xs) h = ap₂ (λ (a b : Bool). a || b) (h 0 x refl) (any_not p q xs (λ k y at. h (suc k) y at)) ∙ or_nots (q x) (list_all q xs)
+  where
+    or_nots : (a b : Bool) → (not a || not b) ≡ not (a && b)
+    or_nots true b = refl
+    or_nots false b = refl
+
+and_false : (b : Bool) → (b && false) ≡ false
+and_false true = refl
+and_false false = refl
+
 four_empty : (w s d k : Kinds) → or_else w (or_else [] (or_else s (or_else d k))) ≡ [] → (w ≡ []) × ((s ≡ []) × (k ≡ []))
 four_empty w s d k e =
     let after = second_empty w (or_else s (or_else d k)) e in
@@ -37,7 +49,7 @@ four_empty w s d k e =
 empty_four : (w s d k : Kinds) → w ≡ [] → s ≡ [] → d ≡ [] → k ≡ [] → or_else w (or_else [] (or_else s (or_else d k))) ≡ []
 empty_four w s d k e f g h = rw (e, f, g) h
 
-module _ (title : Text) (c : List Rule) (ids options : List Text) (r : Reads c ids options) where
+module _ (title : Text) (c : List Rule) (ids options needed : List Text) (r : Reads c ids options needed) where
   -- the kinds of a refusal, and the rows where there is none
   abbrev pub level : List Text → Kinds
   level words = level_fault (leaf title c) [] nothing_held words false []
@@ -45,9 +57,13 @@ module _ (title : Text) (c : List Rule) (ids options : List Text) (r : Reads c i
   abbrev pub rows : List Text → List Row
   rows words = rows_after c [] words
 
-  -- what the words give, where there are so many positional words as the command shows
+  -- the options that are needed have values, and there are so many positional words as the command shows
+  abbrev pub is_whole : List Given → Bool
+  is_whole items = list_all (λ name. is_some (value_of name items)) needed && (length (positionals items) == length ids)
+
+  -- what the words give, where it is all of what the command shows
   abbrev pub whole : Option (List Given) → Option (List Given)
-  whole given = option_and_then (λ items. if length (positionals items) == length ids then Some items else None) given
+  whole given = option_and_then (λ items. if is_whole items then Some items else None) given
 
   pub record Values (words : List Text) (given : List Given) : Type 0 where
     pub passes : level words ≡ []
@@ -89,12 +105,16 @@ module _ (title : Text) (c : List Rule) (ids options : List Text) (r : Reads c i
       (first_empty (walk_kinds words) (settle_kinds words) e) (second_empty (walk_kinds words) (settle_kinds words) e) (r.no_default_fault (ended words))
       (subst (λ (found : List Row). check_fault (leaf title c) found false ≡ []) (sym (rows_are words)) f)
 
-  all_there : (found : List Row) → list_any (λ id. not (is_given id found)) ids ≡ false → check found ≡ []
-  unfolding check
+  -- of what is required something was not given
+  lacks : List Row → Bool
+  lacks found = list_any (λ id. not (is_given id found)) needed || list_any (λ id. not (is_given id found)) ids
+
+  all_there : (found : List Row) → lacks found ≡ false → check found ≡ []
+  unfolding check lacks
   all_there found e = ap (λ (b : Bool). cond b (MissingRequiredArgument ∷ []) []) (r.wanted found ∙ e)
 
-  one_lacks : (found : List Row) → list_any (λ id. not (is_given id found)) ids ≡ true → check found ≡ [] → ⊥
-  unfolding check
+  one_lacks : (found : List Row) → lacks found ≡ true → check found ≡ [] → ⊥
+  unfolding check lacks
   one_lacks found e none = some_kind MissingRequiredArgument [] (sym (ap (λ (b : Bool). cond b (MissingRequiredArgument ∷ []) []) (r.wanted found ∙ e)) ∙ none)
 
   within_some : (xs : List Text) (j : ℕ) → j < length xs → is_some (slice_get xs j) ≡ true
@@ -115,27 +135,40 @@ module _ (title : Text) (c : List Rule) (ids options : List Text) (r : Reads c i
           absurd (cc)
       go (Some id) e some = (id, e)
 
-  held_law : (words : List Text) (items : List Given) (all : List Row) → walking words ≡ [] → ended words ≡ all → Holds c ids options r all items → length (positionals items) ≤ length ids
+  held_law : (words : List Text) (items : List Given) (all : List Row) → walking words ≡ [] → ended words ≡ all → Holds c ids options needed r all items → length (positionals items) ≤ length ids
       → Level words (whole (Some items))
-  held_law words items all walks is holds few = go (length (positionals items) == length ids) refl
+  unfolding lacks
+  held_law words items all walks is holds few = go (list_all (λ name. is_some (value_of name items)) needed) refl (length (positionals items) == length ids) refl
     where
-      go : (t : Bool) → (length (positionals items) == length ids) ≡ t → Level words (if t then Some items else None)
-      go true same =
+      option_lacks : list_any (λ id. not (is_given id (ended words))) needed ≡ not (list_all (λ name. is_some (value_of name items)) needed)
+      option_lacks = any_not (λ id. not (is_given id (ended words))) (λ name. is_some (value_of name items)) needed (λ k name at.
+          ap (λ (found : List Row). not (is_given name found)) is
+          ∙ ap not (given_first name all holds.ones ∙ ap (λ (o : Option Text). is_some o) (holds.named name (r.are_options k name at))))
+
+      place_given : (j : ℕ) (id : Text) → slice_get ids j ≡ Some id → not (is_given id (ended words)) ≡ not (is_some (slice_get (positionals items) j))
+      place_given j id at =
+          ap (λ (found : List Row). not (is_given id found)) is ∙ ap not (given_first id all holds.ones ∙ ap (λ (o : Option Text). is_some o) (holds.places j id at))
+
+      go : (n : Bool) → list_all (λ name. is_some (value_of name items)) needed ≡ n → (t : Bool) → (length (positionals items) == length ids) ≡ t
+          → Level words (if n && t then Some items else None)
+      go false some t same = λ none. one_lacks (ended words) (rw (option_lacks ∙ ap not some) refl) (splits words none).1
+      go true some true same =
           let there : (j : ℕ) (id : Text) → slice_get ids j ≡ Some id → not (is_given id (ended words)) ≡ false = λ j id at.
           let count : length (positionals items) ≡ length ids = eqb-true _ _ same in
           let below : j < length (positionals items) = omega (arith, within ids j id at) in
-          ap (λ (found : List Row). not (is_given id found)) is ∙ ap not (given_first id all holds.ones ∙ ap (λ (o : Option Text). is_some o) (holds.places j id at) ∙ within_some (positionals items) j below) in
+          place_given j id at ∙ ap not (within_some (positionals items) j below) in
           record {
-            passes = joins words walks (all_there (ended words) (none_missing (λ id. not (is_given id (ended words))) ids there));
+            passes = joins words walks (all_there (ended words) (ap₂ (λ (a b : Bool). a || b) (option_lacks ∙ ap not some) (none_missing (λ id. not (is_given id (ended words))) ids there)));
             places = λ j id at. ap (first_of id) (rows_are words ∙ is) ∙ holds.places j id at;
             named = λ name known. ap (first_of name) (rows_are words ∙ is) ∙ holds.named name known;
           }
-      go false apart =
+      go true some false apart =
           let short : length (positionals items) < length ids = omega (arith, eqb-false _ _ apart, few) in
           let id = id_there (length (positionals items)) short in
-          let lacks : not (is_given id.0 (ended words)) ≡ true =
-          ap (λ (found : List Row). not (is_given id.0 found)) is ∙ ap not (given_first id.0 all holds.ones ∙ ap (λ (o : Option Text). is_some o) (holds.places (length (positionals items)) id.0 id.1 ∙ at_end (positionals items))) in
-          λ none. one_lacks (ended words) (missing (λ id. not (is_given id (ended words))) ids (length (positionals items)) id.0 id.1 lacks) (splits words none).1
+          let absent : not (is_given id.0 (ended words)) ≡ true =
+          place_given (length (positionals items)) id.0 id.1 ∙ ap (λ (o : Option Text). not (is_some o)) (at_end (positionals items)) in
+          λ none. one_lacks (ended words) (ap₂ (λ (a b : Bool). a || b) (option_lacks ∙ ap not some)
+          (missing (λ id. not (is_given id (ended words))) ids (length (positionals items)) id.0 id.1 absent)) (splits words none).1
 
   fallen_law : (words : List Text) (items : List Given) → (walking words ≡ [] → ⊥) → (is_once items ≡ false) ⊎ (length ids < length (positionals items))
       → Level words (whole (if is_once items then Some items else None))
@@ -145,14 +178,16 @@ module _ (title : Text) (c : List Rule) (ids options : List Text) (r : Reads c i
       go : (t : Bool) → Level words (whole (if t then Some items else None))
       go true =
           let apart : (length (positionals items) == length ids) ≡ false = ne_eqb _ _ (λ e. omega (arith, e, many)) in
-          rw apart (λ none. falls (splits words none).0)
+          let short : is_whole items ≡ false =
+          ap (λ (t : Bool). list_all (λ name. is_some (value_of name items)) needed && t) apart ∙ and_false (list_all (λ name. is_some (value_of name items)) needed) in
+          rw short (λ none. falls (splits words none).0)
       go false = λ none. falls (splits words none).0
 
   -- the words are taken exactly where they give the command what it shows, and the rows are what they give
   pub level_law : (words : List Text) → list_all is_utf8 words ≡ true → Level words (whole (arguments_of options words))
-  level_law words texts = go (given_by options words None) refl ((laws title c ids options r words texts).from_idle [] None 0 nothing)
+  level_law words texts = go (given_by options words None) refl ((laws title c ids options needed r words texts).from_idle [] None 0 nothing)
     where
-      step : (items : List Given) (o : Option (List Row)) → Judged o (walking words) (ended words) → Absorbed c ids options r items o
+      step : (items : List Given) (o : Option (List Row)) → Judged o (walking words) (ended words) → Absorbed c ids options needed r items o
           → Level words (whole (if is_once items then Some items else None))
       step items None h fell = fallen_law words items h fell
       step items (Some all) h (holds, (once, few)) = rw once (held_law words items all h.0 h.1 holds few)
@@ -160,4 +195,4 @@ module _ (title : Text) (c : List Rule) (ids options : List Text) (r : Reads c i
       go : (given : Option (List Given)) → given_by options words None ≡ given → Judged (outcome ids 0 given []) (walking words) (ended words)
           → Level words (whole (option_and_then (λ items. if is_once items then Some items else None) given))
       go None e h = λ none. h (splits words none).0
-      go (Some items) e h = step items (absorb ids 0 items []) h (absorbs_all c ids options r items (given_knows options words None tt items e))
+      go (Some items) e h = step items (absorb ids 0 items []) h (absorbs_all c ids options needed r items (given_knows options words None tt items e))

@@ -9,3 +9,4 @@ pub mod Entering
 pub mod Readings
 pub mod Answering
 pub mod ByManual
+pub mod SearchLimits

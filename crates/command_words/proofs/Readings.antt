@@ -1,13 +1,15 @@
 -- The rules of each command are of its positional words and options.
-use Rattle.std.proofs.Common.{◌≡◌, ◌∙◌, ℕ, zero, suc, ◌==◌, ◌||◌, Bool, true, false, List, [], ◌∷◌, Some, None, refl, ap, subst, slice_get, cond, if◌then◌else◌, codes, arith, fold, option_map}
+use Rattle.std.proofs.Common.{◌≡◌, ◌∙◌, ◌⊎◌, inl, inr, ◌&&◌, not, ℕ, zero, suc, ◌==◌, ◌||◌, Bool, true, false, List, [], ◌∷◌, Some, None, refl, ap, subst, slice_get, cond, if◌then◌else◌, codes, arith, fold, option_map}
+use Rattle.std.specs.List.{list_any}
 use Rattle.std.specs.Str.{bytes_eq}
+use Rattle.clap.specs.Takes.{is_given}
 use Rattle.std.proofs.lemmas.Bool.{ne_eqb}
 use Rattle.std.proofs.lemmas.Slice.Eq.{bytes_eq-Decides}
 use Rattle.clap.specs.Walk.{Row, Rule, Text, arg_by_id, arg_by_index, arg_by_long, has_row, with_default}
 use Rattle.clap.specs.Faults.{default_fault, defaults_fault}
 use Rattle.command_words.specs.Words.{names_one}
 use Rattle.command_words.proofs.Rules.{Reads, both_empty, option_rule, place_rule}
-use Rattle.command_words.proofs.Entering.{check_rules, lrat_rules, trace_rules, verify_rules}
+use Rattle.command_words.proofs.Entering.{check_rules, lrat_rules, solve_rules, trace_rules, verify_rules}
 
 kept : {X : Type 0} (b : Bool) (x : X) → cond b x x ≡ x
 kept true x = refl
@@ -57,7 +59,7 @@ one_of a zero id at =
     subst (λ (t : Text). arg_by_id (place_rule 1 a ∷ []) t ≡ Some (place_rule 1 t)) same (rw (itself a) refl)
 one_of a (suc k) id at = absurd (cc)
 
-one_reads : (a : Text) → Reads (place_rule 1 a ∷ []) (a ∷ []) []
+one_reads : (a : Text) → Reads (place_rule 1 a ∷ []) (a ∷ []) [] []
 one_reads a = record {
   few = omega arith;
   at_place = one_at a;
@@ -65,6 +67,7 @@ one_reads a = record {
   by_letter = λ letter. refl;
   of_place = one_of a;
   of_option = λ name known. absurd (cc);
+  are_options = λ k name at. absurd (cc);
   wanted = λ rows. refl;
   no_default = λ rows. no_defaults (place_rule 1 a ∷ []) rows (refl, tt);
   no_default_fault = λ rows. no_faults (place_rule 1 a ∷ []) rows (refl, tt);
@@ -87,7 +90,7 @@ module _ (a b : Text) (apart : bytes_eq a b ≡ false) where
       subst (λ (t : Text). arg_by_id (place_rule 1 a ∷ place_rule 2 b ∷ []) t ≡ Some (place_rule 2 t)) same (rw (apart, itself b) refl)
   two_of (suc (suc k)) id at = absurd (cc)
 
-  two_reads : Reads (place_rule 1 a ∷ place_rule 2 b ∷ []) (a ∷ b ∷ []) []
+  two_reads : Reads (place_rule 1 a ∷ place_rule 2 b ∷ []) (a ∷ b ∷ []) [] []
   two_reads = record {
     few = omega arith;
     at_place = two_at;
@@ -95,6 +98,7 @@ module _ (a b : Text) (apart : bytes_eq a b ≡ false) where
     by_letter = λ letter. refl;
     of_place = two_of;
     of_option = λ name known. absurd (cc);
+    are_options = λ k name at. absurd (cc);
     wanted = λ rows. refl;
     no_default = λ rows. no_defaults (place_rule 1 a ∷ place_rule 2 b ∷ []) rows (refl, (refl, tt));
     no_default_fault = λ rows. no_faults (place_rule 1 a ∷ place_rule 2 b ∷ []) rows (refl, (refl, tt));
@@ -111,19 +115,28 @@ trace_ids = codes "document" ∷ codes "from" ∷ codes "to" ∷ []
 abbrev pub check_ids : List Text
 check_ids = codes "document" ∷ codes "certificate" ∷ []
 
+abbrev pub solve_ids : List Text
+solve_ids = codes "formula" ∷ []
+
 abbrev pub lrat_ids : List Text
 lrat_ids = codes "formula" ∷ codes "proof" ∷ []
 
 abbrev pub trace_options : List Text
 trace_options = codes "down" ∷ []
 
-pub verify_reads : Reads verify_rules verify_ids []
+abbrev pub solve_options : List Text
+solve_options = codes "proof" ∷ codes "conflicts" ∷ []
+
+abbrev pub solve_needed : List Text
+solve_needed = codes "proof" ∷ []
+
+pub verify_reads : Reads verify_rules verify_ids [] []
 verify_reads = one_reads (codes "document")
 
-pub check_reads : Reads check_rules check_ids []
+pub check_reads : Reads check_rules check_ids [] []
 check_reads = two_reads (codes "document") (codes "certificate") refl
 
-pub lrat_reads : Reads lrat_rules lrat_ids []
+pub lrat_reads : Reads lrat_rules lrat_ids [] []
 lrat_reads = two_reads (codes "formula") (codes "proof") refl
 
 trace_at : (k : ℕ) → arg_by_index trace_rules (suc k) ≡ option_map (place_rule (suc k)) (slice_get trace_ids k)
@@ -152,22 +165,91 @@ down_is name known = go (bytes_eq (codes "down") name) refl known
     go true e f = (bytes_eq-Decides (codes "down") name).0 e
     go false e f = absurd (cc)
 
-trace_by_name : (name : Text) → arg_by_long trace_rules name ≡ (if names_one trace_options name then Some (option_rule name) else None)
+trace_by_name : (name : Text) → arg_by_long trace_rules name ≡ (if names_one trace_options name then Some (option_rule false name) else None)
 trace_by_name name = go (names_one trace_options name) refl
   where
-    go : (t : Bool) → names_one trace_options name ≡ t → arg_by_long trace_rules name ≡ (if names_one trace_options name then Some (option_rule name) else None)
-    go true e = subst (λ (t : Text). arg_by_long trace_rules t ≡ (if names_one trace_options t then Some (option_rule t) else None)) (down_is name e) refl
+    go : (t : Bool) → names_one trace_options name ≡ t → arg_by_long trace_rules name ≡ (if names_one trace_options name then Some (option_rule false name) else None)
+    go true e = subst (λ (t : Text). arg_by_long trace_rules t ≡ (if names_one trace_options t then Some (option_rule false t) else None)) (down_is name e) refl
     go false e = rw e refl
 
-pub trace_reads : Reads trace_rules trace_ids trace_options
+pub trace_reads : Reads trace_rules trace_ids trace_options []
 trace_reads = record {
   few = omega arith;
   at_place = trace_at;
   by_name = trace_by_name;
   by_letter = λ letter. refl;
   of_place = trace_of_place;
-  of_option = λ name known. subst (λ (t : Text). arg_by_id trace_rules t ≡ Some (option_rule t)) (down_is name known) refl;
+  of_option = λ name known. subst (λ (t : Text). arg_by_id trace_rules t ≡ Some (option_rule false t)) (down_is name known) refl;
+  are_options = λ k name at. absurd (cc);
   wanted = λ rows. refl;
   no_default = λ rows. no_defaults trace_rules rows (refl, (refl, (refl, (refl, tt))));
   no_default_fault = λ rows. no_faults trace_rules rows (refl, (refl, (refl, (refl, tt))));
 }
+
+solve_at : (k : ℕ) → arg_by_index solve_rules (suc k) ≡ option_map (place_rule (suc k)) (slice_get solve_ids k)
+solve_at zero = refl
+solve_at (suc k) = rw (past (suc (suc k)) 1 (λ e. omega arith)) refl
+
+solve_of_place : (k : ℕ) (id : Text) → slice_get solve_ids k ≡ Some id → arg_by_id solve_rules id ≡ Some (place_rule (suc k) id)
+solve_of_place zero id at =
+    let same : codes "formula" ≡ id = cc in
+    subst (λ (t : Text). arg_by_id solve_rules t ≡ Some (place_rule 1 t)) same refl
+solve_of_place (suc k) id at = absurd (cc)
+
+solve_option_is : (name : Text) → names_one solve_options name ≡ true → (codes "proof" ≡ name) ⊎ (codes "conflicts" ≡ name)
+solve_option_is name known = go (bytes_eq (codes "proof") name) refl (bytes_eq (codes "conflicts") name) refl known
+  where
+    go : (t : Bool) → bytes_eq (codes "proof") name ≡ t → (s : Bool) → bytes_eq (codes "conflicts") name ≡ s → (t || (s || false)) ≡ true
+        → (codes "proof" ≡ name) ⊎ (codes "conflicts" ≡ name)
+    go true e s f h = inl ((bytes_eq-Decides (codes "proof") name).0 e)
+    go false e true f h = inr ((bytes_eq-Decides (codes "conflicts") name).0 f)
+    go false e false f h = absurd (cc)
+
+-- what holds of the two options holds of each that the command has
+of_solve_option : (P : Text → Type 0) → P (codes "proof") → P (codes "conflicts") → (name : Text) → names_one solve_options name ≡ true → P name
+of_solve_option P proof conflicts name known = elim (solve_option_is name known) [
+  | inl same ↦ subst P same proof
+  | inr same ↦ subst P same conflicts
+]
+
+abbrev SolveByName : Text → Type 0
+SolveByName name = arg_by_long solve_rules name ≡ (if names_one solve_options name then Some (option_rule (names_one solve_needed name) name) else None)
+
+solve_by_name : (name : Text) → SolveByName name
+solve_by_name name = go (bytes_eq (codes "proof") name) refl (bytes_eq (codes "conflicts") name) refl
+  where
+    go : (t : Bool) → bytes_eq (codes "proof") name ≡ t → (s : Bool) → bytes_eq (codes "conflicts") name ≡ s → SolveByName name
+    go true e s f = subst SolveByName ((bytes_eq-Decides (codes "proof") name).0 e) refl
+    go false e true f = subst SolveByName ((bytes_eq-Decides (codes "conflicts") name).0 f) refl
+    go false e false f = rw (e, f) refl
+
+pub solve_reads : Reads solve_rules solve_ids solve_options solve_needed
+solve_reads = record {
+  few = omega arith;
+  at_place = solve_at;
+  by_name = solve_by_name;
+  by_letter = λ letter. refl;
+  of_place = solve_of_place;
+  of_option = of_solve_option (λ name. arg_by_id solve_rules name ≡ Some (option_rule (names_one solve_needed name) name)) refl refl;
+  are_options = solve_are_options;
+  wanted = solve_wanted;
+  no_default = λ rows. no_defaults solve_rules rows (refl, (refl, (refl, tt)));
+  no_default_fault = λ rows. no_faults solve_rules rows (refl, (refl, (refl, tt)));
+}
+  where
+    solve_are_options : (k : ℕ) (name : Text) → slice_get solve_needed k ≡ Some name → names_one solve_options name ≡ true
+    solve_are_options zero name at =
+        let same : codes "proof" ≡ name = cc in
+        subst (λ (t : Text). names_one solve_options t ≡ true) same refl
+    solve_are_options (suc k) name at = absurd (cc)
+
+    -- the positional word comes first among the rules, and the option among what is asked for
+    turned : (a b : Bool) → (a || (b || false)) ≡ ((b || false) || (a || false))
+    turned true true = refl
+    turned true false = refl
+    turned false true = refl
+    turned false false = refl
+
+    solve_wanted : (rows : List Row) → list_any (λ a. a.required && not (is_given a.id rows)) solve_rules
+        ≡ (list_any (λ id. not (is_given id rows)) solve_needed || list_any (λ id. not (is_given id rows)) solve_ids)
+    solve_wanted rows = turned (not (is_given (codes "formula") rows)) (not (is_given (codes "proof") rows))

@@ -28,18 +28,19 @@ one_text name place required id = record (new_rule id) {
 abbrev pub place_rule : ℕ → Text → Rule
 place_rule place id = one_text None (Some place) true id
 
-abbrev pub option_rule : Text → Rule
-option_rule name = one_text (Some name) None false name
+abbrev pub option_rule : Bool → Text → Rule
+option_rule required name = one_text (Some name) None required name
 
--- these rules are of positional words with these ids, in their order, and of options with these names
-pub record Reads (c : List Rule) (ids options : List Text) : Type 0 where
+-- these rules are of positional words with these ids, in their order, and of options with these names, of which some are needed
+pub record Reads (c : List Rule) (ids options needed : List Text) : Type 0 where
   pub few : length ids ≤ 1000
   pub at_place : (k : ℕ) → arg_by_index c (suc k) ≡ option_map (place_rule (suc k)) (slice_get ids k)
-  pub by_name : (name : Text) → arg_by_long c name ≡ (if names_one options name then Some (option_rule name) else None)
+  pub by_name : (name : Text) → arg_by_long c name ≡ (if names_one options name then Some (option_rule (names_one needed name) name) else None)
   pub by_letter : (letter : ℕ) → arg_by_short c letter ≡ None
   pub of_place : (k : ℕ) (id : Text) → slice_get ids k ≡ Some id → arg_by_id c id ≡ Some (place_rule (suc k) id)
-  pub of_option : (name : Text) → names_one options name ≡ true → arg_by_id c name ≡ Some (option_rule name)
-  pub wanted : (rows : List Row) → list_any (λ a. a.required && not (is_given a.id rows)) c ≡ list_any (λ id. not (is_given id rows)) ids
+  pub of_option : (name : Text) → names_one options name ≡ true → arg_by_id c name ≡ Some (option_rule (names_one needed name) name)
+  pub are_options : (k : ℕ) (name : Text) → slice_get needed k ≡ Some name → names_one options name ≡ true
+  pub wanted : (rows : List Row) → list_any (λ a. a.required && not (is_given a.id rows)) c ≡ (list_any (λ id. not (is_given id rows)) needed || list_any (λ id. not (is_given id rows)) ids)
   pub no_default : (rows : List Row) → fold with_default rows c ≡ rows
   pub no_default_fault : (rows : List Row) → defaults_fault rows c ≡ []
 

@@ -17,7 +17,7 @@ use Rattle.command_words.proofs.Forms.{IsPlain, IsHyphened, IsEnd, IsLong, View,
 use Rattle.command_words.proofs.Rules.{Judged, Reads, added, both_empty, first_empty, option_rule, place_rule, second_empty, some_kind, use_judged}
 use Rattle.command_words.proofs.WalkStates.{and_then_some, as_outcome, Fine, flat, held_by, IsJudged, leaf, no_command, no_more, nothing, one, option_outcome, or_false, outcome, Pending, positional_outcome, refused_word, settle_judged, settles, Settles, Settling, settling, state, sticks, stray_outcome, taken_word, within}
 
-module _ (title : Text) (c : List Rule) (ids options : List Text) (r : Reads c ids options) where
+module _ (title : Text) (c : List Rule) (ids options needed : List Text) (r : Reads c ids options needed) where
   abbrev shape : Shape
   shape = leaf title c
 
@@ -126,7 +126,7 @@ module _ (title : Text) (c : List Rule) (ids options : List Text) (r : Reads c i
   place_fine k id word at = one None (Some (suc k)) true id word (r.of_place k id at)
 
   option_fine : (name word : Text) → names_one options name ≡ true → Fine c (Some (name, word ∷ []))
-  option_fine name word known = one (Some name) None false name word (r.of_option name known)
+  option_fine name word known = one (Some name) None (names_one needed name) name word (r.of_option name known)
 
   -- after `--`
   trailing_law : (words : List Text) (rows : List Row) (p : Pending) (waiting : Waiting) (k : ℕ) → Fine c p
@@ -166,7 +166,11 @@ module _ (title : Text) (c : List Rule) (ids options : List Text) (r : Reads c i
       → word_met c [] false waiting (suc k) word h ≡ long_word c waiting word (name_in v.text) (value_in v.text) h
   long_met_is waiting k word h v = rw (no_command waiting word, v.single, v.parts) refl
 
-  by_name_known : (name : Text) → names_one options name ≡ true → arg_by_long c name ≡ Some (option_rule name)
+  -- the rule of the option of this name
+  abbrev own_rule : Text → Rule
+  own_rule name = option_rule (names_one needed name) name
+
+  by_name_known : (name : Text) → names_one options name ≡ true → arg_by_long c name ≡ Some (own_rule name)
   by_name_known name known = r.by_name name ∙ rw known refl
 
   by_name_unknown : (name : Text) → names_one options name ≡ false → arg_by_long c name ≡ None
@@ -180,25 +184,25 @@ module _ (title : Text) (c : List Rule) (ids options : List Text) (r : Reads c i
   beside_law rows p k word value rest v given fine known has later = at (settling c rows p fine)
     where
       fault : word_fault shape [] false idle word (held_by rows p)
-          ≡ or_else (settle_fault c false (held_by rows p)) (use_fault false (option_rule (name_in v.text)) (value ∷ []) (settled_rows c p rows))
+          ≡ or_else (settle_fault c false (held_by rows p)) (use_fault false (own_rule (name_in v.text)) (value ∷ []) (settled_rows c p rows))
       fault = long_fault_is idle word (held_by rows p) v ∙ rw (by_name_known (name_in v.text) known, has) refl
 
       met : word_met c [] false idle (suc k) word (held_by rows p)
-          ≡ (held_by (used (option_rule (name_in v.text)) (value ∷ []) (settled_rows c p rows)) None, goes_on idle)
+          ≡ (held_by (used (own_rule (name_in v.text)) (value ∷ []) (settled_rows c p rows)) None, goes_on idle)
       met = long_met_is idle k word (held_by rows p) v ∙ rw (by_name_known (name_in v.text) known, has) refl
 
       used_at : (s : Settles c rows p) (o : Option (List Row)) → added (name_in v.text) value s.all ≡ o
-          → Judged o (use_fault false (option_rule (name_in v.text)) (value ∷ []) s.all) (used (option_rule (name_in v.text)) (value ∷ []) s.all)
+          → Judged o (use_fault false (own_rule (name_in v.text)) (value ∷ []) s.all) (used (own_rule (name_in v.text)) (value ∷ []) s.all)
           → IsJudged shape (state rows p idle k false) (word ∷ rest) (option_and_then (outcome ids k given) o)
       used_at s None e h =
           word_refused rows p idle k word rest _ fault
-          (λ none. h (subst (λ (xs : List Row). use_fault false (option_rule (name_in v.text)) (value ∷ []) xs ≡ []) s.rows_are (second_empty _ _ none)))
+          (λ none. h (subst (λ (xs : List Row). use_fault false (own_rule (name_in v.text)) (value ∷ []) xs ≡ []) s.rows_are (second_empty _ _ none)))
       used_at s (Some all) e h =
-          word_taken rows p idle k false word rest (held_by (used (option_rule (name_in v.text)) (value ∷ []) (settled_rows c p rows)) None, goes_on idle)
+          word_taken rows p idle k false word rest (held_by (used (own_rule (name_in v.text)) (value ∷ []) (settled_rows c p rows)) None, goes_on idle)
           (state all None idle k false) (outcome ids k given all)
-          (fault ∙ both_empty _ _ s.passes (subst (λ (xs : List Row). use_fault false (option_rule (name_in v.text)) (value ∷ []) xs ≡ []) (sym s.rows_are) h.0))
+          (fault ∙ both_empty _ _ s.passes (subst (λ (xs : List Row). use_fault false (own_rule (name_in v.text)) (value ∷ []) xs ≡ []) (sym s.rows_are) h.0))
           met refl
-          (ap (λ (xs : List Row). state xs None idle k false) (ap (used (option_rule (name_in v.text)) (value ∷ [])) s.rows_are ∙ h.1))
+          (ap (λ (xs : List Row). state xs None idle k false) (ap (used (own_rule (name_in v.text)) (value ∷ [])) s.rows_are ∙ h.1))
           (later all)
 
       at : Settling c rows p → IsJudged shape (state rows p idle k false) (word ∷ rest) (option_and_then (outcome ids k (then_more (option (name_in v.text) value) given)) (flat rows p))
@@ -351,7 +355,7 @@ module _ (title : Text) (c : List Rule) (ids options : List Text) (r : Reads c i
           → word_fault shape [] false (waits name) word (held_by rows (Some (name, []))) ≡ [] → ⊥
       valued is (Some value) has =
           let fault : word_fault shape [] false (waits name) word (held_by rows (Some (name, []))) ≡ or_else (settle_fault c false (held_by rows (Some (name, []))))
-          (use_fault false (option_rule (name_in v.text)) (value ∷ []) (settled_rows c (Some (name, [])) rows)) =
+          (use_fault false (own_rule (name_in v.text)) (value ∷ []) (settled_rows c (Some (name, [])) rows)) =
           long_fault_is (waits name) word (held_by rows (Some (name, []))) v ∙ rw (by_name_known (name_in v.text) is, has) refl in
           λ none. open_fault rows name known (first_empty _ _ (sym fault ∙ none))
       valued is None has =

@@ -11,6 +11,10 @@ positional id = record (new_rule id) { required = true }
 abbrev pub option : Text → Rule
 option name = record (new_rule name) { long = Some name }
 
+-- and that is required
+abbrev pub required_option : Text → Rule
+required_option name = record (option name) { required = true }
+
 abbrev pub verify : App
 verify = with_rule (new_app (codes "verify")) (positional (codes "document"))
 
@@ -20,6 +24,9 @@ trace = with_rule (with_rule (with_rule (with_rule (new_app (codes "trace")) (po
 
 abbrev pub check : App
 check = with_rule (with_rule (new_app (codes "check")) (positional (codes "document"))) (positional (codes "certificate"))
+
+abbrev pub solve : App
+solve = with_rule (with_rule (with_rule (new_app (codes "solve")) (positional (codes "formula"))) (required_option (codes "proof"))) (option (codes "conflicts"))
 
 abbrev pub lrat : App
 lrat = with_rule (with_rule (new_app (codes "lrat")) (positional (codes "formula"))) (positional (codes "proof"))
@@ -36,4 +43,4 @@ bare = record (new_app (codes "arcv")) {
 }
 
 abbrev pub app : App
-app = with_subcommand (with_subcommand (with_subcommand (with_subcommand bare verify.top) trace.top) check.top) lrat.top
+app = with_subcommand (with_subcommand (with_subcommand (with_subcommand (with_subcommand bare verify.top) trace.top) check.top) solve.top) lrat.top

@@ -1,8 +1,8 @@
 -- The command with the values that `clap` found.
 use Rattle.std.specs.Prelude.{List, Option, Some, None, option_and_then, bytes_eq, codes, if◌then◌else◌}
 use Rattle.clap.specs.Walk.{Row, Text, first_of}
-use Rattle.command_words.specs.Commands.{down_by}
-use Rattle.command_words.specs.Values.{trace_of}
+use Rattle.command_words.specs.Commands.{conflicts_by, down_by}
+use Rattle.command_words.specs.Values.{solve_of, trace_of}
 use Rattle.command_words.specs.declared.commands.Command.{Command}
 use Rattle.command_words.specs.declared.commands.Command.TheVariants.{Verify, Check, Lrat}
 
@@ -28,6 +28,12 @@ matched_check rows = do
   certificate ← first_of (codes "certificate") rows
   Some (Check document certificate)
 
+abbrev pub matched_solve : List Row → Option Command
+matched_solve rows = do
+  formula ← first_of (codes "formula") rows
+  proof ← first_of (codes "proof") rows
+  solve_of formula proof (conflicts_by (first_of (codes "conflicts") rows))
+
 abbrev pub matched_lrat : List Row → Option Command
 matched_lrat rows = do
   formula ← first_of (codes "formula") rows
@@ -39,8 +45,9 @@ matched_named name rows =
     if bytes_eq name (codes "verify") then matched_verify rows
     else (if bytes_eq name (codes "trace") then matched_trace rows
     else (if bytes_eq name (codes "check") then matched_check rows
+    else (if bytes_eq name (codes "solve") then matched_solve rows
     else (if bytes_eq name (codes "lrat") then matched_lrat rows
-    else None)))
+    else None))))
 
 abbrev pub matched_command : Option (Text × List Row) → Option Command
 matched_command found = option_and_then (λ p. matched_named p.0 p.1) found

@@ -4,18 +4,26 @@ use Rattle.std.specs.List.{slice_split}
 use Rattle.arc_base.specs.PrefixText.{prefix_of}
 use Rattle.cnf_types.specs.Numbers.{natural}
 use Rattle.command_words.specs.declared.commands.Command.{Command}
-use Rattle.command_words.specs.declared.commands.Command.TheVariants.{Trace}
+use Rattle.command_words.specs.declared.commands.Command.TheVariants.{Solve, Trace}
 
 -- what a value that is there is read as
 infixl 10 ◌>>=◌
 abbrev ◌>>=◌ : {A B : Type 0} → Option A → (A → Option B) → Option B
 o >>= f = option_and_then f o
 
--- the number of a link: 1 to 10 digits, from 1 to 4294967295
+-- a number of 1 to 10 decimal digits in a range; zeros may lead
+abbrev pub number_within : ℕ → ℕ → List ℕ → Option ℕ
+number_within least most word = do
+  number ← natural most word
+  if nat_le (length word) 10 && nat_le least number then Some number else None
+
+-- the number of a link
 abbrev pub link_number : List ℕ → Option ℕ
-link_number word = do
-  number ← natural 4294967295 word
-  if nat_le (length word) 10 && nat_le 1 number then Some number else None
+link_number word = number_within 1 4294967295 word
+
+-- how many conflicts a search may learn from
+abbrev pub conflict_limit : List ℕ → Option ℕ
+conflict_limit word = number_within 1 200000 word
 
 -- the numbers of all these words, where each has one
 abbrev pub all_numbers : List (List ℕ) → Option (List ℕ)
@@ -36,3 +44,9 @@ trace_of document from to numbers = do
   destination ← prefix_of to
   down ← numbers
   Some (Trace (record { document = document; from = origin; to = destination; down = down }))
+
+-- a search: the formula, the name of its proof, and how many conflicts it may learn from
+abbrev pub solve_of : List ℕ → List ℕ → Option ℕ → Option Command
+solve_of formula proof limit = do
+  conflicts ← limit
+  Some (Solve (record { formula = formula; proof = proof; conflicts = conflicts }))

@@ -9,6 +9,8 @@ pub enum Command {
     Trace(TraceWords),
     /// `check DOC CERT`: the document and the certificate.
     Check(Name, Name),
+    /// `solve CNF --proof NAME [--conflicts N]`.
+    Solve(SolveWords),
     /// `lrat CNF PROOF`: the formula and the proof.
     Lrat(Name, Name),
 }
@@ -21,4 +23,14 @@ pub struct TraceWords {
     pub to: Prefix,
     /// The numbers of the links that are down, counted from 1, in the order in which they are written.
     pub down: List<u32>,
+}
+
+/// The words of a search for an assignment.
+#[derive(Drop)]
+pub struct SolveWords {
+    pub formula: Name,
+    /// The name that the log of the search is written under.
+    pub proof: Name,
+    /// How many conflicts the search may learn from.
+    pub conflicts: u64,
 }

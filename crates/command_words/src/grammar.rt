@@ -2,7 +2,7 @@
 //! word, so that it matches no command.
 ghost use Rattle.std.specs.Prelude.{◌≡◌, IfOk, false};
 ghost use Rattle.clap.specs.Words.{app_of, rule_of};
-ghost use Rattle.command_words.specs.Grammar.{app, check, lrat, option, positional, trace, verify};
+ghost use Rattle.command_words.specs.Grammar.{app, check, lrat, option, positional, required_option, solve, trace, verify};
 
 use arc_base::Memory;
 use clap::{Arg, Command};
@@ -22,6 +22,14 @@ fn option<'a>(alloc: Global, name: &'a str) -> Arg<'a>
     ensures local { result.global ≡ false }
 {
     Arg::new(alloc, name).long(name)
+}
+
+// An option that takes one value and must stand.
+fn required_option<'a>(alloc: Global, name: &'a str) -> Arg<'a>
+    ensures rule { rule_of result ≡ required_option name.entry.now }
+    ensures local { result.global ≡ false }
+{
+    option(alloc, name).required(true)
 }
 
 fn verify<'a>(alloc: Global) -> Result<Command<'a>, Memory>
@@ -59,6 +67,20 @@ fn check<'a>(alloc: Global) -> Result<Command<'a>, Memory>
     )
 }
 
+fn solve<'a>(alloc: Global) -> Result<Command<'a>, Memory>
+    ensures { IfOk result (λ command. (app_of command ≡ solve)) }
+{
+    let formula = positional(alloc, "formula");
+    let proof = required_option(alloc, "proof");
+    let conflicts = option(alloc, "conflicts");
+    Ok(
+        Command::new(alloc, "solve")
+            .arg(formula)?
+            .arg(proof)?
+            .arg(conflicts)?,
+    )
+}
+
 fn lrat<'a>(alloc: Global) -> Result<Command<'a>, Memory>
     ensures { IfOk result (λ command. (app_of command ≡ lrat)) }
 {
@@ -79,6 +101,7 @@ pub fn command_line<'a>(alloc: Global) -> Result<Command<'a>, Memory>
         .subcommand(verify(alloc)?)?
         .subcommand(trace(alloc)?)?
         .subcommand(check(alloc)?)?
+        .subcommand(solve(alloc)?)?
         .subcommand(lrat(alloc)?)?;
     Ok(arcv)
 }

@@ -10,7 +10,7 @@ mod matched;
 mod reading;
 mod values;
 
-pub use commands::{Command, TraceWords};
+pub use commands::{Command, SolveWords, TraceWords};
 pub use reading::read_words;
 
 #[cfg(test)]

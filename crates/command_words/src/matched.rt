@@ -1,13 +1,16 @@
 //! From what `clap` found to the command.
 ghost use Rattle.std.specs.Prelude.{◌≡◌, IfOk, MatchOption, None, Some};
 ghost use Rattle.clap.specs.Words.{first_of, found_of, rows_of, subcommand_rows_of};
-ghost use Rattle.command_words.specs.Matched.{matched_check, matched_command, matched_lrat, matched_trace, matched_verify};
+ghost use Rattle.command_words.specs.Matched.{matched_check, matched_command, matched_lrat, matched_solve, matched_trace, matched_verify};
 
-use crate::commands::Command;
-use crate::values::{link_numbers, trace_of};
+use crate::commands::{Command, SolveWords};
+use crate::values::{conflict_limit, link_numbers, trace_of};
 use arc_base::{List, Memory, Name};
 use clap::ArgMatches;
 use std::alloc::Global;
+
+// How many conflicts a search may learn from where the words do not say it.
+const CONFLICTS: u64 = 50_000;
 
 // The value of an argument.
 fn value<'a>(found: &ArgMatches<'a>, id: &str) -> Option<&'a str>
@@ -65,6 +68,31 @@ fn check(alloc: Global, found: &ArgMatches<'_>) -> Result<Option<Command>, Memor
     Ok(Some(Command::Check(document, certificate)))
 }
 
+fn solve(alloc: Global, found: &ArgMatches<'_>) -> Result<Option<Command>, Memory>
+    ensures { IfOk result (λ command. command ≡ matched_solve (rows_of (found_of found.now))) }
+{
+    let Some(formula) = value(found, "formula") else {
+        return Ok(None);
+    };
+    let Some(proof) = value(found, "proof") else {
+        return Ok(None);
+    };
+    let limit = match value(found, "conflicts") {
+        Some(text) => conflict_limit(text.as_bytes()),
+        None => Some(CONFLICTS),
+    };
+    let Some(conflicts) = limit else {
+        return Ok(None);
+    };
+    let formula = Name::make(alloc, formula.as_bytes())?;
+    let proof = Name::make(alloc, proof.as_bytes())?;
+    Ok(Some(Command::Solve(SolveWords {
+        formula,
+        proof,
+        conflicts,
+    })))
+}
+
 fn lrat(alloc: Global, found: &ArgMatches<'_>) -> Result<Option<Command>, Memory>
     ensures { IfOk result (λ command. command ≡ matched_lrat (rows_of (found_of found.now))) }
 {
@@ -97,6 +125,9 @@ pub fn command_of_matches(
     }
     if name == "check" {
         return check(alloc, found);
+    }
+    if name == "solve" {
+        return solve(alloc, found);
     }
     if name == "lrat" {
         return lrat(alloc, found);

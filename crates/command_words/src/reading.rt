@@ -1,8 +1,8 @@
 //! The reading of the words.
-ghost use Rattle.std.specs.Prelude.{◌≡◌, IfOk, None, Some, if◌then◌else◌, map, option_map};
+ghost use Rattle.std.specs.Prelude.{◌≡◌, IfOk, IfSome, None, Some, if◌then◌else◌, map, option_map};
 ghost use Rattle.std.specs.List.{list_all};
 ghost use Rattle.std.specs.Str.{is_utf8};
-ghost use Rattle.command_words.specs.Commands.{command_of};
+ghost use Rattle.command_words.specs.Commands.{command_of, HasLimit};
 
 use crate::commands::Command;
 use crate::grammar::command_line;
@@ -28,7 +28,8 @@ fn texts_of<'a>(alloc: Global, words: &'a [Name]) -> Result<Option<Vec<&'a str>>
 
 /// The command that the words after the program's name match, if they match one.
 pub fn read_words(alloc: Global, words: &[Name]) -> Result<Option<Command>, Memory>
-    ensures { IfOk result (λ command. command ≡ command_of words.now) }
+    ensures command { IfOk result (λ command. command ≡ command_of words.now) }
+    ensures limit { IfOk result (λ command. IfSome command HasLimit) }
 {
     let Some(texts) = texts_of(alloc, words)? else {
         return Ok(None);

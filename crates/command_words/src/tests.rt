@@ -11,11 +11,13 @@ enum Match {
     Verify(&'static [u8]),
     Check(&'static [u8], &'static [u8]),
     Lrat(&'static [u8], &'static [u8]),
+    // the formula, the proof and the limit
+    Solve(&'static [u8], &'static [u8], u64),
     // `d 10.1.0.0/24 10.2.0.0/16` with the links that are down
     Trace(&'static [u32]),
 }
 
-use Match::{Check, Lrat, Nothing, Trace, Verify};
+use Match::{Check, Lrat, Nothing, Solve, Trace, Verify};
 
 struct Row {
     words: &'static [&'static [u8]],
@@ -278,6 +280,83 @@ const ROWS: [Row; 60] = [
     },
 ];
 
+const SOLVE_ROWS: [Row; 18] = [
+    // `--proof` is needed, and `--conflicts` may stand
+    Row {
+        words: &[b"solve", b"f", b"--proof", b"p"],
+        found: Solve(b"f", b"p", 50_000),
+    },
+    Row {
+        words: &[b"solve", b"--conflicts", b"1", b"--proof=p", b"f"],
+        found: Solve(b"f", b"p", 1),
+    },
+    Row {
+        words: &[b"solve", b"--proof", b"p", b"--", b"-f"],
+        found: Solve(b"-f", b"p", 50_000),
+    },
+    Row {
+        words: &[b"solve", b"f", b"--proof="],
+        found: Solve(b"f", b"", 50_000),
+    },
+    Row {
+        words: &[b"solve", b"f"],
+        found: Nothing,
+    },
+    Row {
+        words: &[b"solve", b"f", b"p"],
+        found: Nothing,
+    },
+    Row {
+        words: &[b"solve", b"--proof", b"p"],
+        found: Nothing,
+    },
+    Row {
+        words: &[b"solve", b"f", b"g", b"--proof", b"p"],
+        found: Nothing,
+    },
+    Row {
+        words: &[b"solve", b"f", b"--proof"],
+        found: Nothing,
+    },
+    Row {
+        words: &[b"solve", b"f", b"--proof", b"p", b"--proof", b"p"],
+        found: Nothing,
+    },
+    Row {
+        words: &[b"solve", b"f", b"--proof", b"p", b"--down", b"1"],
+        found: Nothing,
+    },
+    // a limit has 1 to 10 digits and is from 1 to 200,000
+    Row {
+        words: &[b"solve", b"f", b"--proof", b"p", b"--conflicts", b"200000"],
+        found: Solve(b"f", b"p", 200_000),
+    },
+    Row {
+        words: &[b"solve", b"f", b"--proof", b"p", b"--conflicts=0000000027"],
+        found: Solve(b"f", b"p", 27),
+    },
+    Row {
+        words: &[b"solve", b"f", b"--proof", b"p", b"--conflicts=00000000027"],
+        found: Nothing,
+    },
+    Row {
+        words: &[b"solve", b"f", b"--proof", b"p", b"--conflicts", b"200001"],
+        found: Nothing,
+    },
+    Row {
+        words: &[b"solve", b"f", b"--proof", b"p", b"--conflicts", b"0"],
+        found: Nothing,
+    },
+    Row {
+        words: &[b"solve", b"f", b"--proof", b"p", b"--conflicts="],
+        found: Nothing,
+    },
+    Row {
+        words: &[b"solve", b"f", b"--proof", b"p", b"--conflicts=+1"],
+        found: Nothing,
+    },
+];
+
 fn names(alloc: Global, words: &[&[u8]]) -> Result<Vec<Name>, Memory> {
     let mut names = Vec::new(alloc);
     for word in words {
@@ -294,6 +373,9 @@ fn is_match(command: &Option<Command>, found: Match) -> bool {
             document.is(d) && certificate.is(c)
         }
         (Some(Command::Lrat(formula, proof)), Lrat(f, p)) => formula.is(f) && proof.is(p),
+        (Some(Command::Solve(words)), Solve(f, p, conflicts)) => {
+            words.formula.is(f) && words.proof.is(p) && words.conflicts == conflicts
+        }
         (Some(Command::Trace(words)), Trace(down)) => {
             words.document.is(b"d")
                 && words.from.addr == 0x0a01_0000
@@ -310,6 +392,16 @@ fn is_match(command: &Option<Command>, found: Match) -> bool {
 fn rows_match(rt: HostRuntime) -> Result<(), Fail> {
     let alloc = rt.alloc();
     for (at, row) in ROWS.iter().enumerate() {
+        let command = read_words(alloc, &names(alloc, row.words)?)?;
+        assert!(rt; is_match(&command, row.found), "at {at}");
+    }
+    Ok(())
+}
+
+#[test]
+fn rows_of_solve_match(rt: HostRuntime) -> Result<(), Fail> {
+    let alloc = rt.alloc();
+    for (at, row) in SOLVE_ROWS.iter().enumerate() {
         let command = read_words(alloc, &names(alloc, row.words)?)?;
         assert!(rt; is_match(&command, row.found), "at {at}");
     }

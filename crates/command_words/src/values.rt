@@ -1,6 +1,6 @@
-//! The values of words: prefixes and the numbers of links.
-ghost use Rattle.std.specs.Prelude.{◌≡◌, IfOk};
-ghost use Rattle.command_words.specs.Values.{link_number, link_numbers, trace_of};
+//! The values of words: prefixes, the numbers of links and the limit of a search.
+ghost use Rattle.std.specs.Prelude.{◌≡◌, ◌≤◌, ◌<◌, ◌^◌, IfOk, IfSome};
+ghost use Rattle.command_words.specs.Values.{conflict_limit, link_number, link_numbers, number_within, trace_of};
 
 use crate::commands::{Command, TraceWords};
 use arc_base::{List, Memory, Name, cut_at, read_prefix};
@@ -34,16 +34,33 @@ pub fn trace_of(
     })))
 }
 
-// The number of a link: 1 to 10 digits, and not 0.
-fn link_number(word: &[u8]) -> Option<u32>
-    ensures { result ≡ link_number word.now }
+// A number of 1 to 10 digits in a range.
+fn number_within(word: &[u8], least: u64, most: u64) -> Option<u64>
+    requires { most < 2 ^ 63 }
+    ensures number { result ≡ number_within least most word.now }
+    ensures most { IfSome result (λ number. number ≤ most) }
 {
-    let number = natural(word, 4_294_967_295)?;
-    if word.len() <= 10 && number >= 1 {
-        Some(number as u32)
+    let number = natural(word, most)?;
+    if word.len() <= 10 && number >= least {
+        Some(number)
     } else {
         None
     }
+}
+
+// The number of a link.
+fn link_number(word: &[u8]) -> Option<u32>
+    ensures { result ≡ link_number word.now }
+{
+    let number = number_within(word, 1, 4_294_967_295)?;
+    Some(number as u32)
+}
+
+/// The number of conflicts that a search may learn from.
+pub fn conflict_limit(word: &[u8]) -> Option<u64>
+    ensures { result ≡ conflict_limit word.now }
+{
+    number_within(word, 1, 200_000)
 }
 
 /// The numbers of links that commas join.

@@ -3,7 +3,7 @@ use Rattle.std.proofs.lemmas.Bool.{and_parts, not-true}
 use Rattle.clap.specs.Simple.{App, app_of, app_of_fields, with_subcommand}
 use Rattle.clap.specs.declared.builder.command.Command.{Command}
 use Rattle.clap.specs.declared.builder.command.Command.TheViews.{out-Command as fields_of}
-use Rattle.command_words.specs.Grammar.{bare, check, lrat, trace, verify}
+use Rattle.command_words.specs.Grammar.{bare, check, lrat, solve, trace, verify}
 use Rattle.command_words.proofs.grammar.command_line.Goals as goal
 
 -- in a plain command no argument is global
@@ -31,6 +31,7 @@ returns c =
     let one = c.in_ok-subcommand.ensures.shape (local c.in_ok-verify.field-0 verify c.in_ok-verify.ensures refl) in
     let two = c.in_ok-subcommand-2.ensures.shape (local c.in_ok-trace.field-0 trace c.in_ok-trace.ensures refl) in
     let three = c.in_ok-subcommand-3.ensures.shape (local c.in_ok-check.field-0 check c.in_ok-check.ensures refl) in
-    let four = c.in_ok-arcv.ensures.shape (local c.in_ok-lrat.field-0 lrat c.in_ok-lrat.ensures refl) in
-    four ∙ ap₂ with_subcommand (three ∙ ap₂ with_subcommand (two ∙ ap₂ with_subcommand (one ∙ ap₂ with_subcommand bare_is
-    (ap (λ (a : App). a.top) c.in_ok-verify.ensures)) (ap (λ (a : App). a.top) c.in_ok-trace.ensures)) (ap (λ (a : App). a.top) c.in_ok-check.ensures)) (ap (λ (a : App). a.top) c.in_ok-lrat.ensures)
+    let four = c.in_ok-subcommand-4.ensures.shape (local c.in_ok-solve.field-0 solve c.in_ok-solve.ensures refl) in
+    let five = c.in_ok-arcv.ensures.shape (local c.in_ok-lrat.field-0 lrat c.in_ok-lrat.ensures refl) in
+    five ∙ ap₂ with_subcommand (four ∙ ap₂ with_subcommand (three ∙ ap₂ with_subcommand (two ∙ ap₂ with_subcommand (one ∙ ap₂ with_subcommand bare_is
+    (ap (λ (a : App). a.top) c.in_ok-verify.ensures)) (ap (λ (a : App). a.top) c.in_ok-trace.ensures)) (ap (λ (a : App). a.top) c.in_ok-check.ensures)) (ap (λ (a : App). a.top) c.in_ok-solve.ensures)) (ap (λ (a : App). a.top) c.in_ok-lrat.ensures)

@@ -1,4 +1,4 @@
-use Rattle.std.proofs.Common.{◌≡◌, ◌∙◌, inl, inr, Bool, true, false, List, [], ◌∷◌, map, Some, None, refl, sym, ap, ap₂, if◌then◌else◌}
+use Rattle.std.proofs.Common.{◌≡◌, ◌∙◌, inl, inr, Bool, true, false, List, [], ◌∷◌, map, Option, Some, None, IfSome, refl, sym, ap, ap₂, subst, if◌then◌else◌}
 use Rattle.std.specs.List.{list_all}
 use Rattle.std.specs.Str.{is_utf8}
 use Rattle.std.proofs.lemmas.Result.{IfOk-weaker}
@@ -7,11 +7,13 @@ use Rattle.clap.specs.Kinds.{IsAmong, Kinds}
 use Rattle.clap.specs.Faults.{fault_of, is_simple_and_free}
 use Rattle.clap.specs.Simple.{app_of, is_simple, subcommand_of}
 use Rattle.clap.specs.declared.error.kind.ErrorKind.{ErrorKind}
-use Rattle.command_words.specs.Commands.{command_in, command_of}
+use Rattle.command_words.specs.Commands.{command_in, command_of, HasLimit}
+use Rattle.command_words.specs.declared.commands.Command.{Command}
 use Rattle.command_words.specs.Grammar.{app}
 use Rattle.command_words.specs.Matched.{matched_command}
 use Rattle.command_words.proofs.Entering.{app_free, app_simple}
 use Rattle.command_words.proofs.Answering.{line_answers}
+use Rattle.command_words.proofs.SearchLimits.{command_limited}
 use Rattle.command_words.proofs.reading.read_words.Goals as goal
 
 -- texts that are the words
@@ -40,7 +42,7 @@ returns c =
       | inl memory ↦ c.in_default-kind.not-OutOfMemory (c.kind.ensures ∙ memory)
       | inr among ↦ among_some _ _ among (same ∙ none)
     ] in
-    sym (command_is words texts.0 ∙ (line_answers words texts.0).refused refused)
+    record { command = sym (command_is words texts.0 ∙ (line_answers words texts.0).refused refused); limit = tt }
 
 pub returns-in-Ok : goal.returns-in-Ok
 returns-in-Ok c =
@@ -51,4 +53,8 @@ returns-in-Ok c =
     let none : fault_of app words ≡ [] = sym (ap₂ fault_of line words_are) ∙ c.in-Ok.ensures.kinds (ap is_simple_and_free line ∙ app_free) in
     let rows = (c.in-Ok.ensures.matches (ap is_simple line ∙ app_simple)).1 ∙ ap₂ subcommand_of line words_are in
     let meant = ap matched_command rows ∙ ((line_answers words texts.0).taken none ∙ sym (command_is words texts.0)) in
-    IfOk-weaker c.command_of_matches.result _ _ (λ command is. is ∙ meant) c.command_of_matches.ensures
+    record {
+      command = IfOk-weaker c.command_of_matches.result _ _ (λ command is. is ∙ meant) c.command_of_matches.ensures;
+      limit = IfOk-weaker c.command_of_matches.result _ _
+          (λ command is. subst (λ (o : Option Command). IfSome o HasLimit) (sym (is ∙ meant)) (command_limited words)) c.command_of_matches.ensures;
+    }

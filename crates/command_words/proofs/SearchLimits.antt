@@ -1,0 +1,100 @@
+-- The limit of a search is in its range.
+use Rattle.std.proofs.Common.{◌≡◌, ◌≤◌, ◌&&◌, ℕ, Bool, true, false, List, [], ◌∷◌, length, Option, Some, None, refl, if◌then◌else◌, codes, option_and_then, nat_le, IfSome}
+use Rattle.std.specs.List.{list_all}
+use Rattle.std.specs.Str.{bytes_eq, is_utf8}
+use Rattle.std.proofs.lemmas.Bool.{and_parts, leb-true}
+use Rattle.arc_base.specs.PrefixText.{prefix_of}
+use Rattle.cnf_types.specs.Numbers.{is_natural, value_after}
+use Rattle.command_words.specs.Commands.{HasLimit, check_by, command_in, command_named, command_of, conflicts_by, down_by, lrat_by, solve_by, trace_by, verify_by}
+use Rattle.command_words.specs.Values.{number_within, solve_of, trace_of}
+use Rattle.command_words.specs.Words.{arguments_of, positionals, value_of}
+use Rattle.command_words.specs.declared.commands.Command.{Command}
+
+abbrev IsWithin : ℕ → ℕ → ℕ → Type 0
+IsWithin least most number = (least ≤ number) × (number ≤ most)
+
+in_range : (least most : ℕ) (word : List ℕ) → IfSome (number_within least most word) (IsWithin least most)
+in_range least most word = go (is_natural most word) refl
+  where
+    inside : is_natural most word ≡ true → (b : Bool) → (nat_le (length word) 10 && nat_le least (value_after 0 word)) ≡ b
+        → IfSome (if b then Some (value_after 0 word) else None) (IsWithin least most)
+    inside good true e = (leb-true _ _ (and_parts _ _ e).1, leb-true _ _ (and_parts _ _ (and_parts _ _ good).1).1)
+    inside good false e = tt
+
+    go : (b : Bool) → is_natural most word ≡ b
+        → IfSome (option_and_then (λ number. if nat_le (length word) 10 && nat_le least number then Some number else None) (if b then Some (value_after 0 word) else None)) (IsWithin least most)
+    go true e = inside e (nat_le (length word) 10 && nat_le least (value_after 0 word)) refl
+    go false e = tt
+
+conflicts_in_range : (text : Option (List ℕ)) → IfSome (conflicts_by text) (IsWithin 1 200000)
+conflicts_in_range None = (leb-true _ _ refl, leb-true _ _ refl)
+conflicts_in_range (Some text) = in_range 1 200000 text
+
+-- ---- each command
+
+abbrev Limited : Option Command → Type 0
+Limited command = IfSome command HasLimit
+
+verify_limited : (words : List (List ℕ)) → Limited (verify_by words)
+verify_limited [] = tt
+verify_limited (d ∷ []) = tt
+verify_limited (d ∷ x ∷ words) = tt
+
+check_limited : (words : List (List ℕ)) → Limited (check_by words)
+check_limited [] = tt
+check_limited (d ∷ []) = tt
+check_limited (d ∷ c ∷ []) = tt
+check_limited (d ∷ c ∷ x ∷ words) = tt
+
+lrat_limited : (words : List (List ℕ)) → Limited (lrat_by words)
+lrat_limited [] = tt
+lrat_limited (f ∷ []) = tt
+lrat_limited (f ∷ p ∷ []) = tt
+lrat_limited (f ∷ p ∷ x ∷ words) = tt
+
+then_limited : {A : Type 0} (o : Option A) (by : A → Option Command) → ((x : A) → Limited (by x)) → Limited (option_and_then by o)
+then_limited None by h = tt
+then_limited (Some x) by h = h x
+
+trace_of_limited : (document from to : List ℕ) (numbers : Option (List ℕ)) → Limited (trace_of document from to numbers)
+trace_of_limited document from to numbers =
+    then_limited (prefix_of from) _ (λ origin. then_limited (prefix_of to) _ (λ destination. then_limited numbers _ (λ down. tt)))
+
+trace_limited : (down : Option (List ℕ)) (words : List (List ℕ)) → Limited (trace_by down words)
+trace_limited down [] = tt
+trace_limited down (d ∷ []) = tt
+trace_limited down (d ∷ f ∷ []) = tt
+trace_limited down (d ∷ f ∷ t ∷ []) = trace_of_limited d f t (down_by down)
+trace_limited down (d ∷ f ∷ t ∷ x ∷ words) = tt
+
+solve_of_limited : (formula proof : List ℕ) (limit : Option ℕ) → IfSome limit (IsWithin 1 200000) → Limited (solve_of formula proof limit)
+solve_of_limited formula proof None within = tt
+solve_of_limited formula proof (Some conflicts) within = within
+
+solve_limited : (proof conflicts : Option (List ℕ)) (words : List (List ℕ)) → Limited (solve_by proof conflicts words)
+solve_limited None conflicts words = tt
+solve_limited (Some proof) conflicts [] = tt
+solve_limited (Some proof) conflicts (f ∷ []) = solve_of_limited f proof (conflicts_by conflicts) (conflicts_in_range conflicts)
+solve_limited (Some proof) conflicts (f ∷ x ∷ words) = tt
+
+-- ---- the whole line
+
+either : (b : Bool) (c d : Option Command) → Limited c → Limited d → Limited (if b then c else d)
+either true c d h k = h
+either false c d h k = k
+
+pub command_limited : (words : List (List ℕ)) → Limited (command_of words)
+command_limited words = either (list_all is_utf8 words) (command_in words) None (inside words) tt
+  where
+    named : (name : List ℕ) (words : List (List ℕ)) → Limited (command_named name words)
+    named name words =
+        either (bytes_eq name (codes "verify")) _ _ (then_limited (arguments_of [] words) _ (λ given. verify_limited (positionals given)))
+        (either (bytes_eq name (codes "trace")) _ _ (then_limited (arguments_of (codes "down" ∷ []) words) _ (λ given. trace_limited (value_of (codes "down") given) (positionals given)))
+        (either (bytes_eq name (codes "check")) _ _ (then_limited (arguments_of [] words) _ (λ given. check_limited (positionals given)))
+        (either (bytes_eq name (codes "solve")) _ _
+        (then_limited (arguments_of (codes "proof" ∷ codes "conflicts" ∷ []) words) _ (λ given. solve_limited (value_of (codes "proof") given) (value_of (codes "conflicts") given) (positionals given)))
+        (either (bytes_eq name (codes "lrat")) _ _ (then_limited (arguments_of [] words) _ (λ given. lrat_limited (positionals given))) tt))))
+
+    inside : (words : List (List ℕ)) → Limited (command_in words)
+    inside [] = tt
+    inside (name ∷ words) = named name words
