@@ -15,6 +15,11 @@ pub mod OneSaid
 pub mod TracedInput
 pub mod OneTrace
 pub mod Traced
+pub mod FormulaVariables
+pub mod Numbering
+pub mod Searching
+pub mod FoundBySearch
+pub mod SolveHeadline
 pub mod Refuting
 pub mod Headline
 pub mod Checked

@@ -20,7 +20,8 @@ use Rattle.arc_run.specs.declared.outcome.Outcome.TheVariants as outcomes
 use Rattle.arc_run.specs.declared.outcome.Stop.{Stop}
 use Rattle.arc_run.specs.declared.outcome.Stop.TheVariants as stops
 use Rattle.arc_run.specs.Headline.{IsRefuted, IsNotRefuted, IsLratRefused, TellsRefutation}
-use Rattle.arc_run.specs.Lrats.{lrat_refusal, cnf_refusal, outcome_text, outcome_status, IsJudged, ReadsFormula}
+use Rattle.arc_run.specs.Formulas.{cnf_refusal, ReadsFormula}
+use Rattle.arc_run.specs.Lrats.{lrat_refusal, outcome_text, outcome_status, IsJudged}
 use Rattle.arc_run.specs.Outcomes.{Answers, IsDefined, status_of}
 use Rattle.arc_run.specs.Reading.{ReadsFile}
 use Rattle.arc_run.specs.Refusals.{bytes_at, read_refusal, or_else, proof_limit}

@@ -1,7 +1,7 @@
 -- What the statuses of the commands say, in the words of the subject.
-use Rattle.std.specs.Prelude.{◌≡◌, ◌↔◌, ◌⊎◌, ℕ, Bool, List, length, Some, None, Ok, All}
+use Rattle.std.specs.Prelude.{◌≡◌, ◌↔◌, ◌⊎◌, ℕ, ◌<◌, ◌≤◌, ◌^◌, Bool, List, [], length, Some, None, Ok, All}
 use Rattle.std.specs.List.{AllZip}
-use Rattle.arc_outside.specs.Files.{Files}
+use Rattle.arc_outside.specs.Files.{Files, with_files}
 use Rattle.net_model.specs.declared.policies.Document.{Document}
 use Rattle.net_model.specs.declared.rows.Network.{Network}
 use Rattle.net_model.specs.Policies.{MeetsDocument}
@@ -15,13 +15,18 @@ use Rattle.report_check.specs.Outcomes.{IsReport}
 use Rattle.cnf_types.specs.declared.clauses.Formula.{Formula}
 use Rattle.cnf_types.specs.Dimacs.{reading}
 use Rattle.cnf_types.specs.Formulas.{Satisfies}
-use Rattle.proof_check.specs.Outcomes.{IsRefutation}
+use Rattle.cnf_types.specs.Words.{lines}
+use Rattle.proof_log.specs.declared.steps.Step.{Step}
+use Rattle.proof_check.specs.Outcomes.{steps_of, IsRefutation}
+use Rattle.clean_logs.specs.CleanLogs.{IsSpent}
 use Rattle.arc_run.specs.declared.outcome.Done.{Done}
 use Rattle.arc_run.specs.declared.outcome.FileRefusal.{FileRefusal}
 use Rattle.arc_run.specs.Refusals.{bytes_at, read_refusal, proof_limit}
 use Rattle.command_words.specs.declared.commands.TraceWords.{TraceWords}
+use Rattle.command_words.specs.declared.commands.SolveWords.{SolveWords}
 use Rattle.arc_run.specs.Traces.{first_above, IsTraceRefusal}
 use Rattle.arc_run.specs.Lrats.{lrat_refusal}
+use Rattle.arc_run.specs.Solves.{solve_refusal, IsSolved}
 use Rattle.arc_run.specs.Checks.{IsCheckRefusal}
 use Rattle.arc_run.specs.Counts.{HasFewClasses, IsJudgingRefusal}
 use Rattle.arc_run.specs.Inputs.{HoldsDocument, HoldsInput, IsInputRefusal}
@@ -149,6 +154,47 @@ pub record TellsRefutation (cnf proof : List ℕ) (status : ℕ) (files : Files)
   pub refused_exactly : (status ≡ 5) ↔ IsLratRefused cnf proof files
   pub nothing_else : (status ≡ 0) ⊎ ((status ≡ 1) ⊎ (status ≡ 5))
 
+-- the formula is held, and some assignment satisfies it
+pub record IsSatisfiable (words : SolveWords) (files : Files) : Type 0 where
+  pub held : solve_refusal words files ≡ None
+  pub formula : Formula
+  pub formula_is : reading (bytes_at files words.formula) ≡ Ok formula
+  pub assignment : ℕ → Bool
+  pub satisfies : Satisfies assignment formula
+
+-- it is held, and no assignment satisfies it
+pub record IsUnsatisfiable (words : SolveWords) (files : Files) : Type 0 where
+  pub held : solve_refusal words files ≡ None
+  pub formula : Formula
+  pub formula_is : reading (bytes_at files words.formula) ≡ Ok formula
+  pub unsatisfiable : (assignment : ℕ → Bool) → Satisfies assignment formula → ⊥
+
+-- the formula's file, or the name of the proof, is refused
+pub record IsSolveRefused (words : SolveWords) (files : Files) : Type 0 where
+  pub refusal : FileRefusal
+  pub refused : solve_refusal words files ≡ Some refusal
+
+-- the formula is held, and so is the text of a log that is spent for it: the log is accepted, adds just as many clauses as the
+-- words allow, and each of them is new and none empty. Such a log is too short for a formula of few variables.
+pub record HoldsSpentLog (words : SolveWords) (files : Files) : Type 0 where
+  pub formula : Formula
+  pub formula_is : reading (bytes_at files words.formula) ≡ Ok formula
+  pub steps : List Step
+  pub steps_are : steps_of (lines (bytes_at files words.proof)) ≡ Some steps
+  pub spent : IsSpent formula None [] words.conflicts steps
+  pub variables : formula.vars ≤ 6 → words.conflicts < 3 ^ formula.vars
+
+-- What the status tells, of the files before and after: 0 for satisfiable, 2 for unsatisfiable, and then `lrat` accepts what was
+-- written, 3 in place of either where what was written is a spent log, and 5 for refused.
+pub record TellsSolution (words : SolveWords) (status : ℕ) (before after : Files) : Type 0 where
+  pub satisfiable : status ≡ 0 → IsSatisfiable words before
+  pub unsatisfiable : status ≡ 2 → IsUnsatisfiable words before × IsRefuted words.formula words.proof after
+  pub undecided : status ≡ 3 → HoldsSpentLog words after
+  pub refused_exactly : (status ≡ 5) ↔ IsSolveRefused words before
+  pub zero_or_three : IsSatisfiable words before → (status ≡ 0) ⊎ (status ≡ 3)
+  pub two_or_three : IsUnsatisfiable words before → (status ≡ 2) ⊎ (status ≡ 3)
+  pub nothing_else : (status ≡ 0) ⊎ ((status ≡ 2) ⊎ ((status ≡ 3) ⊎ (status ≡ 5)))
+
 -- before and after, the same is held under the document's name, and under the name of each of its router files
 pub record HoldTheSame (document : List ℕ) (before after : Files) : Type 0 where
   pub document_is : after document ≡ before document
@@ -158,3 +204,7 @@ pub record HoldTheSame (document : List ℕ) (before after : Files) : Type 0 whe
 abbrev pub VerifiedIsAccepted : Type 0
 VerifiedIsAccepted = (document certificate : List ℕ) (before after : Files) (done : Done) → IsVerified document before done → HoldTheSame document before after →
     after certificate ≡ Some done.text → read_refusal proof_limit after certificate ≡ None → IsAccepted document certificate after
+
+-- the log that `solve` wrote where no assignment satisfies the formula is a proof of that which `lrat` accepts
+abbrev pub SolvedIsRefuted : Type 0
+SolvedIsRefuted = (words : SolveWords) (files : Files) (done : Done) → IsSolved words files done → done.status ≡ 2 → IsRefuted words.formula words.proof (with_files done.writes files)

@@ -7,7 +7,10 @@ pub mod Counts
 pub mod Verifies
 pub mod Traces
 pub mod TracedInputs
+pub mod Formulas
 pub mod Lrats
+pub mod Cores
+pub mod Solves
 pub mod Outcomes
 pub mod Runs
 pub mod Headline

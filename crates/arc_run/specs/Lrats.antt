@@ -1,12 +1,9 @@
 -- The command `lrat CNF PROOF`.
-use Rattle.std.specs.Prelude.{◌≡◌, ◌↔◌, ℕ, Bool, List, [], codes, Option, Some, None, Result, Ok, Err}
+use Rattle.std.specs.Prelude.{◌≡◌, ◌↔◌, ℕ, Bool, List, [], codes, Option, None, Ok}
 use Rattle.arc_base.specs.declared.certificate.CertKind.{CertKind}
 use Rattle.arc_base.specs.declared.certificate.CertKind.TheVariants as kinds
-use Rattle.arc_base.specs.declared.refusal.Kind.TheVariants.{Limit}
 use Rattle.arc_outside.specs.Files.{Files}
 use Rattle.cnf_types.specs.declared.clauses.Formula.{Formula}
-use Rattle.cnf_types.specs.declared.faults.CnfFault.{CnfFault}
-use Rattle.cnf_types.specs.declared.faults.CnfFault.TheVariants as faults
 use Rattle.cnf_types.specs.Dimacs.{reading}
 use Rattle.cnf_types.specs.Formulas.{Satisfies}
 use Rattle.cnf_types.specs.Words.{lines}
@@ -20,42 +17,13 @@ use Rattle.proof_check.specs.Knowledge.{start}
 use Rattle.proof_check.specs.Outcomes.{log_outcome, IsRefutation}
 use Rattle.arc_run.specs.declared.outcome.Done.{Done}
 use Rattle.arc_run.specs.declared.outcome.FileRefusal.{FileRefusal}
-use Rattle.arc_run.specs.declared.outcome.Reason.TheVariants as reasons
-use Rattle.arc_run.specs.declared.outcome.Stop.{Stop}
-use Rattle.arc_run.specs.declared.outcome.Stop.TheVariants as stops
-use Rattle.arc_run.specs.Refusals.{bytes_at, refusal_of, read_refusal, or_else, proof_limit}
+use Rattle.arc_run.specs.Refusals.{bytes_at, read_refusal, or_else, proof_limit}
+use Rattle.arc_run.specs.Formulas.{cnf_refusal}
 use Rattle.arc_run.specs.Rejections.{rejected_text}
-
--- how many bytes a formula may have
-abbrev pub cnf_limit : ℕ
-cnf_limit = 268435456
-
--- the refusal of a text that has this fault; want of memory is no fault of the text
-abbrev pub faulty : List ℕ → CnfFault → Option FileRefusal
-faulty cnf (faults.BadHeader line) = Some (record { name = cnf; number = line; reason = reasons.BadHeader })
-faulty cnf (faults.BadNumber line) = Some (record { name = cnf; number = line; reason = reasons.BadNumber })
-faulty cnf (faults.Count line) = Some (record { name = cnf; number = line; reason = reasons.ClauseCount })
-faulty cnf (faults.TooLarge what count) = Some (refusal_of cnf 0 (Limit what count))
-faulty cnf faults.Memory = None
-
-abbrev pub formula_refusal : List ℕ → Result Formula CnfFault → Option FileRefusal
-formula_refusal cnf (Ok f) = None
-formula_refusal cnf (Err fault) = faulty cnf fault
-
--- the first refusal of a formula's file: it is missing or too long, or its first fault
-abbrev pub cnf_refusal : List ℕ → Files → Option FileRefusal
-cnf_refusal cnf files = or_else (read_refusal cnf_limit files cnf) (formula_refusal cnf (reading (bytes_at files cnf)))
 
 -- the formula first, and then the proof
 unfoldable pub lrat_refusal : List ℕ → List ℕ → Files → Option FileRefusal
 lrat_refusal cnf proof files = or_else (cnf_refusal cnf files) (read_refusal proof_limit files proof)
-
--- what reading the formula answers
-abbrev pub ReadsFormula : List ℕ → Files → Result Formula Stop → Type 0
-ReadsFormula cnf files (Ok f) = (cnf_refusal cnf files ≡ None) × (reading (bytes_at files cnf) ≡ Ok f)
-ReadsFormula cnf files (Err (stops.Refused r)) = cnf_refusal cnf files ≡ Some r
-ReadsFormula cnf files (Err stops.Memory) = Unit {0}
-ReadsFormula cnf files (Err stops.Failed) = Unit {0}
 
 -- the kind of reason for which a step is not accepted
 abbrev pub fault_kind : StepFault → CertKind

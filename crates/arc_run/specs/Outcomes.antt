@@ -3,7 +3,7 @@ use Rattle.std.specs.Prelude.{◌≡◌, ℕ, ◌≤◌, List, [], Option, Some,
 use Rattle.arc_base.specs.declared.refusal.Kind.TheVariants.{Missing}
 use Rattle.arc_outside.specs.Files.{Files}
 use Rattle.command_words.specs.declared.commands.Command.{Command}
-use Rattle.command_words.specs.declared.commands.Command.TheVariants.{Verify, Trace, Lrat, Check}
+use Rattle.command_words.specs.declared.commands.Command.TheVariants.{Verify, Trace, Check, Solve, Lrat}
 use Rattle.arc_run.specs.declared.outcome.Done.{Done}
 use Rattle.arc_run.specs.declared.outcome.FileRefusal.{FileRefusal}
 use Rattle.arc_run.specs.declared.outcome.Reason.TheVariants as reasons
@@ -18,6 +18,7 @@ use Rattle.arc_run.specs.Verifies.{IsVerified}
 use Rattle.arc_run.specs.Traces.{IsTraceRefusal, IsTraced}
 use Rattle.arc_run.specs.Lrats.{lrat_refusal, IsJudged}
 use Rattle.arc_run.specs.Checks.{IsCheckRefusal, IsChecked}
+use Rattle.arc_run.specs.Solves.{solve_refusal, IsSolved}
 
 -- the first refusal of a command
 abbrev pub IsRefusal : Command → Files → FileRefusal → Type 0
@@ -25,12 +26,14 @@ IsRefusal (Verify document) files r = IsJudgingRefusal document files r
 IsRefusal (Trace words) files r = IsTraceRefusal words files r
 IsRefusal (Lrat cnf proof) files r = lrat_refusal cnf proof files ≡ Some r
 IsRefusal (Check document certificate) files r = IsCheckRefusal document certificate files r
+IsRefusal (Solve words) files r = solve_refusal words files ≡ Some r
 
 -- what a command may answer where it is not refused
 abbrev pub IsAnswer : Command → Files → Done → Type 0
 IsAnswer (Verify document) files done = IsVerified document files done
 IsAnswer (Trace words) files done = IsTraced words files done
 IsAnswer (Check document certificate) files done = IsChecked document certificate files done
+IsAnswer (Solve words) files done = IsSolved words files done
 IsAnswer (Lrat cnf proof) files done = IsJudged cnf proof files done
 
 -- the text of an outcome, the files that it writes in order, and its status

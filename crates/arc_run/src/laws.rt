@@ -6,7 +6,7 @@ ghost use Rattle.arc_run.specs.declared.outcome.Done.{Done};
 ghost use Rattle.arc_run.specs.declared.outcome.FileRefusal.{FileRefusal};
 ghost use Rattle.command_words.specs.declared.commands.TraceWords.{TraceWords};
 ghost use Rattle.arc_run.specs.Checks.{IsChecked, IsCheckRefusal};
-ghost use Rattle.arc_run.specs.Headline.{IsDetermined, VerifiedIsAccepted};
+ghost use Rattle.arc_run.specs.Headline.{IsDetermined, SolvedIsRefuted, VerifiedIsAccepted};
 ghost use Rattle.arc_run.specs.Traces.{tries_before, tries_after, IsTraceRefusal, IsTraced};
 
 /// What the names hold gives a command over a document at most one document and network, and at most one first refusal, and never both.
@@ -34,4 +34,9 @@ pub fn check_is_determined()
 /// and its router files are still the same.
 pub fn verified_is_accepted()
     ensures { VerifiedIsAccepted }
+{}
+
+/// Every proof that `solve` wrote with status 2 is accepted by `lrat` over the same formula.
+pub fn solved_is_refuted()
+    ensures { SolvedIsRefuted }
 {}

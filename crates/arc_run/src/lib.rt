@@ -6,18 +6,20 @@
 mod checking;
 mod ending;
 mod files;
+mod formulas;
 mod inputs;
 pub mod laws;
 mod lrat_check;
 mod outcome;
 mod refusals;
 mod rejections;
+mod solving;
 mod surely;
 mod top;
 mod tracing;
 mod verifying;
 
-pub use command_words::{Command, TraceWords};
+pub use command_words::{Command, SolveWords, TraceWords};
 pub use inputs::Input;
 pub use outcome::{Done, FileRefusal, Outcome, Reason, Status, Stop};
 pub use surely::run_surely;

@@ -1,64 +1,18 @@
 //! The command `lrat CNF PROOF`.
-ghost use Rattle.std.specs.Prelude.{◌≡◌, ◌⊎◌, ◌≤◌, ◌<◌, ◌^◌, length, IfOk, IfErr, IfSome, IsSomeAnd};
+ghost use Rattle.std.specs.Prelude.{◌≡◌, ◌≤◌, IfOk, IfErr};
 ghost use Rattle.arc_outside.specs.Causes.{Rose};
-ghost use Rattle.arc_run.specs.Lrats.{faulty, fault_kind, outcome_status, outcome_text, rejection_kind, ReadsFormula};
+ghost use Rattle.arc_run.specs.Lrats.{fault_kind, outcome_status, outcome_text, rejection_kind};
 ghost use Rattle.arc_run.specs.Outcomes.{Answers, HasStopCause};
 
 use crate::files::{PROOF_LIMIT, read_file};
-use crate::outcome::{Done, FileRefusal, Reason, Stop};
-use crate::refusals::refused;
+use crate::formulas::read_formula;
+use crate::outcome::{Done, Stop};
 use crate::rejections::rejected_text;
-use arc_base::{CertKind, Kind, List, Memory, Name};
+use arc_base::{CertKind, List, Name};
 use arc_outside::Store;
-use cnf_types::{CnfFault, Formula, formula};
 use command_words::Command;
 use proof_check::{Outcome, Rejection, StepFault, check_log};
 use std::alloc::{AllocError, Global};
-
-// How many bytes a formula may have.
-const CNF_LIMIT: u64 = 268_435_456;
-
-// The refusal of the formula at a line.
-fn refused_at(alloc: Global, cnf: &Name, line: u32, reason: Reason) -> Stop
-    ensures { (result ≡ Stop.Memory) ⊎ (result ≡ Stop.Refused (record { name = cnf.now; number = line; reason = reason })) }
-{
-    match Name::make(alloc, cnf.bytes()) {
-        Ok(name) => Stop::Refused(FileRefusal {
-            name,
-            number: line,
-            reason,
-        }),
-        Err(Memory) => Stop::Memory,
-    }
-}
-
-// The refusal of a text that is no formula.
-fn faulty(alloc: Global, cnf: &Name, fault: CnfFault) -> Stop
-    ensures { (result ≡ Stop.Memory) ⊎ IsSomeAnd (faulty cnf.now fault) (λ r. result ≡ Stop.Refused r) }
-{
-    match fault {
-        CnfFault::BadHeader(line) => refused_at(alloc, cnf, line, Reason::BadHeader),
-        CnfFault::BadNumber(line) => refused_at(alloc, cnf, line, Reason::BadNumber),
-        CnfFault::Count(line) => refused_at(alloc, cnf, line, Reason::ClauseCount),
-        CnfFault::TooLarge(what, count) => refused(alloc, cnf, 0, Kind::Limit(what, count)),
-        CnfFault::Memory => Stop::Memory,
-    }
-}
-
-// Reads the formula, or refuses it.
-fn read_formula<S: Store>(alloc: Global, cnf: &Name, store: &mut S) -> Result<Formula, Stop>
-    ensures told { IfSome (S.held store.old) (λ files. ReadsFormula cnf.now files result) }
-    ensures same { S.held store.new ≡ S.held store.old }
-    ensures cause { IfErr result (HasStopCause (Rose (S.faults store.old) (S.faults store.new)) (Rose (S.absences store.old) (S.absences store.new))) }
-    ensures faults { S.faults store.old ≤ S.faults store.new }
-    ensures absences { S.absences store.old ≤ S.absences store.new }
-{
-    let bytes = read_file(alloc, store, cnf, CNF_LIMIT)?;
-    match formula(alloc, bytes.as_slice()) {
-        Ok(formula) => Ok(formula),
-        Err(fault) => Err(faulty(alloc, cnf, fault)),
-    }
-}
 
 // The kind of reason for which a step is not accepted.
 fn fault_kind(fault: StepFault) -> CertKind

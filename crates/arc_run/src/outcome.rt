@@ -3,8 +3,8 @@
 use arc_base::{Kind, List, Memory, Name};
 use std::alloc::AllocError;
 
-/// The exit status of a run: 0 for yes, 1 for no, 2 and 3 for the answers of commands to come, 4 where the words
-/// match no command, 5 for a refusal, 6 and 7 where the store or the sink failed, 8 for want of memory.
+/// The exit status of a run: 0 for yes, 1 for no, 2 where no assignment satisfies the formula, 3 where a search reached its
+/// limit, 4 where the words match no command, 5 for a refusal, 6 and 7 where the store or the sink failed, 8 for want of memory.
 #[derive(Clone, Copy, Debug, PartialEq, Eq)]
 pub struct Status {
     pub code: u8,
@@ -13,7 +13,8 @@ pub struct Status {
 /// Why a file is refused.
 #[derive(Clone, Copy, Debug, PartialEq, Eq)]
 pub enum Reason {
-    /// A kind of refusal that a command over a document may have. `lrat` has `Missing`, `TooLong` and `Limit` too.
+    /// A kind of refusal that a command over a document may have. `lrat` and `solve` have `Missing`,
+    /// `TooLong` and `Limit` too, and `solve` has `OutputName`.
     Kind(Kind),
     /// A formula's header is missing or of another form (DIMACS).
     BadHeader,

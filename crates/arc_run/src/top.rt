@@ -1,8 +1,8 @@
 //! The top call.
-ghost use Rattle.std.specs.Prelude.{◌≡◌, ◌⊎◌, ◌<◌, ◌≤◌, List, ℕ, Some, None, IfSome, IfOk, IfErr, IsErrOf};
+ghost use Rattle.std.specs.Prelude.{◌≡◌, ◌⊎◌, ◌<◌, ◌≤◌, List, ℕ, Some, None, IfSome, IsSomeAnd, IfOk, IfErr, IsErrOf};
 ghost use Rattle.arc_outside.specs.Causes.{Rose};
-ghost use Rattle.arc_run.specs.Headline.{TellsVerdicts, TellsTrace, TellsCheck, TellsRefutation};
-ghost use Rattle.command_words.specs.Commands.{command_of};
+ghost use Rattle.arc_run.specs.Headline.{TellsVerdicts, TellsTrace, TellsCheck, TellsRefutation, TellsSolution};
+ghost use Rattle.command_words.specs.Commands.{command_of, HasLimit};
 ghost use Rattle.arc_run.specs.Outcomes.{Answers, HasStopCause, IsDefined, HasOutcomeCause};
 ghost use Rattle.arc_run.specs.Runs.{Runs};
 
@@ -10,11 +10,12 @@ use crate::checking::check;
 use crate::ending::finish;
 use crate::lrat_check::lrat;
 use crate::outcome::{Done, Outcome, Status, Stop};
+use crate::solving::solve;
 use crate::tracing::trace;
 use crate::verifying::verify;
 use arc_base::Name;
 use arc_outside::{Sink, Store};
-use command_words::{Command, TraceWords, read_words};
+use command_words::{Command, SolveWords, TraceWords, read_words};
 use std::alloc::Global;
 
 // Why a run has no outcome.
@@ -26,6 +27,7 @@ enum Halt {
 
 // Runs the function of the command.
 fn answer<S: Store>(alloc: Global, command: &Command, store: &mut S) -> Result<Done, Stop>
+    requires { HasLimit command.now }
     ensures answer { Answers command.now (S.held store.old) result }
     ensures same { S.held store.new ≡ S.held store.old }
     ensures cause { IfErr result (HasStopCause (Rose (S.faults store.old) (S.faults store.new)) (Rose (S.absences store.old) (S.absences store.new))) }
@@ -35,8 +37,9 @@ fn answer<S: Store>(alloc: Global, command: &Command, store: &mut S) -> Result<D
     match command {
         Command::Verify(document) => verify(alloc, document, store),
         Command::Trace(words) => trace(alloc, words, store),
-        Command::Lrat(cnf, proof) => lrat(alloc, cnf, proof, store),
         Command::Check(document, certificate) => check(alloc, document, certificate, store),
+        Command::Solve(words) => solve(alloc, words, store),
+        Command::Lrat(cnf, proof) => lrat(alloc, cnf, proof, store),
     }
 }
 
@@ -92,7 +95,7 @@ pub fn run<S: Store, K: Sink>(alloc: Global, words: &[Name], store: &mut S, out:
     ensures usage { result.code ≡ 4 → command_of words.now ≡ None }
     ensures no_command { command_of words.now ≡ None → (result.code ≡ 4) ⊎ (7 ≤ result.code) }
 
-    // The four clauses below speak of a store that tells what it holds (`S.held`). Over one that tells nothing of its content they
+    // The five clauses below speak of a store that tells what it holds (`S.held`). Over one that tells nothing of its content they
     // say nothing, and of the clause `runs` only the causes of the statuses are left.
 
     // The headline. Where `verify` ends with a status below 6, that is 0 exactly where the document and its router files have a
@@ -118,6 +121,12 @@ pub fn run<S: Store, K: Sink>(alloc: Global, words: &[Name], store: &mut S, out:
     // formula or the proof is refused.
     ensures refuted { (cnf proof : List ℕ) → command_of words.now ≡ Some (Command.Lrat cnf proof) →
         result.code < 6 → IfSome (S.held store.old) (TellsRefutation cnf proof result.code) }
+
+    // Where `solve` ends with a status below 6, some assignment satisfies the formula where it is 0, none does where it is 2,
+    // and it is 5 exactly where the formula or the name of the proof is refused. 3 may come in place of 0 and 2. A proof is written in
+    // all three cases: after 2 it is one that `lrat` accepts, and after 3 it is a log that is spent at the limit.
+    ensures solved { (solve : SolveWords) → command_of words.now ≡ Some (Command.Solve solve) →
+        result.code < 6 → IfSome (S.held store.old) (λ before. IsSomeAnd (S.held store.new) (TellsSolution solve result.code before)) }
 {
     run_defined(alloc, words, store, out)
 }

@@ -10,6 +10,7 @@ mod plain;
 mod refusals;
 mod routers;
 mod sessions;
+mod solves;
 mod traces;
 mod unread;
 
@@ -24,6 +25,7 @@ use plain::{KEPT, PLAIN, REDUNDANT};
 use refusals::REFUSALS;
 use routers::{PAIR_FILES, SQUARE_FILES};
 use sessions::{DENIED_ROUTE, SESSIONS};
+use solves::{REFUSED, SEARCHES, are_found, are_refused, empty_clause_is_told, write_fails};
 use std::alloc::Global;
 use std::process::Abort;
 use std::test::Fail;
@@ -109,12 +111,21 @@ fn failing(alloc: Global, call: u64) -> Result<List<u64>, Memory> {
     Ok(fail)
 }
 
-// The text that these words put over these files, and the status.
+// The text that these words put over a store, and the status.
+fn put_over(
+    alloc: Global,
+    store: &mut SureStore,
+    line: &[&[u8]],
+) -> Result<(SureSink, u8), Memory> {
+    let mut out = SureSink::make(alloc);
+    let status = run(alloc, words(alloc, line)?.slice(), store, &mut out);
+    Ok((out, status.code))
+}
+
+// The same over these files.
 fn put(alloc: Global, held: List<(Name, Name)>, line: &[&[u8]]) -> Result<(SureSink, u8), Memory> {
     let mut store = SureStore::make(alloc, held)?;
-    let mut out = SureSink::make(alloc);
-    let status = run(alloc, words(alloc, line)?.slice(), &mut store, &mut out);
-    Ok((out, status.code))
+    put_over(alloc, &mut store, line)
 }
 
 // With ample memory no row ends for want of it.
@@ -233,6 +244,13 @@ fn proofs_are_judged(rt: HostRuntime) -> Result<(), Fail> {
     Ok(())
 }
 
+#[test]
+fn formulas_are_searched(rt: HostRuntime) -> Result<(), Fail> {
+    are_found(&rt, rt.alloc(), &SEARCHES)?;
+    empty_clause_is_told(&rt, rt.alloc())?;
+    Ok(are_refused(&rt, rt.alloc(), &REFUSED)?)
+}
+
 const WALK: &[u8] = b"arc-report 1\n1 blocked no 1\nwalk 10.1.0.0/24 10.2.0.0/24 1\nend\n";
 
 // Each of the six reads fails in turn: nothing is put.
@@ -256,6 +274,11 @@ fn store_calls_fail(rt: HostRuntime) -> Result<(), Fail> {
         assert_eq!(rt; out.bytes(), text);
     }
     Ok(())
+}
+
+#[test]
+fn proofs_are_not_written(rt: HostRuntime) -> Result<(), Fail> {
+    Ok(write_fails(&rt, rt.alloc())?)
 }
 
 // The one put fails: nothing is put.

@@ -2,6 +2,7 @@ use Rattle.arc_run.proofs.Headline.{tells}
 use Rattle.arc_run.proofs.Traced.{tells_trace}
 use Rattle.arc_run.proofs.Checked.{tells_check}
 use Rattle.arc_run.proofs.Refuting.{tells_refutation}
+use Rattle.arc_run.proofs.SolveHeadline.{tells_solution}
 use Rattle.command_words.specs.Commands.{command_of}
 use Rattle.arc_run.proofs.top.run.Goals as goal
 
@@ -16,3 +17,6 @@ returns-clause-checked g c document certificate is = tells_check (command_of c.a
 
 pub returns-clause-refuted : goal.returns-clause-refuted
 returns-clause-refuted g c cnf proof is = tells_refutation (command_of c.args.words.now) c.run_defined.ensures cnf proof is
+
+pub returns-clause-solved : goal.returns-clause-solved
+returns-clause-solved g c solve is = tells_solution (command_of c.args.words.now) c.run_defined.ensures solve is
