@@ -123,15 +123,18 @@ cut_at-joined text xs ys e =
 prefix_text-slash : (p : Prefix) → prefix_text p ≡ address_text p.addr ++ 47 ∷ decimal p.len
 prefix_text-slash p = append_assoc (address_text p.addr) (47 ∷ []) (decimal p.len)
 
+-- the text of a prefix is cut at its slash
+pub prefix_cut : (p : Prefix) → cut_at 47 (prefix_text p) ≡ Some (address_text p.addr, decimal p.len)
+prefix_cut p =
+    let dotted = IsDotted-address_text p.addr p.in_range in
+    let slashless : NoSlash (address_text p.addr) = subst NoSlash (sym dotted.spelled) (NoSlash-dotted dotted.a dotted.b dotted.c dotted.d dotted.fit) in
+    ap (cut_at 47) (prefix_text-slash p) ∙ cut_at-slash (address_text p.addr) (decimal p.len) slashless
+
 -- the text of a prefix is read as it
 read_back : (p : Prefix) → prefix_of (prefix_text p) ≡ Some p
 read_back p =
-    let dotted = IsDotted-address_text p.addr p.in_range in
-    let slashless : NoSlash (address_text p.addr) = subst NoSlash (sym dotted.spelled) (NoSlash-dotted dotted.a dotted.b dotted.c dotted.d dotted.fit) in
     let len : p.len ≤ 32 = p.length in
-    let cut : cut_at 47 (prefix_text p) ≡ Some (address_text p.addr, decimal p.len) =
-    ap (cut_at 47) (prefix_text-slash p) ∙ cut_at-slash (address_text p.addr) (decimal p.len) slashless in
-    parts_read (prefix_text p) _ _ p.addr p.len cut (address_of-address_text p.addr p.in_range) (number_of-decimal p.len (omega arith)) ∙ prefix_at-parts p
+    parts_read (prefix_text p) _ _ p.addr p.len (prefix_cut p) (address_of-address_text p.addr p.in_range) (number_of-decimal p.len (omega arith)) ∙ prefix_at-parts p
 
 -- what is read as a prefix is its text
 spelled : (text : List ℕ) (p : Prefix) → prefix_of text ≡ Some p → text ≡ prefix_text p

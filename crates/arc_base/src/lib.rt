@@ -12,6 +12,7 @@ mod name;
 mod place;
 mod prefix;
 mod prefix_text;
+mod reason_words;
 mod refusal;
 mod span;
 #[cfg(test)]

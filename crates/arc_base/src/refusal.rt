@@ -49,6 +49,8 @@ pub enum Kind {
     OutputName,
     /// A line of an edit file names no edit, or one that was named before.
     EditLine,
+    /// A router that is named on the command line is none of the network's.
+    UnknownRouter,
 }
 
 /// What is counted against a limit.
