@@ -31,7 +31,7 @@ apart p q e = by (is_same q p) refl
     by false h = h
     by true h = absurd (false≢true (sym e ∙ (is_same-Decides p q).1 (sym ((is_same-Decides q p).0 h))))
 
-neither : (a b : Bool) → (a || b) ≡ false → (a ≡ false) × (b ≡ false)
+pub neither : (a b : Bool) → (a || b) ≡ false → (a ≡ false) × (b ≡ false)
 neither true b e = absurd (false≢true (sym e))
 neither false b e = (refl, e)
 

@@ -68,7 +68,7 @@ same-head kinds count v w one two low =
     let closed : closes (kinds w) ≡ true = ap closes two.opens in
     cc
 
-same-open : (kinds : ℕ → Kind) (count v w : ℕ) → IsOpen kinds count v → IsOpen kinds count w → v ≡ w
+pub same-open : (kinds : ℕ → Kind) (count v w : ℕ) → IsOpen kinds count v → IsOpen kinds count w → v ≡ w
 same-open kinds count zero zero one two = refl
 same-open kinds count zero (suc w) one two = absurd (one w two)
 same-open kinds count (suc v) zero one two = absurd (two v one)

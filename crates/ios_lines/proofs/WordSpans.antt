@@ -25,7 +25,7 @@ words-after_blanks [] ys all = refl
 words-after_blanks (x ∷ xs) ys all = words-blank x (xs ++ ys) (all 0 (omega arith)) ∙ words-after_blanks xs ys (λ k low. all (suc k) (omega arith))
 
 -- the bytes are none, or begin with a blank
-abbrev BeginsBlank : List ℕ → Type 0
+abbrev pub BeginsBlank : List ℕ → Type 0
 BeginsBlank bytes = 0 < length bytes → IsTrue (is_blank (slice_index bytes 0))
 
 -- a word ends where a blank stands
@@ -35,7 +35,7 @@ front-filled [] (y ∷ ys) all begins = cond-true _ _ _ (begins (omega arith))
 front-filled (x ∷ xs) ys all begins = cond-false _ _ _ (all 0 (omega arith)) ∙ ap suc (front-filled xs ys (λ k low. all (suc k) (omega arith)) begins)
 
 -- bytes other than blanks, and then a blank or nothing, are a word and the words after it
-words-after_word : (xs ys : List ℕ) → 0 < length xs → ((k : ℕ) → k < length xs → IsFalse (is_blank (slice_index xs k))) → BeginsBlank ys → words (xs ++ ys) ≡ xs ∷ words ys
+pub words-after_word : (xs ys : List ℕ) → 0 < length xs → ((k : ℕ) → k < length xs → IsFalse (is_blank (slice_index xs k))) → BeginsBlank ys → words (xs ++ ys) ≡ xs ∷ words ys
 words-after_word [] ys some all begins = absurd (omega arith)
 words-after_word (x ∷ xs) ys some all begins =
     let line = (x ∷ xs) ++ ys in

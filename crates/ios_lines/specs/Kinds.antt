@@ -1,5 +1,5 @@
 -- What each line of a router file is. A top line begins with no blank; other lines belong to the block of one.
-use Rattle.std.specs.Prelude.{ℕ, ◌==◌, Bool, true, false, if◌then◌else◌, List, [], ◌∷◌, take, fold, codes, Option, Some, None, slice_index_or}
+use Rattle.std.specs.Prelude.{◌≡◌, ℕ, ◌==◌, Bool, true, false, if◌then◌else◌, List, [], ◌∷◌, take, fold, codes, Option, Some, None, slice_index_or}
 use Rattle.std.specs.List.{starts_with, list_any}
 use Rattle.std.specs.Str.{bytes_eq}
 use Rattle.ios_lines.specs.declared.banner.Delimiter.{Delimiter}
@@ -91,3 +91,16 @@ is_inert Inner = false
 is_inert Single = false
 is_inert Head = false
 is_inert Banner = true
+
+-- where no banner is open, the line belongs to a block; heads one; is a top line that opens none; is a comment that closes one
+abbrev pub IsInner : List ℕ → Type 0
+IsInner line = kind line ≡ Inner
+
+abbrev pub IsHead : List ℕ → Type 0
+IsHead line = kind line ≡ Head
+
+abbrev pub IsSingle : List ℕ → Type 0
+IsSingle line = kind line ≡ Single
+
+abbrev pub IsClosing : List ℕ → Type 0
+IsClosing line = kind line ≡ Comment

@@ -1,8 +1,14 @@
 pub mod Banners
 pub mod Blocks
+pub mod ChangeLaws
+pub mod Changes
+pub mod Ended
 pub mod Kinds
 pub mod Laws
 pub mod Lines
 pub mod Reading
+pub mod Rewritten
 pub mod Texts
+pub mod Views
 pub mod Words
+pub mod Written

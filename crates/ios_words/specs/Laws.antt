@@ -1,12 +1,13 @@
 -- What the answers of the language's rows mean, in plain words.
-use Rattle.std.specs.Prelude.{◌≡◌, ◌≢◌, ℕ, ◌↔◌, List, Contains, IsTrue, IsFalse, Result, Err}
+use Rattle.std.specs.Prelude.{◌≡◌, ◌≢◌, ℕ, Bool, true, false, ◌↔◌, List, Contains, IsTrue, IsFalse, Result, Err}
 use Rattle.ios_lines.specs.declared.line.Line.{Line}
 use Rattle.ios_words.specs.declared.commands.Command.{Command}
 use Rattle.ios_words.specs.declared.commands.Command.TheVariants as commands
 use Rattle.ios_words.specs.declared.kinds.BlockKind.{BlockKind}
+use Rattle.ios_words.specs.declared.kinds.BlockKind.TheVariants as kinds
 use Rattle.ios_words.specs.declared.kinds.WordFault.{WordFault}
 use Rattle.ios_words.specs.declared.kinds.WordFault.TheVariants as faults
-use Rattle.ios_words.specs.Commands.{completes, is_extended_block, line_words, Reads, IsUnknown, IsAnswer}
+use Rattle.ios_words.specs.Commands.{ReadBy, completes, is_extended_block, line_words, Reads, IsUnknown, IsAnswer}
 use Rattle.ios_words.specs.Language.{rows, inert_in}
 use Rattle.ios_words.specs.Readings.{matches}
 use Rattle.ios_words.specs.Rows.{Rule}
@@ -34,3 +35,16 @@ UnknownMatchesNone =
 abbrev pub InertCounts : Type 0
 InertCounts =
     (text : List ℕ) (line : Line) (within : BlockKind) (rule : Rule) (command : Command) → Contains (inert_in within) rule → Completes text line within rule → Reads text line within command → command ≡ commands.Inert
+
+-- whether the command heads a block whose lines are read
+abbrev pub heads_block : Command → Bool
+heads_block (commands.Interface name) = true
+heads_block (commands.RouterOspf number) = true
+heads_block (commands.RouterBgp number) = true
+heads_block (commands.ListBlock extended name) = true
+heads_block _ = false
+
+-- only top lines head blocks that are read
+abbrev pub HeadsAreTopLines : Type 0
+HeadsAreTopLines =
+    (within : BlockKind) (ws : List (List ℕ)) (command : Command) → ReadBy (is_extended_block within) ws (rows within) command → IsTrue (heads_block command) → ReadBy false ws (rows kinds.Top) command

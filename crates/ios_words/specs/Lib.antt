@@ -8,7 +8,9 @@ pub mod Meanings
 pub mod Names
 pub mod Numbers
 pub mod Prefixes
+pub mod Printed
 pub mod Readings
+pub mod Renumbered
 pub mod Rows
 pub mod Spans
 pub mod Trials

@@ -1,7 +1,10 @@
 //! Laws over the definitions alone: each is the contract of a function that does nothing.
 ghost use Rattle.ios_words.specs.Forms.{CommandsAreInForm, AllAddressesFit};
+ghost use Rattle.std.specs.Prelude.{codes};
 ghost use Rattle.ios_words.specs.Names.{NamesHaveTheirForm};
-ghost use Rattle.ios_words.specs.Laws.{AnswersAreOne, UnknownMatchesNone, InertCounts};
+ghost use Rattle.ios_words.specs.Printed.{PassiveLinesAreRead, NeighborLinesAreRead, NeighborListLinesAreRead, GroupLinesAreRead, EntryLinesAreRead, ListHeadsAreRead, ListLinesAreRead, PrefixLinesAreRead, PermitAllLinesAreRead, IsClosingLine};
+ghost use Rattle.ios_words.specs.Renumbered.{EntriesMayBeRenumbered, PrefixLinesMayBeRenumbered};
+ghost use Rattle.ios_words.specs.Laws.{HeadsAreTopLines, AnswersAreOne, UnknownMatchesNone, InertCounts};
 
 /// A line reads as one command, or is unknown, or has one faulty word.
 pub fn a_line_has_one_answer()
@@ -27,4 +30,29 @@ pub fn commands_are_in_form()
 /// Words that pass the tests of names have the forms of names.
 pub fn names_have_their_form()
     ensures { NamesHaveTheirForm }
+{}
+
+/// The lines that `printing` writes are read as what they were written for, in blocks of their kinds.
+pub fn printed_lines_are_read()
+    ensures passive { PassiveLinesAreRead }
+    ensures neighbor { NeighborLinesAreRead }
+    ensures neighbor_list { NeighborListLinesAreRead }
+    ensures group { GroupLinesAreRead }
+    ensures entry { EntryLinesAreRead }
+    ensures list_head { ListHeadsAreRead }
+    ensures list_line { ListLinesAreRead }
+    ensures prefix_line { PrefixLinesAreRead }
+    ensures permit_all { PermitAllLinesAreRead }
+    ensures closing { IsClosingLine (codes "!") }
+{}
+
+/// A line that is read as the head of a block is a top line, in whatever block it is looked for.
+pub fn heads_are_top_lines()
+    ensures { HeadsAreTopLines }
+{}
+
+/// An entry whose number is written anew is the same entry with that number.
+pub fn entries_may_be_renumbered()
+    ensures packet { EntriesMayBeRenumbered }
+    ensures route { PrefixLinesMayBeRenumbered }
 {}

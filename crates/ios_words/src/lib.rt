@@ -15,6 +15,7 @@ mod meaning;
 mod names;
 mod numbers;
 mod prefixes;
+pub mod printing;
 mod reading;
 mod rows;
 #[cfg(test)]

@@ -1,0 +1,5 @@
+pub mod Alike
+pub mod States
+pub mod Shifts
+pub mod Chain
+pub mod Grown

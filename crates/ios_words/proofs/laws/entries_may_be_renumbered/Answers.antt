@@ -1,0 +1,8 @@
+use Rattle.ios_words.proofs.RenumberedLines.{entries-renumbered, prefix-lines-renumbered}
+use Rattle.ios_words.proofs.laws.entries_may_be_renumbered.Goals as goal
+
+pub returns-clause-packet : goal.returns-clause-packet
+returns-clause-packet c = entries-renumbered
+
+pub returns-clause-route : goal.returns-clause-route
+returns-clause-route c = prefix-lines-renumbered
