@@ -1,13 +1,15 @@
+pub mod AppendedLines
 mod Anys
 mod Leasts
 mod Firsts
 mod LimitsKept
+pub mod AskingMore
 mod Zips
 mod OwnProcesses
 mod Named
 mod Lasts
 mod Cases
-mod Distinct
+pub mod Distinct
 mod Keys
 mod NameLists
 mod Grown
@@ -15,7 +17,7 @@ mod Repeated
 mod LinkFaces
 mod Picks
 mod AreaLines
-mod SiteFacts
+pub mod SiteFacts
 mod FewFaces
 mod LinksApart
 mod ValidRows
@@ -27,12 +29,12 @@ mod SortedClaims
 mod Partners
 mod Overlaps
 mod ClaimPairs
-mod ListKeys
+pub mod ListKeys
 mod Tries
 mod NamesKeys
 mod FirstOverlap
 pub mod InOrder
-mod SameRows
+pub mod SameRows
 mod SpotSites
 mod SessionEnds
 mod SessionSteps
@@ -40,10 +42,10 @@ mod ListsNames
 mod ListsTables
 mod ListsRows
 mod ListsKinds
-mod SameNetwork
+pub mod SameNetwork
 mod Adjacencies
-mod NamesDiffer
-mod HostNames
+pub mod NamesDiffer
+pub mod HostNames
 mod OverlapTried
 mod StopsFirst
 mod StopsEnds
@@ -51,7 +53,7 @@ mod PeersEnds
 mod PeersFiles
 pub mod OneRefusal
 mod SettingForms
-mod FacesApart
+pub mod FacesApart
 pub mod WellFormed
 pub mod OneAnswer
 pub mod NeverMissing

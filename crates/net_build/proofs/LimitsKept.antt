@@ -9,5 +9,5 @@ abbrev pub FewFacesTo : List Config → ℕ → Type 0
 FewFacesTo configs n = (place : ℕ) (config : Config) → place < n → slice_get configs place ≡ Some config → length config.faces ≤ 256
 
 -- the routers before the place have no long list
-abbrev pub ShortListsTo : List Config → ℕ → Type 0
-ShortListsTo configs n = (place : ℕ) (config : Config) → place < n → slice_get configs place ≡ Some config → long_list config ≡ None
+abbrev pub ShortListsTo : ℕ → List Config → ℕ → Type 0
+ShortListsTo most configs n = (place : ℕ) (config : Config) → place < n → slice_get configs place ≡ Some config → long_list most config ≡ None

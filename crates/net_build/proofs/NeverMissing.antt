@@ -11,8 +11,8 @@ use Rattle.ios_words.specs.declared.kinds.BlockKind.{BlockKind}
 use Rattle.ios_config.specs.Commands.{IsNoCommand}
 use Rattle.ios_config.specs.declared.settings.Config.{Config}
 use Rattle.ios_config.specs.Configs.{IsRefused}
-use Rattle.net_build.specs.Networks.{IsFaulty, IsFirstRefusal}
-use Rattle.net_build.specs.Order.{Try, Hostname, Protocol, TwoAreas, SameAs, LinkFace, NeighborUnknown, NetworkNotConnected, Overlap, LinkSubnets, ListStopsSession, AdjacencyForm, Interfaces, Entries, Endpoint, Refuses, IsFirstOf, tries}
+use Rattle.net_build.specs.Networks.{IsFaulty, IsFirstRefusalWithin}
+use Rattle.net_build.specs.Order.{Try, Hostname, Protocol, TwoAreas, SameAs, LinkFace, DownLinks, NeighborUnknown, NetworkNotConnected, Overlap, LinkSubnets, ListStopsSession, AdjacencyForm, Interfaces, Entries, Endpoint, RefusesWithin, IsFirstOf, tries}
 use Rattle.net_build.specs.Reasons.{InFiles, InDocument}
 
 -- the kind says something else
@@ -50,31 +50,32 @@ in_document : {X : Type 0} (kind : Kind) (Offends : ℕ → X → Type 0) (items
 in_document kind Offends items other r refuses = of_kind r.kind kind (ap (λ (x : Refusal). x.kind) refuses.told) other
 
 -- and the network for what they say
-tried : (doc : Document) (configs : List Config) (t : Try) (r : Refusal) → Refuses doc configs t r → IsOther r.kind
-tried doc configs Hostname = in_files kinds.Hostname _ configs refl
-tried doc configs Protocol = in_files kinds.Protocol _ configs refl
-tried doc configs TwoAreas = in_files kinds.TwoAreas _ configs refl
-tried doc configs SameAs = in_files kinds.SameAs _ configs refl
-tried doc configs LinkFace = in_document kinds.LinkFace _ doc.links refl
-tried doc configs NeighborUnknown = in_files kinds.NeighborUnknown _ configs refl
-tried doc configs NetworkNotConnected = in_files kinds.NetworkNotConnected _ configs refl
-tried doc configs Overlap = λ r is. of_kind r.kind kinds.Overlap (ap (λ (x : Refusal). x.kind) is.told) refl
-tried doc configs LinkSubnets = λ r is. in_document kinds.LinkSubnets _ _ refl r is.refuses
-tried doc configs ListStopsSession = λ r is. of_kind r.kind kinds.ListStopsSession (ap (λ (x : Refusal). x.kind) is.told) refl
-tried doc configs AdjacencyForm = λ r is. adjacency r is
+tried : (down : List ℕ) (most : ℕ) (doc : Document) (configs : List Config) (t : Try) (r : Refusal) → RefusesWithin down most doc configs t r → IsOther r.kind
+tried down most doc configs Hostname = in_files kinds.Hostname _ configs refl
+tried down most doc configs Protocol = in_files kinds.Protocol _ configs refl
+tried down most doc configs TwoAreas = in_files kinds.TwoAreas _ configs refl
+tried down most doc configs SameAs = in_files kinds.SameAs _ configs refl
+tried down most doc configs LinkFace = in_document kinds.LinkFace _ doc.links refl
+tried down most doc configs DownLinks = λ r is. of_kind r.kind kinds.LinkFace (ap (λ (x : Refusal). x.kind) is.told) refl
+tried down most doc configs NeighborUnknown = in_files kinds.NeighborUnknown _ configs refl
+tried down most doc configs NetworkNotConnected = in_files kinds.NetworkNotConnected _ configs refl
+tried down most doc configs Overlap = λ r is. of_kind r.kind kinds.Overlap (ap (λ (x : Refusal). x.kind) is.told) refl
+tried down most doc configs LinkSubnets = λ r is. in_document kinds.LinkSubnets _ _ refl r is.refuses
+tried down most doc configs ListStopsSession = λ r is. of_kind r.kind kinds.ListStopsSession (ap (λ (x : Refusal). x.kind) is.told) refl
+tried down most doc configs AdjacencyForm = λ r is. adjacency r is
   where
-    adjacency : (r : Refusal) → Refuses doc configs AdjacencyForm r → IsOther r.kind
+    adjacency : (r : Refusal) → RefusesWithin down most doc configs AdjacencyForm r → IsOther r.kind
     adjacency r (inl is) = in_document kinds.AdjacencyForm _ _ refl r is.refuses
     adjacency r (inr is) = in_files kinds.AdjacencyForm _ configs refl r is
-tried doc configs Interfaces = λ r is. of_kind r.kind (kinds.Limit _ _) (ap (λ (x : Refusal). x.kind) is.told) refl
-tried doc configs Entries = λ r is. of_kind r.kind (kinds.Limit _ _) (ap (λ (x : Refusal). x.kind) is.told) refl
-tried doc configs Endpoint = λ r is. in_document kinds.Endpoint _ _ refl r is.refuses
+tried down most doc configs Interfaces = λ r is. of_kind r.kind (kinds.Limit _ _) (ap (λ (x : Refusal). x.kind) is.told) refl
+tried down most doc configs Entries = λ r is. of_kind r.kind (kinds.Limit _ _) (ap (λ (x : Refusal). x.kind) is.told) refl
+tried down most doc configs Endpoint = λ r is. in_document kinds.Endpoint _ _ refl r is.refuses
 
-first_tried : (doc : Document) (configs : List Config) (ts : List Try) (r : Refusal) → IsFirstOf (Refuses doc configs) ts r → IsOther r.kind
-first_tried doc configs [] r first = absurd first
-first_tried doc configs (t ∷ ts) r (inl first) = tried doc configs t r first.made
-first_tried doc configs (t ∷ ts) r (inr later) = first_tried doc configs ts r later.1
+first_tried : (down : List ℕ) (most : ℕ) (doc : Document) (configs : List Config) (ts : List Try) (r : Refusal) → IsFirstOf (RefusesWithin down most doc configs) ts r → IsOther r.kind
+first_tried down most doc configs [] r first = absurd first
+first_tried down most doc configs (t ∷ ts) r (inl first) = tried down most doc configs t r first.made
+first_tried down most doc configs (t ∷ ts) r (inr later) = first_tried down most doc configs ts r later.1
 
-pub never_missing : (doc : Document) (files : List (List ℕ)) (r : Refusal) → IsFirstRefusal doc files r → r.kind ≡ kinds.Missing → ⊥
-never_missing doc files r (inl first) = faulty first.text r.number r.kind first.faulty
-never_missing doc files r (inr is) = first_tried doc is.configs tries r is.first
+pub never_missing : (down : List ℕ) (most : ℕ) (doc : Document) (files : List (List ℕ)) (r : Refusal) → IsFirstRefusalWithin down most doc files r → r.kind ≡ kinds.Missing → ⊥
+never_missing down most doc files r (inl first) = faulty first.text r.number r.kind first.faulty
+never_missing down most doc files r (inr is) = first_tried down most doc is.configs tries r is.first

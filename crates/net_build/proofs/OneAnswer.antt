@@ -18,8 +18,8 @@ use Rattle.ios_config.proofs.Unique.{config_one}
 use Rattle.ios_config.proofs.OneAnswer.{refusal_one, refused_alone}
 use Rattle.net_build.specs.Forms.{IsWellFormed}
 use Rattle.net_build.specs.Names.{AreDistinct}
-use Rattle.net_build.specs.Networks.{Says, IsFaulty, IsFirstFaulty, IsNetworkOf, IsFirstRefusal}
-use Rattle.net_build.specs.Order.{tries, Refuses, IsFirstOf}
+use Rattle.net_build.specs.Networks.{Says, IsFaulty, IsFirstFaulty, IsNetworkWithin, IsFirstRefusalWithin}
+use Rattle.net_build.specs.Order.{tries, RefusesWithin, IsFirstOf}
 use Rattle.net_build.specs.Rows.{AreRows}
 use Rattle.net_build.specs.Sites.{full_names}
 use Rattle.std.proofs.lemmas.List.Elements.{All-cons}
@@ -141,29 +141,29 @@ all_well_formed (text ∷ files) [] said = absurd said
 all_well_formed (text ∷ files) (config ∷ configs) said = All-cons IsWellFormed config configs (well_formed_config text said.0.lines config said.0.is_config) (all_well_formed files configs said.1)
 
 -- the interfaces of a network's files have distinct names
-names_apart : (doc : Document) (files : List (List ℕ)) (net : Network) (is : IsNetworkOf doc files net) → AreDistinct (full_names is.configs)
-names_apart doc files net is =
+names_apart : (down : List ℕ) (most : ℕ) (doc : Document) (files : List (List ℕ)) (net : Network) (is : IsNetworkWithin down most doc files net) → AreDistinct (full_names is.configs)
+names_apart down most doc files net is =
     let formed : All IsWellFormed is.configs = all_well_formed files is.configs is.said in
     full_names_distinct is.configs (hosts_differ is.configs is.clear.0) (λ k d within. (formed k d within).faces_differ)
 
-pub one_network : (doc : Document) (files : List (List ℕ)) (net other : Network) → IsNetworkOf doc files net → IsNetworkOf doc files other → net ≡ other
-one_network doc files net other a b =
+pub one_network : (down : List ℕ) (most : ℕ) (doc : Document) (files : List (List ℕ)) (net other : Network) → IsNetworkWithin down most doc files net → IsNetworkWithin down most doc files other → net ≡ other
+one_network down most doc files net other a b =
     let configs : a.configs ≡ b.configs = one_configs files a.configs b.configs a.said b.said in
     let P : List Config → Type 0 = λ cs. AreRows doc cs net in
-    same_rows doc b.configs (names_apart doc files other b) net other (subst P configs a.rows) b.rows
+    same_rows doc b.configs (names_apart down most doc files other b) net other (subst P configs a.rows) b.rows
 
-pub one_refusal : (doc : Document) (files : List (List ℕ)) (r s : Refusal) → IsFirstRefusal doc files r → IsFirstRefusal doc files s → r ≡ s
-one_refusal doc files r s (inl a) (inl b) = one_faulty files r s a b
-one_refusal doc files r s (inl a) (inr b) = absurd (faulty_or_said files b.configs r a b.said)
-one_refusal doc files r s (inr a) (inl b) = absurd (faulty_or_said files a.configs s b a.said)
-one_refusal doc files r s (inr a) (inr b) =
+pub one_refusal : (down : List ℕ) (most : ℕ) (doc : Document) (files : List (List ℕ)) (r s : Refusal) → IsFirstRefusalWithin down most doc files r → IsFirstRefusalWithin down most doc files s → r ≡ s
+one_refusal down most doc files r s (inl a) (inl b) = one_faulty files r s a b
+one_refusal down most doc files r s (inl a) (inr b) = absurd (faulty_or_said files b.configs r a b.said)
+one_refusal down most doc files r s (inr a) (inl b) = absurd (faulty_or_said files a.configs s b a.said)
+one_refusal down most doc files r s (inr a) (inr b) =
     let configs : a.configs ≡ b.configs = one_configs files a.configs b.configs a.said b.said in
-    let P : List Config → Type 0 = λ cs. IsFirstOf (Refuses doc cs) tries r in
-    one_first_of doc b.configs tries r s (subst P configs a.first) b.first
+    let P : List Config → Type 0 = λ cs. IsFirstOf (RefusesWithin down most doc cs) tries r in
+    one_first_of down most doc b.configs tries r s (subst P configs a.first) b.first
 
-pub network_or_refused : (doc : Document) (files : List (List ℕ)) (net : Network) (r : Refusal) → IsNetworkOf doc files net → IsFirstRefusal doc files r → ⊥
-network_or_refused doc files net r is (inl faulty) = faulty_or_said files is.configs r faulty is.said
-network_or_refused doc files net r is (inr tried) =
+pub network_or_refused : (down : List ℕ) (most : ℕ) (doc : Document) (files : List (List ℕ)) (net : Network) (r : Refusal) → IsNetworkWithin down most doc files net → IsFirstRefusalWithin down most doc files r → ⊥
+network_or_refused down most doc files net r is (inl faulty) = faulty_or_said files is.configs r faulty is.said
+network_or_refused down most doc files net r is (inr tried) =
     let configs : tried.configs ≡ is.configs = one_configs files tried.configs is.configs tried.said is.said in
-    let P : List Config → Type 0 = λ cs. IsFirstOf (Refuses doc cs) tries r in
-    clear_or_first (Refuses doc is.configs) tries r is.clear (subst P configs tried.first)
+    let P : List Config → Type 0 = λ cs. IsFirstOf (RefusesWithin down most doc cs) tries r in
+    clear_or_first (RefusesWithin down most doc is.configs) tries r is.clear (subst P configs tried.first)

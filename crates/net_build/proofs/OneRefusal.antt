@@ -10,7 +10,7 @@ use Rattle.net_model.specs.declared.policies.Document.{Document}
 use Rattle.ios_config.specs.declared.settings.Config.{Config}
 use Rattle.ios_config.specs.declared.settings.ListText.{ListText}
 use Rattle.net_build.specs.Limits.{long_list}
-use Rattle.net_build.specs.Order.{Try, Hostname, Protocol, TwoAreas, SameAs, LinkFace, NeighborUnknown, NetworkNotConnected, Overlap, LinkSubnets, ListStopsSession, AdjacencyForm, Interfaces, Entries, Endpoint, Refuses, IsFirstOf, AreClear}
+use Rattle.net_build.specs.Order.{Try, Hostname, Protocol, TwoAreas, SameAs, LinkFace, DownLinks, NeighborUnknown, NetworkNotConnected, Overlap, LinkSubnets, ListStopsSession, AdjacencyForm, Interfaces, Entries, Endpoint, RefusesWithin, IsFirstOf, AreClear}
 use Rattle.net_build.specs.Reasons.{IsFirst, InFiles, InDocument}
 
 -- the kind that a refusal of an item tells
@@ -37,32 +37,33 @@ one_of o x y e f = cc
 same_place : (m n : ℕ) (r s : Refusal) → r.file ≡ m + 1 → s.file ≡ n + 1 → r.file ≡ s.file → m ≡ n
 same_place m n r s of_r of_s file = omega (arith, of_r, of_s, file)
 
-one_kind : (doc : Document) (configs : List Config) (t : Try) → AreOfOneKind (Refuses doc configs t)
-one_kind doc configs Hostname = in_files kinds.Hostname _ configs
-one_kind doc configs Protocol = in_files kinds.Protocol _ configs
-one_kind doc configs TwoAreas = in_files kinds.TwoAreas _ configs
-one_kind doc configs SameAs = in_files kinds.SameAs _ configs
-one_kind doc configs LinkFace = in_document kinds.LinkFace _ doc.links
-one_kind doc configs NeighborUnknown = in_files kinds.NeighborUnknown _ configs
-one_kind doc configs NetworkNotConnected = in_files kinds.NetworkNotConnected _ configs
-one_kind doc configs Overlap = λ r s of_r of_s file. ap (λ (x : Refusal). x.kind) of_r.told ∙ sym (ap (λ (x : Refusal). x.kind) of_s.told)
-one_kind doc configs LinkSubnets = λ r s of_r of_s file. document_kind kinds.LinkSubnets _ _ r of_r.refuses ∙ sym (document_kind kinds.LinkSubnets _ _ s of_s.refuses)
-one_kind doc configs ListStopsSession = λ r s of_r of_s file. ap (λ (x : Refusal). x.kind) of_r.told ∙ sym (ap (λ (x : Refusal). x.kind) of_s.told)
-one_kind doc configs AdjacencyForm = λ r s of_r of_s file. adjacency r of_r ∙ sym (adjacency s of_s)
+one_kind : (down : List ℕ) (most : ℕ) (doc : Document) (configs : List Config) (t : Try) → AreOfOneKind (RefusesWithin down most doc configs t)
+one_kind down most doc configs Hostname = in_files kinds.Hostname _ configs
+one_kind down most doc configs Protocol = in_files kinds.Protocol _ configs
+one_kind down most doc configs TwoAreas = in_files kinds.TwoAreas _ configs
+one_kind down most doc configs SameAs = in_files kinds.SameAs _ configs
+one_kind down most doc configs LinkFace = in_document kinds.LinkFace _ doc.links
+one_kind down most doc configs DownLinks = λ r s of_r of_s file. ap (λ (x : Refusal). x.kind) of_r.told ∙ sym (ap (λ (x : Refusal). x.kind) of_s.told)
+one_kind down most doc configs NeighborUnknown = in_files kinds.NeighborUnknown _ configs
+one_kind down most doc configs NetworkNotConnected = in_files kinds.NetworkNotConnected _ configs
+one_kind down most doc configs Overlap = λ r s of_r of_s file. ap (λ (x : Refusal). x.kind) of_r.told ∙ sym (ap (λ (x : Refusal). x.kind) of_s.told)
+one_kind down most doc configs LinkSubnets = λ r s of_r of_s file. document_kind kinds.LinkSubnets _ _ r of_r.refuses ∙ sym (document_kind kinds.LinkSubnets _ _ s of_s.refuses)
+one_kind down most doc configs ListStopsSession = λ r s of_r of_s file. ap (λ (x : Refusal). x.kind) of_r.told ∙ sym (ap (λ (x : Refusal). x.kind) of_s.told)
+one_kind down most doc configs AdjacencyForm = λ r s of_r of_s file. adjacency r of_r ∙ sym (adjacency s of_s)
   where
-    adjacency : (r : Refusal) → Refuses doc configs AdjacencyForm r → r.kind ≡ kinds.AdjacencyForm
+    adjacency : (r : Refusal) → RefusesWithin down most doc configs AdjacencyForm r → r.kind ≡ kinds.AdjacencyForm
     adjacency r (inl refuses) = document_kind kinds.AdjacencyForm _ _ r refuses.refuses
     adjacency r (inr refuses) = files_kind kinds.AdjacencyForm _ configs r refuses
-one_kind doc configs Interfaces = λ r s of_r of_s file.
+one_kind down most doc configs Interfaces = λ r s of_r of_s file.
     let places : of_r.place ≡ of_s.place = same_place of_r.place of_s.place r s (ap (λ (x : Refusal). x.file) of_r.told) (ap (λ (x : Refusal). x.file) of_s.told) file in
     let config : of_r.config ≡ of_s.config = one_of (slice_get configs of_s.place) of_r.config of_s.config (ap (slice_get configs) (sym places) ∙ of_r.at_place) of_s.at_place in
     ap (λ (x : Refusal). x.kind) of_r.told ∙ ap (λ (c : Config). kinds.Limit limits.Interfaces (length c.faces)) config ∙ sym (ap (λ (x : Refusal). x.kind) of_s.told)
-one_kind doc configs Entries = λ r s of_r of_s file.
+one_kind down most doc configs Entries = λ r s of_r of_s file.
     let places : of_r.place ≡ of_s.place = same_place of_r.place of_s.place r s (ap (λ (x : Refusal). x.file) of_r.told) (ap (λ (x : Refusal). x.file) of_s.told) file in
     let config : of_r.config ≡ of_s.config = one_of (slice_get configs of_s.place) of_r.config of_s.config (ap (slice_get configs) (sym places) ∙ of_r.at_place) of_s.at_place in
-    let list : of_r.list ≡ of_s.list = one_of (long_list of_s.config) of_r.list of_s.list (ap long_list (sym config) ∙ of_r.first) of_s.first in
+    let list : of_r.list ≡ of_s.list = one_of (long_list most of_s.config) of_r.list of_s.list (ap (long_list most) (sym config) ∙ of_r.first) of_s.first in
     ap (λ (x : Refusal). x.kind) of_r.told ∙ ap (λ (l : ListText). kinds.Limit limits.Entries (length l.entries)) list ∙ sym (ap (λ (x : Refusal). x.kind) of_s.told)
-one_kind doc configs Endpoint = λ r s of_r of_s file. document_kind kinds.Endpoint _ _ r of_r.refuses ∙ sym (document_kind kinds.Endpoint _ _ s of_s.refuses)
+one_kind down most doc configs Endpoint = λ r s of_r of_s file. document_kind kinds.Endpoint _ _ r of_r.refuses ∙ sym (document_kind kinds.Endpoint _ _ s of_s.refuses)
 
 -- a reason has one first refusal
 one_first : (Makes : Refusal → Type 0) → AreOfOneKind Makes → (r s : Refusal) → IsFirst Makes r → IsFirst Makes s → r ≡ s
@@ -85,12 +86,12 @@ one_first Makes kind r s of_r of_s =
     λ i. record { file = file i; number = number i; kind = same i }
 
 -- some tries have one first refusal
-pub one_first_of : (doc : Document) (configs : List Config) (ts : List Try) (r s : Refusal) → IsFirstOf (Refuses doc configs) ts r → IsFirstOf (Refuses doc configs) ts s → r ≡ s
-one_first_of doc configs [] r s of_r of_s = absurd of_r
-one_first_of doc configs (t ∷ ts) r s (inl of_r) (inl of_s) = one_first (Refuses doc configs t) (one_kind doc configs t) r s of_r of_s
-one_first_of doc configs (t ∷ ts) r s (inl of_r) (inr of_s) = absurd (of_s.0 r of_r.made)
-one_first_of doc configs (t ∷ ts) r s (inr of_r) (inl of_s) = absurd (of_r.0 s of_s.made)
-one_first_of doc configs (t ∷ ts) r s (inr of_r) (inr of_s) = one_first_of doc configs ts r s of_r.1 of_s.1
+pub one_first_of : (down : List ℕ) (most : ℕ) (doc : Document) (configs : List Config) (ts : List Try) (r s : Refusal) → IsFirstOf (RefusesWithin down most doc configs) ts r → IsFirstOf (RefusesWithin down most doc configs) ts s → r ≡ s
+one_first_of down most doc configs [] r s of_r of_s = absurd of_r
+one_first_of down most doc configs (t ∷ ts) r s (inl of_r) (inl of_s) = one_first (RefusesWithin down most doc configs t) (one_kind down most doc configs t) r s of_r of_s
+one_first_of down most doc configs (t ∷ ts) r s (inl of_r) (inr of_s) = absurd (of_s.0 r of_r.made)
+one_first_of down most doc configs (t ∷ ts) r s (inr of_r) (inl of_s) = absurd (of_r.0 s of_s.made)
+one_first_of down most doc configs (t ∷ ts) r s (inr of_r) (inr of_s) = one_first_of down most doc configs ts r s of_r.1 of_s.1
 
 -- and none where they are clear
 pub clear_or_first : (Makes : Try → Refusal → Type 0) (ts : List Try) (r : Refusal) → AreClear Makes ts → IsFirstOf Makes ts r → ⊥

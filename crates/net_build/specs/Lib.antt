@@ -4,6 +4,7 @@ pub mod Forms
 pub mod Sites
 pub mod Ordered
 pub mod Neighbors
+pub mod Appends
 pub mod Lists
 pub mod ListTables
 pub mod Routers

@@ -14,15 +14,15 @@ pub record RefusesInterfaces (configs : List Config) (r : Refusal) : Type 0 wher
   pub many : 256 < length config.faces
   pub told : r ≡ record { file = place + 1; number = 0; kind = kinds.Limit limits.Interfaces (length config.faces) }
 
--- the first list of the file with more than 16,384 entries
-abbrev pub long_list : Config → Option ListText
-long_list config = find (λ list. nat_lt 16384 (length list.entries)) config.lists
+-- the first list of the file with more than so many entries
+abbrev pub long_list : ℕ → Config → Option ListText
+long_list most config = find (λ list. nat_lt most (length list.entries)) config.lists
 
 -- a router whose file has such a list
-pub record RefusesEntries (configs : List Config) (r : Refusal) : Type 0 where
+pub record RefusesEntries (most : ℕ) (configs : List Config) (r : Refusal) : Type 0 where
   pub place : ℕ
   pub config : Config
   pub at_place : slice_get configs place ≡ Some config
   pub list : ListText
-  pub first : long_list config ≡ Some list
+  pub first : long_list most config ≡ Some list
   pub told : r ≡ record { file = place + 1; number = 0; kind = kinds.Limit limits.Entries (length list.entries) }

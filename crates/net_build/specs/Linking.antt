@@ -1,6 +1,6 @@
 -- What is asked of the document's links: interfaces that are there and free, and ends that fit. One definition for each reason.
-use Rattle.std.specs.Prelude.{◌≡◌, ◌≢◌, ℕ, ◌⊎◌, true, false, Option, Some, None, IfSome, IsSomeAnd, option_map, Bool, List, take, slice_get, Contains}
-use Rattle.std.specs.List.{filter_map, last_or}
+use Rattle.std.specs.Prelude.{◌≡◌, ◌≢◌, ℕ, ◌⊎◌, true, false, Option, Some, None, IfSome, IsSomeAnd, option_map, Bool, List, length, take, slice_get, Contains, nat_lt}
+use Rattle.std.specs.List.{filter_map, find, last_or}
 use Rattle.arc_base.specs.declared.refusal.Kind.TheVariants as kinds
 use Rattle.net_doc.specs.declared.fault.Refusal.{Refusal}
 use Rattle.net_model.specs.declared.policies.Document.{Document}
@@ -37,6 +37,16 @@ pub record JoinsFree (names : List FullName) (earlier : List LinkText) (link : L
 abbrev pub RefusesLinkFace : Document → List Config → Refusal → Type 0
 RefusesLinkFace doc configs =
     InDocument kinds.LinkFace (λ place link. ¬ JoinsFree (full_names configs) (take place doc.links) link) doc.links
+
+-- the first of the numbers that is above the number of links
+abbrev pub first_above : ℕ → List ℕ → Option ℕ
+first_above links numbers = find (λ n. nat_lt links n) numbers
+
+-- links that are to be down are given by their numbers, counted from 1: the first number that is none of the document's links
+pub record RefusesDownLinks (doc : Document) (down : List ℕ) (r : Refusal) : Type 0 where
+  pub number : ℕ
+  pub above : first_above (length doc.links) down ≡ Some number
+  pub told : r ≡ record { file = 0; number = number; kind = kinds.LinkFace }
 
 -- two interfaces have different addresses in one subnet, where both have one
 abbrev pub HaveOneSubnet : FaceRow → FaceRow → Type 0

@@ -1,5 +1,5 @@
 -- The network of a document and its router files, or the first reason why there is none.
-use Rattle.std.specs.Prelude.{◌≡◌, ℕ, ◌+◌, ◌⊎◌, List, map, take, slice_get, Result, Ok, Err, Some}
+use Rattle.std.specs.Prelude.{◌≡◌, ℕ, ◌+◌, ◌⊎◌, List, [], map, take, slice_get, Result, Ok, Err, Some}
 use Rattle.std.specs.List.{AllZip}
 use Rattle.arc_base.specs.declared.refusal.Kind.{Kind}
 use Rattle.arc_base.specs.declared.refusal.Kind.TheVariants as kinds
@@ -16,7 +16,7 @@ use Rattle.net_build.specs.declared.built.Built.{Built}
 use Rattle.net_build.specs.declared.files.ReadFile.{ReadFile}
 use Rattle.net_build.specs.declared.files.ReadFiles.{ReadFiles}
 use Rattle.net_build.specs.Rows.{AreRows}
-use Rattle.net_build.specs.Order.{tries, Refuses, IsFirstOf, AreClear, Answers}
+use Rattle.net_build.specs.Order.{tries, RefusesWithin, IsFirstOf, AreClear, Answers}
 use Rattle.net_build.specs.Places.{places_of}
 
 -- each line of the text that belongs to a block has one, and each banner ends
@@ -68,34 +68,55 @@ ReadsFiles files (Err (Refused r)) = IsFirstFaulty files r
 ReadsFiles files (Err Memory) = Unit {0}
 
 -- the answer on the settings of all files: their network, or the first refusal of the tries
-abbrev pub Assembles : Document → List Config → Result Network NetFault → Type 0
-Assembles doc configs result = Answers (Refuses doc configs) tries (AreRows doc configs) result
+abbrev pub Assembles : List ℕ → ℕ → Document → List Config → Result Network NetFault → Type 0
+Assembles down most_entries doc configs result =
+    Answers (RefusesWithin down most_entries doc configs) tries (AreRows doc configs) result
 
--- the network of the document and the texts of its router files: these have settings, the network has their rows, and no try refuses them
-pub record IsNetworkOf (doc : Document) (files : List (List ℕ)) (net : Network) : Type 0 where
+-- The network of the document and the texts of its router files: these have settings, the network has their rows, and no
+-- try refuses them, where the links of these numbers are to be down and no list may have more than so many entries.
+pub record IsNetworkWithin (down : List ℕ) (most_entries : ℕ) (doc : Document) (files : List (List ℕ)) (net : Network)
+    : Type 0 where
   pub configs : List Config
   pub said : AllZip Says files configs
   pub rows : AreRows doc configs net
-  pub clear : AreClear (Refuses doc configs) tries
+  pub clear : AreClear (RefusesWithin down most_entries doc configs) tries
 
 -- the network with the lines of the files, and the places of what it is made of
-pub record IsBuilt (doc : Document) (files : List (List ℕ)) (built : Built) : Type 0 where
-  pub network : IsNetworkOf doc files built.net
+pub record IsBuiltWithin (down : List ℕ) (most_entries : ℕ) (doc : Document) (files : List (List ℕ)) (built : Built)
+    : Type 0 where
+  pub network : IsNetworkWithin down most_entries doc files built.net
   pub lines : AllZip AreLinesOf files built.lines
   pub places : built.places ≡ map places_of network.configs
 
 -- a refusal of the network of files that all have settings
-pub record IsTried (doc : Document) (files : List (List ℕ)) (r : Refusal) : Type 0 where
+pub record IsTriedWithin (down : List ℕ) (most_entries : ℕ) (doc : Document) (files : List (List ℕ)) (r : Refusal)
+    : Type 0 where
   pub configs : List Config
   pub said : AllZip Says files configs
-  pub first : IsFirstOf (Refuses doc configs) tries r
+  pub first : IsFirstOf (RefusesWithin down most_entries doc configs) tries r
 
 -- the first refusal: the first text that is no router file, or else the first refusal of the tries in their order
-abbrev pub IsFirstRefusal : Document → List (List ℕ) → Refusal → Type 0
-IsFirstRefusal doc files r = IsFirstFaulty files r ⊎ IsTried doc files r
+abbrev pub IsFirstRefusalWithin : List ℕ → ℕ → Document → List (List ℕ) → Refusal → Type 0
+IsFirstRefusalWithin down most_entries doc files r = IsFirstFaulty files r ⊎ IsTriedWithin down most_entries doc files r
 
 -- the answer is the network, or the first reason why there is none; want of memory may come in place of either
+abbrev pub BuildsWithin : List ℕ → ℕ → Document → List (List ℕ) → Result Built NetFault → Type 0
+BuildsWithin down most_entries doc files (Ok built) = IsBuiltWithin down most_entries doc files built
+BuildsWithin down most_entries doc files (Err (Refused r)) = IsFirstRefusalWithin down most_entries doc files r
+BuildsWithin down most_entries doc files (Err Memory) = Unit {0}
+
+-- Where nothing else is asked for, no link is to be down, and a list has at most 16,384 entries: the network,
+abbrev pub IsNetworkOf : Document → List (List ℕ) → Network → Type 0
+IsNetworkOf doc files net = IsNetworkWithin [] 16384 doc files net
+
+-- the network with its lines and places,
+abbrev pub IsBuilt : Document → List (List ℕ) → Built → Type 0
+IsBuilt doc files built = IsBuiltWithin [] 16384 doc files built
+
+-- the first refusal,
+abbrev pub IsFirstRefusal : Document → List (List ℕ) → Refusal → Type 0
+IsFirstRefusal doc files r = IsFirstRefusalWithin [] 16384 doc files r
+
+-- and the answer
 abbrev pub Builds : Document → List (List ℕ) → Result Built NetFault → Type 0
-Builds doc files (Ok built) = IsBuilt doc files built
-Builds doc files (Err (Refused r)) = IsFirstRefusal doc files r
-Builds doc files (Err Memory) = Unit {0}
+Builds doc files result = BuildsWithin [] 16384 doc files result

@@ -1,5 +1,5 @@
 //! The network of the settings of all files, or the first refusal of the tries in their order.
-ghost use Rattle.std.specs.Prelude.{◌≡◌, ◌≤◌, All, IfOk, OnOk, length, map};
+ghost use Rattle.std.specs.Prelude.{◌≡◌, ◌≤◌, ℕ, List, All, IfOk, OnOk, length, map};
 ghost use Rattle.std.specs.List.{AllZip};
 ghost use Rattle.net_model.specs.declared.policies.Document.{Document};
 ghost use Rattle.net_model.specs.Validity.{IsValid};
@@ -11,12 +11,13 @@ ghost use Rattle.net_build.specs.Reasons.{IsClear};
 ghost use Rattle.net_build.specs.Routers.{RefusesHostname};
 ghost use Rattle.net_build.specs.Linking.{RefusesLinkFace};
 ghost use Rattle.net_build.specs.Addressing.{HasEndpoints};
-ghost use Rattle.net_build.specs.Order.{Refuses, Answers, router_tries, link_tries, network_tries};
+ghost use Rattle.net_build.specs.Order.{RefusesWithin, Answers, router_tries, link_tries, network_tries};
 ghost use Rattle.net_build.specs.Forms.{IsWellFormed};
 ghost use Rattle.net_build.specs.Networks.{Assembles};
 
 use crate::adjacency::try_adjacency;
 use crate::areas::try_areas;
+use crate::down_links::try_down_links;
 use crate::endpoints::try_endpoints;
 use crate::faces::{Surroundings, face_rows, router_rows};
 use crate::limits::{try_entries, try_interfaces};
@@ -41,7 +42,8 @@ use std::alloc::Global;
 /// Tries what is asked of routers by themselves.
 fn try_routers(alloc: Global, configs: &List<Config>) -> Result<(), NetFault>
     requires { length configs.now ≤ 256 }
-    ensures { (doc : Document) → Answers (Refuses doc configs.now) router_tries (λ done. Unit {0}) result }
+    ensures { (down : List ℕ) (most : ℕ) (doc : Document) →
+        Answers (RefusesWithin down most doc configs.now) router_tries (λ done. Unit {0}) result }
 {
     try_hostnames(alloc, configs)?;
     try_processes(configs)?;
@@ -112,16 +114,23 @@ fn rows(
 }
 
 /// The network, once the routers are tried: or the first refusal of the links and of what stands on them.
-fn joined(alloc: Global, doc: &Document, configs: &List<Config>) -> Result<Network, NetFault>
+fn joined(
+    alloc: Global,
+    doc: &Document,
+    configs: &List<Config>,
+    down: &[u32],
+) -> Result<Network, NetFault>
     requires few { length configs.now ≤ 256 }
     requires links { length doc.now.links ≤ 1024 }
     requires well_formed { All IsWellFormed configs.now }
     requires named { AreDistinct (full_names configs.now) }
-    ensures { Answers (Refuses doc.now configs.now) link_tries (AreRows doc.now configs.now) result }
+    ensures { (most : ℕ) →
+        Answers (RefusesWithin down.now most doc.now configs.now) link_tries (AreRows doc.now configs.now) result }
 {
     let names = index_names(alloc, configs)?;
     let mut ends = IndexSet::new(alloc);
     let links = try_links(alloc, doc, configs, &names, &mut ends)?;
+    try_down_links(doc, down)?;
     let mut net = rows(alloc, configs, &ends, links)?;
     try_neighbors(alloc, &net, configs)?;
     try_networks(alloc, configs)?;
@@ -135,6 +144,7 @@ fn try_network(
     doc: &Document,
     configs: &List<Config>,
     net: &Network,
+    most_entries: u32,
 ) -> Result<(), NetFault>
     requires few { length configs.now ≤ 256 }
     requires links { length doc.now.links ≤ 1024 }
@@ -143,7 +153,8 @@ fn try_network(
     requires named { IsClear (RefusesHostname configs.now) }
     requires joined { IsClear (RefusesLinkFace doc.now configs.now) }
     requires rows { AreRows doc.now configs.now net.now }
-    ensures answer { Answers (Refuses doc.now configs.now) network_tries (λ done. Unit {0}) result }
+    ensures answer { (down : List ℕ) →
+        Answers (RefusesWithin down most_entries doc.now configs.now) network_tries (λ done. Unit {0}) result }
     ensures valid { OnOk result (IsValid net.now) }
     ensures ends { OnOk result (All (λ policy. HasEndpoints net.now policy.from policy.to) doc.now.policies) }
 {
@@ -152,22 +163,28 @@ fn try_network(
     try_lists(net, configs)?;
     try_adjacency(alloc, net, configs)?;
     try_interfaces(configs)?;
-    try_entries(configs)?;
+    try_entries(configs, most_entries)?;
     try_endpoints(net, doc)
 }
 
 /// The network of a document and of the settings of the files that it names, in the document's order.
-pub fn assemble(alloc: Global, doc: &Document, configs: &List<Config>) -> Result<Network, NetFault>
+pub fn assemble(
+    alloc: Global,
+    doc: &Document,
+    configs: &List<Config>,
+    down: &[u32],
+    most_entries: u32,
+) -> Result<Network, NetFault>
     requires few { length configs.now ≤ 256 }
     requires links { length doc.now.links ≤ 1024 }
     requires policies { length doc.now.policies ≤ 256 }
     requires well_formed { All IsWellFormed configs.now }
-    ensures answer { Assembles doc.now configs.now result }
+    ensures answer { Assembles down.now most_entries doc.now configs.now result }
     ensures valid { IfOk result IsValid }
     ensures ends { IfOk result (λ net. All (λ policy. HasEndpoints net policy.from policy.to) doc.now.policies) }
 {
     try_routers(alloc, configs)?;
-    let net = joined(alloc, doc, configs)?;
-    try_network(alloc, doc, configs, &net)?;
+    let net = joined(alloc, doc, configs, down)?;
+    try_network(alloc, doc, configs, &net, most_entries)?;
     Ok(net)
 }

@@ -2,7 +2,6 @@
 //! them is a definition of its own, and so is each row of the network.
 #![tactic(auto)]
 
-mod able;
 mod adjacency;
 mod areas;
 mod assembly;
@@ -10,6 +9,7 @@ mod bound_lists;
 mod built;
 mod claims;
 mod commands;
+mod down_links;
 mod endpoints;
 mod faces;
 mod files;
@@ -37,4 +37,4 @@ mod subnets;
 
 pub use built::{Built, FacePlace, ListPlace, Places};
 pub use endpoints::has_endpoints;
-pub use networks::network;
+pub use networks::{network, network_within};

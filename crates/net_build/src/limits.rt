@@ -11,8 +11,6 @@ use net_doc::NetFault;
 
 const MAX_INTERFACES: u32 = 256;
 
-const MAX_ENTRIES: u32 = 16_384;
-
 /// Tries whether no router has too many interfaces.
 pub fn try_interfaces(configs: &List<Config>) -> Result<(), NetFault>
     requires { length configs.now ≤ 256 }
@@ -28,24 +26,24 @@ pub fn try_interfaces(configs: &List<Config>) -> Result<(), NetFault>
     Ok(())
 }
 
-/// The first list of the file with too many entries.
-fn long_list(config: &Config) -> Option<&ListText>
-    ensures { option_copied result ≡ long_list config.now }
+/// The first list of the file with more than so many entries.
+fn long_list(config: &Config, most_entries: u32) -> Option<&ListText>
+    ensures { option_copied result ≡ long_list most_entries config.now }
 {
     config
         .lists
         .slice()
         .iter()
-        .find(|list| list.entries.len() > MAX_ENTRIES)
+        .find(|list| list.entries.len() > most_entries)
 }
 
-/// Tries whether no list has too many entries.
-pub fn try_entries(configs: &List<Config>) -> Result<(), NetFault>
+/// Tries whether no list has more than so many entries.
+pub fn try_entries(configs: &List<Config>, most_entries: u32) -> Result<(), NetFault>
     requires { length configs.now ≤ 256 }
-    ensures { TriedAlone (RefusesEntries configs.now) result }
+    ensures { TriedAlone (RefusesEntries most_entries configs.now) result }
 {
     for (place, config) in configs.slice().iter().enumerate() {
-        if let Some(list) = long_list(config) {
+        if let Some(list) = long_list(config, most_entries) {
             let kind = Kind::Limit(LimitKind::Entries, u64::from(list.entries.len()));
             return Err(in_file(place, 0, kind));
         }

@@ -11,7 +11,6 @@ ghost use Rattle.net_build.specs.FarEnds.{FindsOnly};
 ghost use Rattle.net_build.specs.Stopping.{list_line, StopsBetween, IsRefusalAt, StopsAt, StopsAtSome, FindsFirst, is_before, earlier};
 ghost use Rattle.net_build.specs.Stops.{RefusesListStopsSession, Denies, StopsPackets};
 
-use crate::able::is_able_end;
 use crate::spots::spot_at;
 use arc_base::{Kind, List};
 use ios_config::{Config, FaceText};
@@ -80,8 +79,8 @@ fn stops_between(
     requires head { slice_get net.now.faces (head_end link.now from_a).0 ≡ Some head.now }
     ensures { IsTrue result ↔ StopsBetween net.now link.now from_a tail.now head.now }
 {
-    is_able_end(net, net.session_at(link.tail(from_a)), tail, head)
-        && is_able_end(net, net.session_at(link.head(from_a)), head, tail)
+    net.is_able_end(net.session_at(link.tail(from_a)), tail, head)
+        && net.is_able_end(net.session_at(link.head(from_a)), head, tail)
         && stops(net, tail, head)
 }
 
