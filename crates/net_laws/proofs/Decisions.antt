@@ -26,12 +26,12 @@ use Rattle.net_laws.proofs.Cover.{true_or_false}
 abbrev pub Decided : Type 0 → Type 0
 Decided A = A ⊎ (A → ⊥)
 
-both : {A B : Type 0} → Decided A → Decided B → Decided (A × B)
+pub both : {A B : Type 0} → Decided A → Decided B → Decided (A × B)
 both (inl a) (inl b) = inl (a, b)
 both (inl a) (inr n) = inr (λ p. n p.1)
 both (inr n) b = inr (λ p. n p.0)
 
-is_true : (b : Bool) → Decided (IsTrue b)
+pub is_true : (b : Bool) → Decided (IsTrue b)
 is_true true = inl refl
 is_true false = inr false≢true
 
@@ -39,11 +39,11 @@ is_false : (b : Bool) → Decided (IsFalse b)
 is_false true = inr (λ e. false≢true (sym e))
 is_false false = inl refl
 
-if_some : {X : Type 0} (P : X → Type 0) → ((x : X) → Decided (P x)) → (o : Option X) → Decided (IfSome o P)
+pub if_some : {X : Type 0} (P : X → Type 0) → ((x : X) → Decided (P x)) → (o : Option X) → Decided (IfSome o P)
 if_some P each None = inl tt
 if_some P each (Some x) = each x
 
-is_some_and : {X : Type 0} (P : X → Type 0) → ((x : X) → Decided (P x)) → (o : Option X) → Decided (IsSomeAnd o P)
+pub is_some_and : {X : Type 0} (P : X → Type 0) → ((x : X) → Decided (P x)) → (o : Option X) → Decided (IsSomeAnd o P)
 is_some_and P each None = inr (λ h. h)
 is_some_and P each (Some x) = each x
 

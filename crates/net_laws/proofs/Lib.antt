@@ -14,3 +14,6 @@ pub mod RightVerdicts
 pub mod ValidExample
 pub mod VerdictExamples
 pub mod SquareExample
+pub mod FailedSets
+pub mod LeftRoutes
+pub mod AllUp

@@ -14,9 +14,11 @@ use Rattle.net_model.specs.Packets.{IsOf, first_packet}
 use Rattle.net_model.specs.Routing.{Arc, IsArc, IsRouted, IsStable, Offers, cost, head_router}
 use Rattle.net_model.specs.Forwarding.{Ends, AreEnds, Enters, Leaves, Attains, ArcPermits, Walk, IsStuck, failures, source_router, target_router}
 use Rattle.net_model.specs.Validity.{IsValid, IsValidFace}
-use Rattle.net_model.specs.Witnesses.{IsOn, LeavesSide, IsRightCut, among}
+use Rattle.net_model.specs.declared.policies.PolicyKind.TheVariants.{Reach}
+use Rattle.net_model.specs.Witnesses.{IsOn, LeavesSide, IsRightCut, IsRightDenied, among}
 use Rattle.net_model.proofs.Packets.{first_is_of}
 use Rattle.net_laws.specs.Laws.{RightCutsSeparate, RightCutsBreakReach, RightDenialsBreakReach}
+use Rattle.net_laws.specs.Breaking.{no_link, ReachesUnder, BreaksAs}
 use Rattle.net_laws.proofs.Counting.{total, total-sum, total-mono, total-cong, total-const, ind}
 use Rattle.net_laws.proofs.FailedLinks.{count-range, times}
 use Rattle.net_laws.proofs.StableMaps.{cost-pos, head_in, reached}
@@ -92,14 +94,14 @@ module _ (net : Network) (valid : IsValid net) (ends : Ends) (k : ℕ) (whole : 
       ]
 
 -- the source is a router of the network
-source_in : (net : Network) → IsValid net → (class : Class) (ends : Ends) → AreEnds net class ends → source_router ends < length net.routers
+pub source_in : (net : Network) → IsValid net → (class : Class) (ends : Ends) → AreEnds net class ends → source_router ends < length net.routers
 source_in net valid class ends are =
     let place : ℕ = are.source.0 in
     let read : slice_get net.faces are.source.0 ≡ Some ends.source =
     slice_get-get_or net.faces are.source.0 ends.source are.source.1 ∙ ap Some are.source.2 in
     let face : IsValidFace net are.source.0 ends.source = valid.faces are.source.0 ends.source read in face.router
 
-value_of : (o : Option ℕ) → (o ≡ None) ⊎ ((n : ℕ) × (o ≡ Some n))
+pub value_of : (o : Option ℕ) → (o ≡ None) ⊎ ((n : ℕ) × (o ≡ Some n))
 value_of None = inl refl
 value_of (Some n) = inr (n, refl)
 
@@ -113,24 +115,35 @@ right_cuts_separate net valid ends k whole links side are cut = (
   ],
 )
 
-stuck_at_source : (net : Network) (ends : Ends) (failed : ℕ → Bool) (d : ℕ → Option ℕ) (p : Packet) → Enters net ends p → d (source_router ends) ≡ None →
+pub stuck_at_source : (net : Network) (ends : Ends) (failed : ℕ → Bool) (d : ℕ → Option ℕ) (p : Packet) → Enters net ends p → d (source_router ends) ≡ None →
     IsStuck net ends failed d p []
 stuck_at_source net ends failed d p enters none =
     record { router = source_router ends; enters = enters; walk = refl; stuck = inr (inl (ap is_some none)) }
 
-pub right_cuts_break_reach : RightCutsBreakReach
-right_cuts_break_reach net valid ends k whole links side are cut reaches =
+-- with the links of a right cut failed the class does not reach its target
+pub cut_breaks : (net : Network) → IsValid net → (ends : Ends) (k : ℕ) (whole : Class) (links : List Link) (side : List Bool) →
+    AreEnds net whole ends → IsRightCut net ends k whole links side → BreaksAs net ends whole (Reach k) (among links)
+cut_breaks net valid ends k whole links side are cut =
     let shown : (failures net (among links) ≤ k) × ((d : ℕ → Option ℕ) → IsStable net ends.to (target_router ends) (among links) d → d (source_router ends) ≡ None) =
     right_cuts_separate net valid ends k whole links side are cut in
     let d : (d : ℕ → Option ℕ) × IsStable net ends.to (target_router ends) (among links) d = some_stable_map net valid ends.to (target_router ends) (among links) in
     let p : (p : Packet) × IsOf whole p = (first_packet whole, first_is_of whole) in
-    let reach : Enters net ends p.0 × ((arcs : List Arc) → ¬ IsStuck net ends (among links) d.0 p.0 arcs) = reaches (among links) d.0 shown.0 d.1 p.0 p.1 in
-    reach.1 [] (stuck_at_source net ends (among links) d.0 p.0 reach.0 (shown.1 d.0 d.1))
+    record {
+      spoken = shown.0;
+      broken = λ (reaches : ReachesUnder net ends whole (among links)).
+          let reach : Enters net ends p.0 × ((arcs : List Arc) → ¬ IsStuck net ends (among links) d.0 p.0 arcs) = reaches d.0 d.1 p.0 p.1 in
+          reach.1 [] (stuck_at_source net ends (among links) d.0 p.0 reach.0 (shown.1 d.0 d.1));
+    }
+
+pub right_cuts_break_reach : RightCutsBreakReach
+right_cuts_break_reach net valid ends k whole links side are cut reaches =
+    let breaks : BreaksAs net ends whole (Reach k) (among links) = cut_breaks net valid ends k whole links side are cut in
+    breaks.broken (λ d stable p of. reaches (among links) d breaks.spoken stable p of)
 
 module _ (net : Network) (valid : IsValid net) (to : Prefix) (t : ℕ) (failed : ℕ → Bool) (d : ℕ → Option ℕ) (stable : IsStable net to t failed d) (p : Packet)
     (permit : (arc : Arc) → IsArc net arc → IsRouted net to arc → ArcPermits net arc p) where
   -- from a router with a distance a walk goes to the owner
-  walk_to : (bound u n : ℕ) → n < bound → u < length net.routers → d u ≡ Some n → (arcs : List Arc) × Walk net to failed d p u arcs t
+  pub walk_to : (bound u n : ℕ) → n < bound → u < length net.routers → d u ≡ Some n → (arcs : List Arc) × Walk net to failed d p u arcs t
   walk_to zero u n below within known = absurd (omega arith)
   walk_to (suc bound) u n below within known =
       elim (eqb_tells u t) [
@@ -144,27 +157,39 @@ module _ (net : Network) (valid : IsValid net) (to : Prefix) (t : ℕ) (failed :
             (o.arc ∷ rest.0, (o.tail, attains, permit o.arc o.usable.is_arc o.usable.routed, rest.1))
       ]
 
-none_failed : (net : Network) → failures net (λ link. false) ≡ 0
+pub none_failed : (net : Network) → failures net no_link ≡ 0
 none_failed net =
-    count-range (λ link. false) 0 (length net.links) ∙ total-const (length net.links) 0 (λ k. ind false) (λ k m. refl) ∙ (omega arith)
+    count-range no_link 0 (length net.links) ∙ total-const (length net.links) 0 (λ k. ind false) (λ k m. refl) ∙ (omega arith)
 
-pub right_denials_break_reach : RightDenialsBreakReach
-right_denials_break_reach net valid ends k whole class are denial reaches =
-    let failed : ℕ → Bool = λ link. false in
-    let d : (d : ℕ → Option ℕ) × IsStable net ends.to (target_router ends) (λ link. false) d = some_stable_map net valid ends.to (target_router ends) (λ link. false) in
+-- with no link failed a denied class does not reach its target
+not_reached_when_denied : (net : Network) → IsValid net → (ends : Ends) (whole class : Class) → AreEnds net whole ends → IsRightDenied net ends whole class →
+    ReachesUnder net ends whole no_link → ⊥
+not_reached_when_denied net valid ends whole class are denial reaches =
+    let d : (d : ℕ → Option ℕ) × IsStable net ends.to (target_router ends) no_link d = some_stable_map net valid ends.to (target_router ends) no_link in
     let p : (p : Packet) × IsOf class p = (first_packet class, first_is_of class) in
     let of : IsOf whole p.0 = part_of class whole p.0 denial.part p.1 in
-    let reach : Enters net ends p.0 × ((arcs : List Arc) → ¬ IsStuck net ends (λ link. false) d.0 p.0 arcs) =
-    reaches (λ link. false) d.0 (omega (arith, none_failed net)) d.1 p.0 of in
+    let reach : Enters net ends p.0 × ((arcs : List Arc) → ¬ IsStuck net ends no_link d.0 p.0 arcs) = reaches d.0 d.1 p.0 of in
     let stays : ¬ Leaves net ends p.0 = denial.denied p.0 p.1 reach.0 in
     elim (value_of (d.0 (source_router ends))) [
-      | inl none ↦ reach.1 [] (stuck_at_source net ends (λ link. false) d.0 p.0 reach.0 none)
+      | inl none ↦ reach.1 [] (stuck_at_source net ends no_link d.0 p.0 reach.0 none)
       | inr n ↦ elim denial.clear [
         | inl together ↦ reach.1 [] (record { router = source_router ends; enters = reach.0; walk = refl; stuck = inl (together, stays) })
         | inr permit ↦
-            let way : (arcs : List Arc) × Walk net ends.to (λ link. false) d.0 p.0 (source_router ends) arcs (target_router ends) =
-            walk_to net valid ends.to (target_router ends) (λ link. false) d.0 d.1 p.0 (λ arc is_arc routed. permit arc is_arc routed p.0 of)
+            let way : (arcs : List Arc) × Walk net ends.to no_link d.0 p.0 (source_router ends) arcs (target_router ends) =
+            walk_to net valid ends.to (target_router ends) no_link d.0 d.1 p.0 (λ arc is_arc routed. permit arc is_arc routed p.0 of)
             (n.0 + 1) (source_router ends) n.0 (omega arith) (source_in net valid whole ends are) n.1 in
             reach.1 way.0 (record { router = target_router ends; enters = reach.0; walk = way.1; stuck = inl (refl, stays) })
       ]
     ]
+
+pub denial_breaks : (net : Network) → IsValid net → (ends : Ends) (k : ℕ) (whole class : Class) → AreEnds net whole ends → IsRightDenied net ends whole class →
+    BreaksAs net ends whole (Reach k) no_link
+denial_breaks net valid ends k whole class are denial = record {
+  spoken = omega (arith, none_failed net);
+  broken = not_reached_when_denied net valid ends whole class are denial;
+}
+
+pub right_denials_break_reach : RightDenialsBreakReach
+right_denials_break_reach net valid ends k whole class are denial reaches =
+    let breaks : BreaksAs net ends whole (Reach k) no_link = denial_breaks net valid ends k whole class are denial in
+    breaks.broken (λ d stable p of. reaches no_link d breaks.spoken stable p of)

@@ -74,7 +74,7 @@ source_known net valid ends k whole paths right failed d few stable =
     ]
 
 -- a packet that is clear and leaves is stuck nowhere on its walks
-not_stuck : (net : Network) → IsValid net → (ends : Ends) (whole : Class) → IsClear net ends whole → (failed : ℕ → Bool) (d : ℕ → Option ℕ) →
+pub not_stuck : (net : Network) → IsValid net → (ends : Ends) (whole : Class) → IsClear net ends whole → (failed : ℕ → Bool) (d : ℕ → Option ℕ) →
     IsStable net ends.to (target_router ends) failed d → (p : Packet) → IsOf whole p → Leaves net ends p → ((n : ℕ) × (d (source_router ends) ≡ Some n)) →
     (arcs : List Arc) → IsStuck net ends failed d p arcs → ⊥
 not_stuck net valid ends whole clear failed d stable p of leaves source arcs stuck =

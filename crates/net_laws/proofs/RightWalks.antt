@@ -18,6 +18,7 @@ use Rattle.net_model.specs.Forwarding.{Ends, source_router, target_router}
 use Rattle.net_model.specs.Policies.{CrossesWaypoint}
 use Rattle.net_model.specs.Witnesses.{MayBreak, links_of, all_but, IsRightWalk}
 use Rattle.net_model.proofs.Packets.{first_is_of}
+use Rattle.net_laws.specs.Breaking.{BlockedUnder, ThroughUnder, BreaksAs}
 use Rattle.net_laws.specs.Laws.{Delivers, RightWalksAreDelivered, RightWalksUnblock, RightWalksBypass}
 use Rattle.net_laws.proofs.PathDistances.{OnPath, Once, Once-from, along, stable, goes_along}
 
@@ -66,11 +67,22 @@ right_walks_are_delivered net ends kind whole class shown right = delivers net e
 pub part_of : (class whole : Class) (p : Packet) → LiesIn class whole → IsOf class p → IsOf whole p
 part_of class whole p lies of = (lies.0 p.from of.0, lies.1 p.to of.1)
 
-pub right_walks_unblock : RightWalksUnblock
-right_walks_unblock net ends whole class shown right blocked =
+-- with every link failed but those of a right walk the class is not blocked
+pub walk_breaks_blocked : (net : Network) (ends : Ends) (whole class : Class) (shown : LinkPath) → IsRightWalk net ends Blocked whole class shown →
+    BreaksAs net ends whole Blocked (all_but shown)
+walk_breaks_blocked net ends whole class shown right =
     let d : Delivers net ends class shown right.path.arcs = delivers net ends Blocked whole class shown right in
     let p : (p : Packet) × IsOf class p = (first_packet class, first_is_of class) in
-    blocked (all_but shown) d.distances d.stable p.0 (part_of class whole p.0 right.part p.1) right.path.arcs (d.delivered p.0 p.1)
+    record {
+      spoken = tt;
+      broken = λ (blocked : BlockedUnder net ends whole (all_but shown)).
+          blocked d.distances d.stable p.0 (part_of class whole p.0 right.part p.1) right.path.arcs (d.delivered p.0 p.1);
+    }
+
+pub right_walks_unblock : RightWalksUnblock
+right_walks_unblock net ends whole class shown right blocked =
+    let breaks : BreaksAs net ends whole Blocked (all_but shown) = walk_breaks_blocked net ends whole class shown right in
+    breaks.broken (blocked (all_but shown))
 
 -- arcs over no waypoint link cross none
 plain : (arcs : List Arc) → AllByRecursion (MayBreak Through) arcs → CrossesWaypoint arcs → ⊥
@@ -78,9 +90,20 @@ plain [] breaks crosses = absurd (omega (arith, crosses.2))
 plain (arc ∷ arcs) breaks (zero, x, within, e, crosses) = false≢true (sym breaks.0 ∙ ap (λ (a : Arc). a.row.waypoint) e ∙ crosses)
 plain (arc ∷ arcs) breaks (suc k, x, within, e, crosses) = plain arcs breaks.1 (k, x, omega arith, e, crosses)
 
-pub right_walks_bypass : RightWalksBypass
-right_walks_bypass net ends whole class shown right through =
+-- and a walk over no waypoint link does not go through a waypoint
+pub walk_breaks_through : (net : Network) (ends : Ends) (whole class : Class) (shown : LinkPath) → IsRightWalk net ends Through whole class shown →
+    BreaksAs net ends whole Through (all_but shown)
+walk_breaks_through net ends whole class shown right =
     let d : Delivers net ends class shown right.path.arcs = delivers net ends Through whole class shown right in
     let p : (p : Packet) × IsOf class p = (first_packet class, first_is_of class) in
-    plain right.path.arcs right.breaks
-    (through (all_but shown) d.distances d.stable p.0 (part_of class whole p.0 right.part p.1) right.path.arcs (d.delivered p.0 p.1))
+    record {
+      spoken = tt;
+      broken = λ (through : ThroughUnder net ends whole (all_but shown)).
+          plain right.path.arcs right.breaks
+          (through d.distances d.stable p.0 (part_of class whole p.0 right.part p.1) right.path.arcs (d.delivered p.0 p.1));
+    }
+
+pub right_walks_bypass : RightWalksBypass
+right_walks_bypass net ends whole class shown right through =
+    let breaks : BreaksAs net ends whole Through (all_but shown) = walk_breaks_through net ends whole class shown right in
+    breaks.broken (through (all_but shown))

@@ -1,3 +1,5 @@
 pub mod Laws
 pub mod Examples
 pub mod Square
+pub mod Breaking
+pub mod Routes

@@ -1,6 +1,8 @@
 //! Laws over the definitions alone: each is the contract of a function that does nothing.
 ghost use Rattle.net_model.specs.Validity.{IsValid};
 ghost use Rattle.net_laws.specs.Laws.{HasOneStableMap, ClosedSidesBlock, ClosedSidesForceThrough, RightWalksAreDelivered, RightWalksUnblock, RightWalksBypass, RightPathsReach, RefusalsAreRight, HasStableMap, RightCutsSeparate, RightCutsBreakReach, RightDenialsBreakReach, HasOnePairOfEnds, RightVerdictsAreTrue, RightVerdictsDecide};
+ghost use Rattle.net_laws.specs.Breaking.{HoldsUnderEach, RightNosBreak};
+ghost use Rattle.net_laws.specs.Routes.{RoutesDecide, RoutesDecideAllUp};
 ghost use Rattle.net_laws.specs.Examples.{ExampleIsValid, BothWaysRouted, DistancesAreStable, OnePathIsRight, OneCutIsRight, OneWalkIsRight};
 ghost use Rattle.net_laws.specs.Square.{SquareDistancesAreStable, SquareDeliversNone, SquareIsNotBlocked, SquareWalkIsRight, SquareRefusalIsRight};
 ghost use Rattle.net_model.specs.declared.rows.Network.{Network};
@@ -42,6 +44,20 @@ pub fn verdicts_are_right()
     ensures ends { (net : Network) → IsValid net → HasOnePairOfEnds net }
     ensures verdicts { (net : Network) → IsValid net → RightVerdictsAreTrue net }
     ensures decide { (net : Network) → IsValid net → RightVerdictsDecide net }
+{}
+
+/// What a policy asks holds exactly where it holds under each failure set that it speaks of. In a valid network each right no
+/// shows a failure set that breaks its policy: a walk every link but its own, a cut its links, and a denial no link.
+pub fn nos_show_what_breaks()
+    ensures holds { (net : Network) → HoldsUnderEach net }
+    ensures breaks { (net : Network) → IsValid net → RightNosBreak net }
+{}
+
+/// A clear class whose packets enter and leave reaches its target exactly where a route is left. So the links whose failure
+/// alone breaks a reach policy are those whose failure leaves no route.
+pub fn routes_decide()
+    ensures under { (net : Network) → IsValid net → RoutesDecide net }
+    ensures all_up { (net : Network) → IsValid net → RoutesDecideAllUp net }
 {}
 
 /// The definitions on a network of two routers and one link.

@@ -6,6 +6,6 @@
 mod laws;
 
 pub use laws::{
-    closed_sides_are_right, cuts_and_denials_are_right, paths_are_right, square,
-    stable_map_is_unique, two_routers, verdicts_are_right, walks_are_right,
+    closed_sides_are_right, cuts_and_denials_are_right, nos_show_what_breaks, paths_are_right,
+    routes_decide, square, stable_map_is_unique, two_routers, verdicts_are_right, walks_are_right,
 };

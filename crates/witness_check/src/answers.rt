@@ -10,7 +10,7 @@ use net_model::{Class, PacketEntry, PacketList};
 
 /// How many of a class's packets get some answer from a list.
 #[derive(Clone, Copy)]
-pub(crate) enum Share {
+pub enum Share {
     /// None of them.
     Never,
     /// Each of them.
@@ -21,9 +21,9 @@ pub(crate) enum Share {
 
 /// The packets to which a list gives an answer.
 #[derive(Clone, Copy)]
-pub(crate) struct Asked<'a> {
-    pub(crate) entries: &'a [PacketEntry],
-    pub(crate) answer: bool,
+pub struct Asked<'a> {
+    pub entries: &'a [PacketEntry],
+    pub answer: bool,
 }
 
 /// The place of the first entry that shares a packet with the class.
@@ -56,7 +56,7 @@ fn shows_none(entries: &[PacketEntry], answer: bool, class: Class) -> bool
 
 impl Asked<'_> {
     /// How many of the class's packets the list gives the answer, as far as its entries show.
-    fn share(&self, class: Class) -> Share
+    pub fn share(&self, class: Class) -> Share
         ensures { IsShare self.now.entries.now self.now.answer class result }
     {
         let Some(place) = first_met(self.entries, class) else {
@@ -81,7 +81,7 @@ impl Asked<'_> {
     }
 
     /// The same without the entries before this place.
-    fn rest(&self, place: usize) -> Asked<'_>
+    pub fn rest(&self, place: usize) -> Asked<'_>
         requires { place ≤ length self.now.entries.now }
         ensures entries { result.entries.now ≡ drop place self.now.entries.now }
         ensures answer { result.answer ≡ self.now.answer }
@@ -94,7 +94,7 @@ impl Asked<'_> {
 }
 
 /// Whether no packet of the class gets the answer. Only as much of the class is halved as an entry splits.
-pub(crate) fn none_gets(asked: &Asked<'_>, class: Class) -> bool
+pub fn none_gets(asked: &Asked<'_>, class: Class) -> bool
     ensures { IsTrue result ↔ NoneGets asked.now.entries.now asked.now.answer class }
 {
     match asked.share(class) {
@@ -109,7 +109,7 @@ pub(crate) fn none_gets(asked: &Asked<'_>, class: Class) -> bool
 }
 
 /// Whether no packet of the class gets both answers, the one from the one list and the other from the other.
-pub(crate) fn none_gets_both(one: &Asked<'_>, other: &Asked<'_>, class: Class) -> bool
+pub fn none_gets_both(one: &Asked<'_>, other: &Asked<'_>, class: Class) -> bool
     ensures { IsTrue result ↔ NoneGetsBoth one.now.entries.now one.now.answer other.now.entries.now other.now.answer class }
 {
     match one.share(class) {

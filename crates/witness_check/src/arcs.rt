@@ -8,20 +8,20 @@ use net_model::{FaceRow, LinkRow};
 
 /// A routed arc with its rows.
 #[derive(Clone, Copy)]
-pub(crate) struct RoutedArc<'a> {
-    pub(crate) link: Link,
+pub struct RoutedArc<'a> {
+    pub link: Link,
     /// Whether it leads from end a to end b.
-    pub(crate) from_a: bool,
-    pub(crate) row: LinkRow,
+    pub from_a: bool,
+    pub row: LinkRow,
     /// The interface at which it begins.
-    pub(crate) tail: &'a FaceRow,
+    pub tail: &'a FaceRow,
     /// The interface at which it ends.
-    pub(crate) head: &'a FaceRow,
+    pub head: &'a FaceRow,
 }
 
 impl<'a> Case<'a> {
     /// The arc of the link in one direction, if it is one of the network and routed.
-    pub(crate) fn routed_arc(&self, link: Link, from_a: bool) -> Option<RoutedArc<'a>>
+    pub fn routed_arc(&self, link: Link, from_a: bool) -> Option<RoutedArc<'a>>
         requires { IsTold self.now }
         ensures found { IfSome result (λ arc. IsRoutedArc self.now.net.now self.now.to (arc_of arc)) }
         ensures over { IfSome result (λ arc. IsOver link.0 from_a (arc_of arc)) }

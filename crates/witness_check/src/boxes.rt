@@ -27,7 +27,7 @@ pub(crate) fn share_none(one: Class, other: Class) -> bool
 }
 
 /// The class of the packets that the entry matches.
-pub(crate) fn entry_class(entry: &PacketEntry) -> Class
+pub fn entry_class(entry: &PacketEntry) -> Class
     ensures { result ≡ entry_class entry.now }
 {
     Class {
@@ -37,7 +37,7 @@ pub(crate) fn entry_class(entry: &PacketEntry) -> Class
 }
 
 /// Whether one of the other class's prefixes is the longer one. If not, and they share a packet, the class lies in the other.
-pub(crate) fn splits(class: Class, other: Class) -> bool
+pub fn splits(class: Class, other: Class) -> bool
     ensures { result ≡ splits class other }
 {
     class.from.len < other.from.len || class.to.len < other.to.len
@@ -78,7 +78,7 @@ fn halves_towards(whole: Prefix, address: u32) -> (Prefix, Prefix)
 }
 
 /// The two halves of the class, cut where the other class splits it. The first packet of the other class comes first.
-pub(crate) fn halve_towards(class: Class, other: Class) -> (Class, Class)
+pub fn halve_towards(class: Class, other: Class) -> (Class, Class)
     requires { IsTrue (splits class other) }
     ensures whole { MakeUp class result.0 result.1 }
     ensures first { open_bits result.0 + 1 ≡ open_bits class }

@@ -9,23 +9,23 @@ use net_model::{Class, FaceRow, Network, Policy};
 
 /// What a witness is judged against: the network, and where the policy's packets would enter and leave it.
 #[derive(Clone, Copy)]
-pub(crate) struct Case<'a> {
-    pub(crate) net: &'a Network,
+pub struct Case<'a> {
+    pub net: &'a Network,
     /// The interface at which the packets enter.
-    pub(crate) source: &'a FaceRow,
+    pub source: &'a FaceRow,
     /// The interface at which they leave.
-    pub(crate) target: &'a FaceRow,
+    pub target: &'a FaceRow,
     /// The host network that they are routed to.
-    pub(crate) to: Prefix,
+    pub to: Prefix,
     /// Whether that host network is told, so that this is asked once and not for each link.
-    pub(crate) told: bool,
+    pub told: bool,
     /// All packets of the policy.
-    pub(crate) whole: Class,
+    pub whole: Class,
 }
 
 impl Case<'_> {
     /// The case of a policy.
-    pub(crate) fn of<'a>(net: &'a Network, policy: &Policy) -> Case<'a>
+    pub fn of<'a>(net: &'a Network, policy: &Policy) -> Case<'a>
         requires { HasEnds net.now (subject policy.now) }
         ensures net { result.net.now ≡ net.now }
         ensures whole { result.whole ≡ subject policy.now }
@@ -51,7 +51,7 @@ impl Case<'_> {
     }
 
     /// Whether the packets enter and leave at one router.
-    pub(crate) fn is_local(&self) -> bool
+    pub fn is_local(&self) -> bool
         ensures { IsTrue result ↔ (self.now.source.now.router.0 ≡ self.now.target.now.router.0) }
     {
         self.source.router.0 == self.target.router.0

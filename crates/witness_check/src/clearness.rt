@@ -13,7 +13,7 @@ use net_model::{Class, Network, Policy};
 
 /// The packets that the list with this place permits. An interface without a defined list permits every packet, as the empty
 /// list gives every packet the answer no.
-pub(crate) fn permitted(net: &Network, list: Option<ListId>) -> Asked<'_>
+pub fn permitted(net: &Network, list: Option<ListId>) -> Asked<'_>
     ensures { AsksPermitted net.now list result }
 {
     let Some(id) = list else {
@@ -35,7 +35,7 @@ pub(crate) fn permitted(net: &Network, list: Option<ListId>) -> Asked<'_>
 }
 
 /// Whether the list with this place permits each packet of the class.
-pub(crate) fn permits_each(net: &Network, list: Option<ListId>, class: Class) -> bool
+pub fn permits_each(net: &Network, list: Option<ListId>, class: Class) -> bool
     ensures { IsTrue result ↔ EachPermitted net.now list class }
 {
     let permitted = permitted(net, list);
@@ -47,7 +47,7 @@ pub(crate) fn permits_each(net: &Network, list: Option<ListId>, class: Class) ->
 }
 
 /// Whether the lists at both ends of the arc permit each packet of the class.
-pub(crate) fn arc_permits_each(net: &Network, arc: &RoutedArc<'_>, class: Class) -> bool
+pub fn arc_permits_each(net: &Network, arc: &RoutedArc<'_>, class: Class) -> bool
     ensures { IsTrue result ↔ ArcPermitsEach net.now class (arc_of arc.now) }
 {
     permits_each(net, arc.tail.list_out, class) && permits_each(net, arc.head.list_in, class)
@@ -79,7 +79,7 @@ impl Case<'_> {
     }
 
     /// Whether the policy is clear: no routed arc denies a packet of it, or both its ends are at one router.
-    pub(crate) fn is_clear(&self) -> bool
+    pub fn is_clear(&self) -> bool
         requires { IsTold self.now }
         ensures { IsTrue result ↔ IsClear self.now.net.now (ends_of self.now) self.now.whole }
     {

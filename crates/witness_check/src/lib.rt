@@ -17,5 +17,9 @@ mod trails;
 mod walks;
 
 pub use acceptance::accepts;
-pub use answers::answer;
-pub use clearness::clear;
+pub use answers::{Asked, Share, answer, none_gets};
+pub use arcs::RoutedArc;
+pub use boxes::{entry_class, halve_towards, splits};
+pub use cases::Case;
+pub use clearness::{arc_permits_each, clear, permits_each, permitted};
+pub use packets::lies_in;

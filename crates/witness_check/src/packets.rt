@@ -10,14 +10,14 @@ use crate::clearness::{permits_each, permitted};
 use net_model::{Class, Packet};
 
 /// Whether the class is a part of the other.
-pub(crate) fn lies_in(class: Class, whole: Class) -> bool
+pub fn lies_in(class: Class, whole: Class) -> bool
     ensures { IsTrue result ↔ LiesIn class whole }
 {
     class.from.inside(&whole.from) && class.to.inside(&whole.to)
 }
 
 /// Whether the packet is of the class.
-pub(crate) fn is_of(class: Class, p: Packet) -> bool
+pub fn is_of(class: Class, p: Packet) -> bool
     ensures { IsTrue result ↔ IsOf class p }
 {
     class.from.covers(p.from) && class.to.covers(p.to)
@@ -25,42 +25,42 @@ pub(crate) fn is_of(class: Class, p: Packet) -> bool
 
 impl Case<'_> {
     /// Whether the packet enters.
-    pub(crate) fn enters(&self, p: Packet) -> bool
+    pub fn enters(&self, p: Packet) -> bool
         ensures { IsTrue result ↔ Enters self.now.net.now (ends_of self.now) p }
     {
         self.source.up && self.net.list_permits(self.source.list_in, p)
     }
 
     /// Whether the packet leaves once it is at the target router.
-    pub(crate) fn leaves(&self, p: Packet) -> bool
+    pub fn leaves(&self, p: Packet) -> bool
         ensures { IsTrue result ↔ Leaves self.now.net.now (ends_of self.now) p }
     {
         self.target.up && self.net.list_permits(self.target.list_out, p)
     }
 
     /// Whether each packet of the class enters.
-    fn each_enters(&self, class: Class) -> bool
+    pub fn each_enters(&self, class: Class) -> bool
         ensures { IsTrue result ↔ ((p : Packet) → IsOf class p → Enters self.now.net.now (ends_of self.now) p) }
     {
         self.source.up && permits_each(self.net, self.source.list_in, class)
     }
 
     /// Whether each packet of the class leaves once it is at the target router.
-    fn each_leaves(&self, class: Class) -> bool
+    pub fn each_leaves(&self, class: Class) -> bool
         ensures { IsTrue result ↔ ((p : Packet) → IsOf class p → Leaves self.now.net.now (ends_of self.now) p) }
     {
         self.target.up && permits_each(self.net, self.target.list_out, class)
     }
 
     /// Whether each packet of the class enters, and leaves once it is at the target router.
-    pub(crate) fn each_passes(&self, class: Class) -> bool
+    pub fn each_passes(&self, class: Class) -> bool
         ensures { IsTrue result ↔ EachPasses self.now.net.now (ends_of self.now) class }
     {
         self.each_enters(class) && self.each_leaves(class)
     }
 
     /// Whether no packet of the class both enters and leaves.
-    pub(crate) fn none_passes(&self, class: Class) -> bool
+    pub fn none_passes(&self, class: Class) -> bool
         ensures { IsTrue result ↔ ((p : Packet) → IsOf class p → Enters self.now.net.now (ends_of self.now) p → ¬ Leaves self.now.net.now (ends_of self.now) p) }
     {
         if !self.source.up || !self.target.up {

@@ -41,7 +41,7 @@ impl<'a> Case<'a> {
     }
 
     /// The routed arc that leads on from the router over the link. A link joins two routers, so there is one at most.
-    fn step(&self, router: Router, link: Link) -> Option<RoutedArc<'a>>
+    pub fn step(&self, router: Router, link: Link) -> Option<RoutedArc<'a>>
         requires { IsTold self.now }
         ensures found { IfSome result (λ arc. IsStep self.now.net.now self.now.to router.0 link.0 (arc_of arc)) }
         ensures none { IfNone result ((arc : Arc) → ¬ IsStep self.now.net.now self.now.to router.0 link.0 arc) }

@@ -1,0 +1,11 @@
+pub mod RouterFailures
+pub mod NodeWitnesses
+pub mod Laws
+pub mod Splits
+pub mod Hops
+pub mod Given
+pub mod Judged
+pub mod CutParts
+pub mod NodePaths
+pub mod Shown
+pub mod NodeText

@@ -1,0 +1,160 @@
+//! Whether paths share no router but their ends, without a search and without memory.
+ghost use Rattle.std.specs.Prelude.{◌≡◌, ◌↔◌, IsTrue, All, AllPairs};
+ghost use Rattle.net_model.specs.Validity.{IsValid};
+ghost use Rattle.witness_check.specs.Cases.{IsTold, ends_of};
+ghost use Rattle.witness_check.specs.Trails.{IsTrail, IsTrailOnce, Avoids};
+ghost use Rattle.arc_nodecut.specs.NodeWitnesses.{GoesBy, IsRightApart};
+ghost use Rattle.arc_nodecut.specs.NodePaths.{MayPass, KeepsOff, GoesOff};
+
+use crate::cases::is_served;
+use arc_base::{Link, List, Router};
+use net_model::LinkPath;
+use witness_check::Case;
+
+/// Whether the links lead from the one router to the target, and no arc leads to the other router.
+fn avoids(case: &Case<'_>, from: Router, links: &[Link], other: Router) -> bool
+    requires told { IsTold case.now }
+    requires valid { IsValid case.now.net.now }
+    ensures { IsTrue result ↔ IsTrail case.now.net.now case.now.to (Avoids other.0) from.0 links.now case.now.target.now.router.0 }
+{
+    let mut router = from;
+    for link in links {
+        let Some(arc) = case.step(router, *link) else {
+            return false;
+        };
+        if arc.head.router.0 == other.0 {
+            return false;
+        }
+        router = arc.head.router;
+    }
+    router.0 == case.target.router.0
+}
+
+/// Whether the links lead from the source to the target, and no router stands twice on the way. Each router is looked for
+/// among those that follow it.
+fn goes_once(case: &Case<'_>, links: &[Link]) -> bool
+    requires told { IsTold case.now }
+    requires valid { IsValid case.now.net.now }
+    ensures { IsTrue result ↔ IsTrailOnce case.now.net.now case.now.to case.now.source.now.router.0 links.now case.now.target.now.router.0 }
+{
+    let mut router = case.source.router;
+    for (place, link) in links.iter().enumerate() {
+        if !avoids(case, router, &links[place..], router) {
+            return false;
+        }
+        let Some(arc) = case.step(router, *link) else {
+            return false;
+        };
+        router = arc.head.router;
+    }
+    router.0 == case.target.router.0
+}
+
+/// Whether the path goes by other routers than the ends, and by none of them twice.
+fn goes_by(case: &Case<'_>, path: &LinkPath) -> bool
+    requires told { IsTold case.now }
+    requires valid { IsValid case.now.net.now }
+    ensures { IsTrue result ↔ GoesBy case.now.net.now (ends_of case.now) path.now }
+{
+    if path.links.len() == 1 {
+        return false;
+    }
+    goes_once(case, path.links.slice())
+}
+
+/// Whether each of these paths does.
+fn all_go_by(case: &Case<'_>, paths: &[LinkPath]) -> bool
+    requires told { IsTold case.now }
+    requires valid { IsValid case.now.net.now }
+    ensures { IsTrue result ↔ All (GoesBy case.now.net.now (ends_of case.now)) paths.now }
+{
+    for path in paths {
+        if !goes_by(case, path) {
+            return false;
+        }
+    }
+    true
+}
+
+/// Whether another path may pass the router beside this one: it is one of the ends, or this one is a path that does not pass it.
+fn may_pass(case: &Case<'_>, path: &LinkPath, router: Router) -> bool
+    requires told { IsTold case.now }
+    requires valid { IsValid case.now.net.now }
+    ensures { IsTrue result ↔ MayPass case.now.net.now (ends_of case.now) path.now router.0 }
+{
+    if router.0 == case.source.router.0 {
+        return true;
+    }
+    if router.0 == case.target.router.0 {
+        return true;
+    }
+    avoids(case, case.source.router, path.links.slice(), router)
+}
+
+/// Whether the links lead from the source to the target over routers that they may pass beside the other path.
+fn keeps_off(case: &Case<'_>, links: &[Link], other: &LinkPath) -> bool
+    requires told { IsTold case.now }
+    requires valid { IsValid case.now.net.now }
+    ensures { IsTrue result ↔ IsTrail case.now.net.now case.now.to (KeepsOff case.now.net.now (ends_of case.now) other.now) case.now.source.now.router.0 links.now case.now.target.now.router.0 }
+{
+    let mut router = case.source.router;
+    for link in links {
+        let Some(arc) = case.step(router, *link) else {
+            return false;
+        };
+        if !may_pass(case, other, arc.head.router) {
+            return false;
+        }
+        router = arc.head.router;
+    }
+    router.0 == case.target.router.0
+}
+
+/// Whether the links keep off each of the other paths.
+fn keeps_off_all(case: &Case<'_>, path: &LinkPath, others: &[LinkPath]) -> bool
+    requires told { IsTold case.now }
+    requires valid { IsValid case.now.net.now }
+    ensures { IsTrue result ↔ All (GoesOff case.now.net.now (ends_of case.now) path.now) others.now }
+{
+    for other in others {
+        if !keeps_off(case, path.links.slice(), other) {
+            return false;
+        }
+    }
+    true
+}
+
+/// Whether each path keeps off those that come after it.
+fn are_apart(case: &Case<'_>, paths: &[LinkPath]) -> bool
+    requires told { IsTold case.now }
+    requires valid { IsValid case.now.net.now }
+    ensures { IsTrue result ↔ AllPairs (GoesOff case.now.net.now (ends_of case.now)) paths.now }
+{
+    for (place, path) in paths.iter().enumerate() {
+        if !keeps_off_all(case, path, &paths[place + 1..]) {
+            return false;
+        }
+    }
+    true
+}
+
+/// Whether there is one path more than routers may fail, each goes by other routers than the ends, and no two share any of these.
+pub(crate) fn is_right_apart(case: &Case<'_>, k: u32, paths: &List<LinkPath>) -> bool
+    requires told { IsTold case.now }
+    requires valid { IsValid case.now.net.now }
+    ensures { IsTrue result ↔ IsRightApart case.now.net.now (ends_of case.now) k case.now.whole paths.now }
+{
+    if case.is_local() {
+        return false;
+    }
+    if u64::from(paths.len()) != u64::from(k) + 1 {
+        return false;
+    }
+    if !all_go_by(case, paths.slice()) {
+        return false;
+    }
+    if !are_apart(case, paths.slice()) {
+        return false;
+    }
+    is_served(case)
+}

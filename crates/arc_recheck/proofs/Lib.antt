@@ -1,0 +1,5 @@
+pub mod Ways
+pub mod NeededLists
+pub mod Hanging
+pub mod HeldBlocks
+pub mod OneAnswer

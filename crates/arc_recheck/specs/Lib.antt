@@ -1,0 +1,6 @@
+pub mod Rechecks
+pub mod Singles
+pub mod Needed
+pub mod Texts
+pub mod Held
+pub mod Laws

@@ -1,0 +1,17 @@
+//! Rechecks an old report after a change. A verdict is kept where its witness is still right, which needs no search, and only
+//! the others are given anew. For a reach policy that holds it tells which links it hangs on: those whose failure alone breaks it.
+#![tactic(auto)]
+
+mod copying;
+mod detours;
+mod held;
+pub mod laws;
+mod needs;
+mod rechecking;
+mod singles;
+mod texts;
+
+pub use held::held_verdicts;
+pub use rechecking::{Rechecked, recheck};
+pub use singles::alone;
+pub use texts::recheck_text;
