@@ -1,0 +1,119 @@
+-- What new lists answer: they deny what their entries are for, and permit all else.
+use Rattle.std.proofs.Common.{◌≡◌, ℕ, ◌<◌, ◌≤◌, ◌^◌, ◌&&◌, Bool, true, false, cond, inl, inr, Option, Some, None, List, [], ◌∷◌, sym, ◌∙◌, ap, subst, arith}
+use Rattle.std.specs.Prelude.{Contains, nat_le}
+use Rattle.std.specs.List.{find}
+use Rattle.std.specs.Option.{option_map_or}
+use Rattle.std.proofs.lemmas.Bool.{false≢true, cases_Bool, and_parts, and_from, leb-true, le-leb}
+use Rattle.arc_base.specs.Addresses.{holds, inside, Holds}
+use Rattle.arc_base.specs.declared.prefix.Prefix.{Prefix}
+use Rattle.arc_base.proofs.Agreement.{Holds-first, IsInside-shorter}
+use Rattle.arc_base.proofs.Items.{Contains-head, Contains-tail, Contains-cases, Contains-none}
+use Rattle.net_model.specs.declared.lists.Packet.{Packet}
+use Rattle.net_model.specs.declared.lists.PacketEntry.{PacketEntry}
+use Rattle.net_model.specs.declared.lists.RouteEntry.{RouteEntry}
+use Rattle.net_model.specs.declared.policies.Class.{Class}
+use Rattle.net_model.specs.Lists.{matches, permits, route_matches, route_permits}
+use Rattle.net_model.specs.Packets.{IsOf}
+use Rattle.traffic_classes.proofs.Ranges.{same_length, holds_range}
+use Rattle.edit_space.specs.After.{any, class_entry, exact_entry, new_packet_entries, new_route_entries}
+
+abbrev packet_answer : Option PacketEntry → Bool
+packet_answer o = option_map_or (λ (e : PacketEntry). e.permit) o false
+
+abbrev route_answer : Option RouteEntry → Bool
+route_answer o = option_map_or (λ (e : RouteEntry). e.permit) o false
+
+packet_step : (e : PacketEntry) (b c : Bool) (o : Option PacketEntry) → b ≡ c → packet_answer (cond b (Some e) o) ≡ packet_answer (cond c (Some e) o)
+packet_step e b c o same = ap (λ d. packet_answer (cond d (Some e) o)) same
+
+route_step : (e : RouteEntry) (b c : Bool) (o : Option RouteEntry) → b ≡ c → route_answer (cond b (Some e) o) ≡ route_answer (cond c (Some e) o)
+route_step e b c o same = ap (λ d. route_answer (cond d (Some e) o)) same
+
+in_any : (p : Prefix) → Holds any p.addr
+in_any p = let low : p.addr < 2 ^ 32 = p.in_range in holds_range any p.addr (omega arith) (omega (arith, low))
+
+-- an address of a prefix is one of all
+all_in_any : (p : Prefix) (a : ℕ) → Holds p a → Holds any a
+all_in_any p a h = IsInside-shorter p any (omega arith) (in_any p) a h
+
+module _ (p : Packet) where
+  match_of : (class : Class) → IsOf class p → matches p (class_entry false class) ≡ true
+  match_of class of_p = and_from (holds class.from p.from) (holds class.to p.to) of_p.0 of_p.1
+
+  of_match : (class : Class) → matches p (class_entry false class) ≡ true → IsOf class p
+  of_match class hit = let both = and_parts (holds class.from p.from) (holds class.to p.to) hit in (both.0, both.1)
+
+  last_permits : (class : Class) → IsOf class p → permits (record { permit = true; from = any; to = any } ∷ []) p ≡ true
+  last_permits class of_p =
+      packet_step (record { permit = true; from = any; to = any }) (matches p (record { permit = true; from = any; to = any })) true None
+      (and_from (holds any p.from) (holds any p.to) (all_in_any class.from p.from of_p.0) (all_in_any class.to p.to of_p.1))
+
+  -- a packet of none of the classes is permitted, if it has addresses at all
+  pub new_permits : (whole : Class) → IsOf whole p → (classes : List Class) → ((class : Class) → Contains classes class → ¬ IsOf class p) → permits (new_packet_entries classes) p ≡ true
+  new_permits whole of_p [] none = last_permits whole of_p
+  new_permits whole of_p (c ∷ cs) none = elim (cases_Bool (matches p (class_entry false c))) [
+    | inl hit ↦ absurd (none c (Contains-head c cs) (of_match c hit))
+    | inr miss ↦
+        packet_step (class_entry false c) (matches p (class_entry false c)) false (find (matches p) (new_packet_entries cs)) miss ∙
+        new_permits whole of_p cs (λ d there. none d (Contains-tail c d cs there))
+  ]
+
+  -- a packet of one of them is denied
+  pub new_denies : (classes : List Class) (class : Class) → Contains classes class → IsOf class p → permits (new_packet_entries classes) p ≡ false
+  new_denies [] class there of_p = absurd (Contains-none class there)
+  new_denies (c ∷ cs) class there of_p = elim (cases_Bool (matches p (class_entry false c))) [
+    | inl hit ↦ packet_step (class_entry false c) (matches p (class_entry false c)) true (find (matches p) (new_packet_entries cs)) hit
+    | inr miss ↦
+        packet_step (class_entry false c) (matches p (class_entry false c)) false (find (matches p) (new_packet_entries cs)) miss ∙
+        elim (Contains-cases c class cs there) [
+          | inl same ↦ absurd (false≢true (sym miss ∙ match_of c (subst (λ (d : Class). IsOf d p) (sym same) of_p)))
+          | inr later ↦ new_denies cs class later of_p
+        ]
+  ]
+
+module _ (p : Prefix) where
+  exactly : (q : Prefix) → route_matches p (exact_entry false q) ≡ true → p ≡ q
+  exactly q hit =
+      let high = and_parts (inside p q && nat_le q.len p.len) (nat_le p.len q.len) hit in
+      let low = and_parts (inside p q) (nat_le q.len p.len) high.0 in
+      let in_q = and_parts (nat_le q.len p.len) (holds q p.addr) low.0 in
+      let longer : q.len ≤ p.len = leb-true q.len p.len low.1 in
+      let shorter : p.len ≤ q.len = leb-true p.len q.len high.1 in
+      same_length p q p.addr (omega (arith, longer, shorter)) (Holds-first p) in_q.1
+
+  itself : route_matches p (exact_entry false p) ≡ true
+  itself =
+      let whole : p.len ≤ p.len = omega arith in
+      let long : nat_le p.len p.len ≡ true = le-leb p.len p.len whole in
+      and_from (inside p p && nat_le p.len p.len) (nat_le p.len p.len) (and_from (inside p p) (nat_le p.len p.len) (and_from (nat_le p.len p.len) (holds p p.addr) long (Holds-first p)) long) long
+
+  last_takes : route_permits (record { permit = true; prefix = any; low = 0; high = 32 } ∷ []) p ≡ true
+  last_takes =
+      let short : p.len ≤ 32 = p.length in
+      let low : nat_le 0 p.len ≡ true = le-leb 0 p.len (omega arith) in
+      let high : nat_le p.len 32 ≡ true = le-leb p.len 32 short in
+      route_step (record { permit = true; prefix = any; low = 0; high = 32 }) (route_matches p (record { permit = true; prefix = any; low = 0; high = 32 })) true None
+      (and_from (inside p any && nat_le 0 p.len) (nat_le p.len 32) (and_from (inside p any) (nat_le 0 p.len) (and_from (nat_le 0 p.len) (holds any p.addr) low (in_any p)) low) high)
+
+  -- a prefix without an entry is taken
+  pub new_takes : (prefixes : List Prefix) → ¬ Contains prefixes p → route_permits (new_route_entries prefixes) p ≡ true
+  new_takes [] none = last_takes
+  new_takes (q ∷ qs) none = elim (cases_Bool (route_matches p (exact_entry false q))) [
+    | inl hit ↦ absurd (none (subst (λ (r : Prefix). Contains (q ∷ qs) r) (sym (exactly q hit)) (Contains-head q qs)))
+    | inr miss ↦
+        route_step (exact_entry false q) (route_matches p (exact_entry false q)) false (find (route_matches p) (new_route_entries qs)) miss ∙
+        new_takes qs (λ there. none (Contains-tail q p qs there))
+  ]
+
+  -- one with an entry is not
+  pub new_refuses : (prefixes : List Prefix) → Contains prefixes p → route_permits (new_route_entries prefixes) p ≡ false
+  new_refuses [] there = absurd (Contains-none p there)
+  new_refuses (q ∷ qs) there = elim (cases_Bool (route_matches p (exact_entry false q))) [
+    | inl hit ↦ route_step (exact_entry false q) (route_matches p (exact_entry false q)) true (find (route_matches p) (new_route_entries qs)) hit
+    | inr miss ↦
+        route_step (exact_entry false q) (route_matches p (exact_entry false q)) false (find (route_matches p) (new_route_entries qs)) miss ∙
+        elim (Contains-cases q p qs there) [
+          | inl same ↦ absurd (false≢true (sym miss ∙ subst (λ (r : Prefix). route_matches p (exact_entry false r) ≡ true) (sym same) itself))
+          | inr later ↦ new_refuses qs later
+        ]
+  ]

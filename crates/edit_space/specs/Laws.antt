@@ -1,0 +1,46 @@
+-- Laws of edits, in the words of packets and prefixes.
+use Rattle.std.specs.Prelude.{◌≡◌, not, List, [], AllPairs, Contains, All}
+use Rattle.arc_base.specs.declared.prefix.Prefix.{Prefix}
+use Rattle.net_model.specs.declared.lists.Packet.{Packet}
+use Rattle.net_model.specs.declared.lists.PacketEntry.{PacketEntry}
+use Rattle.net_model.specs.declared.lists.RouteEntry.{RouteEntry}
+use Rattle.net_model.specs.declared.policies.Class.{Class}
+use Rattle.net_model.specs.declared.policies.Weights.{Weights}
+use Rattle.net_model.specs.declared.rows.Network.{Network}
+use Rattle.net_model.specs.Lists.{permits, route_permits}
+use Rattle.net_model.specs.Packets.{IsOf}
+use Rattle.net_model.specs.Validity.{IsValid}
+use Rattle.net_model.specs.Witnesses.{IsUniform}
+use Rattle.edit_space.specs.Ordered.{IsNameBefore, IsKeyBefore}
+use Rattle.edit_space.specs.After.{with_prefixes, with_classes, IsAfter}
+use Rattle.edit_space.specs.Prices.{price_of}
+
+-- a packet list that is uniform on classes that share no packet answers the opposite, with entries for them at its front, to each packet of one of them
+abbrev pub ClassesTurn : Type 0
+ClassesTurn = (entries : List PacketEntry) (classes : List Class) → All (IsUniform entries) classes →
+    (class : Class) → Contains classes class → (p : Packet) → IsOf class p → permits (with_classes entries classes) p ≡ not (permits entries p)
+
+-- and as before to every other packet
+abbrev pub OthersStay : Type 0
+OthersStay = (entries : List PacketEntry) (classes : List Class) → (p : Packet) → ((class : Class) → Contains classes class → ¬ IsOf class p) →
+    permits (with_classes entries classes) p ≡ permits entries p
+
+-- a route list with entries for prefixes at its front answers the opposite to each of them
+abbrev pub PrefixesTurn : Type 0
+PrefixesTurn = (entries : List RouteEntry) (prefixes : List Prefix) (prefix : Prefix) → Contains prefixes prefix →
+    route_permits (with_prefixes entries prefixes) prefix ≡ not (route_permits entries prefix)
+
+-- and as before to every other prefix
+abbrev pub OtherPrefixesStay : Type 0
+OtherPrefixesStay = (entries : List RouteEntry) (prefixes : List Prefix) (prefix : Prefix) → ¬ Contains prefixes prefix →
+    route_permits (with_prefixes entries prefixes) prefix ≡ route_permits entries prefix
+
+-- after no edits at all a valid network is the same, where its names and its lists stand in their order
+abbrev pub NoEditsChangeNothing : Type 0
+NoEditsChangeNothing = (net : Network) → IsValid net → All (λ router. AllPairs IsNameBefore router.names) net.routers →
+    AllPairs (λ l m. IsKeyBefore (l.router.0, l.name) (m.router.0, m.name)) net.packet_lists →
+    AllPairs (λ l m. IsKeyBefore (l.router.0, l.name) (m.router.0, m.name)) net.route_lists → IsAfter net [] net
+
+-- and no edits cost nothing
+abbrev pub NoEditsCostNothing : Type 0
+NoEditsCostNothing = (weights : Weights) → price_of weights [] ≡ 0

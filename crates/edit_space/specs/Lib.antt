@@ -1,0 +1,13 @@
+pub mod Numbered
+pub mod Sites
+pub mod EditLists
+pub mod Listing
+pub mod Changes
+pub mod NewLists
+pub mod Ordered
+pub mod After
+pub mod Prices
+pub mod Laws
+pub mod Kept
+pub mod Determined
+pub mod Working
