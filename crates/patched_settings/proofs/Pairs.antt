@@ -1,0 +1,101 @@
+-- Lists that go together, and the last things that are picked of a list.
+use Rattle.std.proofs.Common.{◌≡◌, ℕ, zero, suc, ◌⊎◌, inl, inr, Option, Some, None, List, [], ◌∷◌, ◌++◌, length, map, refl, sym, ◌∙◌, ap, subst, arith}
+use Rattle.std.specs.Prelude.{Contains, slice_get}
+use Rattle.std.specs.List.{AllZip, filter_map, last_or, cons_option}
+use Rattle.std.proofs.lemmas.Option.{none-some, same_Some}
+use Rattle.arc_base.proofs.Items.{Contains-head, Contains-tail, Contains-none}
+
+abbrev rest : {X : Type 0} → List X → List X
+rest [] = []
+rest (x ∷ xs) = xs
+
+abbrev first : {X : Type 0} → List X → Option X
+first [] = None
+first (x ∷ xs) = Some x
+
+-- two lists that are the same after maps go together
+pub maps_agree : {X Y Z W : Type 0} (f : Y → Z) (g : W → Z) (h : X → W) (xs : List X) (ys : List Y) → map f ys ≡ map g (map h xs) → AllZip (λ x y. f y ≡ g (h x)) xs ys
+maps_agree f g h [] [] e = tt
+maps_agree f g h [] (y ∷ ys) e = absurd (none-some (f y) (sym (ap first e)))
+maps_agree f g h (x ∷ xs) [] e = absurd (none-some (g (h x)) (ap first e))
+maps_agree f g h (x ∷ xs) (y ∷ ys) e = (same_Some (f y) (g (h x)) (ap first e), maps_agree f g h xs ys (ap rest e))
+
+pub zip_append : {X Y : Type 0} (R : X → Y → Type 0) (xs : List X) (ys : List Y) (us : List X) (vs : List Y) → AllZip R xs ys → AllZip R us vs → AllZip R (xs ++ us) (ys ++ vs)
+zip_append R [] [] us vs h k = k
+zip_append R [] (y ∷ ys) us vs h k = absurd h
+zip_append R (x ∷ xs) [] us vs h k = absurd h
+zip_append R (x ∷ xs) (y ∷ ys) us vs h k = (h.0, zip_append R xs ys us vs h.1 k)
+
+pub zip_length : {X Y : Type 0} (R : X → Y → Type 0) (xs : List X) (ys : List Y) → AllZip R xs ys → length ys ≡ length xs
+zip_length R [] [] h = refl
+zip_length R [] (y ∷ ys) h = absurd h
+zip_length R (x ∷ xs) [] h = absurd h
+zip_length R (x ∷ xs) (y ∷ ys) h = ap suc (zip_length R xs ys h.1)
+
+pub zip_maps : {X Y Z W : Type 0} (R : Z → W → Type 0) (f : X → Z) (g : Y → W) (xs : List X) (ys : List Y) → AllZip (λ x y. R (f x) (g y)) xs ys → AllZip R (map f xs) (map g ys)
+zip_maps R f g [] [] h = tt
+zip_maps R f g [] (y ∷ ys) h = absurd h
+zip_maps R f g (x ∷ xs) [] h = absurd h
+zip_maps R f g (x ∷ xs) (y ∷ ys) h = (h.0, zip_maps R f g xs ys h.1)
+
+pub zip_weaker : {X Y : Type 0} (R S : X → Y → Type 0) (xs : List X) (ys : List Y) → ((x : X) (y : Y) → R x y → S x y) → AllZip R xs ys → AllZip S xs ys
+zip_weaker R S [] [] f h = tt
+zip_weaker R S [] (y ∷ ys) f h = absurd h
+zip_weaker R S (x ∷ xs) [] f h = absurd h
+zip_weaker R S (x ∷ xs) (y ∷ ys) f h = (f x y h.0, zip_weaker R S xs ys f h.1)
+
+-- each item of the one has one of the other
+pub zip_right : {X Y : Type 0} (R : X → Y → Type 0) (xs : List X) (ys : List Y) → AllZip R xs ys → (k : ℕ) (x : X) → slice_get xs k ≡ Some x → (y : Y) × (slice_get ys k ≡ Some y) × R x y
+zip_right R [] ys h k x e = absurd (none-some x e)
+zip_right R (x ∷ xs) [] h k z e = absurd h
+zip_right R (x ∷ xs) (y ∷ ys) h zero z e = (y, refl, subst (λ w. R w y) (same_Some x z e) h.0)
+zip_right R (x ∷ xs) (y ∷ ys) h (suc k) z e = zip_right R xs ys h.1 k z e
+
+pub zip_left : {X Y : Type 0} (R : X → Y → Type 0) (xs : List X) (ys : List Y) → AllZip R xs ys → (k : ℕ) (y : Y) → slice_get ys k ≡ Some y → (x : X) × (slice_get xs k ≡ Some x) × R x y
+zip_left R xs [] h k y e = absurd (none-some y e)
+zip_left R [] (y ∷ ys) h k z e = absurd h
+zip_left R (x ∷ xs) (y ∷ ys) h zero z e = (x, refl, subst (λ w. R x w) (same_Some y z e) h.0)
+zip_left R (x ∷ xs) (y ∷ ys) h (suc k) z e = zip_left R xs ys h.1 k z e
+
+-- a relation of all items at one place makes lists go together
+pub zip_from : {X Y : Type 0} (R : X → Y → Type 0) (xs : List X) (ys : List Y) → length ys ≡ length xs → ((k : ℕ) (x : X) (y : Y) → slice_get xs k ≡ Some x → slice_get ys k ≡ Some y → R x y) → AllZip R xs ys
+zip_from R [] [] e h = tt
+zip_from R [] (y ∷ ys) e h = absurd (omega (arith, e))
+zip_from R (x ∷ xs) [] e h = absurd (omega (arith, e))
+zip_from R (x ∷ xs) (y ∷ ys) e h = (h zero x y refl refl, zip_from R xs ys (omega (arith, e)) (λ k z w a b. h (suc k) z w a b))
+
+pub zip_at : {X Y : Type 0} (R : X → Y → Type 0) (xs : List X) (ys : List Y) → AllZip R xs ys → (k : ℕ) (x : X) (y : Y) → slice_get xs k ≡ Some x → slice_get ys k ≡ Some y → R x y
+zip_at R xs ys h k x y a b =
+    let r = zip_right R xs ys h k x a in
+    subst (λ w. R x w) (same_Some r.0 y (sym r.1 ∙ b)) r.2
+
+-- the last item of two lists
+pub last_append : {X : Type 0} (o : Option X) (xs ys : List X) → last_or o (xs ++ ys) ≡ last_or (last_or o xs) ys
+last_append o [] ys = refl
+last_append o (x ∷ xs) ys = last_append (Some x) xs ys
+
+-- what is picked of the values that lines give
+pub picked_of_values : {X Y Z : Type 0} (f : X → Y) (h : Y → Option Z) (xs : List X) → filter_map (λ x. h (f x)) xs ≡ filter_map h (map f xs)
+picked_of_values f h [] = refl
+picked_of_values f h (x ∷ xs) = ap (λ l. cons_option (h (f x)) l) (picked_of_values f h xs)
+
+-- nothing is picked where nothing is seen
+pub picks_nothing : {X Y : Type 0} (h : X → Option Y) (xs : List X) → ((x : X) → Contains xs x → h x ≡ None) → filter_map h xs ≡ []
+picks_nothing h [] none = refl
+picks_nothing h (x ∷ xs) none =
+    ap (λ o. cons_option o (filter_map h xs)) (none x (Contains-head x xs)) ∙ picks_nothing h xs (λ y there. none y (Contains-tail x y xs there))
+
+-- the last item is one of them
+pub last_is_in : {X : Type 0} (o : Option X) (xs : List X) (x : X) → last_or o xs ≡ Some x → (o ≡ Some x) ⊎ Contains xs x
+last_is_in o [] x e = inl e
+last_is_in o (y ∷ xs) x e = elim (last_is_in (Some y) xs x e) [
+  | inl here ↦ inr (subst (λ z. Contains (y ∷ xs) z) (same_Some y x here) (Contains-head y xs))
+  | inr later ↦ inr (Contains-tail y x xs later)
+]
+
+-- where all are one, it is that
+pub last_is_one : {X : Type 0} (o : Option X) (xs : List X) (x : X) → Contains xs x → ((y : X) → Contains xs y → y ≡ x) → last_or o xs ≡ Some x
+last_is_one o [] x there one = absurd (Contains-none x there)
+last_is_one o (y ∷ []) x there one = ap Some (one y (Contains-head y []))
+last_is_one o (y ∷ z ∷ xs) x there one =
+    last_is_one (Some y) (z ∷ xs) x (subst (λ w. Contains (z ∷ xs) w) (one z (Contains-tail y z (z ∷ xs) (Contains-head z xs))) (Contains-head z xs)) (λ w later. one w (Contains-tail y w (z ∷ xs) later))
