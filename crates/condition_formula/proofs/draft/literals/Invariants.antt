@@ -1,0 +1,6 @@
+use Rattle.std.proofs.Common.{◌≡◌, [], take, fold, filter_map}
+use Rattle.condition_formula.specs.Clauses.{with_literal, literal_of}
+use Rattle.condition_formula.proofs.draft.literals.Given as goal
+
+abbrev pub invariant-loop-part : goal.invariant-loop-part
+invariant-loop-part l = l.lits ≡ fold with_literal [] (filter_map literal_of (take l.part-index l.parts))

@@ -1,0 +1,80 @@
+-- Clauses over conditions: their parts, and how they are written.
+use Rattle.std.specs.Prelude.{ℕ, ◌+◌, Bool, true, false, not, if◌then◌else◌, ◌==◌, IsTrue, List, [], ◌∷◌, ◌++◌, map, fold, filter_map, Option, Some, None, Contains, length, sum_by}
+use Rattle.std.specs.List.{list_any}
+use Rattle.cnf_types.specs.declared.literal.Lit.{Lit}
+use Rattle.cnf_types.specs.declared.clauses.Clause.{Clause}
+use Rattle.cnf_types.specs.Literals.{literal}
+use Rattle.condition_formula.specs.declared.part.Part.{Part}
+use Rattle.condition_formula.specs.declared.part.Part.TheVariants.{Fixed, Literal}
+use Rattle.condition_formula.specs.declared.condition.Condition.{Condition}
+use Rattle.condition_formula.specs.declared.condition.Condition.TheVariants.{Always, Never, If, Unless}
+
+-- the variable itself
+abbrev pub yes : ℕ → Part
+yes variable = Literal variable true
+
+-- its negation
+abbrev pub no : ℕ → Part
+no variable = Literal variable false
+
+-- the variable of the edit at this place
+abbrev pub edit_variable : ℕ → ℕ
+edit_variable edit = edit + 1
+
+-- the condition holds
+abbrev pub affirmed : Condition → Part
+affirmed Always = Fixed true
+affirmed Never = Fixed false
+affirmed (If edit) = yes (edit_variable edit)
+affirmed (Unless edit) = no (edit_variable edit)
+
+-- the condition does not hold
+abbrev pub denied : Condition → Part
+denied Always = Fixed false
+denied Never = Fixed true
+denied (If edit) = no (edit_variable edit)
+denied (Unless edit) = yes (edit_variable edit)
+
+-- the truth value of a part under an assignment
+abbrev pub part_value : (ℕ → Bool) → Part → Bool
+part_value assignment (Fixed truth) = truth
+part_value assignment (Literal variable true) = assignment variable
+part_value assignment (Literal variable false) = not (assignment variable)
+
+-- a clause is true where some part is
+abbrev pub parts_value : (ℕ → Bool) → List Part → Bool
+parts_value assignment parts = list_any (part_value assignment) parts
+
+-- the assignment makes each of the clauses true
+abbrev pub Fulfils : (ℕ → Bool) → List (List Part) → Type 0
+Fulfils assignment clauses = (parts : List Part) → Contains clauses parts → IsTrue (parts_value assignment parts)
+
+-- whether the part makes a clause true by itself
+abbrev pub is_fixed_true : Part → Bool
+is_fixed_true (Fixed truth) = truth
+is_fixed_true (Literal variable positive) = false
+
+-- the literal of a part that is no truth value
+abbrev pub literal_of : Part → Option Lit
+literal_of (Fixed truth) = None
+literal_of (Literal variable positive) = Some (literal variable positive)
+
+-- the literals with one more at the end, unless it stands there already
+abbrev pub with_literal : List Lit → Lit → List Lit
+with_literal lits lit = if list_any (λ l. l.code == lit.code) lits then lits else lits ++ lit ∷ []
+
+-- the literals, each once
+abbrev pub distinct : List Lit → List Lit
+distinct lits = fold with_literal [] lits
+
+-- the literals of a clause, unless a part makes it true by itself
+abbrev pub written : List Part → Option (List Lit)
+written parts = if list_any is_fixed_true parts then None else Some (distinct (filter_map literal_of parts))
+
+-- the clauses that have to be written
+abbrev pub written_clauses : List (List Part) → List Clause
+written_clauses clauses = map (λ lits. record { lits = lits }) (filter_map written clauses)
+
+-- how many literals the clauses have when they are written
+abbrev pub literal_count : List (List Part) → ℕ
+literal_count clauses = sum_by (λ c. length c.lits) (written_clauses clauses)

@@ -1,0 +1,120 @@
+-- A network of conditions under a choice of edits: which arcs are open, and whether a question is met.
+use Rattle.std.specs.Prelude.{◌≢◌, ℕ, ◌<◌, Bool, true, false, not, IsTrue, List, [], ◌∷◌, ◌++◌, length, map, filter, slice_index_or, All, Contains}
+use Rattle.std.specs.List.{list_all}
+use Rattle.graph_flow.specs.declared.arcs.Arc.{Arc}
+use Rattle.graph_flow.specs.Paths.{Leads, IsGraph}
+use Rattle.graph_flow.specs.Laws.{HavePaths}
+use Rattle.condition_formula.specs.declared.condition.Condition.{Condition}
+use Rattle.condition_formula.specs.declared.condition.Condition.TheVariants.{Always, Never, If, Unless}
+use Rattle.condition_formula.specs.declared.condition.ArcLists.{ArcLists}
+use Rattle.condition_formula.specs.declared.condition.ClassEnds.{ClassEnds}
+use Rattle.condition_formula.specs.declared.network.ConditionArc.{ConditionArc}
+use Rattle.condition_formula.specs.declared.network.Question.{Question}
+use Rattle.condition_formula.specs.declared.network.Demand.{Demand}
+use Rattle.condition_formula.specs.declared.network.Demand.TheVariants.{Blocked, Through, Reach}
+
+-- whether the condition holds where these edits are chosen
+abbrev pub holds : (ℕ → Bool) → Condition → Bool
+holds chosen Always = true
+holds chosen Never = false
+holds chosen (If edit) = chosen edit
+holds chosen (Unless edit) = not (chosen edit)
+
+-- the edit that the condition speaks of is one of so many
+abbrev pub IsOf : ℕ → Condition → Type 0
+IsOf edits Always = Unit {0}
+IsOf edits Never = Unit {0}
+IsOf edits (If edit) = edit < edits
+IsOf edits (Unless edit) = edit < edits
+
+-- what the two packet lists of the arc say of the class
+abbrev pub lists_of : ConditionArc → ℕ → ArcLists
+lists_of arc class = slice_index_or arc.lists class (record { outbound = Always; inbound = Always })
+
+-- all conditions under which the packets of the class go over the arc
+abbrev pub conditions_of : ConditionArc → ℕ → List Condition
+conditions_of arc class = arc.routing ++ (lists_of arc class).outbound ∷ (lists_of arc class).inbound ∷ []
+
+-- where the packets of the class enter and leave
+abbrev pub ends_of : Question → ℕ → ClassEnds
+ends_of q class = slice_index_or q.classes class (record { enter = Always; leave = Always })
+
+-- whether packets are routed over the arc
+abbrev pub is_routed : (ℕ → Bool) → ConditionArc → Bool
+is_routed chosen arc = list_all (holds chosen) arc.routing
+
+-- whether packets of the class are routed over the arc and permitted
+abbrev pub is_open : (ℕ → Bool) → ℕ → ConditionArc → Bool
+is_open chosen class arc = list_all (holds chosen) (conditions_of arc class)
+
+-- whether the arc counts: where packets are to pass a waypoint, the arcs of waypoints do not
+abbrev pub is_counted : Demand → ConditionArc → Bool
+is_counted Blocked arc = true
+is_counted Through arc = not arc.waypoint
+is_counted (Reach paths) arc = true
+
+-- the arcs that count
+abbrev pub counted : Question → List ConditionArc
+counted q = filter (is_counted q.demand) q.arcs
+
+-- the arc without its conditions
+abbrev pub bare : ConditionArc → Arc
+bare arc = record { link = arc.link; tail = arc.tail; head = arc.head; cost = 0 }
+
+-- the arcs that count and are open to the class
+abbrev pub open_arcs : (ℕ → Bool) → Question → ℕ → List Arc
+open_arcs chosen q class = map bare (filter (is_open chosen class) (counted q))
+
+-- the arcs over which packets are routed
+abbrev pub routed_arcs : (ℕ → Bool) → Question → List Arc
+routed_arcs chosen q = map bare (filter (is_routed chosen) q.arcs)
+
+-- packets of the class enter at the source, go over open arcs, and leave at the target
+pub record Comes (chosen : ℕ → Bool) (q : Question) (class : ℕ) : Type 0 where
+  pub enter : IsTrue (holds chosen (ends_of q class).enter)
+  pub leave : IsTrue (holds chosen (ends_of q class).leave)
+  pub leads : Leads (open_arcs chosen q class) q.source q.target
+
+-- no packets come
+abbrev pub IsKeptOff : (ℕ → Bool) → Question → Type 0
+IsKeptOff chosen q = (class : ℕ) → class < length q.classes → Comes chosen q class → ⊥
+
+-- the packets of the class enter and leave
+pub record Passes (chosen : ℕ → Bool) (q : Question) (class : ℕ) : Type 0 where
+  pub enter : IsTrue (holds chosen (ends_of q class).enter)
+  pub leave : IsTrue (holds chosen (ends_of q class).leave)
+
+-- both packet lists of the arc permit the class
+pub record IsClear (chosen : ℕ → Bool) (class : ℕ) (arc : ConditionArc) : Type 0 where
+  pub outbound : IsTrue (holds chosen (lists_of arc class).outbound)
+  pub inbound : IsTrue (holds chosen (lists_of arc class).inbound)
+
+-- all packets enter and leave; and where the two nodes differ, every routed arc is clear, and so many paths share no link
+pub record AreReached (chosen : ℕ → Bool) (q : Question) (many : ℕ) : Type 0 where
+  pub ends : (class : ℕ) → class < length q.classes → Passes chosen q class
+  pub clear : q.source ≢ q.target → (class : ℕ) → class < length q.classes → (arc : ConditionArc) → Contains q.arcs arc → IsTrue (is_routed chosen arc) → IsClear chosen class arc
+  pub paths : q.source ≢ q.target → HavePaths (routed_arcs chosen q) q.source q.target many
+
+-- the demand is met
+abbrev pub MeetsDemand : (ℕ → Bool) → Question → Demand → Type 0
+MeetsDemand chosen q Blocked = IsKeptOff chosen q
+MeetsDemand chosen q Through = IsKeptOff chosen q
+MeetsDemand chosen q (Reach many) = AreReached chosen q many
+
+-- the question is met where these edits are chosen
+abbrev pub IsMet : (ℕ → Bool) → Question → Type 0
+IsMet chosen q = MeetsDemand chosen q q.demand
+
+-- the conditions of the arc speak of so many edits
+pub record HasEdits (edits : ℕ) (arc : ConditionArc) : Type 0 where
+  pub routing : All (IsOf edits) arc.routing
+  pub lists : (class : ℕ) → IsOf edits (lists_of arc class).outbound × IsOf edits (lists_of arc class).inbound
+
+-- the question is one over these nodes, links and edits
+pub record IsSound (nodes links edits : ℕ) (q : Question) : Type 0 where
+  pub source : q.source < nodes
+  pub target : q.target < nodes
+  pub graph : IsGraph (record { nodes = nodes; arcs = map bare q.arcs })
+  pub of_links : All (λ arc. arc.link.0 < links) q.arcs
+  pub arcs : All (HasEdits edits) q.arcs
+  pub ends : (class : ℕ) → IsOf edits (ends_of q class).enter × IsOf edits (ends_of q class).leave

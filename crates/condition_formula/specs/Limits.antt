@@ -1,0 +1,44 @@
+-- How large a network of conditions may be, and when there is no formula of it.
+use Rattle.std.specs.Prelude.{◌≡◌, ℕ, ◌-◌, ◌<◌, ◌≤◌, ◌^◌, min, length, All}
+use Rattle.arc_base.specs.declared.refusal.LimitKind.TheVariants.{Routers, Interfaces, Links, Policies, Failures, Entries, Classes, Edits, Literals, Variables}
+use Rattle.condition_formula.specs.declared.network.ConditionNet.{ConditionNet}
+use Rattle.condition_formula.specs.declared.fault.EncodeFault.{EncodeFault}
+use Rattle.condition_formula.specs.declared.fault.EncodeFault.TheVariants.{Limit, Memory}
+use Rattle.condition_formula.specs.Formulas.{all_parts, variable_count}
+use Rattle.condition_formula.specs.Clauses.{literal_count}
+
+-- the network is so small that its variables can be counted
+pub record IsSmallNet (net : ConditionNet) : Type 0 where
+  pub nodes : net.nodes ≤ 65536
+  pub arcs : All (λ q. length q.arcs ≤ 65536) net.questions
+  pub questions : length net.questions ≤ 4096
+
+-- the formula has at most so many variables and literals
+pub record IsWithinLimits (net : ConditionNet) (bound : ℕ) : Type 0 where
+  pub variables : variable_count net bound ≤ 16777216
+  pub literals : literal_count (all_parts net bound) ≤ 32000000
+
+-- there are too many variables, and so many
+pub record HasTooManyVariables (net : ConditionNet) (bound count : ℕ) : Type 0 where
+  pub many : 16777216 < count
+  pub exact : count ≡ variable_count net bound
+
+-- there are not, but there are too many literals, and so many, or the most that can be counted
+pub record HasTooManyLiterals (net : ConditionNet) (bound count : ℕ) : Type 0 where
+  pub variables : variable_count net bound ≤ 16777216
+  pub many : 32000000 < literal_count (all_parts net bound)
+  pub exact : count ≡ min (literal_count (all_parts net bound)) (2 ^ 64 - 1)
+
+-- the fault is that of the network, or want of memory
+abbrev pub IsFaultOf : ConditionNet → ℕ → EncodeFault → Type 0
+IsFaultOf net bound Memory = Unit {0}
+IsFaultOf net bound (Limit Variables count) = HasTooManyVariables net bound count
+IsFaultOf net bound (Limit Literals count) = HasTooManyLiterals net bound count
+IsFaultOf net bound (Limit Routers count) = ⊥
+IsFaultOf net bound (Limit Interfaces count) = ⊥
+IsFaultOf net bound (Limit Links count) = ⊥
+IsFaultOf net bound (Limit Policies count) = ⊥
+IsFaultOf net bound (Limit Failures count) = ⊥
+IsFaultOf net bound (Limit Entries count) = ⊥
+IsFaultOf net bound (Limit Classes count) = ⊥
+IsFaultOf net bound (Limit Edits count) = ⊥

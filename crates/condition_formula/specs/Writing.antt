@@ -1,0 +1,60 @@
+-- How clauses are written one after the other, and their literals counted. Contracts of helpers cite these.
+use Rattle.std.specs.Prelude.{◌≡◌, ℕ, ◌+◌, ◌-◌, ◌<◌, ◌≤◌, ◌^◌, min, ◌==◌, Bool, List, [], ◌∷◌, ◌++◌, length, map, filter, slice_index_or, All}
+use Rattle.condition_formula.specs.declared.part.Part.{Part}
+use Rattle.condition_formula.specs.declared.part.Part.TheVariants.{Fixed, Literal}
+use Rattle.condition_formula.specs.declared.pick.Pick.{Pick}
+use Rattle.condition_formula.specs.declared.pick.Pick.TheVariants.{OutOf, Into, Over}
+use Rattle.condition_formula.specs.declared.network.ConditionArc.{ConditionArc}
+use Rattle.condition_formula.specs.declared.network.Question.{Question}
+use Rattle.condition_formula.specs.declared.row.Row.{Row}
+use Rattle.condition_formula.specs.declared.row.Index.{Index}
+use Rattle.condition_formula.specs.Lists.{upto}
+use Rattle.condition_formula.specs.declared.writer.Writer.{Writer}
+use Rattle.condition_formula.specs.Clauses.{yes, no, written_clauses, literal_count}
+use Rattle.condition_formula.specs.Reaching.{arc_at, places}
+
+-- the number of the part's variable can be doubled
+abbrev pub IsSmall : Part → Type 0
+IsSmall (Fixed truth) = Unit {0}
+IsSmall (Literal variable positive) = variable < 2 ^ 62
+
+-- the clauses were written after the others, unless there are too many literals, and these were counted
+pub record Adds (old new : Writer) (clauses : List (List Part)) : Type 0 where
+  pub counted : new.literals ≡ min (old.literals + literal_count clauses) (2 ^ 64 - 1)
+  pub kept : new.literals ≤ 32000000 → new.clauses ≡ old.clauses ++ written_clauses clauses
+
+-- whether the arc is one of those that are meant
+abbrev pub picks : Pick → ℕ → ConditionArc → Bool
+picks OutOf number arc = arc.tail == number
+picks Into number arc = arc.head == number
+picks Over number arc = arc.link.0 == number
+
+-- the places of the arcs that are meant
+abbrev pub picked : Question → Pick → ℕ → List ℕ
+picked q pick number = filter (λ place. picks pick number (arc_at q place)) (places q)
+
+-- these places for each number below the count
+abbrev pub rows_of : Question → Pick → ℕ → List Row
+rows_of q pick count = map (λ number. record { places = picked q pick number }) (upto count)
+
+-- the places of a number
+abbrev pub row_at : List Row → ℕ → List ℕ
+row_at rows number = (slice_index_or rows number (record { places = [] })).places
+
+-- the rows are those of the question's arcs
+pub record IsIndex (q : Question) (nodes links : ℕ) (index : Index) : Type 0 where
+  pub out_of : index.out_of ≡ rows_of q OutOf nodes
+  pub into : index.into ≡ rows_of q Into nodes
+  pub over : index.over ≡ rows_of q Over links
+
+-- each variable can be doubled
+abbrev pub AreSmall : List ℕ → Type 0
+AreSmall variables = All (λ v. v < 2 ^ 62) variables
+
+-- a clause for each of the ones: it is not true, or some of the others is
+abbrev pub each_implies : List ℕ → List ℕ → List (List Part)
+each_implies ones others = map (λ v. no v ∷ map yes others) ones
+
+-- the clause that both are not true, for each of the others
+abbrev pub excludes_each : ℕ → List ℕ → List (List Part)
+excludes_each one others = map (λ v. no one ∷ no v ∷ []) others

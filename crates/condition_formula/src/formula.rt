@@ -1,0 +1,94 @@
+//! The repair formula of a network of conditions.
+ghost use Rattle.std.specs.Prelude.{◌≡◌, ◌<◌, ◌≤◌, ◌+◌, ◌-◌, ◌^◌, [], ◌∷◌, ◌++◌, ◌==◌, if◌then◌else◌, true, length, map, take, OnOk, IfOk, IfErr};
+ghost use Rattle.cnf_types.specs.Literals.{literal};
+ghost use Rattle.condition_formula.specs.Lists.{upto};
+ghost use Rattle.condition_formula.specs.Formulas.{cell, repair_formula, tops_of};
+ghost use Rattle.condition_formula.specs.Limits.{IsSmallNet, IsWithinLimits, IsFaultOf};
+
+use crate::counter::prices;
+use crate::draft::{literal, push};
+use crate::fault::{EncodeFault, MOST_VARIABLES};
+use crate::network::ConditionNet;
+use crate::questions::{questions, variable_count};
+use crate::table::Table;
+use crate::writer::Writer;
+use crate::writing::MOST_LITERALS;
+use arc_base::{LimitKind, List, Memory};
+use cnf_types::{Formula, Lit};
+use std::alloc::Global;
+
+/// The repair formula, and for each number up to the bound the literal that the price is above it; none where there are no
+/// edits.
+#[derive(Debug, Drop)]
+pub struct Encoded {
+    pub formula: Formula,
+    pub tops: List<Lit>,
+}
+
+/// For each number up to the bound the literal that the price of all edits is above it.
+fn tops(alloc: Global, edits: u32, bound: u32, above: Table) -> Result<List<Lit>, Memory>
+    requires { bound ≤ 512 }
+    ensures { IfOk result (λ tops. tops ≡ (if edits == 0 then [] else map (λ number. literal (cell above.first above.columns (edits - 1) number) true) (upto (bound + 1)))) }
+{
+    let mut tops = List::make(alloc);
+    if edits == 0 {
+        return Ok(tops);
+    }
+    for number in 0..bound + 1 {
+        push(&mut tops, literal(above.at(edits - 1, number), true))?;
+    }
+    Ok(tops)
+}
+
+/// The repair formula for prices up to the bound.
+pub fn encode(alloc: Global, net: &ConditionNet, bound: u32) -> Result<Encoded, EncodeFault>
+    requires net { IsSmallNet net.now }
+    requires bound { bound ≤ 512 }
+    ensures formula { IfOk result (λ encoded. encoded.formula ≡ repair_formula net.now bound) }
+    ensures tops { IfOk result (λ encoded. encoded.tops ≡ tops_of net.now bound) }
+    ensures limits { OnOk result (IsWithinLimits net.now bound) }
+    ensures fault { IfErr result (IsFaultOf net.now bound) }
+{
+    let variables = variable_count(net, bound);
+    if variables > MOST_VARIABLES {
+        return Err(EncodeFault::Limit(LimitKind::Variables, variables));
+    }
+    let edits = net.weights.len();
+    let mut out = Writer::make(alloc);
+    let next = questions(
+        alloc,
+        &mut out,
+        net.questions.slice(),
+        net.nodes,
+        net.links,
+        u64::from(edits) + 1,
+    )?;
+    let above = Table {
+        first: next,
+        columns: bound + 1,
+    };
+    prices(alloc, &mut out, net.weights.slice(), bound, above)?;
+    if out.literals > MOST_LITERALS {
+        return Err(EncodeFault::Limit(LimitKind::Literals, out.literals));
+    }
+    let tops = tops(alloc, edits, bound, above)?;
+    Ok(Encoded {
+        formula: Formula {
+            vars: variables,
+            clauses: out.clauses,
+        },
+        tops,
+    })
+}
+
+/// The first values of a model, which are those of the edits.
+pub fn model_edits(alloc: Global, model: &List<bool>, count: u32) -> Result<List<bool>, Memory>
+    requires { count ≤ length model.now }
+    ensures { IfOk result (λ flags. flags ≡ take count model.now) }
+{
+    let mut flags = List::make(alloc);
+    for value in &model.slice()[..count as usize] {
+        push(&mut flags, *value)?;
+    }
+    Ok(flags)
+}

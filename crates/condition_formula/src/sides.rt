@@ -1,0 +1,168 @@
+//! Clauses of blocked and through: closed sides.
+ghost use Rattle.std.specs.Prelude.{◌≡◌, ◌≤◌, [], ◌∷◌, ◌++◌, if◌then◌else◌, length, map, flat_map, OnOk};
+ghost use Rattle.condition_formula.specs.Clauses.{yes, no, denied};
+ghost use Rattle.condition_formula.specs.Lists.{upto};
+ghost use Rattle.condition_formula.specs.Conditions.{lists_of, ends_of, is_counted, counted};
+ghost use Rattle.condition_formula.specs.Formulas.{cell};
+ghost use Rattle.condition_formula.specs.Sides.{step_parts, side_parts, kept_off_parts};
+ghost use Rattle.condition_formula.specs.Writing.{Adds};
+
+use crate::condition::{ArcLists, ClassEnds, Condition};
+use crate::draft::Draft;
+use crate::network::{ConditionArc, Demand, Question};
+use crate::table::Table;
+use crate::writer::Writer;
+use arc_base::Memory;
+use std::alloc::Global;
+
+/// What the packet lists of an arc say of a class.
+pub(crate) fn lists_of(arc: &ConditionArc, class: u32) -> ArcLists
+    ensures { result ≡ lists_of arc.now class }
+{
+    match arc.lists.get(class) {
+        Some(lists) => *lists,
+        None => ArcLists {
+            outbound: Condition::Always,
+            inbound: Condition::Always,
+        },
+    }
+}
+
+/// Where the packets of a class enter and leave.
+pub(crate) fn ends_of(q: &Question, class: u32) -> ClassEnds
+    ensures { result ≡ ends_of q.now class }
+{
+    match q.classes.get(class) {
+        Some(ends) => *ends,
+        None => ClassEnds {
+            enter: Condition::Always,
+            leave: Condition::Always,
+        },
+    }
+}
+
+/// Whether an arc counts for a demand.
+fn is_counted(demand: Demand, arc: &ConditionArc) -> bool
+    ensures { result ≡ is_counted demand arc.now }
+{
+    match demand {
+        Demand::Through => !arc.waypoint,
+        Demand::Blocked | Demand::Reach(_) => true,
+    }
+}
+
+/// Packets that come to the tail of an open arc come to its head.
+fn step(
+    alloc: Global,
+    out: &mut Writer,
+    reached: Table,
+    class: u32,
+    arc: &ConditionArc,
+) -> Result<(), Memory>
+    ensures { OnOk result (Adds out.old out.new (step_parts (cell reached.first reached.columns class) class arc.now ∷ [])) }
+{
+    let lists = lists_of(arc, class);
+    let mut draft = Draft::make(alloc);
+    draft.no(reached.at(class, arc.tail))?;
+    draft.deny_all(arc.routing.slice())?;
+    draft.deny(lists.outbound)?;
+    draft.deny(lists.inbound)?;
+    draft.yes(reached.at(class, arc.head))?;
+    out.put(alloc, &draft)
+}
+
+/// The same for an arc that counts, and nothing for another.
+fn counted_step(
+    alloc: Global,
+    out: &mut Writer,
+    demand: Demand,
+    reached: Table,
+    class: u32,
+    arc: &ConditionArc,
+) -> Result<(), Memory>
+    ensures { OnOk result (Adds out.old out.new (if is_counted demand arc.now then step_parts (cell reached.first reached.columns class) class arc.now ∷ [] else [])) }
+{
+    if !is_counted(demand, arc) {
+        return Ok(());
+    }
+    step(alloc, out, reached, class, arc)
+}
+
+/// The same for each arc that counts.
+fn steps(
+    alloc: Global,
+    out: &mut Writer,
+    q: &Question,
+    reached: Table,
+    class: u32,
+) -> Result<(), Memory>
+    ensures { OnOk result (Adds out.old out.new (map (step_parts (cell reached.first reached.columns class) class) (counted q.now))) }
+{
+    for arc in q.arcs.slice() {
+        counted_step(alloc, out, q.demand, reached, class, arc)?;
+    }
+    Ok(())
+}
+
+/// Packets of the class that enter come to the source.
+fn enters(
+    alloc: Global,
+    out: &mut Writer,
+    q: &Question,
+    reached: Table,
+    class: u32,
+) -> Result<(), Memory>
+    ensures { OnOk result (Adds out.old out.new ((denied (ends_of q.now class).enter ∷ yes (cell reached.first reached.columns class q.now.source) ∷ []) ∷ [])) }
+{
+    let mut draft = Draft::make(alloc);
+    draft.deny(ends_of(q, class).enter)?;
+    draft.yes(reached.at(class, q.source))?;
+    out.put(alloc, &draft)
+}
+
+/// Packets of the class that come to the target do not leave.
+fn leaves(
+    alloc: Global,
+    out: &mut Writer,
+    q: &Question,
+    reached: Table,
+    class: u32,
+) -> Result<(), Memory>
+    ensures { OnOk result (Adds out.old out.new ((no (cell reached.first reached.columns class q.now.target) ∷ denied (ends_of q.now class).leave ∷ []) ∷ [])) }
+{
+    let mut draft = Draft::make(alloc);
+    draft.no(reached.at(class, q.target))?;
+    draft.deny(ends_of(q, class).leave)?;
+    out.put(alloc, &draft)
+}
+
+/// Packets of the class that enter come to the source, go over open arcs, and leave at no target.
+fn side(
+    alloc: Global,
+    out: &mut Writer,
+    q: &Question,
+    reached: Table,
+    class: u32,
+) -> Result<(), Memory>
+    ensures { OnOk result (Adds out.old out.new (side_parts q.now (cell reached.first reached.columns class) class)) }
+{
+    enters(alloc, out, q, reached, class)?;
+    steps(alloc, out, q, reached, class)?;
+    leaves(alloc, out, q, reached, class)?;
+    Ok(())
+}
+
+/// The clauses of blocked and through, for each class.
+pub(crate) fn kept_off(
+    alloc: Global,
+    out: &mut Writer,
+    q: &Question,
+    reached: Table,
+) -> Result<(), Memory>
+    ensures { OnOk result (Adds out.old out.new (kept_off_parts q.now (cell reached.first reached.columns))) }
+{
+    for class in 0..q.classes.len() {
+        side(alloc, out, q, reached, class)?;
+    }
+    Ok(())
+}

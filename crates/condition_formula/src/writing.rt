@@ -1,0 +1,40 @@
+//! How a clause is written.
+ghost use Rattle.std.specs.Prelude.{◌≡◌, [], ◌∷◌, OnOk};
+ghost use Rattle.condition_formula.specs.Writing.{Adds};
+
+use crate::draft::{Draft, push};
+use crate::writer::Writer;
+use arc_base::{List, Memory};
+use cnf_types::Clause;
+use std::alloc::Global;
+
+/// The most literals that a formula may have.
+pub(crate) const MOST_LITERALS: u64 = 32_000_000;
+
+impl Writer {
+    /// No clause.
+    pub(crate) fn make(alloc: Global) -> Writer
+        ensures clauses { result.clauses ≡ [] }
+        ensures literals { result.literals ≡ 0 }
+    {
+        Writer {
+            clauses: List::make(alloc),
+            literals: 0,
+        }
+    }
+
+    /// Writes a clause, unless a part makes it true by itself.
+    pub(crate) fn put(&mut self, alloc: Global, draft: &Draft) -> Result<(), Memory>
+        ensures { OnOk result (Adds self.old self.new (draft.now ∷ [])) }
+    {
+        if draft.is_true() {
+            return Ok(());
+        }
+        let lits = draft.literals(alloc)?;
+        self.literals = self.literals.saturating_add(u64::from(lits.len()));
+        if self.literals <= MOST_LITERALS {
+            push(&mut self.clauses, Clause { lits })?;
+        }
+        Ok(())
+    }
+}

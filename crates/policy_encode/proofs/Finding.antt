@@ -1,0 +1,73 @@
+-- The index of edits finds an edit's place, and what else the code needs of its lists.
+use Rattle.std.proofs.Common.{◌≡◌, ◌≢◌, ℕ, ◌+◌, ◌<◌, ◌≤◌, Bool, true, false, cond, not, inl, inr, Option, Some, None, List, [], ◌∷◌, ◌++◌, length, get_or, take, map, refl, sym, ◌∙◌, ap, subst, arith}
+use Rattle.std.specs.Prelude.{AllPairs, Contains, IfSome, slice_get, nat_lt, if◌then◌else◌}
+use Rattle.std.specs.List.{list_any, position, position_or_len}
+use Rattle.std.proofs.lemmas.Bool.{false≢true, cases_Bool}
+use Rattle.std.proofs.lemmas.List.{length-map, map_more, length-take-le, get_or-take, get_or_default}
+use Rattle.std.proofs.lemmas.Option.{none-some}
+use Rattle.arc_base.proofs.Items.{from_map}
+use Rattle.net_model.specs.declared.policies.Document.{Document}
+use Rattle.net_model.specs.declared.policies.Policy.{Policy}
+use Rattle.net_model.specs.declared.rows.Network.{Network}
+use Rattle.traffic_classes.specs.Classes.{HasClasses}
+use Rattle.traffic_classes.proofs.EachPolicy.{no_more}
+use Rattle.traffic_classes.proofs.Unions.{have_one_list}
+use Rattle.net_model.proofs.Readings.{item_at_place}
+use Rattle.condition_formula.proofs.Parts.{any_to}
+use Rattle.edit_space.specs.declared.edit_kinds.Edit.{Edit}
+use Rattle.edit_space.specs.EditLists.{HasFewClasses}
+use Rattle.edit_space.proofs.RowFacts.{item_of}
+use Rattle.policy_encode.specs.Turning.{Key, key_of, same_key, is_same, place_of}
+use Rattle.policy_encode.proofs.Same.{is_same_true}
+
+first_of_map : {X Y : Type 0} (f : X → Y) (p : Y → Bool) (xs : List X) → position_or_len p (map f xs) ≡ position_or_len (λ x. p (f x)) xs
+first_of_map f p [] = refl
+first_of_map f p (x ∷ xs) = ap (λ n. cond (not (p (f x))) (1 + n) 0) (first_of_map f p xs)
+
+-- the place of an edit's numbers is that of the edit
+pub place_is : (list : List Edit) (keys : List Key) (e : Edit) (k : Key) → k ≡ key_of e → keys ≡ map key_of list → position (same_key k) keys ≡ place_of list e
+place_is list keys e k is_key is =
+    let P : ℕ → ℕ → Option ℕ = λ n len. cond (nat_lt n len) (Some n) None in
+    ap (λ (l : Key). position (same_key l) keys) is_key ∙ ap (λ ks. position (same_key (key_of e)) ks) is ∙
+    ap (λ n. P n (length (map key_of list))) (first_of_map key_of (same_key (key_of e)) list) ∙
+    ap (λ len. P (position_or_len (is_same e) list) len) (length-map list key_of)
+
+by_test : (b : Bool) {X : Type 0} (x y : X) → b ≡ false → (if b then x else y) ≡ y
+by_test true x y e = absurd (false≢true (sym e))
+by_test false x y e = refl
+
+in_front : (xs : List Edit) (n : ℕ) (x : Edit) → n ≤ length xs → Contains (take n xs) x → (k : ℕ) × (k < n) × (get_or xs k x ≡ x)
+in_front xs n x within (k, l, e) = let low : k < n = omega (arith, l, length-take-le n xs within) in (k, low, sym (get_or-take n xs k x low) ∙ e)
+
+-- the numbers of an edit that is new go last
+pub index_more : (list : List Edit) → AllPairs (λ (e : Edit) (f : Edit). e ≢ f) list → (i : ℕ) (e : Edit) → i < length list → e ≡ get_or list i e → (now next : List Key) (k : Key) → k ≡ key_of e →
+    now ≡ map key_of (take i list) → next ≡ (if list_any (same_key k) now then now else now ++ k ∷ []) → next ≡ map key_of (take (i + 1) list)
+index_more list apart i e within is now next k is_key was grown =
+    let seen : Bool = list_any (same_key k) now in
+    let fresh : list_any (same_key k) now ≡ false = elim (cases_Bool (list_any (same_key k) now)) [
+      | inl t ↦
+          let r = any_to (same_key k) now t in
+          let s = from_map key_of (take i list) r.0 (subst (λ (ks : List Key). Contains ks r.0) was r.1) in
+          let f = in_front list i s.0 (omega (arith, within)) s.1 in
+          let same : e ≡ s.0 = is_same_true e s.0 (ap (λ (l : Key). same_key l (key_of s.0)) (sym is_key) ∙ ap (same_key k) s.2 ∙ r.2) in
+          absurd (apart f.0 i s.0 f.1 within (f.2 ∙ sym same ∙ is ∙ get_or_default list i e s.0 within))
+      | inr f ↦ f
+    ] in
+    grown ∙ by_test (list_any (same_key k) now) now (now ++ k ∷ []) fresh ∙ ap (λ ks. ks ++ k ∷ []) was ∙ ap (λ (l : Key). map key_of (take i list) ++ l ∷ []) is_key ∙
+    ap (λ (x : Edit). map key_of (take i list) ++ key_of x ∷ []) is ∙ sym (map_more key_of list i e within ∙ ap (λ (x : Edit). map key_of (take i list) ++ key_of x ∷ []) refl)
+
+-- no policy has too many classes where the document has few
+pub few_enough : (net : Network) (doc : Document) (which count : ℕ) → which < length doc.policies → HasFewClasses net doc →
+    IfSome (slice_get doc.policies which) (λ p. HasClasses net doc.policies p count) → 4096 < count → ⊥
+few_enough net doc which count low few has many = by (slice_get doc.policies which) refl has
+  where
+    by : (o : Option Policy) → slice_get doc.policies which ≡ o → IfSome o (λ p. HasClasses net doc.policies p count) → ⊥
+    by None e h = absurd (no_item e)
+      where
+        no_item : slice_get doc.policies which ≡ None → ⊥
+        no_item f = let item = item_of doc.policies which low in none-some item.0 (sym f ∙ item.1)
+    by (Some p) e h =
+        let all = (have_one_list net doc.policies doc.policies).0 in
+        let less = no_more net doc.policies p h.classes all.0 (item_at_place doc.policies which p e) h.are all.1 in
+        let most = few all.0 all.1 in
+        omega (arith, less, most, many, h.counted)

@@ -1,0 +1,16 @@
+pub mod Same
+pub mod Chosen
+pub mod Distinct
+pub mod Mirrors
+pub mod Blocking
+pub mod Reaching
+pub mod Packets
+pub mod Sessions
+pub mod Ables
+pub mod Arcs
+pub mod Shapes
+pub mod Built
+pub mod Joined
+pub mod One
+pub mod Finding
+pub mod Making

@@ -1,0 +1,10 @@
+use Rattle.std.proofs.Common.{◌≡◌, List, take}
+use Rattle.std.specs.List.{flat_map}
+use Rattle.edit_space.specs.declared.edit_kinds.Edit.{Edit}
+use Rattle.edit_space.specs.Numbered.{placed}
+use Rattle.policy_encode.specs.Questions.{link_arcs}
+use Rattle.policy_encode.specs.Finding.{IsIndexOf}
+use Rattle.policy_encode.proofs.condition_arcs.arcs_to.Given as goal
+
+abbrev pub invariant-loop-place : goal.invariant-loop-place
+invariant-loop-place l = (list : List Edit) → IsIndexOf list l.index → l.arcs ≡ flat_map (link_arcs l.net list l.to l.classes) (take l.place (placed l.net.links))

@@ -1,0 +1,8 @@
+pub mod Turning
+pub mod Answers
+pub mod Ables
+pub mod Questions
+pub mod Formulas
+pub mod Mirrors
+pub mod Laws
+pub mod Finding

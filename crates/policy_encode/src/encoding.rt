@@ -1,0 +1,122 @@
+//! The formula of a network, a document and a list of edits.
+ghost use Rattle.std.specs.Prelude.{◌≡◌, ◌≤◌, ◌<◌, ◌^◌, List as Items, length, map, All, IfOk, IfErr, OnOk};
+ghost use Rattle.std.specs.List.{AllZip};
+ghost use Rattle.net_model.specs.Forwarding.{HasEnds};
+ghost use Rattle.net_model.specs.Packets.{subject};
+ghost use Rattle.net_model.specs.Validity.{IsValid};
+ghost use Rattle.edit_space.specs.declared.edit_kinds.Edit.{Edit as AnyEdit};
+ghost use Rattle.edit_space.specs.EditLists.{AreEdits, HasFewClasses};
+ghost use Rattle.edit_space.specs.Prices.{weight};
+ghost use Rattle.policy_encode.specs.Finding.{IsIndexOf};
+ghost use Rattle.policy_encode.specs.Formulas.{HasFewFailures, IsRepairFormula, IsWithin, IsFaultOf};
+ghost use Rattle.policy_encode.specs.Questions.{IsQuestion, AreConditions};
+
+use crate::adding::push;
+use crate::edit_index::EditIndex;
+use crate::questions::question;
+use arc_base::{List, Memory};
+use condition_formula::{ConditionNet, EncodeFault, Encoded, Question};
+use edit_space::{Edit, EditFault};
+use net_model::{Document, Network, Weights};
+use std::alloc::Global;
+
+/// What an edit costs.
+fn weight(weights: &Weights, edit: &Edit) -> u32
+    ensures { result ≡ weight weights.now edit.now }
+{
+    match edit {
+        Edit::Session(_) => weights.session,
+        Edit::RouteList(_, _) | Edit::RouteNew(_, _) => weights.filter,
+        Edit::PacketList(_, _) | Edit::PacketNew(_, _) => weights.list,
+    }
+}
+
+/// What each edit costs.
+fn all_weights(alloc: Global, doc: &Document, edits: &List<Edit>) -> Result<List<u32>, Memory>
+    ensures { IfOk result (λ weights. weights ≡ map (weight doc.now.weights) edits.now) }
+{
+    let mut weights = List::make(alloc);
+    for edit in edits.slice() {
+        push(&mut weights, weight(&doc.weights, edit))?;
+    }
+    Ok(weights)
+}
+
+/// The questions of all policies, in order.
+fn questions(
+    alloc: Global,
+    net: &Network,
+    doc: &Document,
+    index: &EditIndex,
+) -> Result<List<Question>, Memory>
+    requires ends { All (λ policy. HasEnds net.now (subject policy)) doc.now.policies }
+    requires failures { All (λ policy. HasFewFailures policy.kind) doc.now.policies }
+    requires few { HasFewClasses net.now doc.now }
+    requires index { length index.now.keys.keys < 2 ^ 32 }
+    ensures { IfOk result (λ qs. (list : Items AnyEdit) → IsIndexOf list index.now → AllZip (IsQuestion net.now doc.now.policies list) doc.now.policies qs) }
+{
+    let mut questions = List::make(alloc);
+    for (which, policy) in doc.policies.slice().iter().enumerate() {
+        push(
+            &mut questions,
+            question(alloc, net, doc, index, which as u32, policy)?,
+        )?;
+    }
+    Ok(questions)
+}
+
+/// The network of conditions.
+fn conditions(
+    alloc: Global,
+    net: &Network,
+    doc: &Document,
+    edits: &List<Edit>,
+) -> Result<ConditionNet, Memory>
+    requires valid { IsValid net.now }
+    requires ends { All (λ policy. HasEnds net.now (subject policy)) doc.now.policies }
+    requires failures { All (λ policy. HasFewFailures policy.kind) doc.now.policies }
+    requires classes { HasFewClasses net.now doc.now }
+    requires edits { AreEdits net.now doc.now edits.now }
+    ensures { IfOk result (AreConditions net.now doc.now edits.now) }
+{
+    let index = EditIndex::of(alloc, edits.slice())?;
+    let questions = questions(alloc, net, doc, &index)?;
+    let weights = all_weights(alloc, doc, edits)?;
+    Ok(ConditionNet {
+        nodes: net.routers.len(),
+        links: net.links.len(),
+        weights,
+        questions,
+    })
+}
+
+/// The repair formula for prices up to the bound. Its first variables are those of the edits, in order.
+///
+/// It goes over the arcs and classes of each policy once, and takes time in proportion to the literals.
+pub fn encode(
+    alloc: Global,
+    net: &Network,
+    doc: &Document,
+    edits: &List<Edit>,
+    bound: u32,
+) -> Result<Encoded, EditFault>
+    requires valid { IsValid net.now }
+    requires few { length doc.now.policies ≤ 256 }
+    requires ends { All (λ policy. HasEnds net.now (subject policy)) doc.now.policies }
+    requires failures { All (λ policy. HasFewFailures policy.kind) doc.now.policies }
+    requires classes { HasFewClasses net.now doc.now }
+    requires edits { AreEdits net.now doc.now edits.now }
+    requires few_edits { length edits.now ≤ 8192 }
+    requires bound { bound ≤ 512 }
+    ensures formula { IfOk result (λ e. IsRepairFormula net.now doc.now edits.now bound e.formula e.tops) }
+    ensures variables { IfOk result (λ e. e.formula.vars ≤ 16777216) }
+    ensures limits { OnOk result (IsWithin net.now doc.now edits.now bound) }
+    ensures fault { IfErr result (IsFaultOf net.now doc.now edits.now bound) }
+{
+    let conditions = conditions(alloc, net, doc, edits)?;
+    match condition_formula::encode(alloc, &conditions, bound) {
+        Ok(encoded) => Ok(encoded),
+        Err(EncodeFault::Limit(kind, count)) => Err(EditFault::Limit(kind, count)),
+        Err(EncodeFault::Memory) => Err(EditFault::Memory),
+    }
+}
