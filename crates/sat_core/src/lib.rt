@@ -12,13 +12,12 @@ mod numbered;
 mod progress;
 mod propagating;
 mod reading;
-mod row;
 mod store;
 mod trail;
+mod visiting;
+mod walking;
+mod wide;
 
 pub use assigned::{Assigned, Held};
 pub use engine::Core;
 pub use numbered::Numbered;
-
-#[cfg(test)]
-mod tests;

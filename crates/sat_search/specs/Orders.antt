@@ -9,7 +9,8 @@ use Rattle.sat_search.specs.declared.order.Order.{Order}
 
 -- the order is one of these variables
 pub record IsOrder (vars : ℕ) (order : Order) : Type 0 where
-  pub recent : All (IsOf vars) order.recent.items
+  pub ranked : All (IsOf vars) order.ranked.items
+  pub activity : length order.activity.items ≡ vars + 1
   pub saved : length order.saved.items ≡ vars + 1
 
 -- whether the trail assigns the variable

@@ -28,7 +28,7 @@ impl Order {
         self.scan(core)
     }
 
-    /// Sets the variables that recent conflicts met, those of the latest first.
+    /// Sets the variables that conflicts met, the most active first.
     fn walk(&self, core: &mut Core) -> Option<Held>
         requires order { IsOrder core.old.vars self.now }
         requires sound { IsSound core.old }
@@ -38,8 +38,7 @@ impl Order {
         ensures conflict { IfSome result (λ held. IsSomeAnd (clause_at core.new.clauses held) (IsFalsified core.new.trail)) }
         ensures rest { IsNone result → IsAtRest core.new.clauses (is_on core.new.trail) }
     {
-        for place in (0..self.recent.len()).rev() {
-            let lit = self.recent[place];
+        for lit in &self.ranked {
             if let Some(held) = self.assume(core, lit.var()) {
                 return Some(held);
             }

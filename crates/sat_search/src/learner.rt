@@ -45,7 +45,7 @@ impl Learner {
         ensures err { OnErr result (log.new.steps ≡ log.old.steps) }
     {
         let lesson = Lesson::of(self.alloc, &mut self.marks, core, conflict)?;
-        self.order.remember(self.alloc, core, &lesson.met)?;
+        self.order.remember(core, &lesson.met)?;
         core.back_to(0);
         let (lits, hints) = lesson.into_parts()?;
         enter(core, log, lits, hints)

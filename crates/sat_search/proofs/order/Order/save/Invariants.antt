@@ -3,6 +3,6 @@ use Rattle.sat_search.proofs.order.Order.save.Given as goal
 
 abbrev pub invariant-loop-entry : goal.invariant-loop-entry
 invariant-loop-entry l = record {
-  recent : l.self.recent.items ≡ l.initial.self.recent.items;
   saved : length l.self.saved.items ≡ length l.initial.self.saved.items;
+  same : l.self ≡ record l.initial.self { saved = l.self.saved };
 }
