@@ -1,0 +1,50 @@
+-- What the functions of a repair hand on to each other.
+use Rattle.std.proofs.Common.{◌≡◌, ◌≤◌, ℕ, inl, inr, Bool, List, length, sym, subst}
+use Rattle.std.specs.Prelude.{All}
+use Rattle.net_model.specs.declared.policies.Document.{Document}
+use Rattle.net_model.specs.declared.policies.Policy.{Policy}
+use Rattle.net_model.specs.declared.policies.PolicyKind.{PolicyKind}
+use Rattle.net_model.specs.declared.policies.PolicyKind.TheVariants.{Blocked, Through, Reach}
+use Rattle.net_model.specs.declared.rows.Network.{Network}
+use Rattle.net_model.specs.Validity.{IsValid}
+use Rattle.edit_space.specs.declared.edit_kinds.Edit.{Edit}
+use Rattle.edit_space.specs.declared.edit_kinds.EditFault.{EditFault}
+use Rattle.edit_space.specs.declared.edit_kinds.EditFault.TheVariants.{Memory}
+use Rattle.edit_space.specs.Determined.{EditListsAreOne}
+use Rattle.edit_space.specs.EditLists.{AreEdits, HasFewClasses}
+use Rattle.policy_encode.specs.Formulas as encoded
+use Rattle.verdicts.specs.Judged as judged
+use Rattle.arc_repair.specs.declared.answer.Answer.{Answer}
+use Rattle.arc_repair.specs.Answers.{IsUntouched, IsRepairFault}
+use Rattle.arc_repair.specs.Repairs.{Mends, none_of}
+
+few_failures : (kind : PolicyKind) → judged.HasFewFailures kind → encoded.HasFewFailures kind
+few_failures Blocked few = tt
+few_failures Through few = tt
+few_failures (Reach k) few = few
+
+pub all_few_failures : (policies : List Policy) → All (λ policy. judged.HasFewFailures policy.kind) policies → All (λ policy. encoded.HasFewFailures policy.kind) policies
+all_few_failures policies few k d l = few_failures _ (few k d l)
+
+module _ (one : EditListsAreOne) (net : Network) (doc : Document) (list : List Edit) (valid : IsValid net) (are : AreEdits net doc list) where
+  -- what holds of one list of the edits holds of each
+  pub of_each : (P : List Edit → Type 0) → P list → (other : List Edit) → AreEdits net doc other → P other
+  of_each P h other others = subst P (one net doc list other valid are others) h
+
+  -- where no edits at all do not mend the network, whatever is answered is right where they do
+  pub never_mended : (none : List Bool) (answer : Answer) → none ≡ none_of list → ¬ Mends net doc list none → (other : List Edit) → AreEdits net doc other → Mends net doc other (none_of other) → IsUntouched other answer
+  never_mended none answer is wrong other others mends =
+      let here : Mends net doc list (none_of list) = subst (λ (l : List Edit). Mends net doc l (none_of l)) (sym (one net doc list other valid are others)) mends in
+      absurd (wrong (subst (λ (flags : List Bool). Mends net doc list flags) (sym is) here))
+
+  -- where no edits mend the network and the answer says so, it is right for each list of the edits
+  pub untouched : (answer : Answer) → IsUntouched list answer → (other : List Edit) → AreEdits net doc other → Mends net doc other (none_of other) → IsUntouched other answer
+  untouched answer is other others mends = of_each (λ (l : List Edit). IsUntouched l answer) is other others
+
+  -- a fault of the formula comes after those of the classes and of the edits
+  pub formula_fault : (bound : ℕ) (fault : EditFault) → HasFewClasses net doc → length list ≤ 8192 → encoded.IsFaultOf net doc list bound fault → IsRepairFault net doc bound fault
+  formula_fault bound fault classes few wrong = inr (record { list = list; are = are; classes = classes; edits = few; formula = wrong })
+
+-- and one of memory may come at any time
+pub out_of_memory : (net : Network) (doc : Document) (bound : ℕ) → IsRepairFault net doc bound Memory
+out_of_memory net doc bound = inl tt

@@ -1,0 +1,11 @@
+pub mod Bounds
+pub mod Priced
+pub mod Truth
+pub mod Found
+pub mod Yeses
+pub mod Untouched
+pub mod Exact
+pub mod VerdictDefects
+pub mod Repaired
+pub mod ClaimDefects
+pub mod Glue

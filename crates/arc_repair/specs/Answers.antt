@@ -1,0 +1,79 @@
+-- What a repair answers.
+use Rattle.std.specs.Prelude.{◌≡◌, ℕ, ◌+◌, ◌≤◌, ◌⊎◌, Bool, Some, List, [], length, All}
+use Rattle.cnf_types.specs.declared.literal.Lit.{Lit}
+use Rattle.cnf_types.specs.declared.clauses.Formula.{Formula}
+use Rattle.clean_logs.specs.CleanLogs.{IsSpent}
+use Rattle.net_model.specs.declared.policies.Document.{Document}
+use Rattle.net_model.specs.declared.rows.Network.{Network}
+use Rattle.edit_space.specs.declared.claims.Claim.{Claim}
+use Rattle.edit_space.specs.declared.claims.Claim.TheVariants.{Repaired, NoRepair}
+use Rattle.edit_space.specs.declared.edit_kinds.Edit.{Edit}
+use Rattle.edit_space.specs.declared.edit_kinds.EditFault.{EditFault}
+use Rattle.edit_space.specs.EditLists.{AreEdits, HasFewClasses, NamesLimit}
+use Rattle.policy_encode.specs.Formulas.{IsRepairFormula, IsWithin, IsFaultOf}
+use Rattle.proof_log.specs.declared.steps.Step.{Step}
+use Rattle.proof_log.specs.declared.steps.Step.TheVariants.{Add, Drop, Bound}
+use Rattle.arc_repair.specs.declared.answer.Answer.{Answer}
+use Rattle.arc_repair.specs.declared.answer.Answer.TheVariants.{Done, Budget}
+use Rattle.arc_repair.specs.Repairs.{cost, Mends, none_of}
+use Rattle.arc_repair.specs.Claims.{claim_bound, IsTrueClaim, IsCertificate}
+
+-- the claim is true and of the bound that was asked for, and the log makes it a certificate
+pub record IsDone (net : Network) (doc : Document) (list : List Edit) (bound : ℕ) (claim : Claim) (steps : List Step) : Type 0 where
+  pub same_bound : claim_bound claim ≡ bound
+  pub is_true : IsTrueClaim net doc list claim
+  pub certificate : IsCertificate net doc list claim steps
+
+-- some edits mend the network at just this price
+pub record IsPriceOfRepair (net : Network) (doc : Document) (list : List Edit) (price : ℕ) : Type 0 where
+  pub flags : List Bool
+  pub mends : Mends net doc list flags
+  pub costs : cost doc list flags ≡ price
+
+-- a bound of the log is the one that was asked for, or one less than the price of edits that mend the network
+abbrev pub IsKnownBound : Network → Document → List Edit → ℕ → Step → Type 0
+IsKnownBound net doc list most (Add id lits hints) = Unit {0}
+IsKnownBound net doc list most (Drop ids) = Unit {0}
+IsKnownBound net doc list most (Bound id bound) = (bound ≡ most) ⊎ IsPriceOfRepair net doc list (bound + 1)
+
+-- the log is spent: for the repair formula it is clean, and has as many added clauses as the limit; each of its bounds has its cause
+pub record IsOutOfBudget (net : Network) (doc : Document) (list : List Edit) (bound limit : ℕ) (steps : List Step) : Type 0 where
+  pub formula : Formula
+  pub tops : List Lit
+  pub is_formula : IsRepairFormula net doc list bound formula tops
+  pub spent : IsSpent formula (Some 0) tops limit steps
+  pub bounds : All (IsKnownBound net doc list bound) steps
+
+-- what is answered is so
+abbrev pub IsAnswer : Network → Document → List Edit → ℕ → ℕ → Answer → Type 0
+IsAnswer net doc list bound limit (Done claim log) = IsDone net doc list bound claim log.steps
+IsAnswer net doc list bound limit (Budget log) = IsOutOfBudget net doc list bound limit log.steps
+
+-- the steps of its log
+abbrev pub answer_steps : Answer → List Step
+answer_steps (Done claim log) = log.steps
+answer_steps (Budget log) = log.steps
+
+-- no edit is chosen, and the log is empty
+abbrev pub IsUntouched : List Edit → Answer → Type 0
+IsUntouched list (Done (Repaired price bound flags verdicts) log) = (price ≡ 0) × (flags ≡ none_of list) × (log.steps ≡ [])
+IsUntouched list (Done (NoRepair bound) log) = ⊥
+IsUntouched list (Budget log) = ⊥
+
+-- there are few classes and few edits, and the formula is within its limits
+pub record KeepsLimits (net : Network) (doc : Document) (list : List Edit) (bound : ℕ) : Type 0 where
+  pub classes : HasFewClasses net doc
+  pub edits : length list ≤ 8192
+  pub formula : IsWithin net doc list bound
+
+-- with few classes and few edits, the formula passes the limit that the fault names
+pub record PassesFormula (net : Network) (doc : Document) (bound : ℕ) (fault : EditFault) : Type 0 where
+  pub list : List Edit
+  pub are : AreEdits net doc list
+  pub classes : HasFewClasses net doc
+  pub edits : length list ≤ 8192
+  pub formula : IsFaultOf net doc list bound fault
+
+-- the fault names the first limit that is passed: of classes, of edits, of the formula's variables, of its literals
+abbrev pub IsRepairFault : Network → Document → ℕ → EditFault → Type 0
+IsRepairFault net doc bound fault = NamesLimit net doc fault ⊎ PassesFormula net doc bound fault

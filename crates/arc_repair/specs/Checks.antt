@@ -1,0 +1,80 @@
+-- The check of a claim with its log: what is wrong with a claim, and what a check knows.
+use Rattle.std.specs.Prelude.{◌≡◌, ◌≢◌, ℕ, ◌<◌, ◌⊎◌, Bool, IsFalse, List, [], ◌∷◌, length}
+use Rattle.arc_base.specs.declared.certificate.CertKind.{CertKind}
+use Rattle.arc_base.specs.declared.certificate.CertKind.TheVariants as kinds
+use Rattle.cnf_types.specs.declared.literal.Lit.{Lit}
+use Rattle.cnf_types.specs.declared.clauses.Formula.{Formula}
+use Rattle.net_model.specs.declared.policies.Document.{Document}
+use Rattle.net_model.specs.declared.policies.Policy.{Policy}
+use Rattle.net_model.specs.declared.rows.Network.{Network}
+use Rattle.net_model.specs.declared.verdicts.Verdict.{Verdict}
+use Rattle.net_model.specs.Witnesses.{is_yes, IsRight}
+use Rattle.edit_space.specs.declared.claims.Claim.{Claim}
+use Rattle.edit_space.specs.declared.claims.Claim.TheVariants.{Repaired, NoRepair}
+use Rattle.edit_space.specs.declared.edit_kinds.Edit.{Edit}
+use Rattle.edit_space.specs.After.{IsAfter}
+use Rattle.edit_space.specs.EditLists.{AreEdits}
+use Rattle.edit_space.specs.Prices.{chosen_of}
+use Rattle.policy_encode.specs.Formulas.{IsRepairFormula}
+use Rattle.proof_check.specs.Knowledge.{Knowledge, start}
+use Rattle.proof_check.specs.View.{known}
+use Rattle.arc_repair.specs.declared.check.Check.{Check}
+use Rattle.arc_repair.specs.declared.check.Made.{Made}
+use Rattle.arc_repair.specs.declared.check.Made.TheVariants.{Good, Bad}
+use Rattle.arc_repair.specs.Repairs.{cost}
+use Rattle.arc_repair.specs.Claims.{IsRightYes, IsRightClaim, claim_bound, least_bound, needs_refutation}
+
+-- the claim has a flag for each edit of the network
+abbrev pub HasFlags : Network → Document → Claim → Type 0
+HasFlags net doc (Repaired price bound flags verdicts) = (list : List Edit) → AreEdits net doc list → length flags ≡ length list
+HasFlags net doc (NoRepair bound) = Unit {0}
+
+-- the claim has a flag for each edit of this list
+abbrev pub HasFlagsOf : List Edit → Claim → Type 0
+HasFlagsOf list (Repaired price bound flags verdicts) = length flags ≡ length list
+HasFlagsOf list (NoRepair bound) = Unit {0}
+
+-- the price is not that of the edits, or passes the bound, or the bound passes 512
+abbrev pub IsMispriced : Document → List Edit → ℕ → ℕ → List Bool → Type 0
+IsMispriced doc list price bound flags = (cost doc list flags ≢ price) ⊎ (bound < price) ⊎ (512 < bound)
+
+-- the first thing that is wrong with the verdicts on these policies: one is missing or too many, one is no yes, or one is not right
+abbrev pub IsVerdictDefect : Network → List Policy → List Verdict → CertKind → Type 0
+IsVerdictDefect net [] [] kind = ⊥
+IsVerdictDefect net [] (v ∷ verdicts) kind = kind ≡ kinds.Policy
+IsVerdictDefect net (policy ∷ policies) [] kind = kind ≡ kinds.Policy
+IsVerdictDefect net (policy ∷ policies) (v ∷ verdicts) kind =
+    (IsFalse (is_yes v) × (kind ≡ kinds.NotYes)) ⊎
+    ((¬ IsFalse (is_yes v)) × (¬ IsRight net policy v) × (kind ≡ kinds.Witness)) ⊎
+    (IsRightYes net policy v × IsVerdictDefect net policies verdicts kind)
+
+-- the price is right, and this is the first thing that is wrong with the verdicts in the network after the edits
+pub record IsMisjudged (net : Network) (doc : Document) (list : List Edit) (price bound : ℕ) (flags : List Bool) (verdicts : List Verdict) (kind : CertKind) : Type 0 where
+  pub priced : ¬ IsMispriced doc list price bound flags
+  pub after : Network
+  pub is_after : IsAfter net (chosen_of list flags) after
+  pub defect : IsVerdictDefect after doc.policies verdicts kind
+
+-- this is the first thing that is wrong with the claim: the price, or else a verdict
+abbrev pub IsDefect : Network → Document → List Edit → Claim → CertKind → Type 0
+IsDefect net doc list (Repaired price bound flags verdicts) kind =
+    (IsMispriced doc list price bound flags × (kind ≡ kinds.Price)) ⊎ IsMisjudged net doc list price bound flags verdicts kind
+IsDefect net doc list (NoRepair bound) kind = (512 < bound) × (kind ≡ kinds.Price)
+
+-- what the check knows of the log: the live clauses of the formula and the steps so far, and whether an empty clause was added
+abbrev pub knowledge : Check → Knowledge
+knowledge check = known check.checker
+
+-- the check of this claim stands before its log: the claim is right, and what is known is its repair formula with its least bound
+pub record IsBegun (net : Network) (doc : Document) (list : List Edit) (claim : Claim) (check : Check) : Type 0 where
+  pub right : IsRightClaim net doc list claim
+  pub formula : Formula
+  pub tops : List Lit
+  pub is_formula : IsRepairFormula net doc list (claim_bound claim) formula tops
+  pub knows : knowledge check ≡ start formula (least_bound claim) tops
+  pub needs : check.needs_refutation ≡ needs_refutation claim
+
+-- a check of the claim begins, or something is wrong with it
+abbrev pub IsMade : Network → Document → List Edit → Claim → Made → Type 0
+IsMade net doc list claim (Good check) = IsBegun net doc list claim check
+IsMade net doc list claim (Bad kind) = IsDefect net doc list claim kind

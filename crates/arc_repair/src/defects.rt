@@ -1,0 +1,123 @@
+//! What is wrong with a claim, as far as it can be seen without a log.
+ghost use Rattle.std.specs.Prelude.{◌≡◌, ◌≤◌, length, All, IfOk, IfSome, IsNone, MatchOption};
+ghost use Rattle.std.specs.List.{AllZip};
+ghost use Rattle.net_model.specs.Forwarding.{HasEnds};
+ghost use Rattle.net_model.specs.Packets.{subject};
+ghost use Rattle.net_model.specs.Validity.{IsValid};
+ghost use Rattle.edit_space.specs.declared.claims.Claim.TheVariants.{Repaired};
+ghost use Rattle.arc_repair.specs.Checks.{IsVerdictDefect, IsDefect, HasFlagsOf};
+ghost use Rattle.arc_repair.specs.Claims.{IsRightYes, IsRightClaim, claim_bound, least_bound, needs_refutation};
+
+use crate::judging::is_yes;
+use arc_base::{CertKind, List, Memory};
+use edit_space::{Claim, Edit, after, price};
+use net_model::{Document, Network, Policy, Verdict};
+use std::alloc::Global;
+use witness_check::accepts;
+
+/// The bound of the claim.
+pub(crate) fn bound_of(claim: &Claim) -> u32
+    ensures { result ≡ claim_bound claim.now }
+{
+    match claim {
+        Claim::Repaired { bound, .. } => *bound,
+        Claim::NoRepair { bound } => *bound,
+    }
+}
+
+/// The least bound that a log of the claim may have.
+pub(crate) fn least_bound(claim: &Claim) -> Option<u32>
+    ensures { result ≡ least_bound claim.now }
+{
+    match claim {
+        Claim::Repaired { price, .. } => price.checked_sub(1),
+        Claim::NoRepair { bound } => Some(*bound),
+    }
+}
+
+/// Whether a log has to refute something to show the claim.
+pub(crate) fn needs_refutation(claim: &Claim) -> bool
+    ensures { result ≡ needs_refutation claim.now }
+{
+    match claim {
+        Claim::Repaired { price, .. } => *price > 0,
+        Claim::NoRepair { .. } => true,
+    }
+}
+
+/// The first thing that is wrong with the verdicts on these policies.
+fn verdict_defect(net: &Network, policies: &[Policy], verdicts: &[Verdict]) -> Option<CertKind>
+    requires valid { IsValid net.now }
+    requires ends { All (λ policy. HasEnds net.now (subject policy)) policies.now }
+    ensures { MatchOption result (AllZip (IsRightYes net.now) policies.now verdicts.now) (IsVerdictDefect net.now policies.now verdicts.now) }
+{
+    for (place, policy) in policies.iter().enumerate() {
+        let Some(verdict) = verdicts.get(place) else {
+            return Some(CertKind::Policy);
+        };
+        if !is_yes(verdict) {
+            return Some(CertKind::NotYes);
+        }
+        if !accepts(net, policy, verdict) {
+            return Some(CertKind::Witness);
+        }
+    }
+    if verdicts.len() > policies.len() {
+        Some(CertKind::Policy)
+    } else {
+        None
+    }
+}
+
+/// The first thing that is wrong with what is claimed of edits.
+fn repair_defect(
+    alloc: Global,
+    net: &Network,
+    doc: &Document,
+    list: &List<Edit>,
+    claimed: u32,
+    bound: u32,
+    chosen: &List<bool>,
+    verdicts: &List<Verdict>,
+) -> Result<Option<CertKind>, Memory>
+    requires valid { IsValid net.now }
+    requires ends { All (λ policy. HasEnds net.now (subject policy)) doc.now.policies }
+    requires flags { length chosen.now ≡ length list.now }
+    requires bound { bound ≤ 512 }
+    ensures { IfOk result (λ kind. MatchOption kind (IsRightClaim net.now doc.now list.now (Repaired claimed bound chosen.now verdicts.now)) (IsDefect net.now doc.now list.now (Repaired claimed bound chosen.now verdicts.now))) }
+{
+    if claimed > bound {
+        return Ok(Some(CertKind::Price));
+    }
+    let cost = price(doc, list, chosen.slice());
+    if cost != u64::from(claimed) {
+        return Ok(Some(CertKind::Price));
+    }
+    let after = after(alloc, net, list, chosen.slice())?;
+    Ok(verdict_defect(&after, doc.policies.slice(), verdicts.slice()))
+}
+
+/// The first thing that is wrong with the claim, whose bound is at most 512.
+pub(crate) fn defect(
+    alloc: Global,
+    net: &Network,
+    doc: &Document,
+    list: &List<Edit>,
+    claim: &Claim,
+) -> Result<Option<CertKind>, Memory>
+    requires valid { IsValid net.now }
+    requires ends { All (λ policy. HasEnds net.now (subject policy)) doc.now.policies }
+    requires flags { HasFlagsOf list.now claim.now }
+    requires bound { claim_bound claim.now ≤ 512 }
+    ensures { IfOk result (λ kind. MatchOption kind (IsRightClaim net.now doc.now list.now claim.now) (IsDefect net.now doc.now list.now claim.now)) }
+{
+    match claim {
+        Claim::Repaired {
+            price,
+            bound,
+            chosen,
+            verdicts,
+        } => repair_defect(alloc, net, doc, list, *price, *bound, chosen, verdicts),
+        Claim::NoRepair { .. } => Ok(None),
+    }
+}

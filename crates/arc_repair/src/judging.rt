@@ -1,0 +1,81 @@
+//! The verdicts on all policies, as long as they are yeses.
+ghost use Rattle.std.specs.Prelude.{◌≡◌, length, All, IfOk, IfSome, IsNone, ◌≤◌};
+ghost use Rattle.std.specs.List.{AllZip};
+ghost use Rattle.net_model.specs.Forwarding.{HasEnds};
+ghost use Rattle.net_model.specs.Packets.{subject};
+ghost use Rattle.net_model.specs.Policies.{Meets};
+ghost use Rattle.net_model.specs.Validity.{IsValid};
+ghost use Rattle.net_model.specs.Witnesses.{is_yes};
+ghost use Rattle.edit_space.specs.Determined.{IsCountable};
+ghost use Rattle.edit_space.specs.EditLists.{AreEdits, HasFewClasses};
+ghost use Rattle.verdicts.specs.Judged.{HasFewFailures};
+ghost use Rattle.arc_repair.specs.Claims.{IsRightYes};
+ghost use Rattle.arc_repair.specs.Repairs.{Mends};
+ghost use Rattle.arc_repair.specs.Search.{HasFewClassesEach, AreYesAfter};
+
+use arc_base::{List, Memory};
+use edit_space::{Edit, after};
+use net_laws::verdicts_are_right;
+use net_model::{Document, Network, Policy, Verdict};
+use std::alloc::Global;
+use verdicts::{JudgeFault, judge};
+
+/// Whether the verdict is a yes.
+pub(crate) fn is_yes(verdict: &Verdict) -> bool
+    ensures { result ≡ is_yes verdict.now }
+{
+    matches!(verdict, Verdict::Closed(_) | Verdict::Paths(_))
+}
+
+/// The verdicts on the policies, if each is a yes.
+fn yeses(
+    alloc: Global,
+    net: &Network,
+    policies: &List<Policy>,
+) -> Result<Option<List<Verdict>>, Memory>
+    requires valid { IsValid net.now }
+    requires ends { All (λ policy. HasEnds net.now (subject policy)) policies.now }
+    requires failures { All (λ policy. HasFewFailures policy.kind) policies.now }
+    requires classes { HasFewClassesEach net.now policies.now }
+    ensures some { IfOk result (λ verdicts. IfSome verdicts (AllZip (IsRightYes net.now) policies.now)) }
+    ensures none { IfOk result (λ verdicts. IsNone verdicts → ¬ All (Meets net.now) policies.now) }
+{
+    verdicts_are_right();
+    let mut verdicts = List::make(alloc);
+    for which in 0..policies.len() {
+        match judge(alloc, net, policies, which) {
+            Ok(verdict) => {
+                if !is_yes(&verdict) {
+                    return Ok(None);
+                }
+                verdicts.push(verdict)?;
+            }
+            Err(JudgeFault::TooMany(_)) => unreachable!(),
+            Err(JudgeFault::Memory) => return Err(Memory),
+        }
+    }
+    Ok(Some(verdicts))
+}
+
+/// The verdicts on the policies in the network after the chosen edits, if each is a yes.
+pub(crate) fn yeses_after(
+    alloc: Global,
+    net: &Network,
+    doc: &Document,
+    list: &List<Edit>,
+    chosen: &[bool],
+) -> Result<Option<List<Verdict>>, Memory>
+    requires valid { IsValid net.now }
+    requires countable { IsCountable net.now }
+    requires ends { All (λ policy. HasEnds net.now (subject policy)) doc.now.policies }
+    requires failures { All (λ policy. HasFewFailures policy.kind) doc.now.policies }
+    requires classes { HasFewClasses net.now doc.now }
+    requires edits { AreEdits net.now doc.now list.now }
+    requires flags { length chosen.now ≡ length list.now }
+    ensures some { IfOk result (λ verdicts. IfSome verdicts (AreYesAfter net.now doc.now list.now chosen.now)) }
+    ensures none { IfOk result (λ verdicts. IsNone verdicts → ¬ Mends net.now doc.now list.now chosen.now) }
+{
+    let after = after(alloc, net, list, chosen)?;
+    let verdicts = yeses(alloc, &after, &doc.policies)?;
+    Ok(verdicts)
+}

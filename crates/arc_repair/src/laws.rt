@@ -1,0 +1,36 @@
+//! Laws over the definitions alone: each is the contract of a function that does nothing.
+ghost use Rattle.arc_repair.specs.Laws.{CertificatesAreTrue, ChecksAreExact, CertificatesPass, MetNetworksNeedNoEdits};
+
+use edit_space::laws::{networks_after_edits_are_valid, no_edits_change_nothing};
+use net_laws::verdicts_are_right;
+use policy_encode::laws::{
+    formulas_are_searchable, models_are_repairs, one_formula, one_model_serves,
+};
+use price_descent::laws::logs_show_prices;
+
+/// A claim that has a certificate is true, whoever made it.
+pub fn certificates_are_true()
+    ensures { CertificatesAreTrue }
+{
+    networks_after_edits_are_valid();
+    models_are_repairs();
+    one_model_serves();
+    formulas_are_searchable();
+    logs_show_prices();
+    verdicts_are_right();
+}
+
+/// A check accepts the log of a claim step by step, and in the end, exactly where the two are a certificate.
+pub fn checks_are_exact()
+    ensures exact { ChecksAreExact }
+    ensures passes { CertificatesPass }
+{
+    one_formula();
+}
+
+/// A network that meets the document needs no edits.
+pub fn met_networks_need_no_edits()
+    ensures { MetNetworksNeedNoEdits }
+{
+    no_edits_change_nothing();
+}

@@ -1,0 +1,139 @@
+//! The cheapest repair.
+ghost use Rattle.std.specs.Prelude.{◌≡◌, ◌≤◌, [], List as Items, length, All, IfOk, IfErr};
+ghost use Rattle.net_model.specs.Forwarding.{HasEnds};
+ghost use Rattle.net_model.specs.Packets.{subject};
+ghost use Rattle.net_model.specs.Validity.{IsValid};
+ghost use Rattle.edit_space.specs.declared.claims.Claim.TheVariants.{Repaired};
+ghost use Rattle.edit_space.specs.declared.edit_kinds.Edit.{Edit as AnyEdit};
+ghost use Rattle.edit_space.specs.Determined.{IsCountable};
+ghost use Rattle.edit_space.specs.EditLists.{AreEdits, HasFewClasses};
+ghost use Rattle.price_descent.specs.Outcomes.{found_steps};
+ghost use Rattle.proof_log.specs.Texts.{HasLine};
+ghost use Rattle.verdicts.specs.Judged.{HasFewFailures};
+ghost use Rattle.arc_repair.specs.declared.answer.Answer.TheVariants.{Done};
+ghost use Rattle.arc_repair.specs.Answers.{IsAnswer, answer_steps, IsUntouched, KeepsLimits, IsRepairFault};
+ghost use Rattle.arc_repair.specs.Repairs.{Mends, none_of};
+ghost use Rattle.arc_repair.specs.Search.{IsSearched};
+
+use crate::answer::Answer;
+use crate::judging::yeses_after;
+use crate::searching::cheapest;
+use arc_base::{List, Memory};
+use edit_space::laws::edit_lists_are_one;
+use edit_space::{Claim, Edit, EditFault, edits};
+use net_model::{Document, Network, Verdict};
+use policy_encode::encode;
+use price_descent::Found;
+use proof_log::Log;
+use std::alloc::Global;
+
+/// A flag for each of the edits, which chooses none.
+fn unchosen(alloc: Global, edits: &[Edit]) -> Result<Vec<bool>, Memory>
+    ensures { IfOk result (λ flags. flags.items ≡ none_of edits.now) }
+{
+    Ok(edits.iter().map(|_| false).collect(alloc)?)
+}
+
+/// The flags that choose none of the edits.
+fn no_flags(alloc: Global, list: &List<Edit>) -> Result<List<bool>, Memory>
+    ensures { IfOk result (λ flags. flags ≡ none_of list.now) }
+{
+    let flags = unchosen(alloc, list.slice())?;
+    let none = List::of(flags)?;
+    Ok(none)
+}
+
+/// The answer where no edit is needed.
+fn untouched(alloc: Global, bound: u32, chosen: List<bool>, verdicts: List<Verdict>) -> Answer
+    ensures { result ≡ Done (Repaired 0 bound chosen verdicts) (record { steps = [] }) }
+{
+    let claim = Claim::Repaired {
+        price: 0,
+        bound,
+        chosen,
+        verdicts,
+    };
+    let log = Log {
+        steps: List::make(alloc),
+    };
+    Answer::Done(claim, log)
+}
+
+/// The answer that comes of a search, with the verdicts in the network after the edits that were found.
+fn answer_of(
+    alloc: Global,
+    net: &Network,
+    doc: &Document,
+    list: &List<Edit>,
+    bound: u32,
+    limit: u64,
+    found: Found,
+) -> Result<Answer, Memory>
+    requires valid { IsValid net.now }
+    requires countable { IsCountable net.now }
+    requires ends { All (λ policy. HasEnds net.now (subject policy)) doc.now.policies }
+    requires failures { All (λ policy. HasFewFailures policy.kind) doc.now.policies }
+    requires classes { HasFewClasses net.now doc.now }
+    requires edits { AreEdits net.now doc.now list.now }
+    requires bound { bound ≤ 512 }
+    requires searched { IsSearched net.now doc.now list.now bound limit found }
+    ensures answer { IfOk result (IsAnswer net.now doc.now list.now bound limit) }
+    ensures lines { IfOk result (λ answer. answer_steps answer ≡ found_steps found) }
+{
+    match found {
+        Found::Nothing(log) => Ok(Answer::Done(Claim::NoRepair { bound }, log)),
+        Found::Budget(log) => Ok(Answer::Budget(log)),
+        Found::Cheapest(offer, log) => {
+            let chosen = offer.values;
+            let price = offer.price as u32;
+            match yeses_after(alloc, net, doc, list, chosen.slice())? {
+                Some(verdicts) => Ok(Answer::Done(
+                    Claim::Repaired {
+                        price,
+                        bound,
+                        chosen,
+                        verdicts,
+                    },
+                    log,
+                )),
+                None => unreachable!(),
+            }
+        }
+    }
+}
+
+/// The cheapest edits of a price up to the bound after which the network meets the document, with a log that shows that none
+/// are cheaper; or a log that shows that there are none within the bound. It gives up once the log adds `limit` clauses.
+///
+/// The classes, the edits and the formula are counted against their limits first, in this order. A network that meets the
+/// document as it stands is answered without a search.
+pub fn repair(
+    alloc: Global,
+    net: &Network,
+    doc: &Document,
+    bound: u32,
+    limit: u64,
+) -> Result<Answer, EditFault>
+    requires valid { IsValid net.now }
+    requires few { length doc.now.policies ≤ 256 }
+    requires ends { All (λ policy. HasEnds net.now (subject policy)) doc.now.policies }
+    requires failures { All (λ policy. HasFewFailures policy.kind) doc.now.policies }
+    requires bound { bound ≤ 512 }
+    requires limit { limit ≤ 200000 }
+    ensures answer { IfOk result (λ answer. (list : Items AnyEdit) → AreEdits net.now doc.now list → IsAnswer net.now doc.now list bound limit answer) }
+    ensures met { IfOk result (λ answer. (list : Items AnyEdit) → AreEdits net.now doc.now list → Mends net.now doc.now list (none_of list) → IsUntouched list answer) }
+    ensures lines { IfOk result (λ answer. All HasLine (answer_steps answer)) }
+    ensures limits { IfOk result (λ answer. (list : Items AnyEdit) → AreEdits net.now doc.now list → KeepsLimits net.now doc.now list bound) }
+    ensures fault { IfErr result (IsRepairFault net.now doc.now bound) }
+{
+    edit_lists_are_one();
+    let list = edits(alloc, net, doc)?;
+    let encoded = encode(alloc, net, doc, &list, bound)?;
+    let none = no_flags(alloc, &list)?;
+    if let Some(verdicts) = yeses_after(alloc, net, doc, &list, none.slice())? {
+        return Ok(untouched(alloc, bound, none, verdicts));
+    }
+    let found = cheapest(alloc, net, doc, &list, &encoded, bound, limit)?;
+    let answer = answer_of(alloc, net, doc, &list, bound, limit, found)?;
+    Ok(answer)
+}

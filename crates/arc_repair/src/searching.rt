@@ -1,0 +1,56 @@
+//! The search for the cheapest repair.
+ghost use Rattle.std.specs.Prelude.{◌≡◌, ◌≤◌, length, All, IfOk};
+ghost use Rattle.net_model.specs.Validity.{IsValid};
+ghost use Rattle.edit_space.specs.Determined.{IsCountable};
+ghost use Rattle.edit_space.specs.EditLists.{AreEdits};
+ghost use Rattle.policy_encode.specs.Formulas.{IsRepairFormula};
+ghost use Rattle.price_descent.specs.Outcomes.{found_steps};
+ghost use Rattle.proof_log.specs.Texts.{HasLine};
+ghost use Rattle.arc_repair.specs.Search.{IsSearched};
+
+use crate::costs::Costs;
+use arc_base::{List, Memory};
+use edit_space::Edit;
+use edit_space::laws::networks_after_edits_are_valid;
+use net_model::{Document, Network};
+use policy_encode::Encoded;
+use policy_encode::laws::{formulas_are_searchable, models_are_repairs, one_model_serves};
+use price_descent::{Found, descend};
+use std::alloc::Global;
+
+/// The cheapest edits that mend the network, by a descent over the prices of the formula's models.
+pub(crate) fn cheapest(
+    alloc: Global,
+    net: &Network,
+    doc: &Document,
+    list: &List<Edit>,
+    encoded: &Encoded,
+    bound: u32,
+    limit: u64,
+) -> Result<Found, Memory>
+    requires valid { IsValid net.now }
+    requires countable { IsCountable net.now }
+    requires edits { AreEdits net.now doc.now list.now }
+    requires formula { IsRepairFormula net.now doc.now list.now bound encoded.now.formula encoded.now.tops }
+    requires variables { encoded.now.formula.vars ≤ 16777216 }
+    requires bound { bound ≤ 512 }
+    requires limit { limit ≤ 200000 }
+    ensures searched { IfOk result (IsSearched net.now doc.now list.now bound limit) }
+    ensures lines { IfOk result (λ found. All HasLine (found_steps found)) }
+{
+    networks_after_edits_are_valid();
+    models_are_repairs();
+    one_model_serves();
+    formulas_are_searchable();
+    let costs = Costs { doc, edits: list };
+    let found = descend(
+        alloc,
+        &costs,
+        &encoded.formula,
+        &encoded.tops,
+        list.len(),
+        bound,
+        limit,
+    )?;
+    Ok(found)
+}

@@ -1,0 +1,5 @@
+pub mod Prices
+pub mod Outcomes
+pub mod Laws
+pub mod Cores
+pub mod Progress
