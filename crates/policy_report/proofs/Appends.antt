@@ -1,5 +1,5 @@
 -- Texts that grow at their end, piece by piece.
-use Rattle.std.proofs.Common.{◌≡◌, ℕ, zero, suc, ◌+◌, ◌<◌, Bool, true, false, cond, List, [], ◌∷◌, ◌++◌, length, get_or, drop, map, decimal, refl, sym, ap, ◌∙◌, arith, append_assoc, append-nil, add-one, drop-cons}
+use Rattle.std.proofs.Common.{◌≡◌, ℕ, zero, suc, ◌+◌, ◌<◌, Bool, true, false, cond, List, [], ◌∷◌, ◌++◌, length, get_or, drop, map, codes, decimal, refl, sym, ap, ◌∙◌, arith, append_assoc, append-nil, add-one, drop-cons}
 use Rattle.std.proofs.lemmas.List.{get_or-drop}
 use Rattle.std.specs.List.{concat}
 use Rattle.arc_base.specs.declared.place.Link.{Link}
@@ -7,6 +7,9 @@ use Rattle.net_model.specs.declared.policies.Policy.{Policy}
 use Rattle.net_model.specs.declared.rows.RouterRow.{RouterRow}
 use Rattle.net_model.specs.declared.rows.Network.{Network}
 use Rattle.net_model.specs.declared.verdicts.Verdict.{Verdict}
+use Rattle.edit_space.specs.declared.edit_kinds.Edit.{Edit}
+use Rattle.edit_space.specs.Prices.{chosen_of}
+use Rattle.policy_report.specs.Edits.{edit_words, edit_lines}
 use Rattle.policy_report.specs.Lines.{after_spaces, line}
 use Rattle.policy_report.specs.Reports.{link_words, side_words, block_text, blocks_text}
 
@@ -83,3 +86,32 @@ two_runs old first t₁ t₂ t₃ t₄ a b e₁ e₂ e₃ e₄ =
 pub run_and_word : (old first t₁ t₂ t₃ t₄ : List ℕ) (a : List (List ℕ)) (word : List ℕ) → t₁ ≡ old ++ first → t₂ ≡ t₁ ++ after_spaces a → t₃ ≡ t₂ ++ 32 ∷ word → t₄ ≡ t₃ ++ 10 ∷ [] → t₄ ≡ old ++ line first (a ++ word ∷ [])
 run_and_word old first t₁ t₂ t₃ t₄ a word e₁ e₂ e₃ e₄ =
     two_runs old first t₁ t₂ t₃ t₄ a (word ∷ []) e₁ e₂ (e₃ ∙ ap (λ t. t₂ ++ 32 ∷ t) (sym (append-nil word))) e₄
+
+-- a word and two runs of words
+pub word_and_runs : (old word t₁ t₂ t₃ : List ℕ) (a b : List (List ℕ)) → t₁ ≡ old ++ 32 ∷ word → t₂ ≡ t₁ ++ after_spaces a → t₃ ≡ t₂ ++ after_spaces b → t₃ ≡ old ++ after_spaces (word ∷ (a ++ b))
+word_and_runs old word t₁ t₂ t₃ a b e₁ e₂ e₃ =
+    e₃ ∙ ap (λ t. t ++ after_spaces b) (e₂ ∙ ap (λ t. t ++ after_spaces a) e₁)
+    ∙ append_assoc (old ++ 32 ∷ word) (after_spaces a) (after_spaces b) ∙ append_assoc old (32 ∷ word) (after_spaces a ++ after_spaces b)
+    ∙ ap (λ t. old ++ 32 ∷ (word ++ t)) (sym (spaced-append a b))
+
+-- a run of one word
+pub one_word : (t₁ t₂ word : List ℕ) → t₂ ≡ t₁ ++ 32 ∷ word → t₂ ≡ t₁ ++ after_spaces (word ∷ [])
+one_word t₁ t₂ word e = e ∙ ap (λ t. t₁ ++ 32 ∷ t) (sym (append-nil word))
+
+-- the line of one edit, if it is chosen, and those of the others
+chosen_first : (net : Network) (edit : Edit) (flag : Bool) (edits : List Edit) (flags : List Bool) →
+    edit_lines net (chosen_of (edit ∷ edits) (flag ∷ flags)) ≡ edit_lines net (chosen_of (edit ∷ []) (flag ∷ [])) ++ edit_lines net (chosen_of edits flags)
+chosen_first net edit true edits flags =
+    let first : List ℕ = line (codes "edit") (edit_words net edit) in
+    ap (λ t. t ++ edit_lines net (chosen_of edits flags)) (sym (append-nil first))
+chosen_first net edit false edits flags = refl
+
+-- the lines of the chosen edits from one on
+pub chosen_next : (net : Network) (edits : List Edit) (flags : List Bool) (i : ℕ) (e : Edit) (f : Bool) → i < length edits → length flags ≡ length edits →
+    edit_lines net (chosen_of (drop i edits) (drop i flags))
+    ≡ edit_lines net (chosen_of (get_or edits i e ∷ []) (get_or flags i f ∷ [])) ++ edit_lines net (chosen_of (drop (i + 1) edits) (drop (i + 1) flags))
+chosen_next net edits flags i e f within same =
+    let also : i < length flags = omega (arith, same) in
+    ap (λ es. edit_lines net (chosen_of es (drop i flags))) (drop_next edits i e within)
+    ∙ ap (λ fs. edit_lines net (chosen_of (get_or edits i e ∷ drop (i + 1) edits) fs)) (drop_next flags i f also)
+    ∙ chosen_first net (get_or edits i e) (get_or flags i f) (drop (i + 1) edits) (drop (i + 1) flags)

@@ -1,5 +1,5 @@
 -- The lines of a block's text.
-use Rattle.std.proofs.Common.{◌≡◌, ℕ, ◌+◌, ◌≤◌, List, [], ◌∷◌, ◌++◌, length, map, refl, ap, sym, ◌∙◌, arith, All, append_assoc, codes, decimal}
+use Rattle.std.proofs.Common.{◌≡◌, ℕ, ◌+◌, ◌≤◌, List, [], ◌∷◌, ◌++◌, length, map, refl, ap, sym, ◌∙◌, arith, All, append_assoc, append-nil, codes, decimal}
 use Rattle.std.specs.List.{concat}
 use Rattle.std.proofs.lemmas.List.{length-map}
 use Rattle.std.proofs.lemmas.List.Elements.{All-head, All-tail}
@@ -16,6 +16,7 @@ use Rattle.policy_report.specs.Lines.{line}
 use Rattle.policy_report.specs.Reports.{kind_word, answer_word, class_words, link_words, side_words, closed_line, path_line, witness_lines, block_text, blocks_text}
 use Rattle.policy_report.specs.Rereading.{AreLinks, IsTold}
 use Rattle.policy_report.proofs.LineWords.{IsSide, closed_text, path_text, cut_words, witness_texts, are_closed_words, are_path_words, are_walk_words, are_denied_words, are_cut_words, are_side_line_words, are_refused_words}
+use Rattle.policy_report.proofs.Ended.{EndsLine, nothing_ends, line_ends, both_end, all_end}
 use Rattle.policy_report.proofs.FirstLines.{heading_words}
 use Rattle.policy_report.proofs.Spaced.{IsWord, AreWords, joined, line_first}
 use Rattle.policy_report.proofs.WordBytes.{word, decimal_word}
@@ -92,6 +93,40 @@ module _ (net : Network) (valid : IsValid net) where
   blocks_lines_of number policy policies v vs rest small few told =
       ap lines (append_assoc (block_text number net policy v) (blocks_text (number + 1) net policies vs) rest) ∙
       block_lines_of number policy v (blocks_text (number + 1) net policies vs ++ rest) small few told
+
+  -- the same before other lines
+  pub blocks_first : (number : ℕ) (policy : Policy) (policies : List Policy) (v : Verdict) (vs : List Verdict) →
+      number ≤ 4294967295 → length (witness_lines net v) ≤ 4294967295 → IsTold net v → (after : List (List ℕ)) →
+      lines (blocks_text number net (policy ∷ policies) (v ∷ vs)) ++ after ≡
+      first_text net number policy v ∷ (witness_texts net v ++ (lines (blocks_text (number + 1) net policies vs) ++ after))
+  blocks_first number policy policies v vs small few told after =
+      let whole : List ℕ = blocks_text number net (policy ∷ policies) (v ∷ vs) in
+      let rest : List ℕ = blocks_text (number + 1) net policies vs in
+      let split : lines whole ≡ first_text net number policy v ∷ (witness_texts net v ++ lines rest) =
+      ap lines (sym (append-nil whole)) ∙ blocks_lines_of number policy policies v vs [] small few told ∙
+      ap (λ t. first_text net number policy v ∷ (witness_texts net v ++ lines t)) (append-nil rest) in
+      ap (λ ls. ls ++ after) split ∙ ap (λ ls. first_text net number policy v ∷ ls) (append_assoc (witness_texts net v) (lines rest) after)
+
+-- the text of blocks ends its last line
+witness_ends : (net : Network) (v : Verdict) → EndsLine (concat (witness_lines net v))
+witness_ends net (Closed sides) = all_end (closed_line net) (λ s. line_ends (codes "closed") (class_words s.class ++ side_words net.routers s.side)) sides
+witness_ends net (Paths paths) = all_end path_line (λ p. line_ends (codes "path") (link_words p.links)) paths
+witness_ends net (Walk class path) = all_end (λ (ws : List (List ℕ)). line (codes "walk") ws) (line_ends (codes "walk")) ((class_words class ++ link_words path.links) ∷ [])
+witness_ends net (Denied class) = all_end (λ (ws : List (List ℕ)). line (codes "denied") ws) (line_ends (codes "denied")) (class_words class ∷ [])
+witness_ends net (Cut links side) =
+    both_end (line (codes "cut") (link_words links)) (concat (line (codes "side") (side_words net.routers side) ∷ [])) (line_ends (codes "cut") (link_words links))
+    (all_end (λ (ws : List (List ℕ)). line (codes "side") ws) (line_ends (codes "side")) (side_words net.routers side ∷ []))
+witness_ends net (Refused packet link) =
+    all_end (λ (ws : List (List ℕ)). line (codes "acl-on-routed-link") ws) (line_ends (codes "acl-on-routed-link")) ((address_text packet.from ∷ address_text packet.to ∷ decimal (link.0 + 1) ∷ []) ∷ [])
+
+pub blocks_end : (number : ℕ) (net : Network) (policies : List Policy) (vs : List Verdict) → EndsLine (blocks_text number net policies vs)
+blocks_end number net [] vs = nothing_ends
+blocks_end number net (policy ∷ policies) [] = nothing_ends
+blocks_end number net (policy ∷ policies) (v ∷ vs) =
+    both_end (block_text number net policy v) (blocks_text (number + 1) net policies vs)
+    (both_end (line (decimal number) (kind_word policy.kind ∷ answer_word v ∷ decimal (length (witness_lines net v)) ∷ [])) (concat (witness_lines net v))
+    (line_ends (decimal number) (kind_word policy.kind ∷ answer_word v ∷ decimal (length (witness_lines net v)) ∷ [])) (witness_ends net v))
+    (blocks_end (number + 1) net policies vs)
 
 -- there are as many lines as texts, and they can be counted
 pub witness_size : (net : Network) (v : Verdict) → length (witness_lines net v) ≡ length (witness_texts net v)

@@ -39,7 +39,7 @@ pub choose : {A P : Type 0} (b : Bool) (o p : Option A) (y : A) → cond b o p �
 choose true o p y e first next = first refl e
 choose false o p y e first next = next e
 
-is_text : (w text : List ℕ) → bytes_eq w text ≡ true → w ≡ text
+pub is_text : (w text : List ℕ) → bytes_eq w text ≡ true → w ≡ text
 is_text w text e = (bytes_eq-Decides w text).0 e
 
 asked_told : (w : List ℕ) (asked : Asked) → asked_of w ≡ Some asked → w ≡ asked_word asked

@@ -1,6 +1,7 @@
 pub mod Appends
 pub mod NamedRouters
 mod Spaced
+mod Ended
 mod WordBytes
 mod LineWords
 mod Sides
@@ -16,3 +17,13 @@ mod WitnessesTaken
 mod BlockTexts
 pub mod ReportsRead
 pub mod ReportsTaken
+pub mod EditsFound
+mod EditWords
+mod LogsRead
+pub mod CertificatesRead
+mod Apart
+mod EditsApart
+pub mod EditsTold
+pub mod CertificatesTaken
+pub mod Lengths
+pub mod Heads

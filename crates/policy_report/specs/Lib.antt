@@ -3,3 +3,7 @@ pub mod Reports
 pub mod Readings
 pub mod Steps
 pub mod Rereading
+pub mod Edits
+pub mod Certificates
+pub mod Recertifying
+pub mod Lengths

@@ -13,6 +13,8 @@ use Rattle.net_model.specs.declared.rows.Network.{Network}
 use Rattle.net_model.specs.declared.verdicts.ClassSide.{ClassSide}
 use Rattle.net_model.specs.declared.verdicts.LinkPath.{LinkPath}
 use Rattle.net_model.specs.declared.verdicts.Verdict.TheVariants as verdicts
+use Rattle.policy_report.specs.declared.answers.Answer.{Answer}
+use Rattle.policy_report.specs.declared.answers.Answer.TheVariants as answers
 use Rattle.policy_report.specs.declared.drafts.Asked.{Asked}
 use Rattle.policy_report.specs.declared.drafts.Asked.TheVariants.{Blocked, Through, Reach}
 use Rattle.policy_report.specs.declared.drafts.Block.{Block}
@@ -188,3 +190,27 @@ heading_of (first ∷ kind ∷ answer ∷ last ∷ []) = do
   block ← block_of asked answer count
   Some (record { number = number; asked = asked; block = block })
 heading_of words = None
+
+-- an answer of two numbers
+abbrev pub answer_with : List ℕ → ℕ → ℕ → Option Answer
+answer_with word number bound =
+    if bytes_eq word (codes "repaired") then Some (answers.Repaired number bound)
+    else if bytes_eq word (codes "budget") then Some answers.Budget
+    else None
+
+-- `repaired PRICE BOUND`, `none BOUND` or `budget LIMIT BOUND`
+abbrev pub answer_shown : List (List ℕ) → Option Answer
+answer_shown (first ∷ second ∷ []) = do
+  bound ← count_of second
+  if bytes_eq first (codes "none") then Some (answers.NoRepair bound) else None
+answer_shown (first ∷ second ∷ third ∷ []) = do
+  number ← count_of second
+  bound ← count_of third
+  answer_with first number bound
+answer_shown words = None
+
+-- `answer` and one of these
+abbrev pub answer_of : List (List ℕ) → Option Answer
+answer_of words = do
+  rest ← after_word (codes "answer") words
+  answer_shown rest

@@ -1,5 +1,5 @@
--- A report is read again: a reader that takes its lines in order gives back its head, its verdicts and its end, and a text
--- of which each line is taken, the last of them as the end, is a report.
+-- A report is read again: a reader that takes its lines in order gives back its head, its verdicts and its end, and a text of
+-- which each line is taken, the first of them as a report's and the last as the end, is a report.
 use Rattle.std.specs.Prelude.{◌≡◌, ℕ, ◌+◌, ◌<◌, ◌≤◌, ◌^◌, List, [], ◌∷◌, ◌++◌, length, All, Result, Ok, Err}
 use Rattle.std.specs.List.{AllZip}
 use Rattle.arc_base.specs.declared.place.Link.{Link}
@@ -12,6 +12,7 @@ use Rattle.net_model.specs.declared.rows.Network.{Network}
 use Rattle.net_model.specs.declared.verdicts.Verdict as verdicts
 use Rattle.net_model.specs.declared.verdicts.Verdict.TheVariants.{Closed, Paths, Walk, Denied, Cut, Refused}
 use Rattle.net_model.specs.Validity.{IsValid}
+use Rattle.edit_space.specs.declared.edit_kinds.Edit as edits
 use Rattle.policy_report.specs.declared.got.Got.{Got}
 use Rattle.policy_report.specs.declared.got.Got.TheVariants.{More, Head, Verdict, End}
 use Rattle.policy_report.specs.declared.got.CertForm.TheVariants.{Report}
@@ -49,26 +50,26 @@ pub record IsReadable (net : Network) (policy : Policy) (v : verdicts.Verdict) :
   pub kind : IsAnswer policy.kind v
   pub told : IsTold net v
 
--- what a reader answers to these lines
-abbrev pub answers : Network → Document → Standing → List (List ℕ) → List (Result Got CertFault)
-answers net doc s [] = []
-answers net doc s (line ∷ ls) = (step net doc s line).1 ∷ answers net doc (step net doc s line).0 ls
+-- what a reader answers to these lines, where the edits are these
+abbrev pub answers : Network → Document → List edits.Edit → Standing → List (List ℕ) → List (Result Got CertFault)
+answers net doc all s [] = []
+answers net doc all s (line ∷ ls) = (step net doc all s line).1 ∷ answers net doc all (step net doc all s line).0 ls
 
 -- as often as there are lines
 abbrev pub more : {X : Type 0} → List X → List (Result Got CertFault)
 more [] = []
 more (line ∷ ls) = Ok More ∷ more ls
 
--- the answers to a block, to the blocks from this place on, and to a report
+-- the answers to a block, to the blocks from this place on and the lines after them, and to a report
 abbrev pub block_answers : Network → ℕ → verdicts.Verdict → List (Result Got CertFault)
 block_answers net which v = more (witness_lines net v) ++ Ok (Verdict which v) ∷ []
 
-abbrev pub blocks_answers : Network → ℕ → List verdicts.Verdict → List (Result Got CertFault)
-blocks_answers net which [] = Ok End ∷ []
-blocks_answers net which (v ∷ vs) = block_answers net which v ++ blocks_answers net (which + 1) vs
+abbrev pub blocks_answers : Network → ℕ → List verdicts.Verdict → List (Result Got CertFault) → List (Result Got CertFault)
+blocks_answers net which [] rest = rest
+blocks_answers net which (v ∷ vs) rest = block_answers net which v ++ blocks_answers net (which + 1) vs rest
 
 abbrev pub report_answers : Network → List verdicts.Verdict → List (Result Got CertFault)
-report_answers net vs = Ok (Head Report) ∷ blocks_answers net 0 vs
+report_answers net vs = Ok (Head Report) ∷ blocks_answers net 0 vs (Ok End ∷ [])
 
 -- each line is taken, and the last one is the end
 abbrev pub IsWhole : List (Result Got CertFault) → Type 0
@@ -77,13 +78,18 @@ IsWhole (Err fault ∷ rest) = ⊥
 IsWhole (Ok End ∷ []) = Unit {0}
 IsWhole (Ok got ∷ rest) = IsWhole rest
 
+-- each line is taken, the first one as the head of a report and the last one as the end
+abbrev pub IsWholeReport : List (Result Got CertFault) → Type 0
+IsWholeReport (Ok (Head Report) ∷ rest) = IsWhole rest
+IsWholeReport other = ⊥
+
 -- the lines of a report are read again
 abbrev pub ReportsAreReadAgain : Type 0
-ReportsAreReadAgain = (net : Network) (doc : Document) (vs : List verdicts.Verdict) → IsValid net → length doc.policies ≤ 4294967295 →
-    AllZip (IsReadable net) doc.policies vs → answers net doc start (lines (report_text net doc vs)) ≡ report_answers net vs
+ReportsAreReadAgain = (net : Network) (doc : Document) (all : List edits.Edit) (vs : List verdicts.Verdict) → IsValid net → length doc.policies ≤ 4294967295 →
+    AllZip (IsReadable net) doc.policies vs → answers net doc all start (lines (report_text net doc vs)) ≡ report_answers net vs
 
 -- only the lines of a report are taken
 abbrev pub OnlyReportsAreTaken : Type 0
-OnlyReportsAreTaken = (net : Network) (doc : Document) (ls : List (List ℕ)) → IsValid net → length doc.policies ≤ 4294967295 →
-    IsWhole (answers net doc start ls) →
+OnlyReportsAreTaken = (net : Network) (doc : Document) (all : List edits.Edit) (ls : List (List ℕ)) → IsValid net → length doc.policies ≤ 4294967295 →
+    IsWholeReport (answers net doc all start ls) →
     (vs : List verdicts.Verdict) × AllZip (IsReadable net) doc.policies vs × (ls ≡ lines (report_text net doc vs))

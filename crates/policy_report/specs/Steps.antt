@@ -1,16 +1,26 @@
--- How a reader goes over the lines of a report. The first line is the head. Then come the blocks, one for each policy in
--- order, and the line `end`. The first line that is not of this form is rejected, and by which word, each line says:
--- `form` where it is no line that may stand there, `policy` where a block is missing, too many or of another policy, and
--- `no-end` where a line follows the end.
+-- How a reader goes over the lines of a certificate. The first line is the head. In a report then come the blocks, one for
+-- each policy in order, and the line `end`. In a repair the second line is the answer; where that is a repair, the edits
+-- follow in order and the blocks, each of them a yes; then come the line `log`, the lines of the proof log and the line `end`.
+-- The first line that is not of this form is rejected, and by which word, each line says: `form` where it is no line that may
+-- stand there, `no-claim` where the answer claims nothing, `edit` where the line of an edit names none that comes after the
+-- one before, `policy` where a block is missing, too many or of another policy, `not-yes` where the block of a repair is no
+-- yes, and `no-end` where a line follows the end.
 use Rattle.std.specs.Prelude.{◌≡◌, ◌⊎◌, ℕ, ◌+◌, ◌-◌, ◌==◌, ◌&&◌, nat_lt, nat_le, Bool, true, false, if◌then◌else◌, List, [], ◌∷◌, ◌++◌, length, Option, Some, None, Result, Ok, Err, bytes_eq, codes, slice_get}
 use Rattle.arc_base.specs.declared.certificate.CertKind.{CertKind}
-use Rattle.arc_base.specs.declared.certificate.CertKind.TheVariants.{Form, Policy, NoEnd, Memory}
+use Rattle.arc_base.specs.declared.certificate.CertKind.TheVariants.{Form, NoClaim, Edit, Policy, NotYes, NoEnd, Memory}
+use Rattle.cnf_types.specs.Words.{words}
+use Rattle.edit_space.specs.declared.edit_kinds.Edit as edits
 use Rattle.net_model.specs.declared.policies.Document.{Document}
 use Rattle.net_model.specs.declared.policies.Policy as policies
 use Rattle.net_model.specs.declared.rows.Network.{Network}
 use Rattle.net_model.specs.declared.verdicts.ClassSide.{ClassSide}
 use Rattle.net_model.specs.declared.verdicts.LinkPath.{LinkPath}
 use Rattle.net_model.specs.declared.verdicts.Verdict.TheVariants as verdicts
+use Rattle.proof_log.specs.declared.steps.Step as steps
+use Rattle.proof_log.specs.declared.reading.LineKind.{LineKind}
+use Rattle.proof_log.specs.Reading.{reading}
+use Rattle.policy_report.specs.declared.answers.Answer.{Answer}
+use Rattle.policy_report.specs.declared.answers.Answer.TheVariants.{Repaired, NoRepair, Budget}
 use Rattle.policy_report.specs.declared.drafts.Asked.{Asked}
 use Rattle.policy_report.specs.declared.drafts.Asked.TheVariants as asks
 use Rattle.policy_report.specs.declared.drafts.Block.{Block}
@@ -19,13 +29,17 @@ use Rattle.policy_report.specs.declared.drafts.Draft.{Draft}
 use Rattle.policy_report.specs.declared.drafts.Draft.TheVariants as drafts
 use Rattle.policy_report.specs.declared.drafts.Heading.{Heading}
 use Rattle.policy_report.specs.declared.got.Got.{Got}
+use Rattle.policy_report.specs.declared.got.Got.TheVariants as gots
 use Rattle.policy_report.specs.declared.got.Got.TheVariants.{More, Head, Verdict, End}
 use Rattle.policy_report.specs.declared.got.CertForm.TheVariants as forms
 use Rattle.policy_report.specs.declared.got.CertFault.{CertFault}
 use Rattle.policy_report.specs.declared.reader.Reader.{Reader}
-use Rattle.policy_report.specs.declared.reader.Stage.{Stage}
-use Rattle.policy_report.specs.declared.reader.Stage.TheVariants as stages
-use Rattle.policy_report.specs.Readings.{line_words, heading_of, asked_by, closed_of, path_of, walk_of, denied_of, cut_of, side_line_of, refused_of}
+use Rattle.policy_report.specs.declared.stages.Stage.{Stage}
+use Rattle.policy_report.specs.declared.stages.Stage.TheVariants as stages
+use Rattle.policy_report.specs.declared.stages.Text.{Text}
+use Rattle.policy_report.specs.declared.stages.Text.TheVariants.{Report, Repair}
+use Rattle.policy_report.specs.Edits.{edit_from}
+use Rattle.policy_report.specs.Readings.{answer_of, line_words, heading_of, asked_by, closed_of, path_of, walk_of, denied_of, cut_of, side_line_of, refused_of}
 
 -- where a reader stands: how many lines it has read, and what may come next
 pub record Standing : Type 0 where
@@ -56,9 +70,9 @@ abbrev pub goes : ℕ → Stage → Got → Step
 goes line stage got = (record { line = line; stage = stage }, Ok got)
 
 -- it is a line of the block of the policy at this place
-abbrev pub goes_on : ℕ → ℕ → Block → Step
-goes_on line which (Open draft) = goes line (stages.Within which draft) More
-goes_on line which (Whole verdict) = goes line (stages.Between (which + 1)) (Verdict which verdict)
+abbrev pub goes_on : ℕ → Text → ℕ → Block → Step
+goes_on line text which (Open draft) = goes line (stages.Within text which draft) More
+goes_on line text which (Whole verdict) = goes line (stages.Between text (which + 1)) (Verdict which verdict)
 
 -- one more side, or path
 abbrev pub with_side : ℕ → List ClassSide → ClassSide → Block
@@ -114,47 +128,120 @@ is_of_policy (Some policy) which heading = (heading.number == which + 1) && asks
 abbrev pub is_of : List policies.Policy → ℕ → Heading → Bool
 is_of all which heading = is_of_policy (slice_get all which) which heading
 
+-- whether a block that begins so is a yes
+abbrev pub is_yes : Block → Bool
+is_yes (Whole (verdicts.Closed sides)) = true
+is_yes (Whole (verdicts.Paths paths)) = true
+is_yes (Whole verdict) = false
+is_yes (Open (drafts.Sides left sides)) = true
+is_yes (Open (drafts.Paths left paths)) = true
+is_yes (Open draft) = false
+
+-- whether the block may stand in the text: in a repair only a yes does
+abbrev pub may_stand : Text → Block → Bool
+may_stand Report block = true
+may_stand Repair block = is_yes block
+
 -- a line that is not `end` nor `log`, between blocks
-abbrev pub begun : Document → ℕ → ℕ → Option Heading → Step
-begun doc line which None = fails line Form
-begun doc line which (Some heading) = if is_of doc.policies which heading then goes_on line which heading.block else fails line Policy
+abbrev pub begun : Document → ℕ → Text → ℕ → Option Heading → Step
+begun doc line text which None = fails line Form
+begun doc line text which (Some heading) =
+    if is_of doc.policies which heading
+    then (if may_stand text heading.block then goes_on line text which heading.block else fails line NotYes)
+    else fails line Policy
+
+-- the line `end` after all blocks: it closes a report
+abbrev pub closed : ℕ → Text → Step
+closed line Report = goes line stages.Ended End
+closed line Repair = fails line Form
+
+-- the line `log` after all blocks: it stands before the proof log of a repair
+abbrev pub logs : ℕ → Text → Step
+logs line Report = fails line Form
+logs line Repair = goes line stages.Steps More
 
 -- a line between blocks, of which so many are read
-abbrev pub between : Document → ℕ → ℕ → List ℕ → Step
-between doc line which text =
-    if bytes_eq text (codes "end") then (if nat_lt which (length doc.policies) then fails line Policy else goes line stages.Ended End)
-    else if bytes_eq text (codes "log") then fails line (if nat_lt which (length doc.policies) then Policy else Form)
-    else begun doc line which (heading_of (line_words text))
+abbrev pub between : Document → ℕ → Text → ℕ → List ℕ → Step
+between doc line text which bytes =
+    if bytes_eq bytes (codes "end") then (if nat_lt which (length doc.policies) then fails line Policy else closed line text)
+    else if bytes_eq bytes (codes "log") then (if nat_lt which (length doc.policies) then fails line Policy else logs line text)
+    else begun doc line text which (heading_of (line_words bytes))
 
 -- a line of a block
-abbrev pub went_on : ℕ → ℕ → Option Block → Step
-went_on line which None = fails line Form
-went_on line which (Some block) = goes_on line which block
+abbrev pub went_on : ℕ → Text → ℕ → Option Block → Step
+went_on line text which None = fails line Form
+went_on line text which (Some block) = goes_on line text which block
 
-abbrev pub within : Network → ℕ → ℕ → Draft → List ℕ → Step
-within net line which draft text = went_on line which (grown net draft (line_words text))
+abbrev pub within : Network → ℕ → Text → ℕ → Draft → List ℕ → Step
+within net line text which draft bytes = went_on line text which (grown net draft (line_words bytes))
+
+-- the first line
+abbrev pub head : ℕ → List ℕ → Step
+head line bytes =
+    if bytes_eq bytes (codes "arc-report 1") then goes line (stages.Between Report 0) (Head forms.Report)
+    else if bytes_eq bytes (codes "arc-repair 1") then goes line stages.Answer More
+    else fails line Form
+
+-- the answer of a repair
+abbrev pub answered : ℕ → Option Answer → Step
+answered line None = fails line Form
+answered line (Some (Repaired price bound)) = goes line (stages.Edits 0) (Head (forms.Repaired price bound))
+answered line (Some (NoRepair bound)) = goes line stages.Log (Head (forms.NoRepair bound))
+answered line (Some Budget) = fails line NoClaim
+
+-- whether the first word of the line is `edit`
+abbrev pub is_edit : List (List ℕ) → Bool
+is_edit [] = false
+is_edit (word ∷ rest) = bytes_eq word (codes "edit")
+
+-- the line of an edit
+abbrev pub edited : ℕ → Option ℕ → Step
+edited line None = fails line Edit
+edited line (Some place) = goes line (stages.Edits (place + 1)) (gots.Edit place)
+
+-- a line after the answer that there is a repair; the edits before this place stand before it
+abbrev pub editing : Network → Document → List edits.Edit → ℕ → ℕ → List ℕ → Step
+editing net doc all line next bytes =
+    if is_edit (words bytes) then edited line (edit_from net all next bytes) else between doc line Repair 0 bytes
+
+-- the line after the answer that there is no repair
+abbrev pub logging : ℕ → List ℕ → Step
+logging line bytes = if bytes_eq bytes (codes "log") then goes line stages.Steps More else fails line Form
+
+-- a line of the proof log
+abbrev pub logged : ℕ → Result (Option steps.Step) LineKind → Step
+logged line (Ok None) = goes line stages.Steps More
+logged line (Ok (Some step)) = goes line stages.Steps (gots.Step step)
+logged line (Err kind) = fails line Form
+
+-- a line after the line `log`
+abbrev pub proving : ℕ → List ℕ → Step
+proving line bytes = if bytes_eq bytes (codes "end") then goes line stages.Ended End else logged line (reading bytes)
 
 -- the line with this number, by what may come
-abbrev pub stepped : Network → Document → ℕ → Stage → List ℕ → Step
-stepped net doc line stages.Head text =
-    if bytes_eq text (codes "arc-report 1") then goes line (stages.Between 0) (Head forms.Report) else fails line Form
-stepped net doc line (stages.Between which) text = between doc line which text
-stepped net doc line (stages.Within which draft) text = within net line which draft text
-stepped net doc line stages.Ended text = fails line NoEnd
-stepped net doc line (stages.Failed fault) text = (record { line = line; stage = stages.Failed fault }, Err fault)
+abbrev pub stepped : Network → Document → List edits.Edit → ℕ → Stage → List ℕ → Step
+stepped net doc all line stages.Head bytes = head line bytes
+stepped net doc all line stages.Answer bytes = answered line (answer_of (line_words bytes))
+stepped net doc all line (stages.Edits next) bytes = editing net doc all line next bytes
+stepped net doc all line (stages.Between text which) bytes = between doc line text which bytes
+stepped net doc all line (stages.Within text which draft) bytes = within net line text which draft bytes
+stepped net doc all line stages.Log bytes = logging line bytes
+stepped net doc all line stages.Steps bytes = proving line bytes
+stepped net doc all line stages.Ended bytes = fails line NoEnd
+stepped net doc all line (stages.Failed fault) bytes = (record { line = line; stage = stages.Failed fault }, Err fault)
 
 -- the next line
-abbrev pub step : Network → Document → Standing → List ℕ → Step
-step net doc s text = stepped net doc (next_line s.line) s.stage text
+abbrev pub step : Network → Document → List edits.Edit → Standing → List ℕ → Step
+step net doc all s bytes = stepped net doc all (next_line s.line) s.stage bytes
 
 -- the line was read so, or memory was wanting for it
 abbrev pub IsRead : Step → ℕ → Standing → Result Got CertFault → Type 0
 IsRead expected line now result = ((now, result) ≡ expected) ⊎ ((now, result) ≡ fails line Memory)
 
--- memory can be wanting for the words of a block only: the head is read so, and so is what follows the end or a rejected line
+-- memory can be wanting for the words of a line only: the head is read so, and so is what follows the end or a rejected line
 abbrev pub IsSurelyRead : Stage → Step → Standing → Result Got CertFault → Type 0
 IsSurelyRead stages.Head expected now result = (now, result) ≡ expected
-IsSurelyRead (stages.Between which) expected now result = Unit {0}
-IsSurelyRead (stages.Within which draft) expected now result = Unit {0}
+IsSurelyRead stages.Log expected now result = (now, result) ≡ expected
 IsSurelyRead stages.Ended expected now result = (now, result) ≡ expected
 IsSurelyRead (stages.Failed fault) expected now result = (now, result) ≡ expected
+IsSurelyRead stage expected now result = Unit {0}

@@ -1,15 +1,20 @@
 use arc_base::CertKind;
 use net_model::Verdict;
+use proof_log::Step;
 
 /// What a line of a certificate tells its reader.
 #[derive(Drop)]
 pub enum Got {
-    /// A part of a block that goes on.
+    /// A line that is a part of what goes on: of a block or of the head, or the line before the log, or a comment in it.
     More,
-    /// The first line, which says what is claimed.
+    /// The line that says what is claimed: the first one of a report, the second one of a repair.
     Head(CertForm),
     /// The last line of a block: the policy's place in the document, and the verdict that the block shows.
     Verdict(u32, Verdict),
+    /// An edit, by its place in the list of edits.
+    Edit(u32),
+    /// A step of the proof log.
+    Step(Step),
     /// The closing line.
     End,
 }
@@ -19,6 +24,10 @@ pub enum Got {
 pub enum CertForm {
     /// A verdict on each policy of the document.
     Report,
+    /// The cheapest edits: their price, and the bound up to which prices were looked at.
+    Repaired(u32, u32),
+    /// That no edits of a price up to this bound meet the document.
+    NoRepair(u32),
 }
 
 /// The first line of a certificate that is rejected, counted from 1, and why.

@@ -1,4 +1,7 @@
-//! A report is read again, and only reports are.
+//! Reports and certificates are read again, and only reports are read as reports.
+ghost use Rattle.policy_report.specs.Edits.{EditTextsAreExact, EditsAreToldApart};
+ghost use Rattle.policy_report.specs.Lengths.{ReportsAreShort};
+ghost use Rattle.policy_report.specs.Recertifying.{CertificatesAreWritten, CertificatesAreReadAgain, OnlyCertificatesAreTaken, BudgetsAreRefused};
 ghost use Rattle.policy_report.specs.Rereading.{ReportsAreReadAgain, OnlyReportsAreTaken};
 
 /// A reader that takes the lines of a report in order gives back its head, its verdicts and its end.
@@ -10,4 +13,37 @@ pub fn reports_are_read_again()
 /// kinds.
 pub fn only_reports_are_taken()
     ensures { OnlyReportsAreTaken }
+{}
+
+/// No two edits of a network have one text.
+pub fn edits_are_told_apart()
+    ensures { EditsAreToldApart }
+{}
+
+/// Where no two edits have one text, an edit is found by its text and by no other.
+pub fn edit_texts_are_exact()
+    ensures { EditTextsAreExact }
+{}
+
+/// What is written for a claim is its certificate. A reader that takes the lines of a certificate in order gives back its
+/// head, its edits, its verdicts, its steps and its end.
+pub fn certificates_are_read_again()
+    ensures written { CertificatesAreWritten }
+    ensures read { CertificatesAreReadAgain }
+{}
+
+/// A text of which a reader takes each line, the first one as the head of a repair and the last one as the end, is the
+/// certificate of a claim.
+pub fn only_certificates_are_taken()
+    ensures { OnlyCertificatesAreTaken }
+{}
+
+/// Where the budget was used up, the second line is refused as one that claims nothing.
+pub fn budgets_are_refused()
+    ensures { BudgetsAreRefused }
+{}
+
+/// A report of short witnesses has at most 2^40 bytes.
+pub fn reports_are_short()
+    ensures { ReportsAreShort }
 {}

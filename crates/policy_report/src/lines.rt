@@ -25,11 +25,7 @@ pub(crate) fn push_closed_line(
 }
 
 /// The links of a path.
-pub(crate) fn push_path_line(
-    alloc: Global,
-    text: &mut Vec<u8>,
-    path: &LinkPath,
-) -> Result<(), Memory>
+pub fn push_path_line(alloc: Global, text: &mut Vec<u8>, path: &LinkPath) -> Result<(), Memory>
     ensures { OnOk result (text.new.items ≡ text.old.items ++ path_line path.now) }
 {
     text.extend_from_slice(b"path")?;
@@ -56,11 +52,7 @@ pub(crate) fn push_walk_line(
 }
 
 /// A class of which no packet gets through.
-pub(crate) fn push_denied_line(
-    alloc: Global,
-    text: &mut Vec<u8>,
-    class: &Class,
-) -> Result<(), Memory>
+pub fn push_denied_line(alloc: Global, text: &mut Vec<u8>, class: &Class) -> Result<(), Memory>
     ensures { OnOk result (text.new.items ≡ text.old.items ++ line (codes "denied") (class_words class.now)) }
 {
     text.extend_from_slice(b"denied")?;
@@ -80,7 +72,7 @@ pub(crate) fn push_cut_line(alloc: Global, text: &mut Vec<u8>, links: &[Link]) -
 }
 
 /// The routers on the side of a cut.
-pub(crate) fn push_side_line(
+pub fn push_side_line(
     text: &mut Vec<u8>,
     routers: &[RouterRow],
     side: &[bool],
@@ -95,7 +87,7 @@ pub(crate) fn push_side_line(
 }
 
 /// A packet, and the link on which it is denied.
-pub(crate) fn push_refused_line(
+pub fn push_refused_line(
     alloc: Global,
     text: &mut Vec<u8>,
     packet: &Packet,

@@ -1,33 +1,27 @@
-//! The reader of a report, line by line.
-ghost use Rattle.std.specs.Prelude.{◌≡◌};
-ghost use Rattle.policy_report.specs.Steps.{standing, start, next_line, fails, goes, goes_on, is_of, between, within, step, IsRead, IsSurelyRead};
+//! The reader of a certificate, line by line.
+ghost use Rattle.std.specs.Prelude.{◌≡◌, ◌<◌, [], IfSome, if◌then◌else◌};
+ghost use Rattle.cnf_types.specs.Words.{words};
+ghost use Rattle.policy_report.specs.Readings.{answer_of, line_words};
+ghost use Rattle.policy_report.specs.Steps.{standing, start, next_line, fails, goes, goes_on, is_edit, is_of, is_yes, may_stand, closed, logs, head, answered, edited, editing, logging, proving, between, within, step, IsRead, IsSurelyRead};
 
+use crate::answers::{Answer, answer_of};
 use crate::drafts::{Asked, Block, Draft, Heading};
+use crate::edits::edit_from;
 use crate::got::{CertFault, CertForm, Got};
 use crate::growing::grown;
 use crate::headings::heading_of;
 use crate::reading::line_words;
-use arc_base::{CertKind, Memory};
-use net_model::{Document, Network, Policy};
+use crate::stages::{Stage, Text};
+use arc_base::{CertKind, List, Memory};
+use cnf_types::next_word;
+use edit_space::Edit;
+use net_model::{Document, Network, Policy, Verdict};
+use proof_log::LineKind;
 use std::alloc::Global;
 use std::mem;
 
-/// What may come next.
-#[derive(Drop)]
-pub(crate) enum Stage {
-    /// The first line.
-    Head,
-    /// A block, or the end after the last one; so many blocks are read.
-    Between(u64),
-    /// A line of the block of the policy at this place.
-    Within(u32, Draft),
-    /// Nothing: the closing line is read.
-    Ended,
-    /// Nothing: a line was rejected.
-    Failed(CertFault),
-}
-
-/// A reader of one report, which takes its lines in order. All of them are read for the same network and document.
+/// A reader of one certificate, which takes its lines in order. All of them are read for the same network, document and list
+/// of edits.
 #[derive(Drop)]
 pub struct Reader {
     alloc: Global,
@@ -54,6 +48,36 @@ fn is_of(policies: &[Policy], which: u64, heading: &Heading) -> bool
         Some(policy) => {
             u64::from(heading.number) == which + 1 && heading.asked == Asked::by(policy.kind)
         }
+        None => false,
+    }
+}
+
+// Whether a block that begins so is a yes.
+fn is_yes(block: &Block) -> bool
+    ensures { result ≡ is_yes block.now }
+{
+    match block {
+        Block::Whole(verdict) => matches!(verdict, Verdict::Closed(_) | Verdict::Paths(_)),
+        Block::Open(draft) => matches!(draft, Draft::Sides(_, _) | Draft::Paths(_, _)),
+    }
+}
+
+// Whether the block may stand in the text.
+fn may_stand(text: Text, block: &Block) -> bool
+    ensures { result ≡ may_stand text block.now }
+{
+    match text {
+        Text::Report => true,
+        Text::Repair => is_yes(block),
+    }
+}
+
+// Whether the first word of the line is `edit`.
+fn is_edit(line: &[u8]) -> bool
+    ensures { result ≡ is_edit (words line.now) }
+{
+    match next_word(line) {
+        Some((word, _)) => word == b"edit".as_slice(),
         None => false,
     }
 }
@@ -91,39 +115,134 @@ impl Reader {
     }
 
     // Goes on with the block of the policy at this place.
-    fn go_on(&mut self, which: u32, block: Block) -> Result<Got, CertFault>
-        ensures { (standing self.new, result) ≡ goes_on self.old.line which block }
+    fn go_on(&mut self, text: Text, which: u32, block: Block) -> Result<Got, CertFault>
+        ensures { (standing self.new, result) ≡ goes_on self.old.line text which block }
     {
         match block {
-            Block::Open(draft) => self.go(Stage::Within(which, draft), Got::More),
+            Block::Open(draft) => self.go(Stage::Within(text, which, draft), Got::More),
             Block::Whole(verdict) => {
                 self.go(
-                    Stage::Between(u64::from(which) + 1),
+                    Stage::Between(text, u64::from(which) + 1),
                     Got::Verdict(which, verdict),
                 )
             }
         }
     }
 
-    // Reads a line between two blocks.
-    fn read_between(&mut self, doc: &Document, which: u64, text: &[u8]) -> Result<Got, CertFault>
-        ensures { IsRead (between doc.now self.old.line which text.now) self.old.line (standing self.new) result }
+    // Reads the first line.
+    fn read_head(&mut self, line: &[u8]) -> Result<Got, CertFault>
+        ensures { (standing self.new, result) ≡ head self.old.line line.now }
     {
-        let are_all_read = which >= u64::from(doc.policies.len());
-        if text == b"end".as_slice() {
-            if are_all_read {
-                return self.go(Stage::Ended, Got::End);
+        if line == b"arc-report 1".as_slice() {
+            return self.go(Stage::Between(Text::Report, 0), Got::Head(CertForm::Report));
+        }
+        if line == b"arc-repair 1".as_slice() {
+            return self.go(Stage::Answer, Got::More);
+        }
+        self.fail(CertKind::Form)
+    }
+
+    // Goes on after the answer of a repair.
+    fn go_answered(&mut self, answer: Option<Answer>) -> Result<Got, CertFault>
+        ensures { (standing self.new, result) ≡ answered self.old.line answer }
+    {
+        match answer {
+            Some(Answer::Repaired(price, bound)) => {
+                self.go(Stage::Edits(0), Got::Head(CertForm::Repaired(price, bound)))
             }
+            Some(Answer::NoRepair(bound)) => {
+                self.go(Stage::Log, Got::Head(CertForm::NoRepair(bound)))
+            }
+            Some(Answer::Budget) => self.fail(CertKind::NoClaim),
+            None => self.fail(CertKind::Form),
+        }
+    }
+
+    // Reads the answer of a repair.
+    fn read_answer(&mut self, line: &[u8]) -> Result<Got, CertFault>
+        ensures { IsRead (answered self.old.line (answer_of (line_words line.now))) self.old.line (standing self.new) result }
+    {
+        match line_words(self.alloc, line) {
+            Ok(words) => self.go_answered(answer_of(words.as_slice())),
+            Err(_) => self.fail(CertKind::Memory),
+        }
+    }
+
+    // Goes on after the line of an edit.
+    fn go_edited(&mut self, place: Option<u32>) -> Result<Got, CertFault>
+        requires { IfSome place (λ at. at < 4294967295) }
+        ensures { (standing self.new, result) ≡ edited self.old.line place }
+    {
+        match place {
+            Some(at) => self.go(Stage::Edits(at + 1), Got::Edit(at)),
+            None => self.fail(CertKind::Edit),
+        }
+    }
+
+    // Reads a line after the answer that there is a repair.
+    fn read_edits(
+        &mut self,
+        net: &Network,
+        doc: &Document,
+        edits: &List<Edit>,
+        next: u32,
+        line: &[u8],
+    ) -> Result<Got, CertFault>
+        ensures { IsRead (editing net.now doc.now edits.now self.old.line next line.now) self.old.line (standing self.new) result }
+    {
+        if !is_edit(line) {
+            return self.read_between(doc, Text::Repair, 0, line);
+        }
+        match edit_from(self.alloc, net, edits, next, line) {
+            Ok(place) => self.go_edited(place),
+            Err(Memory) => self.fail(CertKind::Memory),
+        }
+    }
+
+    // Reads the line `end` between two blocks.
+    fn read_end(&mut self, text: Text, are_all_read: bool) -> Result<Got, CertFault>
+        ensures { (standing self.new, result) ≡ (if are_all_read then closed self.old.line text else fails self.old.line CertKind.Policy) }
+    {
+        if !are_all_read {
             return self.fail(CertKind::Policy);
         }
-        if text == b"log".as_slice() {
-            return self.fail(if are_all_read {
-                CertKind::Form
-            } else {
-                CertKind::Policy
-            });
+        match text {
+            Text::Report => self.go(Stage::Ended, Got::End),
+            Text::Repair => self.fail(CertKind::Form),
         }
-        let words = match line_words(self.alloc, text) {
+    }
+
+    // Reads the line `log` between two blocks.
+    fn read_log(&mut self, text: Text, are_all_read: bool) -> Result<Got, CertFault>
+        ensures { (standing self.new, result) ≡ (if are_all_read then logs self.old.line text else fails self.old.line CertKind.Policy) }
+    {
+        if !are_all_read {
+            return self.fail(CertKind::Policy);
+        }
+        match text {
+            Text::Report => self.fail(CertKind::Form),
+            Text::Repair => self.go(Stage::Steps, Got::More),
+        }
+    }
+
+    // Reads a line between two blocks.
+    fn read_between(
+        &mut self,
+        doc: &Document,
+        text: Text,
+        which: u64,
+        line: &[u8],
+    ) -> Result<Got, CertFault>
+        ensures { IsRead (between doc.now self.old.line text which line.now) self.old.line (standing self.new) result }
+    {
+        let are_all_read = which >= u64::from(doc.policies.len());
+        if line == b"end".as_slice() {
+            return self.read_end(text, are_all_read);
+        }
+        if line == b"log".as_slice() {
+            return self.read_log(text, are_all_read);
+        }
+        let words = match line_words(self.alloc, line) {
             Ok(words) => words,
             Err(_) => return self.fail(CertKind::Memory),
         };
@@ -133,47 +252,99 @@ impl Reader {
         if !is_of(doc.policies.slice(), which, &heading) {
             return self.fail(CertKind::Policy);
         }
-        self.go_on(which as u32, heading.block)
+        if !may_stand(text, &heading.block) {
+            return self.fail(CertKind::NotYes);
+        }
+        self.go_on(text, which as u32, heading.block)
     }
 
     // Reads a line of a block.
     fn read_within(
         &mut self,
         net: &Network,
+        text: Text,
         which: u32,
         draft: Draft,
-        text: &[u8],
+        line: &[u8],
     ) -> Result<Got, CertFault>
-        ensures { IsRead (within net.now self.old.line which draft text.now) self.old.line (standing self.new) result }
+        ensures { IsRead (within net.now self.old.line text which draft line.now) self.old.line (standing self.new) result }
     {
-        match grown(self.alloc, net, draft, text) {
-            Ok(Some(block)) => self.go_on(which, block),
+        match grown(self.alloc, net, draft, line) {
+            Ok(Some(block)) => self.go_on(text, which, block),
             Ok(None) => self.fail(CertKind::Form),
             Err(Memory) => self.fail(CertKind::Memory),
         }
     }
 
+    // Reads the line after the answer that there is no repair.
+    fn read_logging(&mut self, line: &[u8]) -> Result<Got, CertFault>
+        ensures { (standing self.new, result) ≡ logging self.old.line line.now }
+    {
+        if line == b"log".as_slice() {
+            return self.go(Stage::Steps, Got::More);
+        }
+        self.fail(CertKind::Form)
+    }
+
+    // Reads a line of the proof log, or the end.
+    #[tactic(auto, unfolding(proof_log::specs::Reading::reading))]
+    fn read_proving(&mut self, line: &[u8]) -> Result<Got, CertFault>
+        ensures { IsRead (proving self.old.line line.now) self.old.line (standing self.new) result }
+    {
+        if line == b"end".as_slice() {
+            return self.go(Stage::Ended, Got::End);
+        }
+        match proof_log::step(self.alloc, line) {
+            Ok(Some(step)) => self.go(Stage::Steps, Got::Step(step)),
+            Ok(None) => self.go(Stage::Steps, Got::More),
+            Err(LineKind::Memory) => self.fail(CertKind::Memory),
+            Err(LineKind::BadLine | LineKind::BadNumber) => self.fail(CertKind::Form),
+        }
+    }
+
     /// Reads the next line, which is given without its line feed. After a fault it answers that fault again. A fault
-    /// of the kind `Memory` is want of memory, and none of the line's.
-    pub fn line(&mut self, net: &Network, doc: &Document, text: &[u8]) -> Result<Got, CertFault>
-        ensures read { IsRead (step net.now doc.now (standing self.old) text.now) (next_line self.old.line) (standing self.new) result }
-        ensures surely { IsSurelyRead self.old.stage (step net.now doc.now (standing self.old) text.now) (standing self.new) result }
+    /// of the kind `Memory` is want of memory, and none of the line's. The lines of edits take time linear in the edits
+    /// all together, and each other line in its bytes, or in the routers where it is a side.
+    pub fn line(
+        &mut self,
+        net: &Network,
+        doc: &Document,
+        edits: &List<Edit>,
+        text: &[u8],
+    ) -> Result<Got, CertFault>
+        ensures read { IsRead (step net.now doc.now edits.now (standing self.old) text.now) (next_line self.old.line) (standing self.new) result }
+        ensures surely { IsSurelyRead self.old.stage (step net.now doc.now edits.now (standing self.old) text.now) (standing self.new) result }
     {
         self.line = next_line(self.line);
         match mem::replace(&mut self.stage, Stage::Ended) {
-            Stage::Head => {
-                if text == b"arc-report 1".as_slice() {
-                    return self.go(Stage::Between(0), Got::Head(CertForm::Report));
-                }
-                self.fail(CertKind::Form)
+            Stage::Head => self.read_head(text),
+            Stage::Answer => self.read_answer(text),
+            Stage::Edits(next) => self.read_edits(net, doc, edits, next, text),
+            Stage::Between(whose, which) => self.read_between(doc, whose, which, text),
+            Stage::Within(whose, which, draft) => {
+                self.read_within(net, whose, which, draft, text)
             }
-            Stage::Between(which) => self.read_between(doc, which, text),
-            Stage::Within(which, draft) => self.read_within(net, which, draft, text),
+            Stage::Log => self.read_logging(text),
+            Stage::Steps => self.read_proving(text),
             Stage::Ended => self.fail(CertKind::NoEnd),
             Stage::Failed(fault) => {
                 self.stage = Stage::Failed(fault);
                 Err(fault)
             }
         }
+    }
+
+    /// Reads the next line as `line` does, where there are no edits: a line of a report.
+    pub fn report_line(
+        &mut self,
+        net: &Network,
+        doc: &Document,
+        text: &[u8],
+    ) -> Result<Got, CertFault>
+        ensures read { IsRead (step net.now doc.now [] (standing self.old) text.now) (next_line self.old.line) (standing self.new) result }
+        ensures surely { IsSurelyRead self.old.stage (step net.now doc.now [] (standing self.old) text.now) (standing self.new) result }
+    {
+        let edits = List::make(self.alloc);
+        self.line(net, doc, &edits, text)
     }
 }

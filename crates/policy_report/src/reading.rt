@@ -94,7 +94,7 @@ fn class_of(from: &[u8], to: &[u8]) -> Option<Class>
 }
 
 /// The words after this first word, if the line begins with it.
-fn after_word<'w, 'a>(words: &'w [&'a [u8]], first: &[u8]) -> Option<&'w [&'a [u8]]>
+pub(crate) fn after_word<'w, 'a>(words: &'w [&'a [u8]], first: &[u8]) -> Option<&'w [&'a [u8]]>
     ensures { option_map (λ rest. map (λ word. word.now) rest.now) result ≡ after_word first.now (map (λ word. word.now) words.now) }
 {
     match words {

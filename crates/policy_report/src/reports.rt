@@ -33,7 +33,7 @@ pub fn report(
     Ok(text)
 }
 
-fn push_blocks(
+pub(crate) fn push_blocks(
     alloc: Global,
     text: &mut Vec<u8>,
     net: &Network,
@@ -82,7 +82,12 @@ fn push_answer(
     Ok(())
 }
 
-fn push_answer_words(text: &mut Vec<u8>, kind: PolicyKind, verdict: &Verdict) -> Result<(), Memory>
+/// What the policy asks, and the answer.
+pub fn push_answer_words(
+    text: &mut Vec<u8>,
+    kind: PolicyKind,
+    verdict: &Verdict,
+) -> Result<(), Memory>
     ensures { OnOk result (text.new.items
         ≡ text.old.items ++ after_spaces (kind_word kind ∷ answer_word verdict.now ∷ [])) }
 {

@@ -13,7 +13,7 @@ use net_model::{ClassSide, LinkPath, Network, Verdict};
 use std::alloc::Global;
 
 /// How many lines the witness has.
-pub(crate) fn count_lines(verdict: &Verdict) -> u64
+pub fn count_lines(verdict: &Verdict) -> u64
     ensures { (net : Network) → result ≡ length (witness_lines net verdict.now) }
 {
     match verdict {
@@ -25,7 +25,7 @@ pub(crate) fn count_lines(verdict: &Verdict) -> u64
 }
 
 /// The lines of the witness.
-pub(crate) fn push_witness(
+pub fn push_witness(
     alloc: Global,
     text: &mut Vec<u8>,
     net: &Network,

@@ -9,7 +9,7 @@ use net_model::{Class, Packet, RouterRow};
 use std::alloc::Global;
 
 /// A word.
-pub(crate) fn push_word(text: &mut Vec<u8>, word: &[u8]) -> Result<(), Memory>
+pub fn push_word(text: &mut Vec<u8>, word: &[u8]) -> Result<(), Memory>
     ensures { OnOk result (text.new.items ≡ text.old.items ++ 32 ∷ word.now) }
 {
     text.push(b' ')?;
@@ -18,21 +18,29 @@ pub(crate) fn push_word(text: &mut Vec<u8>, word: &[u8]) -> Result<(), Memory>
 }
 
 /// A number.
-pub(crate) fn push_count(alloc: Global, text: &mut Vec<u8>, count: u64) -> Result<(), Memory>
+pub fn push_count(alloc: Global, text: &mut Vec<u8>, count: u64) -> Result<(), Memory>
     ensures { OnOk result (text.new.items ≡ text.old.items ++ 32 ∷ decimal count) }
 {
     text.push(b' ')?;
     push_number(alloc, text, count)
 }
 
-fn push_prefix_word(alloc: Global, text: &mut Vec<u8>, prefix: &Prefix) -> Result<(), Memory>
+pub(crate) fn push_prefix_word(
+    alloc: Global,
+    text: &mut Vec<u8>,
+    prefix: &Prefix,
+) -> Result<(), Memory>
     ensures { OnOk result (text.new.items ≡ text.old.items ++ 32 ∷ prefix_text prefix.now) }
 {
     text.push(b' ')?;
     push_prefix(alloc, text, prefix)
 }
 
-fn push_address_word(alloc: Global, text: &mut Vec<u8>, address: u32) -> Result<(), Memory>
+pub(crate) fn push_address_word(
+    alloc: Global,
+    text: &mut Vec<u8>,
+    address: u32,
+) -> Result<(), Memory>
     ensures { OnOk result (text.new.items ≡ text.old.items ++ 32 ∷ address_text address) }
 {
     text.push(b' ')?;
@@ -57,7 +65,7 @@ pub(crate) fn push_packet(alloc: Global, text: &mut Vec<u8>, packet: &Packet) ->
 }
 
 /// The numbers of links, counted from 1.
-pub(crate) fn push_links(alloc: Global, text: &mut Vec<u8>, links: &[Link]) -> Result<(), Memory>
+pub fn push_links(alloc: Global, text: &mut Vec<u8>, links: &[Link]) -> Result<(), Memory>
     ensures { OnOk result (text.new.items ≡ text.old.items ++ after_spaces (link_words links.now)) }
 {
     for link in links {

@@ -4,7 +4,8 @@ use Rattle.std.specs.Prelude.{Result, Ok, Err}
 use Rattle.net_model.specs.declared.policies.Policy.{Policy}
 use Rattle.net_model.specs.declared.rows.Network.{Network}
 use Rattle.policy_report.specs.declared.got.Got.{Got}
-use Rattle.policy_report.specs.declared.got.Got.TheVariants.{More, Head, Verdict, End}
+use Rattle.policy_report.specs.declared.got.Got.TheVariants.{More, Head, Verdict, Edit, Step, End}
+use Rattle.policy_report.specs.declared.got.CertForm.TheVariants.{Report, Repaired, NoRepair}
 use Rattle.policy_report.specs.declared.got.CertFault.{CertFault}
 use Rattle.report_check.specs.declared.outcome.Outcome.{Outcome}
 use Rattle.report_check.specs.Outcomes.{IsOutcome}
@@ -14,7 +15,11 @@ pub one_outcome : (net : Network) (policies : List Policy) (first number : ℕ) 
 one_outcome net policies first number [] o p h k = h ∙ sym k
 one_outcome net policies first number (Err fault ∷ rest) o p h k = h ∙ sym k
 one_outcome net policies first number (Ok More ∷ rest) o p h k = one_outcome net policies first (number + 1) rest o p h k
-one_outcome net policies first number (Ok (Head form) ∷ rest) o p h k = one_outcome net policies (number + 1) (number + 1) rest o p h k
+one_outcome net policies first number (Ok (Head Report) ∷ rest) o p h k = one_outcome net policies (number + 1) (number + 1) rest o p h k
+one_outcome net policies first number (Ok (Head (Repaired price bound)) ∷ rest) o p h k = h ∙ sym k
+one_outcome net policies first number (Ok (Head (NoRepair bound)) ∷ rest) o p h k = h ∙ sym k
+one_outcome net policies first number (Ok (Edit place) ∷ rest) o p h k = h ∙ sym k
+one_outcome net policies first number (Ok (Step s) ∷ rest) o p h k = h ∙ sym k
 one_outcome net policies first number (Ok (Verdict which v) ∷ rest) o p h k =
     elim h [
       | inl good ↦ elim k [

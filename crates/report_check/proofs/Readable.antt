@@ -33,7 +33,7 @@ path_links net to u v [] is = All-nil (λ l. l.0 < length net.links)
 path_links net to u v (arc ∷ arcs) is =
     All-cons (λ l. l.0 < length net.links) (record { 0 = arc.link }) (links_of arcs) (of_network net arc is.0) (path_links net to (head_router arc) v arcs is.3)
 
-are_links : (net : Network) (ends : Ends) (path : LinkPath) → IsPath net ends path → AreLinks net path.links
+pub are_links : (net : Network) (ends : Ends) (path : LinkPath) → IsPath net ends path → AreLinks net path.links
 are_links net ends path is = subst (AreLinks net) is.links (path_links net ends.to _ _ is.arcs is.leads)
 
 -- the witness of a right verdict can be told

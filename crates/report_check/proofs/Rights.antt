@@ -6,7 +6,8 @@ use Rattle.net_model.specs.declared.policies.Policy.{Policy}
 use Rattle.net_model.specs.declared.rows.Network.{Network}
 use Rattle.net_model.specs.declared.verdicts.Verdict as verdicts
 use Rattle.policy_report.specs.declared.got.Got.{Got}
-use Rattle.policy_report.specs.declared.got.Got.TheVariants.{More, Head, Verdict, End}
+use Rattle.policy_report.specs.declared.got.Got.TheVariants.{More, Head, Verdict, Edit, Step, End}
+use Rattle.policy_report.specs.declared.got.CertForm.TheVariants.{Report, Repaired, NoRepair}
 use Rattle.policy_report.specs.declared.got.CertFault.{CertFault}
 use Rattle.policy_report.specs.Reports.{witness_lines}
 use Rattle.policy_report.specs.Rereading.{IsWhole, more, blocks_answers, report_answers}
@@ -23,7 +24,11 @@ pub accepted_whole : (net : Network) (policies : List Policy) (first number : �
 accepted_whole net policies first number [] h = absurd (cc)
 accepted_whole net policies first number (Err fault ∷ rest) h = absurd (cc)
 accepted_whole net policies first number (Ok More ∷ rest) h = accepted_whole net policies first (number + 1) rest h
-accepted_whole net policies first number (Ok (Head form) ∷ rest) h = accepted_whole net policies (number + 1) (number + 1) rest h
+accepted_whole net policies first number (Ok (Head Report) ∷ rest) h = accepted_whole net policies (number + 1) (number + 1) rest h
+accepted_whole net policies first number (Ok (Head (Repaired price bound)) ∷ rest) h = absurd (cc)
+accepted_whole net policies first number (Ok (Head (NoRepair bound)) ∷ rest) h = absurd (cc)
+accepted_whole net policies first number (Ok (Edit place) ∷ rest) h = absurd (cc)
+accepted_whole net policies first number (Ok (Step s) ∷ rest) h = absurd (cc)
 accepted_whole net policies first number (Ok (Verdict which v) ∷ rest) h =
     elim h [
       | inl good ↦ accepted_whole net policies (number + 1) (number + 1) rest good.1
@@ -45,11 +50,11 @@ AreRightFrom net policies which (v ∷ vs) = IsRightAt net policies which v × A
 
 -- in an accepted report each verdict is right
 rights_from : (net : Network) (policies : List Policy) (first number which : ℕ) (vs : List verdicts.Verdict) →
-    IsOutcome net policies first number (blocks_answers net which vs) Accepted → AreRightFrom net policies which vs
+    IsOutcome net policies first number (blocks_answers net which vs (Ok End ∷ [])) Accepted → AreRightFrom net policies which vs
 rights_from net policies first number which [] h = tt
 rights_from net policies first number which (v ∷ vs) h =
-    let whole = subst (λ told. IsOutcome net policies first number told Accepted) (append_assoc (more (witness_lines net v)) (Ok (Verdict which v) ∷ []) (blocks_answers net (which + 1) vs)) h in
-    let last = passed net policies first number (witness_lines net v) (Ok (Verdict which v) ∷ blocks_answers net (which + 1) vs) Accepted whole in
+    let whole = subst (λ told. IsOutcome net policies first number told Accepted) (append_assoc (more (witness_lines net v)) (Ok (Verdict which v) ∷ []) (blocks_answers net (which + 1) vs (Ok End ∷ []))) h in
+    let last = passed net policies first number (witness_lines net v) (Ok (Verdict which v) ∷ blocks_answers net (which + 1) vs (Ok End ∷ [])) Accepted whole in
     elim last.1 [
       | inl good ↦ (good.0, rights_from net policies (last.0 + 1) (last.0 + 1) (which + 1) vs good.1)
       | inr bad ↦ absurd (not_accepted (record { line = first; kind = Witness }) bad.1)
@@ -57,11 +62,11 @@ rights_from net policies first number which (v ∷ vs) h =
 
 -- a report in which each verdict is right is accepted
 accepted_from : (net : Network) (policies : List Policy) (first number which : ℕ) (vs : List verdicts.Verdict) (o : Outcome) →
-    AreRightFrom net policies which vs → IsOutcome net policies first number (blocks_answers net which vs) o → o ≡ Accepted
+    AreRightFrom net policies which vs → IsOutcome net policies first number (blocks_answers net which vs (Ok End ∷ [])) o → o ≡ Accepted
 accepted_from net policies first number which [] o right h = h
 accepted_from net policies first number which (v ∷ vs) o right h =
-    let whole = subst (λ told. IsOutcome net policies first number told o) (append_assoc (more (witness_lines net v)) (Ok (Verdict which v) ∷ []) (blocks_answers net (which + 1) vs)) h in
-    let last = passed net policies first number (witness_lines net v) (Ok (Verdict which v) ∷ blocks_answers net (which + 1) vs) o whole in
+    let whole = subst (λ told. IsOutcome net policies first number told o) (append_assoc (more (witness_lines net v)) (Ok (Verdict which v) ∷ []) (blocks_answers net (which + 1) vs (Ok End ∷ []))) h in
+    let last = passed net policies first number (witness_lines net v) (Ok (Verdict which v) ∷ blocks_answers net (which + 1) vs (Ok End ∷ [])) o whole in
     elim last.1 [
       | inl good ↦ accepted_from net policies (last.0 + 1) (last.0 + 1) (which + 1) vs o right.1 good.1
       | inr bad ↦ absurd (bad.0 right.0)

@@ -13,7 +13,7 @@ use crate::outcome::Outcome;
 use arc_base::{CertKind, Memory};
 use cnf_types::first_line;
 use net_model::{Document, Network, Policy, Verdict};
-use policy_report::{CertFault, Got, Reader};
+use policy_report::{CertFault, CertForm, Got, Reader};
 use std::alloc::Global;
 use witness_check::accepts;
 
@@ -38,6 +38,16 @@ enum Next {
     Done(Outcome),
 }
 
+// What comes after a line, with this number, that belongs to a repair.
+fn no_report(number: u64) -> Next
+    ensures { result ≡ Next.Done (Outcome.Rejected (record { line = number; kind = CertKind.Form })) }
+{
+    Next::Done(Outcome::Rejected(CertFault {
+        line: number,
+        kind: CertKind::Form,
+    }))
+}
+
 // Judges a line, which has this number and belongs to a block that begins at `first`.
 fn judge_line(
     net: &Network,
@@ -51,13 +61,16 @@ fn judge_line(
     requires valid { IsValid net.now }
     requires ends { All (λ policy. HasEnds net.now (subject policy)) doc.now.policies }
     requires number { number < 18446744073709551615 }
-    ensures reader { IfOk result (λ next. IsLine next → standing reader.new ≡ (step net.now doc.now (standing reader.old) line.now).0) }
+    ensures reader { IfOk result (λ next. IsLine next → standing reader.new ≡ (step net.now doc.now [] (standing reader.old) line.now).0) }
     ensures next { IfOk result (λ next. (rest : List (Result Got CertFault)) → (IsTrue is_last ↔ (rest ≡ [])) →
-        LeadsTo net.now doc.now.policies first number (step net.now doc.now (standing reader.old) line.now).1 rest next) }
+        LeadsTo net.now doc.now.policies first number (step net.now doc.now [] (standing reader.old) line.now).1 rest next) }
 {
-    let next = match reader.line(net, doc, line) {
+    let next = match reader.report_line(net, doc, line) {
         Ok(Got::More) => Next::Line(first),
-        Ok(Got::Head(_)) => Next::Line(number + 1),
+        Ok(Got::Head(CertForm::Report)) => Next::Line(number + 1),
+        Ok(Got::Head(_form)) => no_report(number),
+        Ok(Got::Edit(_place)) => no_report(number),
+        Ok(Got::Step(_step)) => no_report(number),
         Ok(Got::Verdict(which, verdict)) => {
             if is_right_at(net, doc.policies.slice(), which, &verdict) {
                 Next::Line(number + 1)
@@ -97,7 +110,7 @@ pub fn check_report(
     requires valid { IsValid net.now }
     requires ends { All (λ policy. HasEnds net.now (subject policy)) doc.now.policies }
     requires few { length doc.now.policies ≤ 4294967295 }
-    ensures outcome { IfOk result (IsOutcome net.now doc.now.policies 1 1 (answers net.now doc.now start (lines text.now))) }
+    ensures outcome { IfOk result (IsOutcome net.now doc.now.policies 1 1 (answers net.now doc.now [] start (lines text.now))) }
     ensures accepted { IfOk result (λ o. (o ≡ Outcome.Accepted) ↔ IsReport net.now doc.now text.now) }
 {
     let mut reader = Reader::make(alloc);

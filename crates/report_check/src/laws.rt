@@ -1,4 +1,5 @@
 //! Laws over the definitions alone: each is the contract of a function that does nothing.
+ghost use Rattle.report_check.specs.Lengths.{RightReportsAreShort};
 ghost use Rattle.report_check.specs.Outcomes.{ReportsAreAccepted, HasOneOutcome};
 
 /// A text is accepted exactly where it is a report of right verdicts.
@@ -9,4 +10,9 @@ pub fn reports_are_accepted()
 /// A text has one outcome.
 pub fn outcome_is_unique()
     ensures { HasOneOutcome }
+{}
+
+/// A report of right verdicts with few lines each has at most 2^40 bytes.
+pub fn right_reports_are_short()
+    ensures { RightReportsAreShort }
 {}

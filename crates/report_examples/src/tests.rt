@@ -15,14 +15,14 @@ const REPORT: &[u8] =
 /// What each of its lines tells, by its first letter.
 const TOLD: &[u8] = b"hmmvmvvmmvmmvmvmve";
 
-fn class() -> Result<Class, Fail> {
+pub(crate) fn class() -> Result<Class, Fail> {
     Ok(Class {
         from: Prefix::new(0x0a01_0000, 24).ok_or("a prefix")?,
         to: Prefix::new(0x0a02_0000, 24).ok_or("a prefix")?,
     })
 }
 
-fn router(alloc: Global, name: &[u8]) -> Result<RouterRow, Memory> {
+pub(crate) fn router(alloc: Global, name: &[u8]) -> Result<RouterRow, Memory> {
     Ok(RouterRow {
         name: Name::make(alloc, name)?,
         asn: 0,
@@ -49,7 +49,11 @@ fn two_routers(alloc: Global) -> Result<Network, Memory> {
 }
 
 /// Policies of these kinds on a class.
-fn policies(alloc: Global, class: Class, kinds: &[PolicyKind]) -> Result<Document, Memory> {
+pub(crate) fn policies(
+    alloc: Global,
+    class: Class,
+    kinds: &[PolicyKind],
+) -> Result<Document, Memory> {
     let mut policies = Vec::new(alloc);
     for kind in kinds {
         policies.push(Policy {
@@ -104,11 +108,12 @@ fn read(
     doc: &Document,
     text: &[u8],
 ) -> Result<(Vec<u8>, Vec<Verdict>), Memory> {
+    let edits = List::make(alloc);
     let mut told = Vec::new(alloc);
     let mut verdicts = Vec::new(alloc);
     let mut reader = Reader::make(alloc);
     for line in text.split(|b| *b == b'\n') {
-        match reader.line(net, doc, line) {
+        match reader.line(net, doc, &edits, line) {
             Ok(Got::Head(CertForm::Report)) => told.push(b'h')?,
             Ok(Got::More) => told.push(b'm')?,
             Ok(Got::Verdict(which, verdict)) => {
@@ -117,6 +122,7 @@ fn read(
                 verdicts.push(verdict)?;
             }
             Ok(Got::End) => told.push(b'e')?,
+            Ok(_) => panic!(rt; "no line of a report"),
             Err(fault) => panic!(rt; "{fault:?}"),
         }
     }
@@ -167,11 +173,12 @@ fn told_after(
         b"path 1",
         b"end",
     ];
+    let edits = List::make(alloc);
     let mut reader = Reader::make(alloc);
     for line in report.iter().take(lines as usize) {
-        reader.line(net, doc, line)?;
+        reader.line(net, doc, &edits, line)?;
     }
-    reader.line(net, doc, text)
+    reader.line(net, doc, &edits, text)
 }
 
 #[test]

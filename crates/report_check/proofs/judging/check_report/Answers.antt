@@ -1,4 +1,4 @@
-use Rattle.std.proofs.Common.{◌∙◌, arith, sym, subst}
+use Rattle.std.proofs.Common.{◌∙◌, [], arith, sym, subst}
 use Rattle.cnf_types.specs.Words.{lines}
 use Rattle.policy_report.specs.Steps.{standing, step}
 use Rattle.policy_report.specs.Rereading.{answers}
@@ -10,7 +10,7 @@ use Rattle.report_check.proofs.judging.check_report.Goals as goal
 
 pub loop-rest-init : goal.loop-rest-init
 loop-rest-init c = record {
-  outcome = λ (o : Outcome) h. subst (λ s. IsOutcome c.args.net.now c.args.doc.now.policies 1 1 (answers c.args.net.now c.args.doc.now s (lines c.args.text.now)) o) c.make-reader.ensures h;
+  outcome = λ (o : Outcome) h. subst (λ s. IsOutcome c.args.net.now c.args.doc.now.policies 1 1 (answers c.args.net.now c.args.doc.now [] s (lines c.args.text.now)) o) c.make-reader.ensures h;
   number_fits = omega arith;
 }
 
@@ -22,8 +22,8 @@ returns-in-Done-clause-outcome c =
     c.loop-rest.invariant.outcome c.in-Done.outcome
     (done_there c.args.net.now c.args.doc.now c.loop-rest.first c.loop-rest.number (standing c.loop-rest.reader) c.loop-rest.rest.now c.first_line.result.0.now c.first_line.result.1.now c.in_ok-begins.field-0 c.in-Done.outcome
     c.first_line.ensures.lines c.in-Done.is
-    (c.in_ok-begins.ensures.next (answers c.args.net.now c.args.doc.now (step c.args.net.now c.args.doc.now (standing c.loop-rest.reader) c.first_line.result.0.now).0 (lines c.first_line.result.1.now))
-    (ends_there c.args.net.now c.args.doc.now (step c.args.net.now c.args.doc.now (standing c.loop-rest.reader) c.first_line.result.0.now).0 c.first_line.result.1.now c.is_empty-in-loop-rest.result c.is_empty-in-loop-rest.ensures)))
+    (c.in_ok-begins.ensures.next (answers c.args.net.now c.args.doc.now [] (step c.args.net.now c.args.doc.now [] (standing c.loop-rest.reader) c.first_line.result.0.now).0 (lines c.first_line.result.1.now))
+    (ends_there c.args.net.now c.args.doc.now (step c.args.net.now c.args.doc.now [] (standing c.loop-rest.reader) c.first_line.result.0.now).0 c.first_line.result.1.now c.is_empty-in-loop-rest.result c.is_empty-in-loop-rest.ensures)))
 
 pub returns-in-Done-clause-accepted : goal.returns-in-Done-clause-accepted
 returns-in-Done-clause-accepted c = exactly c.args.net.now c.args.doc.now c.args.text.now c.in-Done.outcome c.requires.valid c.requires.few (returns-in-Done-clause-outcome c)
@@ -39,8 +39,8 @@ loop-rest-preserved c = record {
   outcome = λ (o : Outcome) h. c.loop-rest.invariant.outcome o
       (line_there c.args.net.now c.args.doc.now c.loop-rest.first c.in-Line.begins c.loop-rest.number (standing c.loop-rest.reader) (standing c.judge_line.new.reader) c.loop-rest.rest.now c.first_line.result.0.now c.first_line.result.1.now c.in_ok-begins.field-0 o
       c.first_line.ensures.lines c.in-Line.is c.in_ok-begins.ensures.reader
-      (c.in_ok-begins.ensures.next (answers c.args.net.now c.args.doc.now (step c.args.net.now c.args.doc.now (standing c.loop-rest.reader) c.first_line.result.0.now).0 (lines c.first_line.result.1.now))
-      (ends_there c.args.net.now c.args.doc.now (step c.args.net.now c.args.doc.now (standing c.loop-rest.reader) c.first_line.result.0.now).0 c.first_line.result.1.now c.is_empty-in-loop-rest.result c.is_empty-in-loop-rest.ensures))
+      (c.in_ok-begins.ensures.next (answers c.args.net.now c.args.doc.now [] (step c.args.net.now c.args.doc.now [] (standing c.loop-rest.reader) c.first_line.result.0.now).0 (lines c.first_line.result.1.now))
+      (ends_there c.args.net.now c.args.doc.now (step c.args.net.now c.args.doc.now [] (standing c.loop-rest.reader) c.first_line.result.0.now).0 c.first_line.result.1.now c.is_empty-in-loop-rest.result c.is_empty-in-loop-rest.ensures))
       h);
   number_fits = omega (arith, c.first_line.ensures.rest);
 }

@@ -1,0 +1,358 @@
+-- The edits of a network are different from each other, and their rows are there.
+use Rattle.std.proofs.Common.{◌≡◌, ◌≢◌, ℕ, ◌<◌, ◌⊎◌, inl, inr, Bool, true, false, List, [], ◌∷◌, ◌++◌, length, map, refl, sym, subst, ap, ◌∙◌, arith, Option, Some, None, find, cond, ◌==◌, if◌then◌else◌}
+use Rattle.std.specs.Prelude.{AllPairs, Contains, slice_get, option_map}
+use Rattle.std.specs.List.{filter_map, flat_map}
+use Rattle.std.proofs.lemmas.Bool.{and_from, eq-eqb, false≢true}
+use Rattle.std.proofs.lemmas.List.Elements.{Contains-append_cases}
+use Rattle.std.proofs.lemmas.Option.{none-some, same_Some, slice_get_within, slice_get-get_or}
+use Rattle.arc_base.proofs.Items.{Contains-none, Contains-cases, from_map, from_piece, AllPairs-append, AllPairs-among, AllPairs-map, AllPairs-none, AllPairs-single}
+use Rattle.arc_base.specs.declared.place.Face.{Face}
+use Rattle.arc_base.specs.declared.prefix.Prefix.{Prefix}
+use Rattle.net_model.specs.declared.lists.PacketList.{PacketList}
+use Rattle.net_model.specs.declared.lists.RouteList.{RouteList}
+use Rattle.net_model.specs.declared.policies.Class.{Class}
+use Rattle.net_model.specs.declared.policies.Document.{Document}
+use Rattle.net_model.specs.declared.rows.FaceRow.{FaceRow}
+use Rattle.net_model.specs.declared.rows.LinkRow.{LinkRow}
+use Rattle.net_model.specs.declared.rows.Network.{Network}
+use Rattle.net_model.specs.declared.rows.SessionRow.{SessionRow}
+use Rattle.net_model.specs.Routing.{session_at}
+use Rattle.net_model.specs.Validity.{IsValid, AreLinksApart, AreSessionsApart}
+use Rattle.traffic_classes.specs.AllClasses as classes
+use Rattle.edit_space.specs.declared.edit_kinds.Edit.{Edit}
+use Rattle.edit_space.specs.declared.edit_kinds.Edit.TheVariants as edits
+use Rattle.edit_space.specs.declared.sites.Site.{Site}
+use Rattle.edit_space.specs.declared.sites.Site.TheVariants.{Bound, New}
+use Rattle.edit_space.specs.EditLists.{has_session, edits_at, link_edits, route_edit, packet_edit, all_edits, is_same, AreEdits}
+use Rattle.edit_space.specs.Numbered.{placed, if_number, of_number, by_number}
+use Rattle.edit_space.specs.Sites.{route_list_site, neighbor_site, packet_list_site, takes_list, face_site, route_sites, packet_sites}
+use Rattle.edit_space.proofs.NewListFacts.{picked_from, pairs_picked, placed_apart, placed_is}
+use Rattle.policy_report.proofs.Apart.{AreDifferent, only_item, number_told, pieces_apart, map_apart, numbers_apart, once_apart}
+
+-- the row of the interface, of the list or of the session is there
+pub record HasSession (net : Network) (face : Face) : Type 0 where
+  pub session : SessionRow
+  pub found : session_at net face ≡ Some session
+
+abbrev pub IsThere : Network → Edit → Type 0
+IsThere net (edits.Session face) = face.0 < length net.faces
+IsThere net (edits.RouteList list prefix) = list.0 < length net.route_lists
+IsThere net (edits.RouteNew face prefix) = (face.0 < length net.faces) × HasSession net face
+IsThere net (edits.PacketList list class) = list.0 < length net.packet_lists
+IsThere net (edits.PacketNew face class) = face.0 < length net.faces
+
+-- what a site stands at
+abbrev IsRouteSite : Network → Site → Type 0
+IsRouteSite net (Bound list) = list.0 < length net.route_lists
+IsRouteSite net (New face) = (face.0 < length net.faces) × HasSession net face
+
+abbrev IsPacketSite : Network → Site → Type 0
+IsPacketSite net (Bound list) = list.0 < length net.packet_lists
+IsPacketSite net (New face) = face.0 < length net.faces
+
+abbrev place_of : Site → ℕ
+place_of (Bound list) = list.0
+place_of (New face) = face.0
+
+-- which lists give which sites
+neighbor_told : (net : Network) (session : SessionRow) (site : ℕ × Site) → neighbor_site net session ≡ Some site → (site.1 ≡ New session.face) × (session.face.0 < length net.faces)
+neighbor_told net session site e = by session.bound (slice_get net.faces session.face.0) refl e
+  where
+    by : (b : Bool) (o : Option FaceRow) → slice_get net.faces session.face.0 ≡ o →
+        (if b then None else option_map (λ (face : FaceRow). (face.router.0, New session.face)) o) ≡ Some site → (site.1 ≡ New session.face) × (session.face.0 < length net.faces)
+    by true o is e = absurd (none-some site e)
+    by false None is e = absurd (none-some site e)
+    by false (Some face) is e = (sym (ap (λ (s : ℕ × Site). s.1) (same_Some _ site e)), slice_get_within net.faces session.face.0 face is)
+
+packet_list_told : (list : ℕ × PacketList) (site : ℕ × Site) → packet_list_site list ≡ Some site → site.1 ≡ Bound (record { 0 = list.0 })
+packet_list_told list site e = by list.1.extended e
+  where
+    by : (b : Bool) → (if b then Some (list.1.router.0, Bound (record { 0 = list.0 })) else None) ≡ Some site → site.1 ≡ Bound (record { 0 = list.0 })
+    by true e = sym (ap (λ (s : ℕ × Site). s.1) (same_Some _ site e))
+    by false e = absurd (none-some site e)
+
+face_told : (face : ℕ × FaceRow) (site : ℕ × Site) → face_site face ≡ Some site → site.1 ≡ New (record { 0 = face.0 })
+face_told face site e = by (takes_list face.1) e
+  where
+    by : (b : Bool) → (if b then Some (face.1.router.0, New (record { 0 = face.0 })) else None) ≡ Some site → site.1 ≡ New (record { 0 = face.0 })
+    by true e = sym (ap (λ (s : ℕ × Site). s.1) (same_Some _ site e))
+    by false e = absurd (none-some site e)
+
+-- where an item passes, one is found
+finds : {X : Type 0} (test : X → Bool) (xs : List X) (x : X) → Contains xs x → test x ≡ true → (t : X) × (find test xs ≡ Some t)
+finds test [] x there passes = absurd (Contains-none x there)
+finds {X} test (y ∷ xs) x there passes = by (test y) refl (λ later. finds test xs x later passes)
+  where
+    by : (b : Bool) → test y ≡ b → (Contains xs x → (t : X) × (find test xs ≡ Some t)) → (t : X) × (cond b (Some y) (find test xs) ≡ Some t)
+    by true e rest = (y, refl)
+    by false e rest =
+        elim (Contains-cases y x xs there) [
+          | inl same ↦ absurd (false≢true (sym e ∙ subst (λ (z : X). test z ≡ true) (sym same) passes))
+          | inr later ↦ rest later
+        ]
+
+-- two sites are different
+abbrev Differ : ℕ × Site → ℕ × Site → Type 0
+Differ s t = s.1 ≢ t.1
+
+bound_or_new : (list face : ℕ) → Bound (record { 0 = list }) ≡ New (record { 0 = face }) → ⊥
+bound_or_new list face e = cc
+
+module _ (net : Network) (valid : IsValid net) where
+  abbrev route_things : List (ℕ × Site)
+  route_things = map route_list_site (placed net.route_lists) ++ filter_map (neighbor_site net) net.sessions
+
+  abbrev packet_things : List (ℕ × Site)
+  packet_things = filter_map packet_list_site (placed net.packet_lists) ++ filter_map face_site (placed net.faces)
+
+  route_things_apart : AllPairs Differ route_things
+  route_things_apart =
+      AllPairs-append Differ (map route_list_site (placed net.route_lists)) (filter_map (neighbor_site net) net.sessions)
+      (AllPairs-map Differ route_list_site (placed net.route_lists)
+      (AllPairs-among (λ (x : ℕ × RouteList) (y : ℕ × RouteList). x.0 ≢ y.0) (λ x y. Differ (route_list_site x) (route_list_site y)) (placed net.route_lists)
+      (λ x y in_x in_y differ e. differ (ap place_of e)) (placed_apart net.route_lists)))
+      (pairs_picked (AreSessionsApart net) Differ (neighbor_site net) net.sessions
+      (λ s t a b apart told_a told_b e. apart.0 (ap place_of (sym (neighbor_told net s a told_a).0 ∙ e ∙ (neighbor_told net t b told_b).0))) valid.sessions_apart)
+      (λ a b in_a in_b e.
+      let l = from_map route_list_site (placed net.route_lists) a in_a in
+      let s = picked_from (neighbor_site net) net.sessions b in_b in
+      bound_or_new l.0.0 s.0.face.0 (ap (λ (t : ℕ × Site). t.1) l.2 ∙ e ∙ (neighbor_told net s.0 b s.2).0))
+
+  packet_things_apart : AllPairs Differ packet_things
+  packet_things_apart =
+      AllPairs-append Differ (filter_map packet_list_site (placed net.packet_lists)) (filter_map face_site (placed net.faces))
+      (pairs_picked (λ (x : ℕ × PacketList) (y : ℕ × PacketList). x.0 ≢ y.0) Differ packet_list_site (placed net.packet_lists)
+      (λ x y a b differ told_a told_b e. differ (ap place_of (sym (packet_list_told x a told_a) ∙ e ∙ packet_list_told y b told_b))) (placed_apart net.packet_lists))
+      (pairs_picked (λ (x : ℕ × FaceRow) (y : ℕ × FaceRow). x.0 ≢ y.0) Differ face_site (placed net.faces)
+      (λ x y a b differ told_a told_b e. differ (ap place_of (sym (face_told x a told_a) ∙ e ∙ face_told y b told_b))) (placed_apart net.faces))
+      (λ a b in_a in_b e.
+      let l = picked_from packet_list_site (placed net.packet_lists) a in_a in
+      let f = picked_from face_site (placed net.faces) b in_b in
+      bound_or_new l.0.0 f.0.0 (sym (packet_list_told l.0 a l.2) ∙ e ∙ face_told f.0 b f.2))
+
+  -- the thing of a site
+  site_thing : (things : List (ℕ × Site)) (site : Site) → Contains (by_number (length net.routers) things) site → (thing : ℕ × Site) × Contains things thing × (thing.1 ≡ site)
+  site_thing things site there =
+      let n = from_piece (λ n. of_number n things) _ site there in
+      let t = picked_from (if_number n.0) things site n.2 in
+      (t.0, t.1, (number_told n.0 t.0 site t.2).1)
+
+  session_there : (session : SessionRow) → Contains net.sessions session → HasSession net session.face
+  session_there session there =
+      let found = finds (λ (s : SessionRow). s.face.0 == session.face.0) net.sessions session there (eq-eqb session.face.0 session.face.0 refl) in
+      record { session = found.0; found = found.1 }
+
+  route_site_there : (site : Site) → Contains (route_sites net) site → IsRouteSite net site
+  route_site_there site there =
+      let t = site_thing route_things site there in
+      subst (IsRouteSite net) t.2
+      (elim (Contains-append_cases (map route_list_site (placed net.route_lists)) (filter_map (neighbor_site net) net.sessions) t.0 t.1) [
+        | inl bound ↦
+            let l = from_map route_list_site (placed net.route_lists) t.0 bound in
+            subst (λ (s : ℕ × Site). IsRouteSite net s.1) l.2 (slice_get_within net.route_lists l.0.0 l.0.1 (placed_is net.route_lists l.0 l.1))
+        | inr new ↦
+            let s = picked_from (neighbor_site net) net.sessions t.0 new in
+            let told = neighbor_told net s.0 t.0 s.2 in
+            subst (IsRouteSite net) (sym told.0) (told.1, session_there s.0 s.1)
+      ])
+
+  packet_site_there : (site : Site) → Contains (packet_sites net) site → IsPacketSite net site
+  packet_site_there site there =
+      let t = site_thing packet_things site there in
+      subst (IsPacketSite net) t.2
+      (elim (Contains-append_cases (filter_map packet_list_site (placed net.packet_lists)) (filter_map face_site (placed net.faces)) t.0 t.1) [
+        | inl bound ↦
+            let l = picked_from packet_list_site (placed net.packet_lists) t.0 bound in
+            subst (IsPacketSite net) (sym (packet_list_told l.0 t.0 l.2)) (slice_get_within net.packet_lists l.0.0 l.0.1 (placed_is net.packet_lists l.0 l.1))
+        | inr new ↦
+            let f = picked_from face_site (placed net.faces) t.0 new in
+            subst (IsPacketSite net) (sym (face_told f.0 t.0 f.2)) (slice_get_within net.faces f.0.0 f.0.1 (placed_is net.faces f.0 f.1))
+      ])
+
+  -- the session edits of links
+  edit_at : (face : Face) (edit : Edit) → Contains (edits_at net face) edit → edit ≡ edits.Session face
+  edit_at face edit there = by (has_session net.protocol net face) there
+    where
+      by : (b : Bool) → Contains (if b then edits.Session face ∷ [] else []) edit → edit ≡ edits.Session face
+      by true h = sym (only_item (edits.Session face) edit h)
+      by false h = absurd (Contains-none edit h)
+
+  edit_of_link : (link : LinkRow) (edit : Edit) → Contains (link_edits net link) edit → (edit ≡ edits.Session link.a) ⊎ (edit ≡ edits.Session link.b)
+  edit_of_link link edit there =
+      elim (Contains-append_cases (edits_at net link.a) (edits_at net link.b) edit there) [
+        | inl one ↦ inl (edit_at link.a edit one)
+        | inr two ↦ inr (edit_at link.b edit two)
+      ]
+
+  abbrev face_of : Edit → ℕ
+  face_of (edits.Session face) = face.0
+  face_of other = 0
+
+  same_face : (x y : Edit) (f g : Face) → x ≡ y → x ≡ edits.Session f → y ≡ edits.Session g → f.0 ≡ g.0
+  same_face x y f g e is_x is_y = sym (ap face_of is_x) ∙ ap face_of e ∙ ap face_of is_y
+
+  links_edits_apart : (l m : LinkRow) → AreLinksApart l m → (x y : Edit) → Contains (link_edits net l) x → Contains (link_edits net m) y → x ≢ y
+  links_edits_apart l m apart x y in_x in_y e =
+      elim (edit_of_link l x in_x) [
+        | inl xa ↦ elim (edit_of_link m y in_y) [ inl ya ↦ apart.0 (same_face x y l.a m.a e xa ya) | inr yb ↦ apart.1 (same_face x y l.a m.b e xa yb) ]
+        | inr xb ↦ elim (edit_of_link m y in_y) [ inl ya ↦ apart.2 (same_face x y l.b m.a e xb ya) | inr yb ↦ apart.3 (same_face x y l.b m.b e xb yb) ]
+      ]
+
+  edits_at_apart : (face : Face) → AreDifferent (edits_at net face)
+  edits_at_apart face = by (has_session net.protocol net face)
+    where
+      by : (b : Bool) → AreDifferent (if b then edits.Session face ∷ [] else [])
+      by true = AllPairs-single (λ x y. x ≢ y) (edits.Session face)
+      by false = AllPairs-none (λ x y. x ≢ y)
+
+  link_there : (link : LinkRow) → Contains net.links link → (place : ℕ) × (slice_get net.links place ≡ Some link)
+  link_there link (k, l, e) = (k, slice_get-get_or net.links k link l ∙ ap Some e)
+
+  link_edits_apart : (link : LinkRow) → Contains net.links link → AreDifferent (link_edits net link)
+  link_edits_apart link there =
+      let at = link_there link there in
+      let is = valid.links at.0 link at.1 in
+      AllPairs-append (λ x y. x ≢ y) (edits_at net link.a) (edits_at net link.b) (edits_at_apart link.a) (edits_at_apart link.b)
+      (λ x y in_x in_y e.
+      let same : link.a.0 ≡ link.b.0 = same_face x y link.a link.b e (edit_at link.a x in_x) (edit_at link.b y in_y) in
+      let rows : is.a ≡ is.b = same_Some _ _ (sym is.a_is ∙ ap (slice_get net.faces) same ∙ is.b_is) in
+      is.routers (ap (λ (f : FaceRow). f.router.0) rows))
+
+  abbrev session_list : List Edit
+  session_list = flat_map (link_edits net) net.links
+
+  sessions_different : AreDifferent session_list
+  sessions_different =
+      pieces_apart (link_edits net) net.links
+      (AllPairs-among AreLinksApart (λ l m. (x y : Edit) → Contains (link_edits net l) x → Contains (link_edits net m) y → x ≢ y) net.links
+      (λ l m in_l in_m apart. links_edits_apart l m apart) valid.links_apart)
+      link_edits_apart
+
+  -- the edits of routes and of packets
+  one_route_edit : (s t : Site) (p q : Prefix) → route_edit s p ≡ route_edit t q → (s ≡ t) × (p ≡ q)
+  one_route_edit (Bound l) (Bound m) p q e = (cc, cc)
+  one_route_edit (New f) (New g) p q e = (cc, cc)
+  one_route_edit (Bound l) (New g) p q e = absurd (cc)
+  one_route_edit (New f) (Bound m) p q e = absurd (cc)
+
+  one_packet_edit : (s t : Site) (c d : Class) → packet_edit s c ≡ packet_edit t d → (s ≡ t) × (c ≡ d)
+  one_packet_edit (Bound l) (Bound m) c d e = (cc, cc)
+  one_packet_edit (New f) (New g) c d e = (cc, cc)
+  one_packet_edit (Bound l) (New g) c d e = absurd (cc)
+  one_packet_edit (New f) (Bound m) c d e = absurd (cc)
+
+  -- edits of things that differ at sites that differ
+  sites_different : {T : Type 0} (edit : Site → T → Edit) → ((s t : Site) (p q : T) → edit s p ≡ edit t q → (s ≡ t) × (p ≡ q)) →
+      (sites : List Site) (things : List T) → AreDifferent sites → AreDifferent things → AreDifferent (flat_map (λ site. map (edit site) things) sites)
+  sites_different {T} edit one sites things sites_apart things_apart =
+      pieces_apart (λ site. map (edit site) things) sites
+      (AllPairs-among (λ (s : Site) (t : Site). s ≢ t) (λ s t. (x y : Edit) → Contains (map (edit s) things) x → Contains (map (edit t) things) y → x ≢ y) sites
+      (λ s t in_s in_t differ x y in_x in_y e.
+      let p = from_map (edit s) things x in_x in
+      let q = from_map (edit t) things y in_y in
+      differ (one s t p.0 q.0 (p.2 ∙ e ∙ sym q.2)).0) sites_apart)
+      (λ site there. map_apart (edit site) (λ p q e. (one site site p q e).1) things things_apart)
+
+  -- what an edit is about
+  abbrev kind_of : Edit → ℕ
+  kind_of (edits.Session face) = 0
+  kind_of (edits.RouteList list prefix) = 1
+  kind_of (edits.RouteNew face prefix) = 1
+  kind_of (edits.PacketList list class) = 2
+  kind_of (edits.PacketNew face class) = 2
+
+  route_kind : (site : Site) (p : Prefix) → kind_of (route_edit site p) ≡ 1
+  route_kind (Bound l) p = refl
+  route_kind (New f) p = refl
+
+  packet_kind : (site : Site) (c : Class) → kind_of (packet_edit site c) ≡ 2
+  packet_kind (Bound l) c = refl
+  packet_kind (New f) c = refl
+
+  -- an edit among those of sites
+  at_site : {T : Type 0} (edit : Site → T → Edit) (sites : List Site) (things : List T) (x : Edit) → Contains (flat_map (λ site. map (edit site) things) sites) x →
+      (site : Site) × Contains sites site × (thing : T) × (edit site thing ≡ x)
+  at_site edit sites things x there =
+      let s = from_piece (λ site. map (edit site) things) sites x there in
+      let t = from_map (edit s.0) things x s.2 in
+      (s.0, s.1, t.0, t.2)
+
+  session_of : (x : Edit) → Contains session_list x → (face : Face) × (face.0 < length net.faces) × (x ≡ edits.Session face)
+  session_of x there =
+      let l = from_piece (link_edits net) net.links x there in
+      let at = link_there l.0 l.1 in
+      let is = valid.links at.0 l.0 at.1 in
+      elim (edit_of_link l.0 x l.2) [
+        | inl a ↦ (l.0.a, slice_get_within net.faces l.0.a.0 is.a is.a_is, a)
+        | inr b ↦ (l.0.b, slice_get_within net.faces l.0.b.0 is.b is.b_is, b)
+      ]
+
+  route_edit_there : (site : Site) (p : Prefix) → IsRouteSite net site → IsThere net (route_edit site p)
+  route_edit_there (Bound l) p h = h
+  route_edit_there (New f) p h = h
+
+  packet_edit_there : (site : Site) (c : Class) → IsPacketSite net site → IsThere net (packet_edit site c)
+  packet_edit_there (Bound l) c h = h
+  packet_edit_there (New f) c h = h
+
+  module _ (destinations : List Prefix) (all : List Class) where
+    abbrev route_edits : List Edit
+    route_edits = flat_map (λ site. map (route_edit site) destinations) (route_sites net)
+
+    abbrev packet_edits : List Edit
+    packet_edits = flat_map (λ site. map (packet_edit site) all) (packet_sites net)
+
+    -- the rows of each edit are there
+    pub edit_there : (x : Edit) → Contains (all_edits net destinations all) x → IsThere net x
+    edit_there x there =
+        elim (Contains-append_cases (session_list ++ route_edits) packet_edits x there) [
+          | inl before ↦ elim (Contains-append_cases session_list route_edits x before) [
+            | inl session ↦ let s = session_of x session in subst (IsThere net) (sym s.2) s.1
+            | inr route ↦ let r = at_site route_edit (route_sites net) destinations x route in subst (IsThere net) r.3 (route_edit_there r.0 r.2 (route_site_there r.0 r.1))
+          ]
+          | inr packet ↦ let r = at_site packet_edit (packet_sites net) all x packet in subst (IsThere net) r.3 (packet_edit_there r.0 r.2 (packet_site_there r.0 r.1))
+        ]
+
+    session_kind_of : (x : Edit) → Contains session_list x → kind_of x ≡ 0
+    session_kind_of x there = ap kind_of (session_of x there).2
+
+    route_kind_of : (x : Edit) → Contains route_edits x → kind_of x ≡ 1
+    route_kind_of x there = let r = at_site route_edit (route_sites net) destinations x there in sym (ap kind_of r.3) ∙ route_kind r.0 r.2
+
+    packet_kind_of : (x : Edit) → Contains packet_edits x → kind_of x ≡ 2
+    packet_kind_of x there = let r = at_site packet_edit (packet_sites net) all x there in sym (ap kind_of r.3) ∙ packet_kind r.0 r.2
+
+    -- and no edit stands twice
+    pub edits_different : AreDifferent destinations → AreDifferent all → AreDifferent (all_edits net destinations all)
+    edits_different destinations_apart all_apart =
+        AllPairs-append (λ x y. x ≢ y) (session_list ++ route_edits) packet_edits
+        (AllPairs-append (λ x y. x ≢ y) session_list route_edits sessions_different
+        (sites_different route_edit one_route_edit (route_sites net) destinations (numbers_apart (length net.routers) route_things route_things_apart) destinations_apart)
+        (λ x y in_x in_y e. omega (arith, session_kind_of x in_x, route_kind_of y in_y, ap kind_of e)))
+        (sites_different packet_edit one_packet_edit (packet_sites net) all (numbers_apart (length net.routers) packet_things packet_things_apart) all_apart)
+        (λ x y in_x in_y e.
+        let k : kind_of x ≡ 2 = ap kind_of e ∙ packet_kind_of y in_y in
+        elim (Contains-append_cases session_list route_edits x in_x) [
+          | inl session ↦ omega (arith, k, session_kind_of x session)
+          | inr route ↦ omega (arith, k, route_kind_of x route)
+        ])
+
+prefix_itself : (p : Prefix) → is_same p p ≡ true
+prefix_itself p = and_from _ _ (eq-eqb p.addr p.addr refl) (eq-eqb p.len p.len refl)
+
+class_itself : (c : Class) → classes.is_same c c ≡ true
+class_itself c =
+    and_from _ _ (and_from _ _ (and_from _ _ (eq-eqb c.from.addr c.from.addr refl) (eq-eqb c.from.len c.from.len refl)) (eq-eqb c.to.addr c.to.addr refl)) (eq-eqb c.to.len c.to.len refl)
+
+-- the edits of a network
+pub all_there : (net : Network) (doc : Document) (list : List Edit) → IsValid net → AreEdits net doc list → (x : Edit) → Contains list x → IsThere net x
+all_there net doc list valid are x there = edit_there net valid are.destinations are.classes x (subst (λ (l : List Edit). Contains l x) are.all there)
+
+pub all_different : (net : Network) (doc : Document) (list : List Edit) → IsValid net → AreEdits net doc list → AreDifferent list
+all_different net doc list valid are =
+    let destinations_apart : AreDifferent are.destinations =
+    subst (λ (l : List Prefix). AreDifferent l) (sym are.destinations_are.once) (once_apart is_same prefix_itself are.destinations_are.hosts [] (AllPairs-none (λ x y. x ≢ y))) in
+    let classes_apart : AreDifferent are.classes =
+    subst (λ (l : List Class). AreDifferent l) (sym are.classes_are.once)
+    (once_apart classes.is_same class_itself (flat_map (λ l. l) are.classes_are.lists) [] (AllPairs-none (λ x y. x ≢ y))) in
+    subst (λ (l : List Edit). AreDifferent l) (sym are.all) (edits_different net valid are.destinations are.classes destinations_apart classes_apart)

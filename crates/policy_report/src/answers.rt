@@ -1,0 +1,51 @@
+//! The second line of a repair, which says what is answered.
+ghost use Rattle.std.specs.Prelude.{◌≡◌, map};
+ghost use Rattle.policy_report.specs.Readings.{answer_with, answer_shown, answer_of};
+
+use crate::reading::{after_word, count_of};
+
+/// What a repair answers.
+#[derive(Clone, Copy, Debug, PartialEq, Eq)]
+pub(crate) enum Answer {
+    /// Edits of this price, with the bound up to which prices were looked at.
+    Repaired(u32, u32),
+    /// That there is no repair within this bound.
+    NoRepair(u32),
+    /// That the budget was used up.
+    Budget,
+}
+
+/// An answer of two numbers.
+fn answer_with(word: &[u8], number: u32, bound: u32) -> Option<Answer>
+    ensures { result ≡ answer_with word.now number bound }
+{
+    if word == b"repaired".as_slice() {
+        Some(Answer::Repaired(number, bound))
+    } else if word == b"budget".as_slice() {
+        Some(Answer::Budget)
+    } else {
+        None
+    }
+}
+
+/// `answer repaired PRICE BOUND`, `answer none BOUND` or `answer budget LIMIT BOUND`
+pub(crate) fn answer_of(words: &[&[u8]]) -> Option<Answer>
+    ensures { result ≡ answer_of (map (λ word. word.now) words.now) }
+{
+    match after_word(words, b"answer")? {
+        [word, bound] => {
+            let bound = count_of(bound)?;
+            if *word == b"none".as_slice() {
+                Some(Answer::NoRepair(bound))
+            } else {
+                None
+            }
+        }
+        [word, number, bound] => {
+            let number = count_of(number)?;
+            let bound = count_of(bound)?;
+            answer_with(word, number, bound)
+        }
+        _ => None,
+    }
+}

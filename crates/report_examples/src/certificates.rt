@@ -1,0 +1,168 @@
+use crate::tests::{class, policies, router};
+use arc_base::{CertKind, Face, List, Memory, Name, Router};
+use cnf_types::{Lit, first_line};
+use edit_space::{Claim, Edit};
+use net_model::{ClassSide, Document, FaceRow, Network, PolicyKind, Protocol, Verdict};
+use policy_report::{CertFault, Got, Reader, budget, certificate, edit_line, edit_text};
+use proof_log::{Log, Step};
+use std::alloc::Global;
+use std::test::Fail;
+
+/// The certificate of a repair by one of two edits.
+const CERTIFICATE: &[u8] =
+    b"arc-repair 1\nanswer repaired 1 32\nedit packet r1 interface Ethernet0 10.1.0.0/24 10.2.0.0/24\n1 blocked yes 1\nclosed 10.1.0.0/24 10.2.0.0/24 r1\nlog\n16 -1 0 3 0\nend\n";
+
+/// What each of its lines tells, by its first letter.
+const TOLD: &[u8] = b"mhemvmse";
+
+/// A network of one router with one interface.
+fn one_face(alloc: Global) -> Result<Network, Memory> {
+    let face = FaceRow {
+        router: Router(0),
+        name: Name::make(alloc, b"Ethernet0")?,
+        addr: None,
+        subnet: None,
+        host: None,
+        up: true,
+        enabled: true,
+        told: false,
+        passive: false,
+        cost: 1,
+        bound_in: false,
+        list_in: None,
+        list_out: None,
+    };
+    Ok(Network {
+        protocol: Protocol::Ospf,
+        routers: List::of(vec![in alloc; router(alloc, b"r1")?]?)?,
+        faces: List::of(vec![in alloc; face]?)?,
+        sessions: List::make(alloc),
+        links: List::make(alloc),
+        packet_lists: List::make(alloc),
+        route_lists: List::make(alloc),
+    })
+}
+
+/// Two edits at the interface: of its session, and of its packets.
+fn two_edits(alloc: Global) -> Result<List<Edit>, Fail> {
+    let packets = Edit::PacketNew(Face(0), class()?);
+    Ok(List::of(vec![in alloc; Edit::Session(Face(0)), packets]?)?)
+}
+
+/// A log of one step.
+fn one_step(alloc: Global) -> Result<Log, Memory> {
+    let step = Step::Add {
+        id: 16,
+        lits: List::of(vec![in alloc; Lit::make(1, false)]?)?,
+        hints: List::of(vec![in alloc; 3]?)?,
+    };
+    Ok(Log {
+        steps: List::of(vec![in alloc; step]?)?,
+    })
+}
+
+/// What a line tells, by a letter.
+fn letter(told: &Result<Got, CertFault>) -> u8 {
+    match told {
+        Ok(Got::More) => b'm',
+        Ok(Got::Head(_)) => b'h',
+        Ok(Got::Verdict(_, _)) => b'v',
+        Ok(Got::Edit(_) | Got::End) => b'e',
+        Ok(Got::Step(_)) => b's',
+        Err(_) => b'?',
+    }
+}
+
+#[test]
+fn an_edit_has_a_text(rt: HostRuntime) -> Result<(), Fail> {
+    let alloc = rt.alloc();
+    let net = one_face(alloc)?;
+    let edits = two_edits(alloc)?;
+    assert_eq!(rt; edits.len(), 2);
+    let text = edit_text(alloc, &net, &edits, 0)?;
+    assert_eq!(rt; text.as_slice(), b"edit session r1 Ethernet0".as_slice());
+    assert_eq!(rt;
+        edit_line(alloc, &net, &edits, b"edit session r1 Ethernet0")?,
+        Some(0)
+    );
+    assert_eq!(rt;
+        edit_line(alloc, &net, &edits, b"edit session r1  Ethernet0")?,
+        None
+    );
+    Ok(())
+}
+
+/// What each line of a text tells, by its first letter.
+fn told(
+    alloc: Global,
+    net: &Network,
+    doc: &Document,
+    edits: &List<Edit>,
+    text: &[u8],
+) -> Result<Vec<u8>, Memory> {
+    let mut told = Vec::new(alloc);
+    let mut reader = Reader::make(alloc);
+    let mut rest = text;
+    while !rest.is_empty() {
+        let (line, after) = first_line(rest);
+        told.push(letter(&reader.line(net, doc, edits, line)))?;
+        rest = after;
+    }
+    Ok(told)
+}
+
+#[test]
+fn a_certificate_is_written_and_read_again(rt: HostRuntime) -> Result<(), Fail> {
+    let alloc = rt.alloc();
+    let class = class()?;
+    let net = one_face(alloc)?;
+    let doc = policies(alloc, class, &[PolicyKind::Blocked])?;
+    let edits = two_edits(alloc)?;
+    let chosen = List::of(vec![in alloc; false, true]?)?;
+    assert_eq!(rt; chosen.len(), edits.len());
+    let side = List::of(vec![in alloc; true]?)?;
+    let yes = Verdict::Closed(List::of(vec![in alloc; ClassSide { class, side }]?)?);
+    let verdicts = List::of(vec![in alloc; yes]?)?;
+    assert_eq!(rt; verdicts.len(), doc.policies.len());
+    let claim = Claim::Repaired {
+        price: 1,
+        bound: 32,
+        chosen,
+        verdicts,
+    };
+    let text = certificate(alloc, &net, &doc, &edits, &claim, &one_step(alloc)?)?;
+    assert_eq!(rt; text.as_slice(), CERTIFICATE);
+    assert_eq!(rt;
+        told(alloc, &net, &doc, &edits, text.as_slice())?.as_slice(),
+        TOLD
+    );
+    Ok(())
+}
+
+#[test]
+fn a_budget_claims_nothing(rt: HostRuntime) -> Result<(), Fail> {
+    let alloc = rt.alloc();
+    let net = one_face(alloc)?;
+    let doc = policies(alloc, class()?, &[PolicyKind::Blocked])?;
+    let edits = two_edits(alloc)?;
+    let text = budget(alloc, 1, 32, &one_step(alloc)?)?;
+    assert_eq!(rt;
+        text.as_slice(),
+        b"arc-repair 1\nanswer budget 1 32\nlog\n16 -1 0 3 0\nend\n".as_slice()
+    );
+    assert_eq!(rt;
+        told(alloc, &net, &doc, &edits, text.as_slice())?.as_slice(),
+        b"m????".as_slice()
+    );
+    let mut reader = Reader::make(alloc);
+    assert!(rt; reader.line(&net, &doc, &edits, b"arc-repair 1").is_ok());
+    let fault = CertFault {
+        line: 2,
+        kind: CertKind::NoClaim,
+    };
+    assert_eq!(rt;
+        reader.line(&net, &doc, &edits, b"answer budget 1 32").err(),
+        Some(fault)
+    );
+    Ok(())
+}
