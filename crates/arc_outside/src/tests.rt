@@ -1,6 +1,6 @@
 use crate::{
-    DiskStore, Fault, MemSink, MemStore, ReadAll, Sink, StdSink, Store, SureSink, SureStore,
-    read_all,
+    DiskStore, Fault, MemSink, MemStore, Pieces, ReadAll, Sink, StdSink, Store, SureSink,
+    SureStore, read_all,
 };
 use arc_base::{List, Name};
 use std::alloc::Global;
@@ -30,6 +30,75 @@ fn allocating_calls_answer(rt: HostRuntime) -> Result<(), Fail> {
     let mut out = SureSink::make(alloc);
     assert_eq!(rt; out.put(b"text")?, 4);
     assert_eq!(rt; out.bytes(), b"text".as_slice());
+    Ok(())
+}
+
+// The lines of a file, one after another, until its end or an error.
+fn lines_of<S: Store>(
+    alloc: Global,
+    store: &mut S,
+    name: &Name,
+    limit: u64,
+) -> Result<Vec<Vec<u8>>, ReadAll> {
+    let mut pieces = Pieces::make(alloc, limit);
+    let mut lines = Vec::new(alloc);
+    while pieces.next(store, name)? {
+        match Vec::from_slice(alloc, pieces.line()) {
+            Ok(line) => match lines.push(line) {
+                Ok(()) => {}
+                Err(_) => return Err(ReadAll::Fault(Fault::Memory)),
+            },
+            Err(_) => return Err(ReadAll::Fault(Fault::Memory)),
+        }
+    }
+    Ok(lines)
+}
+
+// With enough memory each line is handed out: empty ones, one that is longer than two pieces, and a last one that no line
+// feed ends.
+#[test]
+fn lines_come_in_order(rt: HostRuntime) -> Result<(), Fail> {
+    let alloc = rt.alloc();
+    let long = Vec::from_elem(alloc, b'x', 140_000)?;
+    let mut text = Vec::from_slice(alloc, b"a\n\n")?;
+    text.extend_from_slice(&long)?;
+    text.extend_from_slice(b"\r\nlast")?;
+    let name = Name::make(alloc, b"f")?;
+    let mut files = List::make(alloc);
+    files.push((Name::make(alloc, b"f")?, Name::make(alloc, &text)?))?;
+    let mut store = SureStore::make(alloc, files)?;
+    let lines = lines_of(alloc, &mut store, &name, 140_009)?;
+    assert_eq!(rt; lines.len(), 4);
+    assert_eq!(rt; lines[0].as_slice(), b"a".as_slice());
+    assert_eq!(rt; lines[1].len(), 0);
+    assert_eq!(rt; lines[2].len(), 140_001);
+    assert_eq!(rt; lines[3].as_slice(), b"last".as_slice());
+    assert_eq!(rt;
+        lines_of(alloc, &mut store, &name, 140_007).err(),
+        Some(ReadAll::TooLong)
+    );
+    Ok(())
+}
+
+// The second read fails: the lines of the first piece come, and then the error.
+#[test]
+fn line_reads_fail(rt: HostRuntime) -> Result<(), Fail> {
+    let alloc = rt.alloc();
+    let name = Name::make(alloc, b"a")?;
+    let mut second = List::make(alloc);
+    second.push(2)?;
+    let mut store = MemStore::make(alloc, files(alloc)?, second)?;
+    let mut pieces = Pieces::make(alloc, 9);
+    assert_eq!(rt;
+        pieces.next(&mut store, &name).err(),
+        Some(ReadAll::Fault(Fault::Failed))
+    );
+    assert!(rt; pieces.failed());
+    let none = Name::make(alloc, b"b")?;
+    assert_eq!(rt;
+        lines_of(alloc, &mut store, &none, 9).err(),
+        Some(ReadAll::Fault(Fault::Missing))
+    );
     Ok(())
 }
 

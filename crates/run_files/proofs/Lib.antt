@@ -1,0 +1,4 @@
+pub mod LinesHanded
+pub mod WhereTold
+pub mod RoutersRead
+pub mod Answering

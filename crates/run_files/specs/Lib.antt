@@ -1,0 +1,7 @@
+pub mod Limits
+pub mod Refusals
+pub mod HandedOut
+pub mod Answers
+pub mod Reading
+pub mod ReadingLines
+pub mod Judgements

@@ -1,0 +1,49 @@
+//! Files that are read line by line.
+ghost use Rattle.std.specs.Prelude.{◌≡◌, ◌<◌, false, IfOk, IfSome, OnOk, IsTrue};
+ghost use Rattle.arc_outside.specs.LinesRead.{ahead};
+ghost use Rattle.run_files.specs.Answers.{OnlyReads};
+ghost use Rattle.run_files.specs.ReadingLines.{MovesOn, IsWithinLimit};
+
+use crate::outcome::Stop;
+use crate::refusals::refused;
+use arc_base::{Kind, Name};
+use arc_outside::{Fault, Pieces, ReadAll, Store};
+use std::alloc::Global;
+
+/// Moves to the next line of a file, or refuses the file.
+pub fn next_line<S: Store>(
+    alloc: Global,
+    pieces: &mut Pieces,
+    store: &mut S,
+    name: &Name,
+) -> Result<bool, Stop>
+    requires { pieces.old.failed ≡ false }
+    ensures told { IfSome (S.held store.old) (λ files. MovesOn files name.now pieces.old pieces.new result) }
+    ensures ok { OnOk result (pieces.new.failed ≡ false) }
+    ensures fewer { IfOk result (λ found. IsTrue found → ahead pieces.new < ahead pieces.old) }
+    ensures limit { pieces.new.limit ≡ pieces.old.limit }
+    ensures reads { OnlyReads S.held S.faults S.absences store.old store.new result }
+{
+    match pieces.next(store, name) {
+        Ok(found) => Ok(found),
+        Err(ReadAll::TooLong) => Err(refused(alloc, name, 0, Kind::TooLong)),
+        Err(ReadAll::Fault(Fault::Missing)) => Err(refused(alloc, name, 0, Kind::Missing)),
+        Err(ReadAll::Fault(Fault::Failed)) => Err(Stop::Failed),
+        Err(ReadAll::Fault(Fault::Memory)) => Err(Stop::Memory),
+    }
+}
+
+/// Reads a file to its end and keeps nothing of it, or refuses it.
+pub fn try_file<S: Store>(alloc: Global, store: &mut S, name: &Name, limit: u64) -> Result<(), Stop>
+    ensures told { IfSome (S.held store.old) (λ files. IsWithinLimit limit files name.now result) }
+    ensures reads { OnlyReads S.held S.faults S.absences store.old store.new result }
+{
+    let mut pieces = Pieces::make(alloc, limit);
+    'lines: loop {
+        match next_line(alloc, &mut pieces, store, name) {
+            Ok(true) => {}
+            Ok(false) => return Ok(()),
+            Err(stop) => return Err(stop),
+        }
+    }
+}

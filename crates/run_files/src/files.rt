@@ -1,0 +1,80 @@
+//! Files that are read.
+ghost use Rattle.std.specs.Prelude.{◌≡◌, ◌-◌, ◌^◌, ◌<◌, ◌≤◌, All, length, min, IfOk, IfSome};
+ghost use Rattle.run_files.specs.Answers.{OnlyReads};
+ghost use Rattle.run_files.specs.Limits.{router_limit};
+ghost use Rattle.run_files.specs.Reading.{ReadsFile, ReadsRouters};
+
+use crate::limits::Limits;
+use crate::outcome::Stop;
+use crate::refusals::refused;
+use arc_base::{Kind, List, Memory, Name};
+use arc_outside::{Fault, ReadAll, Store, read_all};
+use std::alloc::Global;
+
+/// Reads a file whole, or refuses it.
+pub fn read_file<S: Store>(
+    alloc: Global,
+    store: &mut S,
+    name: &Name,
+    limit: u64,
+) -> Result<Vec<u8>, Stop>
+    ensures told { IfSome (S.held store.old) (λ files. ReadsFile limit files name.now result) }
+    ensures few { IfOk result (λ bytes. length bytes.items ≤ limit) }
+    ensures reads { OnlyReads S.held S.faults S.absences store.old store.new result }
+{
+    match read_all(alloc, store, name, limit) {
+        Ok(bytes) => Ok(bytes),
+        Err(ReadAll::TooLong) => Err(refused(alloc, name, 0, Kind::TooLong)),
+        Err(ReadAll::Fault(Fault::Missing)) => Err(refused(alloc, name, 0, Kind::Missing)),
+        Err(ReadAll::Fault(Fault::Failed)) => Err(Stop::Failed),
+        Err(ReadAll::Fault(Fault::Memory)) => Err(Stop::Memory),
+    }
+}
+
+// Reads a router file, where it and those to come may have so many bytes together.
+fn read_router<S: Store>(
+    alloc: Global,
+    store: &mut S,
+    name: &Name,
+    limits: Limits,
+    room: u64,
+) -> Result<Vec<u8>, Stop>
+    ensures told { IfSome (S.held store.old) (λ files. ReadsFile (min (router_limit limits) room) files name.now result) }
+    ensures within { IfOk result (λ bytes. length bytes.items ≤ room) }
+    ensures few { IfOk result (λ bytes. length bytes.items ≤ 8388608) }
+    ensures bytes { IfOk result (λ bytes. length bytes.items ≤ router_limit limits) }
+    ensures reads { OnlyReads S.held S.faults S.absences store.old store.new result }
+{
+    read_file(alloc, store, name, limits.router_bytes().min(room))
+}
+
+/// Reads the router files in order, or refuses the first that is to be refused: one that is missing, that has more
+/// bytes than a router file may have, or with which the files so far have more than all may have.
+pub fn read_routers<S: Store>(
+    alloc: Global,
+    store: &mut S,
+    names: &[Name],
+    limits: Limits,
+) -> Result<List<Name>, Stop>
+    requires { length names.now < 2 ^ 32 }
+    ensures told { IfSome (S.held store.old) (λ files. ReadsRouters limits files names.now result) }
+    ensures count { IfOk result (λ contents. length contents ≡ length names.now) }
+    ensures few { IfOk result (All (λ text. length text < 2 ^ 32)) }
+    ensures bytes { IfOk result (All (λ text. length text ≤ router_limit limits)) }
+    ensures reads { OnlyReads S.held S.faults S.absences store.old store.new result }
+{
+    let mut contents = List::make(alloc);
+    let mut room = limits.all_bytes();
+    for name in names {
+        let bytes = match read_router(alloc, store, name, limits, room) {
+            Ok(bytes) => bytes,
+            Err(stop) => return Err(stop),
+        };
+        room -= bytes.len() as u64;
+        match contents.push(Name::of(bytes)) {
+            Ok(()) => {}
+            Err(Memory) => return Err(Stop::Memory),
+        }
+    }
+    Ok(contents)
+}

@@ -1,0 +1,18 @@
+//! The files that commands read, under their limits: whole or line by line, with the first refusal of what was read and the line
+//! that tells it. Beside it stand what every command answers, and the judgement of a certificate or a proof.
+#![tactic(auto)]
+
+mod by_lines;
+mod files;
+mod judgements;
+pub mod laws;
+mod limits;
+mod outcome;
+mod refusals;
+
+pub use by_lines::{next_line, try_file};
+pub use files::{read_file, read_routers};
+pub use judgements::{Judgement, told};
+pub use limits::{DOCUMENT_LIMIT, Limits, PROOF_LIMIT};
+pub use outcome::{Done, FileRefusal, Reason, Stop};
+pub use refusals::{line_of, refused};

@@ -1,0 +1,47 @@
+-- The traffic classes of a document's policies, which must not be too many.
+use Rattle.std.specs.Prelude.{◌≡◌, ℕ, ◌≤◌, ◌<◌, ◌⊎◌, List, [], length, Result, Ok, Err}
+use Rattle.arc_base.specs.declared.refusal.Kind.TheVariants.{Limit}
+use Rattle.arc_base.specs.declared.refusal.LimitKind.TheVariants.{Classes}
+use Rattle.arc_outside.specs.Files.{Files}
+use Rattle.net_model.specs.declared.policies.Class.{Class}
+use Rattle.net_model.specs.declared.policies.Document.{Document}
+use Rattle.net_model.specs.declared.policies.Policy.{Policy}
+use Rattle.net_model.specs.declared.rows.Network.{Network}
+use Rattle.traffic_classes.specs.AllClasses.{AreAllClasses, FirstHaveMore}
+use Rattle.run_files.specs.declared.limits.Limits.{Limits}
+use Rattle.run_files.specs.declared.outcome.FileRefusal.{FileRefusal}
+use Rattle.run_files.specs.declared.outcome.Stop.{Stop}
+use Rattle.run_files.specs.declared.outcome.Stop.TheVariants as stops
+use Rattle.run_files.specs.Refusals.{refusal_of}
+use Rattle.run_inputs.specs.Inputs.{HoldsInput, IsInputRefusal}
+
+-- the policies have at most 4,096 different classes
+pub record HasFewClasses (net : Network) (policies : List Policy) : Type 0 where
+  pub classes : List Class
+  pub are : AreAllClasses net policies policies classes
+  pub few : length classes ≤ 4096
+
+-- up to the first policy with which they have more they have so many
+pub record HasManyClasses (net : Network) (policies : List Policy) (count : ℕ) : Type 0 where
+  pub first : FirstHaveMore net policies count
+  pub many : 4096 < count
+
+-- what counting the classes answers
+abbrev pub CountsClasses : List ℕ → Network → List Policy → Result (Unit {0}) Stop → Type 0
+CountsClasses document net policies (Ok done) = HasFewClasses net policies
+CountsClasses document net policies (Err (stops.Refused r)) = (count : ℕ) × HasManyClasses net policies count × (r ≡ refusal_of document 0 (Limit Classes count))
+CountsClasses document net policies (Err stops.Memory) = Unit {0}
+CountsClasses document net policies (Err stops.Failed) = ⊥
+
+-- the policies of the document have too many classes
+pub record RefusesClasses (limits : Limits) (document : List ℕ) (files : Files) (r : FileRefusal) : Type 0 where
+  pub doc : Document
+  pub net : Network
+  pub input : HoldsInput limits [] document files doc net
+  pub count : ℕ
+  pub many : HasManyClasses net doc.policies count
+  pub told : r ≡ refusal_of document 0 (Limit Classes count)
+
+-- the first refusal of a command that judges: of its input, or that there are too many classes
+abbrev pub IsJudgingRefusal : Limits → List ℕ → Files → FileRefusal → Type 0
+IsJudgingRefusal limits document files r = IsInputRefusal limits [] document files r ⊎ RefusesClasses limits document files r

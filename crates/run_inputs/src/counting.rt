@@ -1,0 +1,27 @@
+//! The traffic classes of a document's policies are counted.
+ghost use Rattle.run_inputs.specs.Counts.{CountsClasses};
+
+use arc_base::{Kind, LimitKind, List, Name};
+use net_model::{Network, Policy};
+use run_files::{Stop, refused};
+use std::alloc::Global;
+use traffic_classes::{ClassFault, all_classes};
+
+/// Counts the traffic classes of the policies over the network, or refuses the document for more than 4,096.
+pub fn count_classes(
+    alloc: Global,
+    document: &Name,
+    net: &Network,
+    policies: &List<Policy>,
+) -> Result<(), Stop>
+    ensures { CountsClasses document.now net.now policies.now result }
+{
+    match all_classes(alloc, net, policies) {
+        Ok(_) => Ok(()),
+        Err(ClassFault::TooMany(count)) => {
+            let kind = Kind::Limit(LimitKind::Classes, count);
+            Err(refused(alloc, document, 0, kind))
+        }
+        Err(ClassFault::Memory) => Err(Stop::Memory),
+    }
+}

@@ -1,0 +1,10 @@
+//! What a command over a document begins with: the document, the router files that it names, and their network, or the first
+//! refusal of these in its order. The classes of the policies are counted here too, for the commands that judge.
+#![tactic(auto)]
+
+mod counting;
+mod inputs;
+pub mod laws;
+
+pub use counting::count_classes;
+pub use inputs::{Input, Sources, read_document, read_files, read_input, read_sources};
