@@ -1,0 +1,135 @@
+-- How long the texts of a generated network are, and how many of each there are.
+use Rattle.std.proofs.Common.{◌≡◌, ℕ, zero, suc, ◌+◌, ◌*◌, ◌^◌, ◌<◌, ◌≤◌, Bool, true, false, cond, List, [], ◌∷◌, ◌++◌, length, length-append, refl, ◌∙◌, ap, arith}
+use Rattle.std.specs.Prelude.{map, filter, All, codes, decimal, ◌==◌, if◌then◌else◌}
+use Rattle.std.specs.List.{flat_map, range_with_len, AllZip}
+use Rattle.std.proofs.lemmas.Fmt.{length-decimal-le}
+use Rattle.std.proofs.lemmas.List.FromFn.{length-range_with_len, length-map-range_with_len}
+use Rattle.std.proofs.lemmas.List.Elements.{All-cons}
+use Rattle.net_gen.specs.Plans.{numbers, link_count, a_router, has_end, port}
+use Rattle.net_gen.specs.RouterFiles.{name_line, face_line, address_line, face_lines, name_lines, host_lines, link_lines, links_lines, process_lines, router_lines, ended, text_of}
+use Rattle.net_gen.specs.Generated.{asked, asked_around, router_texts}
+use Rattle.net_gen.proofs.Counted.{text_of-append, file_text}
+
+-- a filter keeps no more than there is
+kept_at_most : (b : Bool) (x : ℕ) (xs : List ℕ) → length (cond b (x ∷ xs) xs) ≤ length xs + 1
+kept_at_most true x xs = omega arith
+kept_at_most false x xs = omega arith
+
+filtered_at_most : (P : ℕ → Bool) (xs : List ℕ) → length (filter P xs) ≤ length xs
+filtered_at_most P [] = omega arith
+filtered_at_most P (x ∷ xs) = omega (arith, kept_at_most (P x) x (filter P xs), filtered_at_most P xs)
+
+port_at_most : (n router link : ℕ) → port n router link ≤ link
+port_at_most n router link = omega (arith, filtered_at_most (has_end n router) (numbers link), length-range_with_len 1 link)
+
+-- a number below 1,000 has at most three digits
+three_digits : (n : ℕ) → n < 1000 → length (decimal n) ≤ 3
+three_digits n few = length-decimal-le 3 n (omega arith) (omega (arith, few)) (omega (arith, few))
+
+end_at_most : (b : Bool) → (if b then 1 else 2) < 1000
+end_at_most true = omega arith
+end_at_most false = omega arith
+
+address_length : (b c d : ℕ) (mask : List ℕ) → b < 1000 → c < 1000 → d < 1000 → length mask ≤ 15 → length (address_line b c d mask) ≤ 42
+unfolding address_line
+address_length b c d mask few_b few_c few_d short =
+    let t1 : List ℕ = codes " ip address 10." ++ decimal b in
+    let t2 : List ℕ = t1 ++ codes "." in
+    let t3 : List ℕ = t2 ++ decimal c in
+    let t4 : List ℕ = t3 ++ codes "." in
+    let t5 : List ℕ = t4 ++ decimal d in
+    let t6 : List ℕ = t5 ++ codes " " in
+    omega (
+      arith,
+      short,
+      three_digits b few_b,
+      three_digits c few_c,
+      three_digits d few_d,
+      length-append (codes " ip address 10.") (decimal b),
+      length-append t1 (codes "."),
+      length-append t2 (decimal c),
+      length-append t3 (codes "."),
+      length-append t4 (decimal d),
+      length-append t5 (codes " "),
+      length-append t6 mask,
+    )
+
+-- the lines of an interface are short
+face_length : (number b c d : ℕ) (mask : List ℕ) → number < 1000 → b < 1000 → c < 1000 → d < 1000 → length mask ≤ 15 → length (text_of (face_lines number b c d mask)) ≤ 80
+face_length number b c d mask few few_b few_c few_d short =
+    let head : List ℕ = face_line number in
+    let address : List ℕ = address_line b c d mask in
+    let last : List ℕ = codes "!\n" in
+    omega (
+      arith,
+      three_digits number few,
+      address_length b c d mask few_b few_c few_d short,
+      length-append (codes "interface GigabitEthernet0/") (decimal number),
+      length-append head (codes "\n"),
+      length-append address (codes "\n"),
+      length-append (ended address) last,
+      length-append (ended head) (ended address ++ last),
+    )
+
+module _ (n router : ℕ) where
+  link_length : (link : ℕ) → link < 1000 → length (text_of (link_lines n router link)) ≤ 80
+  link_length link few =
+      face_length (port n router link) 0 link (if a_router n link == router then 1 else 2) (codes "255.255.255.252")
+      (omega (arith, few, port_at_most n router link)) (omega arith) few (end_at_most (a_router n link == router)) (omega arith)
+
+  kept_length : (b : Bool) (link : ℕ) (links : List ℕ) → link < 1000 →
+      length (text_of (flat_map (link_lines n router) (cond b (link ∷ links) links))) ≤ 80 + length (text_of (flat_map (link_lines n router) links))
+  kept_length true link links few =
+      let rest = flat_map (link_lines n router) links in
+      omega (arith, link_length link few, ap length (text_of-append (link_lines n router link) rest), length-append (text_of (link_lines n router link)) (text_of rest))
+  kept_length false link links few = omega arith
+
+  links_length : (a k : ℕ) → a + k ≤ 1000 → length (text_of (links_lines n router (range_with_len a k))) ≤ 80 * k
+  links_length a zero few = omega arith
+  links_length a (suc k) few =
+      omega (arith, kept_length (has_end n router a) a (filter (has_end n router) (range_with_len (a + 1) k)) (omega (arith, few)), links_length (a + 1) k (omega (arith, few)))
+
+names_length : (router : ℕ) → router < 1000 → length (text_of (name_lines router)) ≤ 16
+names_length router few =
+    let name : List ℕ = name_line router in
+    omega (arith, three_digits router few, length-append (codes "hostname r") (decimal router), length-append name (codes "\n"), length-append (ended name) (codes "!\n"))
+
+pub text_length : (n router : ℕ) → n ≤ 40 → router < 1000 → length (text_of (router_lines n router)) < 2 ^ 32
+text_length n router few few_router =
+    let names : List ℕ = text_of (name_lines router) in
+    let host : List ℕ = text_of (host_lines router) in
+    let links : List ℕ = text_of (links_lines n router (numbers (link_count n))) in
+    let process : List ℕ = text_of process_lines in
+    let process_length : length process ≡ 60 = refl in
+    omega (
+      arith,
+      few,
+      names_length router few_router,
+      face_length 0 router 0 1 (codes "255.255.255.0") (omega arith) few_router (omega arith) (omega arith) (omega arith),
+      links_length n router 1 (link_count n) (omega (arith, few)),
+      ap length (file_text n router),
+      process_length,
+      length-append links process,
+      length-append host (links ++ process),
+      length-append names (host ++ (links ++ process)),
+    )
+
+texts_from : (n a k : ℕ) → n ≤ 40 → a + k ≤ 1000 → All (λ (text : List ℕ). length text < 2 ^ 32) (map (λ (router : ℕ). text_of (router_lines n router)) (range_with_len a k))
+texts_from n a zero few within = λ i d l. absurd (omega (arith, l))
+texts_from n a (suc k) few within =
+    All-cons (λ (text : List ℕ). length text < 2 ^ 32) (text_of (router_lines n a)) (map (λ (router : ℕ). text_of (router_lines n router)) (range_with_len (a + 1) k))
+    (text_length n a few (omega (arith, within))) (texts_from n (a + 1) k few (omega (arith, within)))
+
+-- each file has fewer than 2^32 bytes
+pub texts_length : (n : ℕ) → n ≤ 40 → All (λ (text : List ℕ). length text < 2 ^ 32) (router_texts n)
+texts_length n few = texts_from n 1 n few (omega (arith, few))
+
+pub AllZip-length : {X Y : Type 0} (R : X → Y → Type 0) (xs : List X) (ys : List Y) → AllZip R xs ys → length xs ≡ length ys
+AllZip-length R [] [] h = refl
+AllZip-length R [] (y ∷ ys) h = absurd h
+AllZip-length R (x ∷ xs) [] h = absurd h
+AllZip-length R (x ∷ xs) (y ∷ ys) h = ap suc (AllZip-length R xs ys h.1)
+
+-- as many policies as routers, and one more
+pub asked_length : (n : ℕ) → length (asked n) ≡ n + 1
+asked_length n = length-append (map (asked_around n) (numbers n)) (_ ∷ []) ∙ ap (λ (k : ℕ). k + 1) (length-map-range_with_len (asked_around n) 1 n)
