@@ -1,17 +1,4 @@
 pub mod Words
-pub mod Refusals
-pub mod Reading
-pub mod Rejections
-pub mod Inputs
-pub mod Counts
-pub mod Verifies
-pub mod Traces
-pub mod TracedInputs
-pub mod Formulas
-pub mod Lrats
-pub mod Cores
-pub mod Solves
 pub mod Outcomes
 pub mod Runs
 pub mod Headline
-pub mod Checks

@@ -1,40 +1,58 @@
 -- The outcomes that are defined for the words and for what the names hold.
-use Rattle.std.specs.Prelude.{◌≡◌, ℕ, ◌≤◌, List, [], Option, Some, None, Result, Ok, Err}
-use Rattle.arc_base.specs.declared.refusal.Kind.TheVariants.{Missing}
+use Rattle.std.specs.Prelude.{ℕ, List, [], Option, Some, None, IfSome}
 use Rattle.arc_outside.specs.Files.{Files}
 use Rattle.command_words.specs.declared.commands.Command.{Command}
-use Rattle.command_words.specs.declared.commands.Command.TheVariants.{Verify, Trace, Check, Solve, Lrat}
-use Rattle.arc_run.specs.declared.outcome.Done.{Done}
-use Rattle.arc_run.specs.declared.outcome.FileRefusal.{FileRefusal}
-use Rattle.arc_run.specs.declared.outcome.Reason.TheVariants as reasons
+use Rattle.command_words.specs.declared.commands.Command.TheVariants.{Verify, Trace, Check, Solve, Lrat, Nodes, Prefers, Recheck}
+use Rattle.run_files.specs.declared.limits.Limits.TheVariants.{Judging}
+use Rattle.run_files.specs.declared.outcome.Done.{Done}
+use Rattle.run_files.specs.declared.outcome.FileRefusal.{FileRefusal}
+use Rattle.run_files.specs.Answers.{HasRefusalCause, IsJudging}
+use Rattle.run_inputs.specs.Counts.{IsJudgingRefusal}
+use Rattle.run_files.specs.Refusals.{refusal_line}
+use Rattle.cnf_commands.specs.Lrats.{IsJudged, IsLratRefusal}
+use Rattle.cnf_commands.specs.Solves.{IsSolved, IsSolveRefusal, WritesProof}
+use Rattle.verify_commands.specs.Checks.{IsChecked, IsCheckRefusal}
+use Rattle.verify_commands.specs.Traces.{IsTraced, IsTraceRefusal}
+use Rattle.verify_commands.specs.Verifies.{IsVerified}
+use Rattle.reach_commands.specs.Nodes.{IsNodesAnswer, IsNodesRefusal}
+use Rattle.reach_commands.specs.PreferRuns.{IsPrefersAnswer, IsPrefersRefusal}
+use Rattle.reach_commands.specs.RecheckRuns.{IsRecheckAnswer, IsRecheckRefusal}
 use Rattle.arc_run.specs.declared.outcome.Outcome.{Outcome}
 use Rattle.arc_run.specs.declared.outcome.Outcome.TheVariants as outcomes
-use Rattle.arc_run.specs.declared.outcome.Stop.{Stop}
-use Rattle.arc_run.specs.declared.outcome.Stop.TheVariants as stops
 use Rattle.arc_run.specs.Words.{usage}
-use Rattle.arc_run.specs.Refusals.{refusal_line}
-use Rattle.arc_run.specs.Counts.{IsJudgingRefusal}
-use Rattle.arc_run.specs.Verifies.{IsVerified}
-use Rattle.arc_run.specs.Traces.{IsTraceRefusal, IsTraced}
-use Rattle.arc_run.specs.Lrats.{lrat_refusal, IsJudged}
-use Rattle.arc_run.specs.Checks.{IsCheckRefusal, IsChecked}
-use Rattle.arc_run.specs.Solves.{solve_refusal, IsSolved}
 
 -- the first refusal of a command
 abbrev pub IsRefusal : Command → Files → FileRefusal → Type 0
-IsRefusal (Verify document) files r = IsJudgingRefusal document files r
-IsRefusal (Trace words) files r = IsTraceRefusal words files r
-IsRefusal (Lrat cnf proof) files r = lrat_refusal cnf proof files ≡ Some r
-IsRefusal (Check document certificate) files r = IsCheckRefusal document certificate files r
-IsRefusal (Solve words) files r = solve_refusal words files ≡ Some r
+IsRefusal (Verify document) = IsJudgingRefusal Judging document
+IsRefusal (Trace words) = IsTraceRefusal words
+IsRefusal (Check document certificate) = IsCheckRefusal document certificate
+IsRefusal (Solve words) = IsSolveRefusal words
+IsRefusal (Lrat cnf proof) = IsLratRefusal cnf proof
+IsRefusal (Nodes words) = IsNodesRefusal words
+IsRefusal (Prefers words) = IsPrefersRefusal words
+IsRefusal (Recheck words) = IsRecheckRefusal words
 
 -- what a command may answer where it is not refused
 abbrev pub IsAnswer : Command → Files → Done → Type 0
-IsAnswer (Verify document) files done = IsVerified document files done
-IsAnswer (Trace words) files done = IsTraced words files done
-IsAnswer (Check document certificate) files done = IsChecked document certificate files done
-IsAnswer (Solve words) files done = IsSolved words files done
-IsAnswer (Lrat cnf proof) files done = IsJudged cnf proof files done
+IsAnswer (Verify document) = IsVerified document
+IsAnswer (Trace words) = IsTraced words
+IsAnswer (Check document certificate) = IsChecked document certificate
+IsAnswer (Solve words) = IsSolved words
+IsAnswer (Lrat cnf proof) = IsJudged cnf proof
+IsAnswer (Nodes words) = IsNodesAnswer words
+IsAnswer (Prefers words) = IsPrefersAnswer words
+IsAnswer (Recheck words) = IsRecheckAnswer words
+
+-- what an answer of a command is, whatever the store holds: which statuses it has, and which files it writes
+abbrev pub IsOwn : Command → Done → Type 0
+IsOwn (Verify document) = IsJudging
+IsOwn (Trace words) = IsJudging
+IsOwn (Check document certificate) = IsJudging
+IsOwn (Solve words) = WritesProof words
+IsOwn (Lrat cnf proof) = IsJudging
+IsOwn (Nodes words) = IsJudging
+IsOwn (Prefers words) = IsJudging
+IsOwn (Recheck words) = IsJudging
 
 -- the text of an outcome, the files that it writes in order, and its status
 abbrev pub text_of : Outcome → List ℕ
@@ -52,42 +70,17 @@ status_of outcomes.Usage = 4
 status_of (outcomes.Refused r) = 5
 status_of (outcomes.Done d) = d.status
 
--- What a command may end with over these files: its first refusal, or an answer. Over a store that does not tell what
--- it holds, any refusal and any answer.
-abbrev pub IsRefused : Command → Option Files → FileRefusal → Type 0
-IsRefused command None r = Unit {0}
-IsRefused command (Some files) r = IsRefusal command files r
-
-abbrev pub IsDone : Command → Option Files → Done → Type 0
-IsDone command None done = Unit {0}
-IsDone command (Some files) done = IsAnswer command files done
-
--- The defined outcomes: the usage line exactly where the words match no command.
+-- The defined outcomes: the usage line exactly where the words match no command, and else a command's first refusal or one of
+-- its answers. Over a store that does not tell what it holds, any refusal and any of the command's own answers.
 abbrev pub IsDefined : Option Command → Option Files → Outcome → Type 0
 IsDefined None held outcomes.Usage = Unit {0}
 IsDefined None held (outcomes.Refused r) = ⊥
 IsDefined None held (outcomes.Done d) = ⊥
 IsDefined (Some command) held outcomes.Usage = ⊥
-IsDefined (Some command) held (outcomes.Refused r) = IsRefused command held r
-IsDefined (Some command) held (outcomes.Done d) = (d.status ≤ 3) × IsDone command held d
+IsDefined (Some command) held (outcomes.Refused r) = IfSome held (λ files. IsRefusal command files r)
+IsDefined (Some command) held (outcomes.Done d) = IsOwn command d × IfSome held (λ files. IsAnswer command files d)
 
--- What the function of a command answers is defined.
-abbrev pub Answers : Command → Option Files → Result Done Stop → Type 0
-Answers command held (Ok d) = (d.status ≤ 3) × IsDone command held d
-Answers command held (Err (stops.Refused r)) = IsRefused command held r
-Answers command held (Err stops.Memory) = Unit {0}
-Answers command held (Err stops.Failed) = Unit {0}
-
--- A missing file is refused only where the count of absences rose, and a failure is told only where the count of faults
--- rose.
-abbrev pub HasRefusalCause : Type 0 → FileRefusal → Type 0
-HasRefusalCause absent r = r.reason ≡ reasons.Kind Missing → absent
-
-abbrev pub HasStopCause : Type 0 → Type 0 → Stop → Type 0
-HasStopCause failed absent stops.Memory = Unit {0}
-HasStopCause failed absent stops.Failed = failed
-HasStopCause failed absent (stops.Refused r) = HasRefusalCause absent r
-
+-- a missing file is refused only where the count of absences rose
 abbrev pub HasOutcomeCause : Type 0 → Outcome → Type 0
 HasOutcomeCause absent outcomes.Usage = Unit {0}
 HasOutcomeCause absent (outcomes.Refused r) = HasRefusalCause absent r

@@ -5,11 +5,11 @@ ghost use Rattle.arc_outside.specs.Files.{WhereTold};
 ghost use Rattle.arc_run.specs.Outcomes.{text_of, writes_of, status_of};
 ghost use Rattle.arc_run.specs.Runs.{WasPut, WereWritten, FailsWithin};
 
-use crate::files::write_all;
-use crate::outcome::{Done, Outcome, Status};
-use crate::refusals::line_of;
+use crate::outcome::{Outcome, Status};
+use crate::writing::write_all;
 use arc_base::{List, Memory, Name};
 use arc_outside::{Fault, Sink, Store};
+use run_files::{Done, line_of};
 use std::alloc::Global;
 
 // Puts some of the text from this place on.
@@ -53,7 +53,7 @@ fn plan(alloc: Global, outcome: Outcome) -> Result<Done, Memory>
         Outcome::Usage => Ok(Done {
             text: Name::make(
                 alloc,
-                b"usage: arcv verify|trace|repair|check|apply|solve|lrat|generate\n",
+                b"usage: arcv verify|trace|repair|check|apply|solve|lrat|generate|nodes|prefers|recheck\n",
             )?,
             writes: List::make(alloc),
             status: 4,

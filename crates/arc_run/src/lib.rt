@@ -3,24 +3,14 @@
 //! there is no answer.
 #![tactic(auto)]
 
-mod checking;
 mod ending;
-mod files;
-mod formulas;
-mod inputs;
-pub mod laws;
-mod lrat_check;
 mod outcome;
-mod refusals;
-mod rejections;
-mod solving;
 mod surely;
 mod top;
-mod tracing;
-mod verifying;
+mod writing;
 
-pub use command_words::{Command, SolveWords, TraceWords};
-pub use inputs::Input;
-pub use outcome::{Done, FileRefusal, Outcome, Reason, Status, Stop};
+pub use command_words::{Command, NodesWords, PrefersWords, RecheckWords, SolveWords, TraceWords};
+pub use outcome::{Outcome, Status};
+pub use run_files::{Done, FileRefusal, Reason, Stop};
 pub use surely::run_surely;
 pub use top::run;

@@ -1,22 +1,22 @@
 //! The top call.
-ghost use Rattle.std.specs.Prelude.{◌≡◌, ◌⊎◌, ◌<◌, ◌≤◌, List, ℕ, Some, None, IfSome, IsSomeAnd, IfOk, IfErr, IsErrOf};
+ghost use Rattle.std.specs.Prelude.{◌≡◌, ◌⊎◌, ◌<◌, ◌≤◌, Some, None, IfSome, IsSomeAnd, IfOk, IsErrOf};
 ghost use Rattle.arc_outside.specs.Causes.{Rose};
-ghost use Rattle.arc_run.specs.Headline.{TellsVerdicts, TellsTrace, TellsCheck, TellsRefutation, TellsSolution};
 ghost use Rattle.command_words.specs.Commands.{command_of, HasLimit};
-ghost use Rattle.arc_run.specs.Outcomes.{Answers, HasStopCause, IsDefined, HasOutcomeCause};
+ghost use Rattle.run_files.specs.Answers.{Answers, OnlyReads};
+ghost use Rattle.arc_run.specs.Headline.{Tells};
+ghost use Rattle.arc_run.specs.Outcomes.{HasOutcomeCause, IsAnswer, IsDefined, IsOwn, IsRefusal, status_of};
 ghost use Rattle.arc_run.specs.Runs.{Runs};
 
-use crate::checking::check;
 use crate::ending::finish;
-use crate::lrat_check::lrat;
-use crate::outcome::{Done, Outcome, Status, Stop};
-use crate::solving::solve;
-use crate::tracing::trace;
-use crate::verifying::verify;
+use crate::outcome::{Outcome, Status};
 use arc_base::Name;
 use arc_outside::{Sink, Store};
-use command_words::{Command, SolveWords, TraceWords, read_words};
+use cnf_commands::{lrat, solve};
+use command_words::{Command, read_words};
+use reach_commands::{nodes, prefers, recheck};
+use run_files::{Done, Stop};
 use std::alloc::Global;
+use verify_commands::{check, trace, verify};
 
 // Why a run has no outcome.
 #[derive(Clone, Copy, Debug, PartialEq, Eq)]
@@ -28,11 +28,8 @@ enum Halt {
 // Runs the function of the command.
 fn answer<S: Store>(alloc: Global, command: &Command, store: &mut S) -> Result<Done, Stop>
     requires { HasLimit command.now }
-    ensures answer { Answers command.now (S.held store.old) result }
-    ensures same { S.held store.new ≡ S.held store.old }
-    ensures cause { IfErr result (HasStopCause (Rose (S.faults store.old) (S.faults store.new)) (Rose (S.absences store.old) (S.absences store.new))) }
-    ensures faults { S.faults store.old ≤ S.faults store.new }
-    ensures absences { S.absences store.old ≤ S.absences store.new }
+    ensures answer { Answers (IsOwn command.now) (IsRefusal command.now) (IsAnswer command.now) (S.held store.old) result }
+    ensures reads { OnlyReads S.held S.faults S.absences store.old store.new result }
 {
     match command {
         Command::Verify(document) => verify(alloc, document, store),
@@ -40,12 +37,16 @@ fn answer<S: Store>(alloc: Global, command: &Command, store: &mut S) -> Result<D
         Command::Check(document, certificate) => check(alloc, document, certificate, store),
         Command::Solve(words) => solve(alloc, words, store),
         Command::Lrat(cnf, proof) => lrat(alloc, cnf, proof, store),
+        Command::Nodes(words) => nodes(alloc, words, store),
+        Command::Prefers(words) => prefers(alloc, words, store),
+        Command::Recheck(words) => recheck(alloc, words, store),
     }
 }
 
 // Finds the outcome that the words and the files define. It writes nothing.
 fn perform<S: Store>(alloc: Global, words: &[Name], store: &mut S) -> Result<Outcome, Halt>
     ensures defined { IfOk result (λ outcome. IsDefined (command_of words.now) (S.held store.old) outcome) }
+    ensures small { IfOk result (λ outcome. status_of outcome ≤ 5) }
     ensures cause { IfOk result (λ outcome. HasOutcomeCause (Rose (S.absences store.old) (S.absences store.new)) outcome) }
     ensures failed { IsErrOf result Halt.Failed → Rose (S.faults store.old) (S.faults store.new) }
     ensures failed_in_command { IsErrOf result Halt.Failed → command_of words.now ≡ None → ⊥ }
@@ -95,38 +96,11 @@ pub fn run<S: Store, K: Sink>(alloc: Global, words: &[Name], store: &mut S, out:
     ensures usage { result.code ≡ 4 → command_of words.now ≡ None }
     ensures no_command { command_of words.now ≡ None → (result.code ≡ 4) ⊎ (7 ≤ result.code) }
 
-    // The five clauses below speak of a store that tells what it holds (`S.held`). Over one that tells nothing of its content they
-    // say nothing, and of the clause `runs` only the causes of the statuses are left.
-
-    // The headline. Where `verify` ends with a status below 6, that is 0 exactly where the document and its router files have a
-    // network and stable forwarding meets every policy in it under every set of failed links that the policy speaks of,
-    // 1 exactly where they have a network that breaks a policy or has a reach policy that is not clear, and 5 exactly where they
-    // are refused.
-    ensures verified { (document : List ℕ) → command_of words.now ≡ Some (Command.Verify document) →
-        result.code < 6 → IfSome (S.held store.old) (TellsVerdicts document result.code) }
-
-    // Where `trace` ends with a status below 6, that is 0 exactly where the document and its router files have a network with
-    // the links and the prefixes, and 5 exactly where they are refused.
-    ensures traced { (trace : TraceWords) → command_of words.now ≡ Some (Command.Trace trace) →
-        result.code < 6 → IfSome (S.held store.old) (TellsTrace trace result.code) }
-
-    // Where `check` ends with a status below 6, that is 0 exactly where the certificate is a report with one block for each
-    // policy of the document in order, each with a right verdict over the network of the files, and then each verdict is true;
-    // 1 exactly where they have a network and it is no such report, and 5 exactly where they are refused.
-    ensures checked { (document certificate : List ℕ) → command_of words.now ≡ Some (Command.Check document certificate) →
-        result.code < 6 → IfSome (S.held store.old) (TellsCheck document certificate result.code) }
-
-    // Where `lrat` ends with a status below 6, that is 0 exactly where the proof is an accepted log for the formula that adds
-    // the empty clause, and then no assignment satisfies the formula; 1 exactly where it is none, and 5 exactly where the
-    // formula or the proof is refused.
-    ensures refuted { (cnf proof : List ℕ) → command_of words.now ≡ Some (Command.Lrat cnf proof) →
-        result.code < 6 → IfSome (S.held store.old) (TellsRefutation cnf proof result.code) }
-
-    // Where `solve` ends with a status below 6, some assignment satisfies the formula where it is 0, none does where it is 2,
-    // and it is 5 exactly where the formula or the name of the proof is refused. 3 may come in place of 0 and 2. A proof is written in
-    // all three cases: after 2 it is one that `lrat` accepts, and after 3 it is a log that is spent at the limit.
-    ensures solved { (solve : SolveWords) → command_of words.now ≡ Some (Command.Solve solve) →
-        result.code < 6 → IfSome (S.held store.old) (λ before. IsSomeAnd (S.held store.new) (TellsSolution solve result.code before)) }
+    // The headline: below status 6 the status of each command tells what `Tells` says of it, in the words of the subject, of the
+    // files before and after. It speaks of a store that tells what it holds (`S.held`). Over one that tells nothing of its content
+    // it says nothing, and of the clause `runs` only the causes of the statuses are left, and which command has which status.
+    ensures told { (command : Command) → command_of words.now ≡ Some command → result.code < 6
+        → IfSome (S.held store.old) (λ before. IsSomeAnd (S.held store.new) (Tells command result.code before)) }
 {
     run_defined(alloc, words, store, out)
 }

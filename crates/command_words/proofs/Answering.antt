@@ -1,177 +1,69 @@
--- `clap` refuses the words exactly where they match no command, but for the values' readers, and else it finds what they give.
-use Rattle.std.proofs.Common.{◌≡◌, ◌==◌, ◌&&◌, Bool, true, false, List, [], ◌∷◌, length, Option, Some, None, refl, sym, subst, slice_get, if◌then◌else◌, codes, option_and_then, find, arith, is_some}
-use Rattle.std.specs.List.{list_all}
+-- `clap` refuses the whole line exactly where it matches no command, but for the values' readers, and else it finds what the words give.
+use Rattle.std.proofs.Common.{◌≡◌, ◌∙◌, ◌&&◌, ◌||◌, Bool, true, false, List, [], ◌∷◌, map, Option, Some, None, refl, sym, ap, subst, if◌then◌else◌, codes, option_and_then, find}
+use Rattle.std.specs.List.{AllByRecursion, list_all}
 use Rattle.std.specs.Str.{bytes_eq, is_utf8}
-use Rattle.std.proofs.lemmas.Bool.{and_parts, eqb-true}
+use Rattle.std.proofs.lemmas.Bool.{and_parts}
 use Rattle.std.proofs.lemmas.Slice.Eq.{bytes_eq-Decides}
-use Rattle.clap.specs.Walk.{Row, Rule, Text, answers_to, first_of, rows_after}
-use Rattle.clap.specs.Simple.{subcommand_of}
+use Rattle.clap.specs.Walk.{Row, Text, answers_to, nothing_held, rows_after}
+use Rattle.clap.specs.Simple.{Shape, label_of, subcommand_of}
 use Rattle.clap.specs.Kinds.{Kinds, or_else}
-use Rattle.clap.specs.Faults.{fault_of}
-use Rattle.command_words.specs.Words.{Given, arguments_of, positionals, value_of}
-use Rattle.command_words.specs.Commands.{check_by, command_in, lrat_by, solve_by, trace_by, verify_by}
+use Rattle.clap.specs.Faults.{fault_of, level_fault}
+use Rattle.command_words.specs.Commands.{Form, command_among, command_in, forms, meaning}
 use Rattle.command_words.specs.Grammar.{app}
-use Rattle.command_words.specs.Matched.{matched_check, matched_command, matched_lrat, matched_solve, matched_trace, matched_verify}
+use Rattle.command_words.specs.Matched.{matched_command}
 use Rattle.command_words.specs.declared.commands.Command.{Command}
-use Rattle.command_words.proofs.Rules.{Reads, first_empty}
-use Rattle.command_words.proofs.WalkStates.{leaf}
-use Rattle.command_words.proofs.Levels.{Level, Values, is_whole, level, level_law, rows, whole}
-use Rattle.command_words.proofs.Entering.{check_rules, entered_fault_is, entered_rows, lrat_rules, names, no_word, solve_rules, trace_rules, unnamed, verify_rules}
-use Rattle.command_words.proofs.Readings.{check_ids, check_reads, lrat_ids, lrat_reads, solve_ids, solve_needed, solve_options, solve_reads, trace_ids, trace_options, trace_reads, verify_ids, verify_reads}
+use Rattle.command_words.proofs.Entering.{commands, entered_fault_is, entered_rows, form_label, form_rules, form_shape, names, no_word, unnamed}
+use Rattle.command_words.proofs.FormLaws.{Answer, Law}
+use Rattle.command_words.proofs.OptionForms.{solve_law, trace_law}
+use Rattle.command_words.proofs.PlainForms.{check_law, lrat_law, nodes_law, prefers_law, recheck_law, verify_law}
+use Rattle.command_words.proofs.Rules.{first_empty}
 
--- where `clap` refuses the words mean nothing, and else they mean what it found
-pub record Answer (kinds : Kinds) (found meant : Option Command) : Type 0 where
-  pub taken : kinds ≡ [] → found ≡ meant
-  pub refused : (kinds ≡ [] → ⊥) → meant ≡ None
+-- ---- the table
 
--- a command answers, where it does so with the words that it shows, and means nothing with others
-module _ (title : Text) (c : List Rule) (ids options needed : List Text) (r : Reads c ids options needed) (by : List Given → Option Command) (matched : List Row → Option Command)
-    (fits : (words : List Text) (given : List Given) → is_whole title c ids options needed r given ≡ true → Values title c ids options needed r words given
-    → matched (rows title c ids options needed r words) ≡ by given)
-    (unfit : (given : List Given) → is_whole title c ids options needed r given ≡ false → by given ≡ None) where
-  answers : (words : List Text) → list_all is_utf8 words ≡ true
-      → Answer (level title c ids options needed r words) (matched (rows title c ids options needed r words)) (option_and_then by (arguments_of options words))
-  answers words texts = go (arguments_of options words) (level_law title c ids options needed r words texts)
-    where
-      some : (given : List Given) (t : Bool) → is_whole title c ids options needed r given ≡ t → Level title c ids options needed r words (if t then Some given else None)
-          → Answer (level title c ids options needed r words) (matched (rows title c ids options needed r words)) (by given)
-      some given true same v = record { taken = λ e. fits words given same v; refused = λ h. absurd (h v.passes) }
-      some given false apart h = record { taken = λ e. absurd (h e); refused = λ no. unfit given apart }
+all_laws : AllByRecursion Law forms
+all_laws = (verify_law, (trace_law, (check_law, (solve_law, (lrat_law, (nodes_law, (prefers_law, (recheck_law, tt))))))))
 
-      go : (o : Option (List Given)) → Level title c ids options needed r words (whole title c ids options needed r o)
-          → Answer (level title c ids options needed r words) (matched (rows title c ids options needed r words)) (option_and_then by o)
-      go None h = record { taken = λ e. absurd (h e); refused = λ no. refl }
-      go (Some given) h = some given (is_whole title c ids options needed r given) refl h
+abbrev is_called : Text → Form → Bool
+is_called word form = bytes_eq form.name word
 
--- ---- each command
+or_none : (b : Bool) → (b || false) ≡ b
+or_none true = refl
+or_none false = refl
 
-verify_fits : (words : List Text) (given : List Given) → (length (positionals given) == 1) ≡ true → Values (codes "verify") verify_rules verify_ids [] [] verify_reads words given
-    → matched_verify (rows_after verify_rules [] words) ≡ verify_by (positionals given)
-verify_fits words given same v = go (positionals given) same (v.places 0 (codes "document") refl)
+-- a command that is found in a table is found among its names and shapes, and has its law
+pub record Found (word : Text) (table : List Form) (form : Form) : Type 0 where
+  pub name : form.name ≡ word
+  pub label : find (answers_to word) (map form_label table) ≡ Some (form_label form)
+  pub shape : find (λ c. answers_to word (label_of c)) (map form_shape table) ≡ Some (form_shape form)
+  pub law : Law form
+
+some_is : (f g : Form) → Some f ≡ Some g → f ≡ g
+some_is f g e = cc
+
+found_in : (word : Text) (table : List Form) (form : Form) → AllByRecursion Law table → find (is_called word) table ≡ Some form → Found word table form
+found_in word [] form laws is = absurd (cc)
+found_in word (f ∷ fs) form laws is = go (bytes_eq f.name word) refl (found_in word fs form laws.1) is
   where
-    go : (ps : List Text) → (length ps == 1) ≡ true → first_of (codes "document") (rows_after verify_rules [] words) ≡ slice_get ps 0
-        → matched_verify (rows_after verify_rules [] words) ≡ verify_by ps
-    go [] e document = absurd (cc)
-    go (d ∷ []) e document = rw document refl
-    go (d ∷ x ∷ ps) e document =
-        let count : length (d ∷ x ∷ ps) ≡ 1 = eqb-true _ _ e in
-        absurd (omega arith)
+    go : (t : Bool) → bytes_eq f.name word ≡ t → (find (is_called word) fs ≡ Some form → Found word fs form) → (if t then Some f else find (is_called word) fs) ≡ Some form → Found word (f ∷ fs) form
+    go true e rest is =
+        let same : f ≡ form = some_is f form is in
+        subst (λ (g : Form). Found word (f ∷ fs) g) same (record {
+          name = (bytes_eq-Decides f.name word).0 e;
+          label = rw e refl;
+          shape = rw e refl;
+          law = laws.0;
+        })
+    go false e rest is =
+        let later = rest is in
+        record { name = later.name; label = rw e later.label; shape = rw e later.shape; law = later.law }
 
-verify_unfit : (given : List Given) → (length (positionals given) == 1) ≡ false → verify_by (positionals given) ≡ None
-verify_unfit given apart = go (positionals given) apart
+none_in : (word : Text) (table : List Form) → find (is_called word) table ≡ None → find (answers_to word) (map form_label table) ≡ None
+none_in word [] is = refl
+none_in word (f ∷ fs) is = go (bytes_eq f.name word) refl (none_in word fs) is
   where
-    go : (ps : List Text) → (length ps == 1) ≡ false → verify_by ps ≡ None
-    go [] e = refl
-    go (d ∷ []) e = absurd (cc)
-    go (d ∷ x ∷ ps) e = refl
-
-check_fits : (words : List Text) (given : List Given) → (length (positionals given) == 2) ≡ true → Values (codes "check") check_rules check_ids [] [] check_reads words given
-    → matched_check (rows_after check_rules [] words) ≡ check_by (positionals given)
-check_fits words given same v = go (positionals given) same (v.places 0 (codes "document") refl) (v.places 1 (codes "certificate") refl)
-  where
-    go : (ps : List Text) → (length ps == 2) ≡ true → first_of (codes "document") (rows_after check_rules [] words) ≡ slice_get ps 0
-        → first_of (codes "certificate") (rows_after check_rules [] words) ≡ slice_get ps 1
-        → matched_check (rows_after check_rules [] words) ≡ check_by ps
-    go [] e first second = absurd (cc)
-    go (d ∷ []) e first second = absurd (cc)
-    go (d ∷ x ∷ []) e first second = rw (first, second) refl
-    go (d ∷ x ∷ y ∷ ps) e first second =
-        let count : length (d ∷ x ∷ y ∷ ps) ≡ 2 = eqb-true _ _ e in
-        absurd (omega arith)
-
-check_unfit : (given : List Given) → (length (positionals given) == 2) ≡ false → check_by (positionals given) ≡ None
-check_unfit given apart = go (positionals given) apart
-  where
-    go : (ps : List Text) → (length ps == 2) ≡ false → check_by ps ≡ None
-    go [] e = refl
-    go (d ∷ []) e = refl
-    go (d ∷ x ∷ []) e = absurd (cc)
-    go (d ∷ x ∷ y ∷ ps) e = refl
-
-lrat_fits : (words : List Text) (given : List Given) → (length (positionals given) == 2) ≡ true → Values (codes "lrat") lrat_rules lrat_ids [] [] lrat_reads words given
-    → matched_lrat (rows_after lrat_rules [] words) ≡ lrat_by (positionals given)
-lrat_fits words given same v = go (positionals given) same (v.places 0 (codes "formula") refl) (v.places 1 (codes "proof") refl)
-  where
-    go : (ps : List Text) → (length ps == 2) ≡ true → first_of (codes "formula") (rows_after lrat_rules [] words) ≡ slice_get ps 0
-        → first_of (codes "proof") (rows_after lrat_rules [] words) ≡ slice_get ps 1
-        → matched_lrat (rows_after lrat_rules [] words) ≡ lrat_by ps
-    go [] e first second = absurd (cc)
-    go (d ∷ []) e first second = absurd (cc)
-    go (d ∷ x ∷ []) e first second = rw (first, second) refl
-    go (d ∷ x ∷ y ∷ ps) e first second =
-        let count : length (d ∷ x ∷ y ∷ ps) ≡ 2 = eqb-true _ _ e in
-        absurd (omega arith)
-
-lrat_unfit : (given : List Given) → (length (positionals given) == 2) ≡ false → lrat_by (positionals given) ≡ None
-lrat_unfit given apart = go (positionals given) apart
-  where
-    go : (ps : List Text) → (length ps == 2) ≡ false → lrat_by ps ≡ None
-    go [] e = refl
-    go (d ∷ []) e = refl
-    go (d ∷ x ∷ []) e = absurd (cc)
-    go (d ∷ x ∷ y ∷ ps) e = refl
-
-abbrev trace_given : List Given → Option Command
-trace_given given = trace_by (value_of (codes "down") given) (positionals given)
-
-trace_fits : (words : List Text) (given : List Given) → (length (positionals given) == 3) ≡ true → Values (codes "trace") trace_rules trace_ids trace_options [] trace_reads words given
-    → matched_trace (rows_after trace_rules [] words) ≡ trace_given given
-trace_fits words given same v =
-    go (positionals given) same (v.places 0 (codes "document") refl) (v.places 1 (codes "from") refl) (v.places 2 (codes "to") refl) (v.named (codes "down") refl)
-  where
-    go : (ps : List Text) → (length ps == 3) ≡ true → first_of (codes "document") (rows_after trace_rules [] words) ≡ slice_get ps 0
-        → first_of (codes "from") (rows_after trace_rules [] words) ≡ slice_get ps 1
-        → first_of (codes "to") (rows_after trace_rules [] words) ≡ slice_get ps 2
-        → first_of (codes "down") (rows_after trace_rules [] words) ≡ value_of (codes "down") given
-        → matched_trace (rows_after trace_rules [] words) ≡ trace_by (value_of (codes "down") given) ps
-    go [] e document from to down = absurd (cc)
-    go (d ∷ []) e document from to down = absurd (cc)
-    go (d ∷ f ∷ []) e document from to down = absurd (cc)
-    go (d ∷ f ∷ t ∷ []) e document from to down = rw (document, from, to, down) refl
-    go (d ∷ f ∷ t ∷ x ∷ ps) e document from to down =
-        let count : length (d ∷ f ∷ t ∷ x ∷ ps) ≡ 3 = eqb-true _ _ e in
-        absurd (omega arith)
-
-trace_unfit : (given : List Given) → (length (positionals given) == 3) ≡ false → trace_given given ≡ None
-trace_unfit given apart = go (positionals given) apart
-  where
-    go : (ps : List Text) → (length ps == 3) ≡ false → trace_by (value_of (codes "down") given) ps ≡ None
-    go [] e = refl
-    go (d ∷ []) e = refl
-    go (d ∷ f ∷ []) e = refl
-    go (d ∷ f ∷ t ∷ []) e = absurd (cc)
-    go (d ∷ f ∷ t ∷ x ∷ ps) e = refl
-
-abbrev solve_given : List Given → Option Command
-solve_given given = solve_by (value_of (codes "proof") given) (value_of (codes "conflicts") given) (positionals given)
-
-abbrev solve_whole : List Given → Bool
-solve_whole given = is_whole (codes "solve") solve_rules solve_ids solve_options solve_needed solve_reads given
-
-solve_fits : (words : List Text) (given : List Given) → solve_whole given ≡ true → Values (codes "solve") solve_rules solve_ids solve_options solve_needed solve_reads words given
-    → matched_solve (rows_after solve_rules [] words) ≡ solve_given given
-solve_fits words given same v =
-    go (positionals given) (value_of (codes "proof") given) same (v.places 0 (codes "formula") refl) (v.named (codes "proof") refl) (v.named (codes "conflicts") refl)
-  where
-    go : (ps : List Text) (o : Option Text) → ((is_some o && true) && (length ps == 1)) ≡ true → first_of (codes "formula") (rows_after solve_rules [] words) ≡ slice_get ps 0
-        → first_of (codes "proof") (rows_after solve_rules [] words) ≡ o
-        → first_of (codes "conflicts") (rows_after solve_rules [] words) ≡ value_of (codes "conflicts") given
-        → matched_solve (rows_after solve_rules [] words) ≡ solve_by o (value_of (codes "conflicts") given) ps
-    go ps None e formula proof conflicts = absurd (cc)
-    go [] (Some p) e formula proof conflicts = absurd (cc)
-    go (f ∷ []) (Some p) e formula proof conflicts = rw (formula, proof, conflicts) refl
-    go (f ∷ x ∷ ps) (Some p) e formula proof conflicts =
-        let count : length (f ∷ x ∷ ps) ≡ 1 = eqb-true _ _ e in
-        absurd (omega arith)
-
-solve_unfit : (given : List Given) → solve_whole given ≡ false → solve_given given ≡ None
-solve_unfit given apart = go (positionals given) (value_of (codes "proof") given) apart
-  where
-    go : (ps : List Text) (o : Option Text) → ((is_some o && true) && (length ps == 1)) ≡ false → solve_by o (value_of (codes "conflicts") given) ps ≡ None
-    go ps None e = refl
-    go [] (Some p) e = refl
-    go (f ∷ []) (Some p) e = absurd (cc)
-    go (f ∷ x ∷ ps) (Some p) e = refl
+    go : (t : Bool) → bytes_eq f.name word ≡ t → (find (is_called word) fs ≡ None → find (answers_to word) (map form_label fs) ≡ None) → (if t then Some f else find (is_called word) fs) ≡ None → find (answers_to word) (map form_label (f ∷ fs)) ≡ None
+    go true e rest is = absurd (cc)
+    go false e rest is = rw e (rest is)
 
 -- ---- the whole line
 
@@ -190,84 +82,40 @@ as_line words kinds found e f a =
     subst (λ (k : Kinds). Answer k (matched_command (subcommand_of app words)) (command_in words)) (sym e)
     (subst (λ (o : Option (Text × List Row)). Answer kinds (matched_command o) (command_in words)) (sym f) a)
 
-verify_line : (words : List Text) → list_all is_utf8 words ≡ true → LineAnswer (codes "verify" ∷ words)
-verify_line words texts =
-    as_line (codes "verify" ∷ words) _ _ (entered_fault_is (codes "verify") (leaf (codes "verify") verify_rules) refl refl refl words)
-    (entered_rows (codes "verify") (leaf (codes "verify") verify_rules) refl refl refl words)
-    (and_no_more _ _ _ (answers (codes "verify") verify_rules verify_ids [] [] verify_reads (λ given. verify_by (positionals given)) matched_verify verify_fits verify_unfit words texts))
+and_false : (b : Bool) → (b && false) ≡ false
+and_false true = refl
+and_false false = refl
 
-trace_line : (words : List Text) → list_all is_utf8 words ≡ true → LineAnswer (codes "trace" ∷ words)
-trace_line words texts =
-    as_line (codes "trace" ∷ words) _ _ (entered_fault_is (codes "trace") (leaf (codes "trace") trace_rules) refl refl refl words)
-    (entered_rows (codes "trace") (leaf (codes "trace") trace_rules) refl refl refl words)
-    (and_no_more _ _ _ (answers (codes "trace") trace_rules trace_ids trace_options [] trace_reads trace_given matched_trace trace_fits trace_unfit words texts))
+-- a line whose first word is this command's name
+form_line : (form : Form) → Found form.name forms form → find (is_called form.name) forms ≡ Some form → (words : List Text) → list_all is_utf8 words ≡ true → LineAnswer (form.name ∷ words)
+form_line form found is words texts =
+    let meant : command_in (form.name ∷ words) ≡ meaning form words = ap (λ (o : Option Form). option_and_then (λ f. meaning f words) o) is in
+    let kinds : Kinds = or_else (level_fault (form_shape form) [] nothing_held words false []) [] in
+    let rows : Option (Text × List Row) = Some (form.name, rows_after (form_rules form) [] words) in
+    as_line (form.name ∷ words) kinds rows
+    (entered_fault_is form.name (form_shape form) found.label found.shape (and_false (bytes_eq form.name (codes "help"))) words)
+    (entered_rows form.name (form_shape form) found.label found.shape (and_false (bytes_eq form.name (codes "help"))) words)
+    (subst (λ (o : Option Command). Answer kinds (matched_command rows) o) (sym meant) (and_no_more _ _ _ (found.law words texts)))
 
-check_line : (words : List Text) → list_all is_utf8 words ≡ true → LineAnswer (codes "check" ∷ words)
-check_line words texts =
-    as_line (codes "check" ∷ words) _ _ (entered_fault_is (codes "check") (leaf (codes "check") check_rules) refl refl refl words)
-    (entered_rows (codes "check") (leaf (codes "check") check_rules) refl refl refl words)
-    (and_no_more _ _ _ (answers (codes "check") check_rules check_ids [] [] check_reads (λ given. check_by (positionals given)) matched_check check_fits check_unfit words texts))
-
-solve_line : (words : List Text) → list_all is_utf8 words ≡ true → LineAnswer (codes "solve" ∷ words)
-solve_line words texts =
-    as_line (codes "solve" ∷ words) _ _ (entered_fault_is (codes "solve") (leaf (codes "solve") solve_rules) refl refl refl words)
-    (entered_rows (codes "solve") (leaf (codes "solve") solve_rules) refl refl refl words)
-    (and_no_more _ _ _ (answers (codes "solve") solve_rules solve_ids solve_options solve_needed solve_reads solve_given matched_solve solve_fits solve_unfit words texts))
-
-lrat_line : (words : List Text) → list_all is_utf8 words ≡ true → LineAnswer (codes "lrat" ∷ words)
-lrat_line words texts =
-    as_line (codes "lrat" ∷ words) _ _ (entered_fault_is (codes "lrat") (leaf (codes "lrat") lrat_rules) refl refl refl words)
-    (entered_rows (codes "lrat") (leaf (codes "lrat") lrat_rules) refl refl refl words)
-    (and_no_more _ _ _ (answers (codes "lrat") lrat_rules lrat_ids [] [] lrat_reads (λ given. lrat_by (positionals given)) matched_lrat lrat_fits lrat_unfit words texts))
-
-back : (a b : Text) → bytes_eq a b ≡ false → bytes_eq b a ≡ false
-back a b e = go (bytes_eq b a) refl
-  where
-    go : (t : Bool) → bytes_eq b a ≡ t → bytes_eq b a ≡ false
-    go true f =
-        let same : b ≡ a = (bytes_eq-Decides b a).0 f in
-        let hit : bytes_eq a b ≡ true = (bytes_eq-Decides a b).1 (sym same) in
-        absurd (cc)
-    go false f = f
-
-other_line : (word : Text) (words : List Text) → is_utf8 word ≡ true → bytes_eq word (codes "verify") ≡ false → bytes_eq word (codes "trace") ≡ false
-    → bytes_eq word (codes "check") ≡ false → bytes_eq word (codes "solve") ≡ false → bytes_eq word (codes "lrat") ≡ false → LineAnswer (word ∷ words)
-other_line word words text v t c s l =
-    let unmet : find (answers_to word) names ≡ None =
-    rw (back word (codes "verify") v, back word (codes "trace") t, back word (codes "check") c, back word (codes "solve") s, back word (codes "lrat") l) refl in
-    record {
-      taken = λ e. absurd (unnamed word words text unmet e);
-      refused = λ h. rw (v, t, c, s, l) refl;
-    }
+other_line : (word : Text) (words : List Text) → is_utf8 word ≡ true → find (is_called word) forms ≡ None → LineAnswer (word ∷ words)
+other_line word words text none = record {
+  taken = λ e. absurd (unnamed word words text (none_in word forms none) e);
+  refused = λ h. ap (λ (o : Option Form). option_and_then (λ f. meaning f words) o) none;
+}
 
 -- the whole line
 pub line_answers : (words : List Text) → list_all is_utf8 words ≡ true → LineAnswer words
 line_answers [] texts = record { taken = λ e. absurd (no_word e); refused = λ h. refl }
-line_answers (word ∷ words) texts = verify_or (bytes_eq word (codes "verify")) refl
+line_answers (word ∷ words) texts = go (find (is_called word) forms) refl
   where
     parts : (is_utf8 word ≡ true) × (list_all is_utf8 words ≡ true)
     parts = and_parts (is_utf8 word) (list_all is_utf8 words) texts
 
-    at : (name : Text) → LineAnswer (name ∷ words) → bytes_eq word name ≡ true → LineAnswer (word ∷ words)
-    at name a e = subst (λ (w : Text). LineAnswer (w ∷ words)) (sym ((bytes_eq-Decides word name).0 e)) a
-
-    lrat_or : bytes_eq word (codes "verify") ≡ false → bytes_eq word (codes "trace") ≡ false → bytes_eq word (codes "check") ≡ false → bytes_eq word (codes "solve") ≡ false
-        → (b : Bool) → bytes_eq word (codes "lrat") ≡ b → LineAnswer (word ∷ words)
-    lrat_or v t c s true e = at (codes "lrat") (lrat_line words parts.1) e
-    lrat_or v t c s false e = other_line word words parts.0 v t c s e
-
-    solve_or : bytes_eq word (codes "verify") ≡ false → bytes_eq word (codes "trace") ≡ false → bytes_eq word (codes "check") ≡ false → (b : Bool) → bytes_eq word (codes "solve") ≡ b → LineAnswer (word ∷ words)
-    solve_or v t c true e = at (codes "solve") (solve_line words parts.1) e
-    solve_or v t c false e = lrat_or v t c e (bytes_eq word (codes "lrat")) refl
-
-    check_or : bytes_eq word (codes "verify") ≡ false → bytes_eq word (codes "trace") ≡ false → (b : Bool) → bytes_eq word (codes "check") ≡ b → LineAnswer (word ∷ words)
-    check_or v t true e = at (codes "check") (check_line words parts.1) e
-    check_or v t false e = solve_or v t e (bytes_eq word (codes "solve")) refl
-
-    trace_or : bytes_eq word (codes "verify") ≡ false → (b : Bool) → bytes_eq word (codes "trace") ≡ b → LineAnswer (word ∷ words)
-    trace_or v true e = at (codes "trace") (trace_line words parts.1) e
-    trace_or v false e = check_or v e (bytes_eq word (codes "check")) refl
-
-    verify_or : (b : Bool) → bytes_eq word (codes "verify") ≡ b → LineAnswer (word ∷ words)
-    verify_or true e = at (codes "verify") (verify_line words parts.1) e
-    verify_or false e = trace_or e (bytes_eq word (codes "trace")) refl
+    go : (o : Option Form) → find (is_called word) forms ≡ o → LineAnswer (word ∷ words)
+    go None is = other_line word words parts.0 is
+    go (Some form) is =
+        let found : Found word forms form = found_in word forms form all_laws is in
+        let P : Text → Type 0 = λ w. Found w forms form in
+        let Q : Text → Type 0 = λ w. find (is_called w) forms ≡ Some form in
+        subst (λ (w : Text). LineAnswer (w ∷ words)) found.name
+        (form_line form (subst P (sym found.name) found) (subst Q (sym found.name) is) words parts.1)

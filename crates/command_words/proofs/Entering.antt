@@ -1,5 +1,5 @@
 -- What `clap` makes of the whole line: the first word names a command, which reads the words that follow.
-use Rattle.std.proofs.Common.{◌≡◌, ◌∙◌, ◌&&◌, true, false, List, [], ◌∷◌, ◌++◌, append_assoc, append-nil, Option, Some, None, refl, sym, ap, subst, option_map, is_some, find, fold, codes}
+use Rattle.std.proofs.Common.{◌≡◌, ◌∙◌, ◌&&◌, map, true, false, List, [], ◌∷◌, ◌++◌, append_assoc, append-nil, Option, Some, None, refl, sym, ap, subst, option_map, is_some, find, fold, codes}
 use Rattle.std.specs.Option.{option_map_or}
 use Rattle.std.specs.Str.{bytes_eq, is_utf8}
 use Rattle.std.proofs.lemmas.Slice.Eq.{bytes_eq-Decides}
@@ -9,9 +9,11 @@ use Rattle.clap.specs.Simple.{Shape, built, entered, is_simple, label_of, rows_a
 use Rattle.clap.specs.Kinds.{Kinds, or_else}
 use Rattle.clap.specs.Faults.{check_fault, defaults_fault, entered_fault, fault_of, flags_fault, is_simple_and_free, level_fault, settle_fault, turn_fault, walk_fault}
 use Rattle.clap.specs.declared.error.kind.ErrorKind.TheVariants.{InvalidSubcommand, MissingSubcommand, UnknownArgument}
+use Rattle.command_words.specs.Commands.{Form, forms}
 use Rattle.command_words.specs.Grammar.{app}
 use Rattle.command_words.proofs.Forms.{IsPlain, IsHyphened, IsLong, View, double, first_letter, seen_plain, seen_hyphened, seen_end, seen_long, view_of}
-use Rattle.command_words.proofs.Rules.{first_empty, place_rule, option_rule, some_kind}
+use Rattle.command_words.proofs.Readings.{rules_of}
+use Rattle.command_words.proofs.Rules.{first_empty, some_kind}
 use Rattle.command_words.proofs.WalkStates.{leaf}
 
 pub app_simple : is_simple app ≡ true
@@ -22,34 +24,28 @@ pub app_free : is_simple_and_free app ≡ true
 unfolding clap_on_literals
 app_free = refl
 
--- ---- the rules of each command
+-- ---- the commands of the table, as `clap` builds them
 
-abbrev pub verify_rules : List Rule
-verify_rules = place_rule 1 (codes "document") ∷ []
+abbrev pub form_rules : Form → List Rule
+form_rules form = rules_of form.places form.needed form.optional
 
-abbrev pub trace_rules : List Rule
-trace_rules = place_rule 1 (codes "document") ∷ place_rule 2 (codes "from") ∷ place_rule 3 (codes "to") ∷ option_rule false (codes "down") ∷ []
+abbrev pub form_shape : Form → Shape
+form_shape form = leaf form.name (form_rules form)
 
-abbrev pub check_rules : List Rule
-check_rules = place_rule 1 (codes "document") ∷ place_rule 2 (codes "certificate") ∷ []
-
-abbrev pub solve_rules : List Rule
-solve_rules = place_rule 1 (codes "formula") ∷ option_rule true (codes "proof") ∷ option_rule false (codes "conflicts") ∷ []
-
-abbrev pub lrat_rules : List Rule
-lrat_rules = place_rule 1 (codes "formula") ∷ place_rule 2 (codes "proof") ∷ []
+abbrev pub form_label : Form → Text × List Text
+form_label form = (form.name, [])
 
 abbrev top : Shape
 top = (built app).top
 
 abbrev pub commands : List Shape
-commands = leaf (codes "verify") verify_rules ∷ leaf (codes "trace") trace_rules ∷ leaf (codes "check") check_rules ∷ leaf (codes "solve") solve_rules ∷ leaf (codes "lrat") lrat_rules ∷ []
+commands = map form_shape forms
 
 built_is : built app ≡ record { top = top; subs = commands }
 built_is = refl
 
 abbrev pub names : Names
-names = (codes "verify", []) ∷ (codes "trace", []) ∷ (codes "check", []) ∷ (codes "solve", []) ∷ (codes "lrat", []) ∷ []
+names = map form_label forms
 
 -- ---- after a command's name
 

@@ -7,6 +7,10 @@ pub mod Holding
 pub mod Levels
 pub mod Entering
 pub mod Readings
+pub mod PlainCommands
+pub mod FormLaws
+pub mod PlainForms
+pub mod OptionForms
 pub mod Answering
 pub mod ByManual
 pub mod SearchLimits

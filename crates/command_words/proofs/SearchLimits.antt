@@ -1,13 +1,13 @@
--- The limit of a search is in its range.
-use Rattle.std.proofs.Common.{◌≡◌, ◌≤◌, ◌&&◌, ℕ, Bool, true, false, List, [], ◌∷◌, length, Option, Some, None, refl, if◌then◌else◌, codes, option_and_then, nat_le, IfSome}
-use Rattle.std.specs.List.{list_all}
+-- The numbers of a command are in their ranges.
+use Rattle.std.proofs.Common.{◌≡◌, ◌≤◌, ◌&&◌, ℕ, Bool, true, false, List, [], ◌∷◌, ◌++◌, length, find, Option, Some, None, refl, if◌then◌else◌, codes, option_and_then, nat_le, IfSome}
+use Rattle.std.specs.List.{AllByRecursion, list_all}
 use Rattle.std.specs.Str.{bytes_eq, is_utf8}
 use Rattle.std.proofs.lemmas.Bool.{and_parts, leb-true}
 use Rattle.arc_base.specs.PrefixText.{prefix_of}
 use Rattle.cnf_types.specs.Numbers.{is_natural, value_after}
-use Rattle.command_words.specs.Commands.{HasLimit, check_by, command_in, command_named, command_of, conflicts_by, down_by, lrat_by, solve_by, trace_by, verify_by}
-use Rattle.command_words.specs.Values.{number_within, solve_of, trace_of}
-use Rattle.command_words.specs.Words.{arguments_of, positionals, value_of}
+use Rattle.command_words.specs.Commands.{Form, HasLimit, check_by, command_among, command_in, command_of, conflicts_by, down_by, forms, lrat_by, meaning, nodes_by, prefers_by, recheck_by, solve_by, trace_by, verify_by}
+use Rattle.command_words.specs.Values.{number_within, router_names, solve_of, trace_of}
+use Rattle.command_words.specs.Words.{Given, arguments_of, positionals, value_of}
 use Rattle.command_words.specs.declared.commands.Command.{Command}
 
 abbrev IsWithin : ℕ → ℕ → ℕ → Type 0
@@ -77,7 +77,69 @@ solve_limited (Some proof) conflicts [] = tt
 solve_limited (Some proof) conflicts (f ∷ []) = solve_of_limited f proof (conflicts_by conflicts) (conflicts_in_range conflicts)
 solve_limited (Some proof) conflicts (f ∷ x ∷ words) = tt
 
+-- a number that is read is in its range
+then_within : (least most : ℕ) (word : List ℕ) (by : ℕ → Option Command) → ((n : ℕ) → IsWithin least most n → Limited (by n)) → Limited (option_and_then by (number_within least most word))
+then_within least most word by h = go (number_within least most word) (in_range least most word)
+  where
+    go : (o : Option ℕ) → IfSome o (IsWithin least most) → Limited (option_and_then by o)
+    go None within = tt
+    go (Some n) within = h n within
+
+nodes_limited : (words : List (List ℕ)) → Limited (nodes_by words)
+nodes_limited [] = tt
+nodes_limited (d ∷ []) = tt
+nodes_limited (d ∷ f ∷ []) = tt
+nodes_limited (d ∷ f ∷ t ∷ []) = tt
+nodes_limited (d ∷ f ∷ t ∷ k ∷ []) = then_limited (prefix_of f) _ (λ origin. then_limited (prefix_of t) _ (λ destination. then_within 0 16 k _ (λ failures within. within.1)))
+nodes_limited (d ∷ f ∷ t ∷ k ∷ x ∷ words) = tt
+
+prefers_limited : (words : List (List ℕ)) → Limited (prefers_by words)
+prefers_limited [] = tt
+prefers_limited (d ∷ []) = tt
+prefers_limited (d ∷ f ∷ []) = tt
+prefers_limited (d ∷ f ∷ t ∷ []) = tt
+prefers_limited (d ∷ f ∷ t ∷ r ∷ []) = then_limited (prefix_of f) _ (λ origin. then_limited (prefix_of t) _ (λ destination. then_limited (router_names r) _ (λ routers. tt)))
+prefers_limited (d ∷ f ∷ t ∷ r ∷ x ∷ words) = tt
+
+recheck_limited : (words : List (List ℕ)) → Limited (recheck_by words)
+recheck_limited [] = tt
+recheck_limited (d ∷ []) = tt
+recheck_limited (d ∷ r ∷ []) = tt
+recheck_limited (d ∷ r ∷ x ∷ words) = tt
+
 -- ---- the whole line
+
+FormLimited : Form → Type 0
+FormLimited form = (given : List Given) → Limited (form.means given)
+
+all_limited : AllByRecursion FormLimited forms
+unfolding FormLimited
+all_limited = (
+  λ given. verify_limited (positionals given),
+  (
+    λ given. trace_limited (value_of (codes "down") given) (positionals given),
+    (
+      λ given. check_limited (positionals given),
+      (
+        λ given. solve_limited (value_of (codes "proof") given) (value_of (codes "conflicts") given) (positionals given),
+        (
+          λ given. lrat_limited (positionals given),
+          (λ given. nodes_limited (positionals given), (λ given. prefers_limited (positionals given), (λ given. recheck_limited (positionals given), tt))),
+        ),
+      ),
+    ),
+  ),
+)
+
+named_limited : (table : List Form) (name : List ℕ) (words : List (List ℕ)) → AllByRecursion FormLimited table → Limited (command_among table name words)
+unfolding FormLimited
+named_limited [] name words all = tt
+named_limited (f ∷ fs) name words all = go (bytes_eq f.name name) (named_limited fs name words all.1)
+  where
+    go : (t : Bool) → Limited (command_among fs name words)
+        → Limited (option_and_then (λ form. meaning form words) (if t then Some f else find (λ form. bytes_eq form.name name) fs))
+    go true rest = then_limited (arguments_of (f.needed ++ f.optional) words) f.means all.0
+    go false rest = rest
 
 either : (b : Bool) (c d : Option Command) → Limited c → Limited d → Limited (if b then c else d)
 either true c d h k = h
@@ -86,15 +148,6 @@ either false c d h k = k
 pub command_limited : (words : List (List ℕ)) → Limited (command_of words)
 command_limited words = either (list_all is_utf8 words) (command_in words) None (inside words) tt
   where
-    named : (name : List ℕ) (words : List (List ℕ)) → Limited (command_named name words)
-    named name words =
-        either (bytes_eq name (codes "verify")) _ _ (then_limited (arguments_of [] words) _ (λ given. verify_limited (positionals given)))
-        (either (bytes_eq name (codes "trace")) _ _ (then_limited (arguments_of (codes "down" ∷ []) words) _ (λ given. trace_limited (value_of (codes "down") given) (positionals given)))
-        (either (bytes_eq name (codes "check")) _ _ (then_limited (arguments_of [] words) _ (λ given. check_limited (positionals given)))
-        (either (bytes_eq name (codes "solve")) _ _
-        (then_limited (arguments_of (codes "proof" ∷ codes "conflicts" ∷ []) words) _ (λ given. solve_limited (value_of (codes "proof") given) (value_of (codes "conflicts") given) (positionals given)))
-        (either (bytes_eq name (codes "lrat")) _ _ (then_limited (arguments_of [] words) _ (λ given. lrat_limited (positionals given))) tt))))
-
     inside : (words : List (List ℕ)) → Limited (command_in words)
     inside [] = tt
-    inside (name ∷ words) = named name words
+    inside (name ∷ words) = named_limited forms name words all_limited

@@ -1,11 +1,11 @@
 -- The command that the words after the program's name match.
-use Rattle.std.specs.Prelude.{ℕ, ◌≤◌, List, [], ◌∷◌, Option, Some, None, option_and_then, bytes_eq, codes, if◌then◌else◌}
+use Rattle.std.specs.Prelude.{ℕ, ◌≤◌, List, [], ◌∷◌, ◌++◌, Option, Some, None, find, option_and_then, bytes_eq, codes, if◌then◌else◌}
 use Rattle.std.specs.List.{list_all}
 use Rattle.std.specs.Str.{is_utf8}
-use Rattle.command_words.specs.Values.{conflict_limit, link_numbers, solve_of, trace_of}
-use Rattle.command_words.specs.Words.{arguments_of, positionals, value_of}
+use Rattle.command_words.specs.Values.{conflict_limit, link_numbers, nodes_of, prefers_of, solve_of, trace_of}
+use Rattle.command_words.specs.Words.{Given, arguments_of, positionals, value_of}
 use Rattle.command_words.specs.declared.commands.Command.{Command}
-use Rattle.command_words.specs.declared.commands.Command.TheVariants.{Verify, Trace, Check, Solve, Lrat}
+use Rattle.command_words.specs.declared.commands.Command.TheVariants.{Verify, Trace, Check, Solve, Lrat, Nodes, Prefers, Recheck}
 
 -- `verify DOC`
 abbrev pub verify_by : List (List ℕ) → Option Command
@@ -42,31 +42,98 @@ abbrev pub lrat_by : List (List ℕ) → Option Command
 lrat_by (formula ∷ proof ∷ []) = Some (Lrat formula proof)
 lrat_by _ = None
 
--- the command of this name, with the words that follow the name
-abbrev pub command_named : List ℕ → List (List ℕ) → Option Command
-command_named name words =
-    if bytes_eq name (codes "verify") then option_and_then (λ given. verify_by (positionals given)) (arguments_of [] words)
-    else (if bytes_eq name (codes "trace")
-    then option_and_then (λ given. trace_by (value_of (codes "down") given) (positionals given)) (arguments_of (codes "down" ∷ []) words)
-    else (if bytes_eq name (codes "check") then option_and_then (λ given. check_by (positionals given)) (arguments_of [] words)
-    else (if bytes_eq name (codes "solve")
-    then option_and_then (λ given. solve_by (value_of (codes "proof") given) (value_of (codes "conflicts") given) (positionals given))
-    (arguments_of (codes "proof" ∷ codes "conflicts" ∷ []) words)
-    else (if bytes_eq name (codes "lrat") then option_and_then (λ given. lrat_by (positionals given)) (arguments_of [] words)
-    else None))))
+-- `nodes DOC FROM TO K`
+abbrev pub nodes_by : List (List ℕ) → Option Command
+nodes_by (document ∷ from ∷ to ∷ failures ∷ []) = nodes_of document from to failures
+nodes_by _ = None
+
+-- `prefers DOC FROM TO ROUTERS`
+abbrev pub prefers_by : List (List ℕ) → Option Command
+prefers_by (document ∷ from ∷ to ∷ routers ∷ []) = prefers_of document from to routers
+prefers_by _ = None
+
+-- `recheck DOC REPORT`
+abbrev pub recheck_by : List (List ℕ) → Option Command
+recheck_by (document ∷ report ∷ []) = Some (Recheck (record { document = document; report = report }))
+recheck_by _ = None
+
+-- A command of the table: its name; what its positional words stand for, in order, each of them required; the options that must
+-- stand, and those that may; and what all of these mean.
+pub record Form : Type 0 where
+  pub name : List ℕ
+  pub places : List (List ℕ)
+  pub needed : List (List ℕ)
+  pub optional : List (List ℕ)
+  pub means : List Given → Option Command
+
+-- a command with no options
+abbrev pub plain : List ℕ → List (List ℕ) → (List (List ℕ) → Option Command) → Form
+plain name places by = record { name = name; places = places; needed = []; optional = []; means = λ given. by (positionals given) }
+
+-- the commands
+abbrev pub verify_form : Form
+verify_form = plain (codes "verify") (codes "document" ∷ []) verify_by
+
+abbrev pub trace_form : Form
+trace_form = record {
+  name = codes "trace";
+  places = codes "document" ∷ codes "from" ∷ codes "to" ∷ [];
+  needed = [];
+  optional = codes "down" ∷ [];
+  means = λ given. trace_by (value_of (codes "down") given) (positionals given);
+}
+
+abbrev pub check_form : Form
+check_form = plain (codes "check") (codes "document" ∷ codes "certificate" ∷ []) check_by
+
+abbrev pub solve_form : Form
+solve_form = record {
+  name = codes "solve";
+  places = codes "formula" ∷ [];
+  needed = codes "proof" ∷ [];
+  optional = codes "conflicts" ∷ [];
+  means = λ given. solve_by (value_of (codes "proof") given) (value_of (codes "conflicts") given) (positionals given);
+}
+
+abbrev pub lrat_form : Form
+lrat_form = plain (codes "lrat") (codes "formula" ∷ codes "proof" ∷ []) lrat_by
+
+abbrev pub nodes_form : Form
+nodes_form = plain (codes "nodes") (codes "document" ∷ codes "from" ∷ codes "to" ∷ codes "failures" ∷ []) nodes_by
+
+abbrev pub prefers_form : Form
+prefers_form = plain (codes "prefers") (codes "document" ∷ codes "from" ∷ codes "to" ∷ codes "routers" ∷ []) prefers_by
+
+abbrev pub recheck_form : Form
+recheck_form = plain (codes "recheck") (codes "document" ∷ codes "report" ∷ []) recheck_by
+
+-- all of them
+abbrev pub forms : List Form
+forms = verify_form ∷ trace_form ∷ check_form ∷ solve_form ∷ lrat_form ∷ nodes_form ∷ prefers_form ∷ recheck_form ∷ []
+
+-- what the words that follow a command's name mean
+abbrev pub meaning : Form → List (List ℕ) → Option Command
+meaning form words = option_and_then form.means (arguments_of (form.needed ++ form.optional) words)
+
+-- the first word names a command of the table
+abbrev pub command_among : List Form → List ℕ → List (List ℕ) → Option Command
+command_among table name words = option_and_then (λ form. meaning form words) (find (λ form. bytes_eq form.name name) table)
 
 abbrev pub command_in : List (List ℕ) → Option Command
 command_in [] = None
-command_in (name ∷ words) = command_named name words
+command_in (name ∷ words) = command_among forms name words
 
 -- a word that is no text matches nothing
 abbrev pub command_of : List (List ℕ) → Option Command
 command_of words = if list_all is_utf8 words then command_in words else None
 
--- a search may learn from 1 to 200,000 conflicts
+-- the numbers of a command are in their ranges: a search may learn from 1 to 200,000 conflicts, and at most 16 routers fail
 abbrev pub HasLimit : Command → Type 0
 HasLimit (Verify document) = Unit {0}
 HasLimit (Trace words) = Unit {0}
 HasLimit (Check document certificate) = Unit {0}
 HasLimit (Solve words) = (1 ≤ words.conflicts) × (words.conflicts ≤ 200000)
 HasLimit (Lrat formula proof) = Unit {0}
+HasLimit (Nodes words) = words.failures ≤ 16
+HasLimit (Prefers words) = Unit {0}
+HasLimit (Recheck words) = Unit {0}

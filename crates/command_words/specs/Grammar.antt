@@ -31,6 +31,17 @@ solve = with_rule (with_rule (with_rule (new_app (codes "solve")) (positional (c
 abbrev pub lrat : App
 lrat = with_rule (with_rule (new_app (codes "lrat")) (positional (codes "formula"))) (positional (codes "proof"))
 
+abbrev pub nodes : App
+nodes = with_rule (with_rule (with_rule (with_rule (new_app (codes "nodes")) (positional (codes "document"))) (positional (codes "from")))
+    (positional (codes "to"))) (positional (codes "failures"))
+
+abbrev pub prefers : App
+prefers = with_rule (with_rule (with_rule (with_rule (new_app (codes "prefers")) (positional (codes "document"))) (positional (codes "from")))
+    (positional (codes "to"))) (positional (codes "routers"))
+
+abbrev pub recheck : App
+recheck = with_rule (with_rule (new_app (codes "recheck")) (positional (codes "document"))) (positional (codes "report"))
+
 -- a command is required, and the first word is its name
 abbrev pub bare : App
 bare = record (new_app (codes "arcv")) {
@@ -42,5 +53,12 @@ bare = record (new_app (codes "arcv")) {
   };
 }
 
+-- the commands that come before others
+abbrev pub with_first : App
+with_first = with_subcommand (with_subcommand (with_subcommand bare verify.top) trace.top) check.top
+
+abbrev pub with_middle : App
+with_middle = with_subcommand (with_subcommand with_first solve.top) lrat.top
+
 abbrev pub app : App
-app = with_subcommand (with_subcommand (with_subcommand (with_subcommand (with_subcommand bare verify.top) trace.top) check.top) solve.top) lrat.top
+app = with_subcommand (with_subcommand (with_subcommand with_middle nodes.top) prefers.top) recheck.top

@@ -2,9 +2,9 @@
 use Rattle.std.specs.Prelude.{List, Option, Some, None, option_and_then, bytes_eq, codes, if◌then◌else◌}
 use Rattle.clap.specs.Walk.{Row, Text, first_of}
 use Rattle.command_words.specs.Commands.{conflicts_by, down_by}
-use Rattle.command_words.specs.Values.{solve_of, trace_of}
+use Rattle.command_words.specs.Values.{nodes_of, prefers_of, solve_of, trace_of}
 use Rattle.command_words.specs.declared.commands.Command.{Command}
-use Rattle.command_words.specs.declared.commands.Command.TheVariants.{Verify, Check, Lrat}
+use Rattle.command_words.specs.declared.commands.Command.TheVariants.{Check, Lrat, Recheck, Verify}
 
 infixl 10 ◌>>=◌
 abbrev ◌>>=◌ : {A B : Type 0} → Option A → (A → Option B) → Option B
@@ -40,6 +40,36 @@ matched_lrat rows = do
   proof ← first_of (codes "proof") rows
   Some (Lrat formula proof)
 
+abbrev pub matched_nodes : List Row → Option Command
+matched_nodes rows = do
+  document ← first_of (codes "document") rows
+  from ← first_of (codes "from") rows
+  to ← first_of (codes "to") rows
+  failures ← first_of (codes "failures") rows
+  nodes_of document from to failures
+
+abbrev pub matched_prefers : List Row → Option Command
+matched_prefers rows = do
+  document ← first_of (codes "document") rows
+  from ← first_of (codes "from") rows
+  to ← first_of (codes "to") rows
+  routers ← first_of (codes "routers") rows
+  prefers_of document from to routers
+
+abbrev pub matched_recheck : List Row → Option Command
+matched_recheck rows = do
+  document ← first_of (codes "document") rows
+  report ← first_of (codes "report") rows
+  Some (Recheck (record { document = document; report = report }))
+
+-- the commands that judge beyond failed links
+abbrev pub matched_later : Text → List Row → Option Command
+matched_later name rows =
+    if bytes_eq name (codes "nodes") then matched_nodes rows
+    else (if bytes_eq name (codes "prefers") then matched_prefers rows
+    else (if bytes_eq name (codes "recheck") then matched_recheck rows
+    else None))
+
 abbrev pub matched_named : Text → List Row → Option Command
 matched_named name rows =
     if bytes_eq name (codes "verify") then matched_verify rows
@@ -47,7 +77,7 @@ matched_named name rows =
     else (if bytes_eq name (codes "check") then matched_check rows
     else (if bytes_eq name (codes "solve") then matched_solve rows
     else (if bytes_eq name (codes "lrat") then matched_lrat rows
-    else None))))
+    else matched_later name rows))))
 
 abbrev pub matched_command : Option (Text × List Row) → Option Command
 matched_command found = option_and_then (λ p. matched_named p.0 p.1) found

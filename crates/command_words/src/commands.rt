@@ -13,6 +13,12 @@ pub enum Command {
     Solve(SolveWords),
     /// `lrat CNF PROOF`: the formula and the proof.
     Lrat(Name, Name),
+    /// `nodes DOC FROM TO K`.
+    Nodes(NodesWords),
+    /// `prefers DOC FROM TO ROUTERS`.
+    Prefers(PrefersWords),
+    /// `recheck DOC REPORT`.
+    Recheck(RecheckWords),
 }
 
 /// The words of a trace.
@@ -33,4 +39,32 @@ pub struct SolveWords {
     pub proof: Name,
     /// How many conflicts the search may learn from.
     pub conflicts: u64,
+}
+
+/// The words of a judgement under failed routers.
+#[derive(Drop)]
+pub struct NodesWords {
+    pub document: Name,
+    pub from: Prefix,
+    pub to: Prefix,
+    /// How many routers may fail, at most 16.
+    pub failures: u32,
+}
+
+/// The words of a judgement of a preferred path.
+#[derive(Drop)]
+pub struct PrefersWords {
+    pub document: Name,
+    pub from: Prefix,
+    pub to: Prefix,
+    /// The names of the routers of the path, in order.
+    pub routers: List<Name>,
+}
+
+/// The words of a judgement that keeps what it can of an old report.
+#[derive(Drop)]
+pub struct RecheckWords {
+    pub document: Name,
+    /// The file with the old report.
+    pub report: Name,
 }

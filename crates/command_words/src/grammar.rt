@@ -2,7 +2,22 @@
 //! word, so that it matches no command.
 ghost use Rattle.std.specs.Prelude.{◌≡◌, IfOk, false};
 ghost use Rattle.clap.specs.Words.{app_of, rule_of};
-ghost use Rattle.command_words.specs.Grammar.{app, check, lrat, option, positional, required_option, solve, trace, verify};
+ghost use Rattle.command_words.specs.Grammar.{
+  app,
+  check,
+  lrat,
+  nodes,
+  option,
+  positional,
+  prefers,
+  recheck,
+  required_option,
+  solve,
+  trace,
+  verify,
+  with_first,
+  with_middle,
+};
 
 use arc_base::Memory;
 use clap::{Arg, Command};
@@ -89,9 +104,49 @@ fn lrat<'a>(alloc: Global) -> Result<Command<'a>, Memory>
     Ok(Command::new(alloc, "lrat").arg(formula)?.arg(proof)?)
 }
 
-/// `arcv` with its commands, of which one is required.
-pub fn command_line<'a>(alloc: Global) -> Result<Command<'a>, Memory>
-    ensures { IfOk result (λ command. app_of command ≡ app) }
+fn nodes<'a>(alloc: Global) -> Result<Command<'a>, Memory>
+    ensures { IfOk result (λ command. app_of command ≡ nodes) }
+{
+    let document = positional(alloc, "document");
+    let from = positional(alloc, "from");
+    let to = positional(alloc, "to");
+    let failures = positional(alloc, "failures");
+    Ok(
+        Command::new(alloc, "nodes")
+            .arg(document)?
+            .arg(from)?
+            .arg(to)?
+            .arg(failures)?,
+    )
+}
+
+fn prefers<'a>(alloc: Global) -> Result<Command<'a>, Memory>
+    ensures { IfOk result (λ command. app_of command ≡ prefers) }
+{
+    let document = positional(alloc, "document");
+    let from = positional(alloc, "from");
+    let to = positional(alloc, "to");
+    let routers = positional(alloc, "routers");
+    Ok(
+        Command::new(alloc, "prefers")
+            .arg(document)?
+            .arg(from)?
+            .arg(to)?
+            .arg(routers)?,
+    )
+}
+
+fn recheck<'a>(alloc: Global) -> Result<Command<'a>, Memory>
+    ensures { IfOk result (λ command. app_of command ≡ recheck) }
+{
+    let document = positional(alloc, "document");
+    let report = positional(alloc, "report");
+    Ok(Command::new(alloc, "recheck").arg(document)?.arg(report)?)
+}
+
+// `arcv` with its first commands.
+fn with_first<'a>(alloc: Global) -> Result<Command<'a>, Memory>
+    ensures { IfOk result (λ command. app_of command ≡ with_first) }
 {
     let arcv = Command::new(alloc, "arcv")
         .no_binary_name(true)
@@ -100,8 +155,27 @@ pub fn command_line<'a>(alloc: Global) -> Result<Command<'a>, Memory>
         .subcommand_required(true)
         .subcommand(verify(alloc)?)?
         .subcommand(trace(alloc)?)?
-        .subcommand(check(alloc)?)?
+        .subcommand(check(alloc)?)?;
+    Ok(arcv)
+}
+
+// And with those that follow.
+fn with_middle<'a>(alloc: Global) -> Result<Command<'a>, Memory>
+    ensures { IfOk result (λ command. app_of command ≡ with_middle) }
+{
+    let arcv = with_first(alloc)?
         .subcommand(solve(alloc)?)?
         .subcommand(lrat(alloc)?)?;
+    Ok(arcv)
+}
+
+/// `arcv` with all its commands, of which one is required.
+pub fn command_line<'a>(alloc: Global) -> Result<Command<'a>, Memory>
+    ensures { IfOk result (λ command. app_of command ≡ app) }
+{
+    let arcv = with_middle(alloc)?
+        .subcommand(nodes(alloc)?)?
+        .subcommand(prefers(alloc)?)?
+        .subcommand(recheck(alloc)?)?;
     Ok(arcv)
 }

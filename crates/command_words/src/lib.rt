@@ -8,9 +8,10 @@ mod grammar;
 pub mod laws;
 mod matched;
 mod reading;
+mod router_lists;
 mod values;
 
-pub use commands::{Command, SolveWords, TraceWords};
+pub use commands::{Command, NodesWords, PrefersWords, RecheckWords, SolveWords, TraceWords};
 pub use reading::read_words;
 
 #[cfg(test)]

@@ -1,10 +1,24 @@
 //! From what `clap` found to the command.
-ghost use Rattle.std.specs.Prelude.{◌≡◌, IfOk, MatchOption, None, Some};
+ghost use Rattle.std.specs.Prelude.{◌≡◌, IfOk, MatchOption, None, Some, codes};
 ghost use Rattle.clap.specs.Words.{first_of, found_of, rows_of, subcommand_rows_of};
-ghost use Rattle.command_words.specs.Matched.{matched_check, matched_command, matched_lrat, matched_solve, matched_trace, matched_verify};
+ghost use Rattle.command_words.specs.Commands.{conflicts_by};
+ghost use Rattle.command_words.specs.Matched.{
+  matched_check,
+  matched_command,
+  matched_later,
+  matched_lrat,
+  matched_named,
+  matched_nodes,
+  matched_prefers,
+  matched_recheck,
+  matched_solve,
+  matched_trace,
+  matched_verify,
+};
 
-use crate::commands::{Command, SolveWords};
-use crate::values::{conflict_limit, link_numbers, trace_of};
+use crate::commands::{Command, RecheckWords, SolveWords};
+use crate::router_lists::prefers_of;
+use crate::values::{conflict_limit, link_numbers, nodes_of, trace_of};
 use arc_base::{List, Memory, Name};
 use clap::ArgMatches;
 use std::alloc::Global;
@@ -17,6 +31,16 @@ fn value<'a>(found: &ArgMatches<'a>, id: &str) -> Option<&'a str>
     ensures { MatchOption result (first_of id.now (rows_of (found_of found.now)) ≡ None) (λ text. first_of id.now (rows_of (found_of found.now)) ≡ Some text.now) }
 {
     found.get_str(id)
+}
+
+// How many conflicts a search may learn from.
+fn conflicts_of(found: &ArgMatches<'_>) -> Option<u64>
+    ensures { result ≡ conflicts_by (first_of (codes "conflicts") (rows_of (found_of found.now))) }
+{
+    match value(found, "conflicts") {
+        Some(text) => conflict_limit(text.as_bytes()),
+        None => Some(CONFLICTS),
+    }
 }
 
 fn verify(alloc: Global, found: &ArgMatches<'_>) -> Result<Option<Command>, Memory>
@@ -77,11 +101,7 @@ fn solve(alloc: Global, found: &ArgMatches<'_>) -> Result<Option<Command>, Memor
     let Some(proof) = value(found, "proof") else {
         return Ok(None);
     };
-    let limit = match value(found, "conflicts") {
-        Some(text) => conflict_limit(text.as_bytes()),
-        None => Some(CONFLICTS),
-    };
-    let Some(conflicts) = limit else {
+    let Some(conflicts) = conflicts_of(found) else {
         return Ok(None);
     };
     let formula = Name::make(alloc, formula.as_bytes())?;
@@ -107,16 +127,88 @@ fn lrat(alloc: Global, found: &ArgMatches<'_>) -> Result<Option<Command>, Memory
     Ok(Some(Command::Lrat(formula, proof)))
 }
 
-/// The command with the values that `clap` found, each read.
-pub fn command_of_matches(
-    alloc: Global,
-    matches: &ArgMatches<'_>,
-) -> Result<Option<Command>, Memory>
-    ensures { IfOk result (λ command. command ≡ matched_command (subcommand_rows_of matches.now)) }
+fn nodes(alloc: Global, found: &ArgMatches<'_>) -> Result<Option<Command>, Memory>
+    ensures { IfOk result (λ command. command ≡ matched_nodes (rows_of (found_of found.now))) }
 {
-    let Some((name, found)) = matches.subcommand() else {
+    let Some(document) = value(found, "document") else {
         return Ok(None);
     };
+    let Some(from) = value(found, "from") else {
+        return Ok(None);
+    };
+    let Some(to) = value(found, "to") else {
+        return Ok(None);
+    };
+    let Some(failures) = value(found, "failures") else {
+        return Ok(None);
+    };
+    nodes_of(
+        alloc,
+        document.as_bytes(),
+        from.as_bytes(),
+        to.as_bytes(),
+        failures.as_bytes(),
+    )
+}
+
+fn prefers(alloc: Global, found: &ArgMatches<'_>) -> Result<Option<Command>, Memory>
+    ensures { IfOk result (λ command. command ≡ matched_prefers (rows_of (found_of found.now))) }
+{
+    let Some(document) = value(found, "document") else {
+        return Ok(None);
+    };
+    let Some(from) = value(found, "from") else {
+        return Ok(None);
+    };
+    let Some(to) = value(found, "to") else {
+        return Ok(None);
+    };
+    let Some(routers) = value(found, "routers") else {
+        return Ok(None);
+    };
+    prefers_of(
+        alloc,
+        document.as_bytes(),
+        from.as_bytes(),
+        to.as_bytes(),
+        routers.as_bytes(),
+    )
+}
+
+fn recheck(alloc: Global, found: &ArgMatches<'_>) -> Result<Option<Command>, Memory>
+    ensures { IfOk result (λ command. command ≡ matched_recheck (rows_of (found_of found.now))) }
+{
+    let Some(document) = value(found, "document") else {
+        return Ok(None);
+    };
+    let Some(report) = value(found, "report") else {
+        return Ok(None);
+    };
+    let document = Name::make(alloc, document.as_bytes())?;
+    let report = Name::make(alloc, report.as_bytes())?;
+    Ok(Some(Command::Recheck(RecheckWords { document, report })))
+}
+
+// The command of this name, where it judges beyond failed links.
+fn later(alloc: Global, name: &str, found: &ArgMatches<'_>) -> Result<Option<Command>, Memory>
+    ensures { IfOk result (λ command. command ≡ matched_later name.now (rows_of (found_of found.now))) }
+{
+    if name == "nodes" {
+        return nodes(alloc, found);
+    }
+    if name == "prefers" {
+        return prefers(alloc, found);
+    }
+    if name == "recheck" {
+        return recheck(alloc, found);
+    }
+    Ok(None)
+}
+
+// The command of this name.
+fn named(alloc: Global, name: &str, found: &ArgMatches<'_>) -> Result<Option<Command>, Memory>
+    ensures { IfOk result (λ command. command ≡ matched_named name.now (rows_of (found_of found.now))) }
+{
     if name == "verify" {
         return verify(alloc, found);
     }
@@ -132,5 +224,18 @@ pub fn command_of_matches(
     if name == "lrat" {
         return lrat(alloc, found);
     }
-    Ok(None)
+    later(alloc, name, found)
+}
+
+/// The command with the values that `clap` found, each read.
+pub fn command_of_matches(
+    alloc: Global,
+    matches: &ArgMatches<'_>,
+) -> Result<Option<Command>, Memory>
+    ensures { IfOk result (λ command. command ≡ matched_command (subcommand_rows_of matches.now)) }
+{
+    let Some((name, found)) = matches.subcommand() else {
+        return Ok(None);
+    };
+    named(alloc, name, found)
 }

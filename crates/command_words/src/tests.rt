@@ -1,7 +1,7 @@
 //! Command lines, and what they match.
 
 use super::{Command, read_words};
-use arc_base::{Memory, Name};
+use arc_base::{Memory, Name, Prefix};
 use std::alloc::Global;
 use std::test::Fail;
 
@@ -15,9 +15,14 @@ enum Match {
     Solve(&'static [u8], &'static [u8], u64),
     // `d 10.1.0.0/24 10.2.0.0/16` with the links that are down
     Trace(&'static [u32]),
+    // the same with the number of routers that may fail
+    Nodes(u32),
+    // the same with the names of routers
+    Prefers(&'static [&'static [u8]]),
+    Recheck(&'static [u8], &'static [u8]),
 }
 
-use Match::{Check, Lrat, Nothing, Solve, Trace, Verify};
+use Match::{Check, Lrat, Nodes, Nothing, Prefers, Recheck, Solve, Trace, Verify};
 
 struct Row {
     words: &'static [&'static [u8]],
@@ -357,6 +362,80 @@ const SOLVE_ROWS: [Row; 18] = [
     },
 ];
 
+const REACH_ROWS: [Row; 17] = [
+    // a number of routers has 1 to 10 digits and is from 0 to 16
+    Row {
+        words: &[b"nodes", b"d", FROM, TO, b"0"],
+        found: Nodes(0),
+    },
+    Row {
+        words: &[b"nodes", b"d", FROM, TO, b"0000000016"],
+        found: Nodes(16),
+    },
+    Row {
+        words: &[b"nodes", b"d", FROM, TO, b"00000000016"],
+        found: Nothing,
+    },
+    Row {
+        words: &[b"nodes", b"d", FROM, TO, b"17"],
+        found: Nothing,
+    },
+    Row {
+        words: &[b"nodes", b"d", FROM, TO, b""],
+        found: Nothing,
+    },
+    Row {
+        words: &[b"nodes", b"d", FROM, TO],
+        found: Nothing,
+    },
+    Row {
+        words: &[b"nodes", b"d", FROM, b"10.2.0.0/8", b"1"],
+        found: Nothing,
+    },
+    // names of routers are joined by commas
+    Row {
+        words: &[b"prefers", b"d", FROM, TO, b"r1"],
+        found: Prefers(&[b"r1"]),
+    },
+    Row {
+        words: &[b"prefers", b"d", FROM, TO, b"r1,R-2_b.c,r1"],
+        found: Prefers(&[b"r1", b"R-2_b.c", b"r1"]),
+    },
+    Row {
+        words: &[b"prefers", b"d", FROM, TO, b"r1,"],
+        found: Nothing,
+    },
+    Row {
+        words: &[b"prefers", b"d", FROM, TO, b""],
+        found: Nothing,
+    },
+    Row {
+        words: &[b"prefers", b"d", FROM, TO, b"r1 r2"],
+        found: Nothing,
+    },
+    Row {
+        words: &[b"prefers", b"d", FROM, TO, b"r1", b"r2"],
+        found: Nothing,
+    },
+    Row {
+        words: &[b"prefers", b"d", b"10.1.0.1/24", TO, b"r1"],
+        found: Nothing,
+    },
+    // and an old report is a name
+    Row {
+        words: &[b"recheck", b"d", b"r"],
+        found: Recheck(b"d", b"r"),
+    },
+    Row {
+        words: &[b"recheck", b"d"],
+        found: Nothing,
+    },
+    Row {
+        words: &[b"recheck", b"d", b"r", b"s"],
+        found: Nothing,
+    },
+];
+
 fn names(alloc: Global, words: &[&[u8]]) -> Result<Vec<Name>, Memory> {
     let mut names = Vec::new(alloc);
     for word in words {
@@ -377,15 +456,34 @@ fn is_match(command: &Option<Command>, found: Match) -> bool {
             words.formula.is(f) && words.proof.is(p) && words.conflicts == conflicts
         }
         (Some(Command::Trace(words)), Trace(down)) => {
+            words.document.is(b"d") && are_ends(words.from, words.to) && words.down.slice() == down
+        }
+        (Some(Command::Nodes(words)), Nodes(failures)) => {
+            words.document.is(b"d") && are_ends(words.from, words.to) && words.failures == failures
+        }
+        (Some(Command::Prefers(words)), Prefers(routers)) => {
             words.document.is(b"d")
-                && words.from.addr == 0x0a01_0000
-                && words.from.len == 24
-                && words.to.addr == 0x0a02_0000
-                && words.to.len == 16
-                && words.down.slice() == down
+                && are_ends(words.from, words.to)
+                && are_names(words.routers.slice(), routers)
+        }
+        (Some(Command::Recheck(words)), Recheck(d, r)) => {
+            words.document.is(d) && words.report.is(r)
         }
         _ => false,
     }
+}
+
+// `10.1.0.0/24 10.2.0.0/16`
+fn are_ends(from: Prefix, to: Prefix) -> bool {
+    from.addr == 0x0a01_0000 && from.len == 24 && to.addr == 0x0a02_0000 && to.len == 16
+}
+
+fn are_names(names: &[Name], texts: &[&[u8]]) -> bool {
+    names.len() == texts.len()
+        && names
+            .iter()
+            .zip(texts.iter())
+            .all(|(name, text)| name.is(text))
 }
 
 #[test]
@@ -402,6 +500,16 @@ fn rows_match(rt: HostRuntime) -> Result<(), Fail> {
 fn rows_of_solve_match(rt: HostRuntime) -> Result<(), Fail> {
     let alloc = rt.alloc();
     for (at, row) in SOLVE_ROWS.iter().enumerate() {
+        let command = read_words(alloc, &names(alloc, row.words)?)?;
+        assert!(rt; is_match(&command, row.found), "at {at}");
+    }
+    Ok(())
+}
+
+#[test]
+fn rows_of_the_further_commands_match(rt: HostRuntime) -> Result<(), Fail> {
+    let alloc = rt.alloc();
+    for (at, row) in REACH_ROWS.iter().enumerate() {
         let command = read_words(alloc, &names(alloc, row.words)?)?;
         assert!(rt; is_match(&command, row.found), "at {at}");
     }

@@ -1,8 +1,16 @@
 //! The values of words: prefixes, the numbers of links and the limit of a search.
 ghost use Rattle.std.specs.Prelude.{◌≡◌, ◌≤◌, ◌<◌, ◌^◌, IfOk, IfSome};
-ghost use Rattle.command_words.specs.Values.{conflict_limit, link_number, link_numbers, number_within, trace_of};
+ghost use Rattle.command_words.specs.Values.{
+  conflict_limit,
+  failed_routers,
+  link_number,
+  link_numbers,
+  nodes_of,
+  number_within,
+  trace_of,
+};
 
-use crate::commands::{Command, TraceWords};
+use crate::commands::{Command, NodesWords, TraceWords};
 use arc_base::{List, Memory, Name, cut_at, read_prefix};
 use cnf_types::natural;
 use std::alloc::Global;
@@ -81,4 +89,39 @@ pub fn link_numbers(alloc: Global, text: &[u8]) -> Result<Option<List<u32>>, Mem
         None => return Ok(None),
     }
     Ok(Some(List::of(numbers)?))
+}
+
+// How many routers may fail.
+fn failed_routers(word: &[u8]) -> Option<u32>
+    ensures { result ≡ failed_routers word.now }
+{
+    let number = number_within(word, 0, 16)?;
+    Some(number as u32)
+}
+
+/// The judgement under failed routers with these words, if they are prefixes and the count is one.
+pub fn nodes_of(
+    alloc: Global,
+    document: &[u8],
+    from: &[u8],
+    to: &[u8],
+    count: &[u8],
+) -> Result<Option<Command>, Memory>
+    ensures { IfOk result (λ command. command ≡ nodes_of document.now from.now to.now count.now) }
+{
+    let Some(origin) = read_prefix(from) else {
+        return Ok(None);
+    };
+    let Some(destination) = read_prefix(to) else {
+        return Ok(None);
+    };
+    let Some(failures) = failed_routers(count) else {
+        return Ok(None);
+    };
+    Ok(Some(Command::Nodes(NodesWords {
+        document: Name::make(alloc, document)?,
+        from: origin,
+        to: destination,
+        failures,
+    })))
 }

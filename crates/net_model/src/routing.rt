@@ -120,7 +120,8 @@ impl Network {
         }
     }
 
-    fn is_able_end(&self, session: Option<&SessionRow>, near: &FaceRow, far: &FaceRow) -> bool
+    /// Whether the interface `near` makes its link able from its side, where `far` is the other end.
+    pub fn is_able_end(&self, session: Option<&SessionRow>, near: &FaceRow, far: &FaceRow) -> bool
         ensures { IsTrue result ↔ IsAbleEnd self.now (option_copied session.entry) near.now far.now }
     {
         near.up && near.addr.is_some() && self.takes_part(session, near, far)

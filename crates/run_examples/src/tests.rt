@@ -2,6 +2,7 @@
 
 mod certificates;
 mod documents;
+mod further;
 mod listed;
 mod lrat;
 mod many_entries;
@@ -18,6 +19,7 @@ use arc_base::{List, Memory, Name};
 use arc_outside::{MemSink, MemStore, SureSink, SureStore};
 use arc_run::run;
 use certificates::{CERTIFICATES, JUDGED};
+use further::{KEPT_BLOCK, NO_BLOCK, NO_REPORT, RECHECKED_KEPT, RECHECKED_NEW, SQUARE_FURTHER};
 use listed::LISTED;
 use lrat::PROOFS;
 use no_network::{NO_NETWORK, TWO_AREAS, UNKNOWN_NEIGHBOUR};
@@ -59,7 +61,8 @@ const CHECK: &[&[u8]] = &[b"check", b"net.json", b"cert"];
 
 const LRAT: &[&[u8]] = &[b"lrat", b"f.cnf", b"proof"];
 
-const USAGE: &[u8] = b"usage: arcv verify|trace|repair|check|apply|solve|lrat|generate\n";
+const USAGE: &[u8] =
+    b"usage: arcv verify|trace|repair|check|apply|solve|lrat|generate|nodes|prefers|recheck\n";
 
 fn push<T: Drop>(list: &mut List<T>, item: T) -> Result<(), Memory> {
     if list.len() >= 1000 {
@@ -191,6 +194,18 @@ fn packets_are_traced(rt: HostRuntime) -> Result<(), Fail> {
     answer_over(&rt, rt.alloc(), &UNKNOWN_NEIGHBOUR, &DOWN_BEFORE)?;
     answer_over(&rt, rt.alloc(), &TWO_AREAS, &DOWN_AFTER)?;
     Ok(answer_over(&rt, rt.alloc(), &[], &NO_TRACES)?)
+}
+
+#[test]
+fn failed_routers_and_preferred_paths_are_judged(rt: HostRuntime) -> Result<(), Fail> {
+    Ok(answer_over(&rt, rt.alloc(), &SQUARE_FILES, &SQUARE_FURTHER)?)
+}
+
+#[test]
+fn old_reports_are_rechecked(rt: HostRuntime) -> Result<(), Fail> {
+    answer_over(&rt, rt.alloc(), &KEPT_BLOCK, &RECHECKED_KEPT)?;
+    answer_over(&rt, rt.alloc(), &NO_BLOCK, &RECHECKED_NEW)?;
+    Ok(answer_over(&rt, rt.alloc(), &PAIR_FILES, &NO_REPORT)?)
 }
 
 #[test]

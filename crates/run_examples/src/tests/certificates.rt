@@ -83,7 +83,7 @@ pub const CERTIFICATES: [Certificate; 16] = [
     // no line at all, and a first line that begins no report
     (b"", b"rejected 1 no-end\n", 1),
     (b"\n", b"rejected 1 form\n", 1),
-    (b"arc-repair 1\n", b"rejected 1 form\n", 1),
+    (b"arc-repair 1\n", b"rejected 2 no-end\n", 1),
     (
         b"arc-report 1\r\n1 reach yes 2\r\n",
         b"rejected 1 form\n",

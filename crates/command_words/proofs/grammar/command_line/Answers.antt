@@ -1,37 +1,13 @@
-use Rattle.std.proofs.Common.{◌≡◌, ◌∙◌, ◌&&◌, Bool, true, false, not, refl, ap, ap₂}
-use Rattle.std.proofs.lemmas.Bool.{and_parts, not-true}
-use Rattle.clap.specs.Simple.{App, app_of, app_of_fields, with_subcommand}
-use Rattle.clap.specs.declared.builder.command.Command.{Command}
-use Rattle.clap.specs.declared.builder.command.Command.TheViews.{out-Command as fields_of}
-use Rattle.command_words.specs.Grammar.{bare, check, lrat, solve, trace, verify}
+use Rattle.std.proofs.Common.{◌≡◌, ◌∙◌, true, ap, ap₂, refl}
+use Rattle.clap.specs.Simple.{App, with_subcommand}
+use Rattle.command_words.specs.Grammar.{nodes, prefers, recheck}
+use Rattle.command_words.proofs.PlainCommands.{local}
 use Rattle.command_words.proofs.grammar.command_line.Goals as goal
-
--- in a plain command no argument is global
-third : (a b c rest : Bool) → (a && (b && (not c && rest))) ≡ true → c ≡ false
-third a b c rest e = not-true c (and_parts (not c) rest (and_parts b (not c && rest) (and_parts a (b && (not c && rest)) e).1).1).0
-
-local : (sub : Command) (a : App) → app_of sub ≡ a → a.top.is_plain ≡ true → (fields_of sub).has_globals ≡ false
-local sub a is plain = third _ _ _ _ (ap (λ (x : App). x.top.is_plain) is ∙ plain)
 
 pub returns : goal.returns
 returns c =
-    let no_name : app_of c.no_binary_name.result ≡ record (app_of c.new.result) { top = record (app_of c.new.result).top { no_binary_name = true } } =
-    ap app_of_fields c.no_binary_name.ensures in
-    let no_flag : app_of c.disable_help_flag.result ≡ record (app_of c.no_binary_name.result) { top = record (app_of c.no_binary_name.result).top { disable_help_flag = true } } =
-    ap app_of_fields c.disable_help_flag.ensures in
-    let no_help : app_of c.disable_help_subcommand.result ≡ record (app_of c.disable_help_flag.result) { top = record (app_of c.disable_help_flag.result).top { disable_help_subcommand = true } } =
-    ap app_of_fields c.disable_help_subcommand.ensures in
-    let required : app_of c.subcommand_required.result ≡ record (app_of c.disable_help_subcommand.result) { top = record (app_of c.disable_help_subcommand.result).top { subcommand_required = true } } =
-    ap app_of_fields c.subcommand_required.ensures in
-    let bare_is : app_of c.subcommand_required.result ≡ bare =
-    required ∙ (ap (λ (a : App). record a { top = record a.top { subcommand_required = true } }) no_help
-    ∙ (ap (λ (a : App). record a { top = record a.top { disable_help_subcommand = true; subcommand_required = true } }) no_flag
-    ∙ (ap (λ (a : App). record a { top = record a.top { disable_help_flag = true; disable_help_subcommand = true; subcommand_required = true } }) no_name
-    ∙ ap (λ (a : App). record a { top = record a.top { no_binary_name = true; disable_help_flag = true; disable_help_subcommand = true; subcommand_required = true } }) c.new.ensures.app))) in
-    let one = c.in_ok-subcommand.ensures.shape (local c.in_ok-verify.field-0 verify c.in_ok-verify.ensures refl) in
-    let two = c.in_ok-subcommand-2.ensures.shape (local c.in_ok-trace.field-0 trace c.in_ok-trace.ensures refl) in
-    let three = c.in_ok-subcommand-3.ensures.shape (local c.in_ok-check.field-0 check c.in_ok-check.ensures refl) in
-    let four = c.in_ok-subcommand-4.ensures.shape (local c.in_ok-solve.field-0 solve c.in_ok-solve.ensures refl) in
-    let five = c.in_ok-arcv.ensures.shape (local c.in_ok-lrat.field-0 lrat c.in_ok-lrat.ensures refl) in
-    five ∙ ap₂ with_subcommand (four ∙ ap₂ with_subcommand (three ∙ ap₂ with_subcommand (two ∙ ap₂ with_subcommand (one ∙ ap₂ with_subcommand bare_is
-    (ap (λ (a : App). a.top) c.in_ok-verify.ensures)) (ap (λ (a : App). a.top) c.in_ok-trace.ensures)) (ap (λ (a : App). a.top) c.in_ok-check.ensures)) (ap (λ (a : App). a.top) c.in_ok-solve.ensures)) (ap (λ (a : App). a.top) c.in_ok-lrat.ensures)
+    let one = c.in_ok-subcommand.ensures.shape (local c.in_ok-nodes.field-0 nodes c.in_ok-nodes.ensures refl) in
+    let two = c.in_ok-subcommand-2.ensures.shape (local c.in_ok-prefers.field-0 prefers c.in_ok-prefers.ensures refl) in
+    let three = c.in_ok-arcv.ensures.shape (local c.in_ok-recheck.field-0 recheck c.in_ok-recheck.ensures refl) in
+    three ∙ ap₂ with_subcommand (two ∙ ap₂ with_subcommand (one ∙ ap₂ with_subcommand c.in_ok-with_middle.ensures
+    (ap (λ (a : App). a.top) c.in_ok-nodes.ensures)) (ap (λ (a : App). a.top) c.in_ok-prefers.ensures)) (ap (λ (a : App). a.top) c.in_ok-recheck.ensures)

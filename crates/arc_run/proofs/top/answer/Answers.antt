@@ -1,0 +1,25 @@
+use Rattle.arc_run.proofs.top.answer.Goals as goal
+
+pub returns-in-Verify-clause-answer : goal.returns-in-Verify-clause-answer
+returns-in-Verify-clause-answer g c = rw c.in-Verify.is c.verify.ensures.answer
+
+pub returns-in-Trace-clause-answer : goal.returns-in-Trace-clause-answer
+returns-in-Trace-clause-answer g c = rw c.in-Trace.is c.trace.ensures.answer
+
+pub returns-in-Check-clause-answer : goal.returns-in-Check-clause-answer
+returns-in-Check-clause-answer g c = rw c.in-Check.is c.check.ensures.answer
+
+pub returns-in-Solve-clause-answer : goal.returns-in-Solve-clause-answer
+returns-in-Solve-clause-answer g c = rw c.in-Solve.is c.solve.ensures.answer
+
+pub returns-in-Lrat-clause-answer : goal.returns-in-Lrat-clause-answer
+returns-in-Lrat-clause-answer g c = rw c.in-Lrat.is c.lrat.ensures.answer
+
+pub returns-in-Nodes-clause-answer : goal.returns-in-Nodes-clause-answer
+returns-in-Nodes-clause-answer g c = rw c.in-Nodes.is c.nodes.ensures.answer
+
+pub returns-in-Prefers-clause-answer : goal.returns-in-Prefers-clause-answer
+returns-in-Prefers-clause-answer g c = rw c.in-Prefers.is c.prefers.ensures.answer
+
+pub returns-in-Recheck-clause-answer : goal.returns-in-Recheck-clause-answer
+returns-in-Recheck-clause-answer g c = rw c.in-Recheck.is c.recheck.ensures.answer

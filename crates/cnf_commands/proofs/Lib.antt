@@ -1,0 +1,7 @@
+pub mod LineByLine
+pub mod FormulaVariables
+pub mod Numbering
+pub mod Searching
+pub mod FoundBySearch
+pub mod Refuting
+pub mod SolveHeadline

@@ -1,0 +1,5 @@
+pub mod Formulas
+pub mod ProofLines
+pub mod Lrats
+pub mod Cores
+pub mod Solves

@@ -1,0 +1,62 @@
+//! The command `lrat CNF PROOF`.
+ghost use Rattle.std.specs.Prelude.{◌≡◌};
+ghost use Rattle.cnf_commands.specs.Lrats.{fault_kind, judgement_of, rejection_kind, IsJudged, IsLratRefusal};
+ghost use Rattle.run_files.specs.Answers.{Answers, IsJudging, OnlyReads};
+
+use crate::formulas::read_formula;
+use crate::proof_lines::judge_proof;
+use arc_base::{CertKind, Name};
+use arc_outside::Store;
+use proof_check::{Outcome, Rejection, StepFault};
+use run_files::{Done, Judgement, PROOF_LIMIT, Stop, told, try_file};
+use std::alloc::Global;
+
+// The kind of reason for which a step is not accepted.
+fn fault_kind(fault: StepFault) -> CertKind
+    ensures { result ≡ fault_kind fault }
+{
+    match fault {
+        StepFault::IdNotRising => CertKind::IdNotRising,
+        StepFault::NegativeHint(_) => CertKind::NegativeHint,
+        StepFault::UnknownId(_) => CertKind::UnknownId,
+        StepFault::HintNotUnit(_) => CertKind::HintNotUnit,
+        StepFault::NoConflict => CertKind::NoConflict,
+        StepFault::BoundTooLow => CertKind::BoundTooLow,
+        StepFault::BoundTooHigh => CertKind::BoundTooHigh,
+        StepFault::Memory => CertKind::Memory,
+    }
+}
+
+// The kind of reason for which a line is rejected.
+fn rejection_kind(rejection: Rejection) -> CertKind
+    ensures { result ≡ rejection_kind rejection }
+{
+    match rejection {
+        Rejection::Form => CertKind::Form,
+        Rejection::Fault(fault) => fault_kind(fault),
+        Rejection::NotRefuted => CertKind::NotRefuted,
+    }
+}
+
+// The judgement that an outcome is.
+fn judgement_of(outcome: Outcome) -> Judgement
+    ensures { result ≡ judgement_of outcome }
+{
+    match outcome {
+        Outcome::Accepted => Judgement::Accepted,
+        Outcome::Rejected(line, rejection) => Judgement::Rejected(line, rejection_kind(rejection)),
+    }
+}
+
+/// Judges whether a proof shows that no assignment satisfies the formula. The proof is read twice: for its size, and line
+/// by line for its steps.
+pub fn lrat<S: Store>(alloc: Global, cnf: &Name, proof: &Name, store: &mut S) -> Result<Done, Stop>
+    ensures answer { Answers IsJudging (IsLratRefusal cnf.now proof.now) (IsJudged cnf.now proof.now) (S.held store.old) result }
+    ensures reads { OnlyReads S.held S.faults S.absences store.old store.new result }
+{
+    let formula = read_formula(alloc, cnf, store)?;
+    try_file(alloc, store, proof, PROOF_LIMIT)?;
+    let outcome = judge_proof(alloc, store, proof, PROOF_LIMIT, &formula)?;
+    let done = told(alloc, judgement_of(outcome))?;
+    Ok(done)
+}

@@ -1,0 +1,72 @@
+-- One more policy at the end of a list.
+use Rattle.std.proofs.Common.{◌≡◌, ℕ, zero, suc, ◌+◌, ◌-◌, ◌<◌, ◌⊎◌, inl, inr, List, [], ◌∷◌, ◌++◌, length, refl, sym, ◌∙◌, ap, subst, arith, length-append}
+use Rattle.std.specs.Prelude.{Option, Some, Ok, Err, IfSome, IsSomeAnd, slice_get}
+use Rattle.std.specs.Option.{ForSome}
+use Rattle.std.proofs.lemmas.Option.{same_Some}
+use Rattle.arc_base.specs.Addresses.{IsInside}
+use Rattle.arc_base.specs.declared.prefix.Prefix.{Prefix}
+use Rattle.arc_base.specs.declared.refusal.Kind.TheVariants.{Endpoint}
+use Rattle.net_model.specs.declared.policies.Policy.{Policy}
+use Rattle.net_model.specs.declared.rows.Network.{Network}
+use Rattle.net_model.specs.Packets.{subject}
+use Rattle.net_model.specs.Forwarding.{HasEnds}
+use Rattle.net_model.specs.Validity.{IsValid}
+use Rattle.net_build.specs.Addressing.{HasEndpoints}
+use Rattle.net_build.proofs.Distinct.{Contains-at}
+use Rattle.net_model.proofs.Hosts.{some_host, one_host}
+use Rattle.run_files.specs.declared.outcome.Stop.{Stop}
+use Rattle.run_files.specs.declared.outcome.Stop.TheVariants as stops
+use Rattle.run_files.specs.Refusals.{refusal_of}
+use Rattle.reach_commands.specs.Added.{AddsPolicy, IsLast}
+
+-- a policy between two host networks has ends
+pub has_ends : (net : Network) → IsValid net → (policy : Policy) → HasEndpoints net policy.from policy.to → HasEnds net (subject policy)
+has_ends net is policy h =
+    let to : (q : Prefix) × (h.to.face.host ≡ Some q) × IsInside policy.to q = some_host h.to.face.host policy.to h.to.lies in
+    record {
+      ends = record { source = h.from.face; target = h.to.face; to = to.0 };
+      are_ends = record {
+        source = Contains-at net.faces h.source h.from.face h.from.at_place;
+        from = h.from.lies;
+        target = Contains-at net.faces h.target h.to.face h.to.at_place;
+        host = to.1;
+        to = to.2;
+      };
+      apart = λ same. h.apart (one_host net is policy.to h.source h.target
+          (record { face = h.from.face; at_place = h.from.at_place; lies = subst (λ (o : Option Prefix). IsSomeAnd o (IsInside policy.to)) (sym same) h.to.lies }) h.to);
+    }
+
+-- the refusal of its prefixes
+pub ends_refused : (document : List ℕ) (net : Network) (policies : List Policy) (policy : Policy) (stop : Stop) → ¬ HasEndpoints net policy.from policy.to →
+    (stop ≡ stops.Memory) ⊎ (stop ≡ stops.Refused (refusal_of document 0 Endpoint)) → AddsPolicy document net policies policy (Err stop)
+ends_refused document net policies policy stop ends (inl memory) = subst (λ (s : Stop). AddsPolicy document net policies policy (Err s)) (sym memory) tt
+ends_refused document net policies policy stop ends (inr is) = subst (λ (s : Stop). AddsPolicy document net policies policy (Err s)) (sym is) (ends, refl)
+
+-- reading a list with one more item
+pub read_before : {X : Type 0} (xs : List X) (x : X) (k : ℕ) → k < length xs → slice_get (xs ++ x ∷ []) k ≡ slice_get xs k
+read_before [] x k within = absurd (omega (arith, within))
+read_before (y ∷ xs) x zero within = refl
+read_before (y ∷ xs) x (suc k) within = read_before xs x k (omega (arith, within))
+
+pub read_last : {X : Type 0} (xs : List X) (x : X) → slice_get (xs ++ x ∷ []) (length xs) ≡ Some x
+read_last [] x = refl
+read_last (y ∷ xs) x = read_last xs x
+
+-- the policy that was added is the last
+pub is_last : (policies judged : List Policy) (policy : Policy) → judged ≡ policies ++ policy ∷ [] → IsLast judged policy
+is_last policies judged policy made =
+    let count : length (policies ++ policy ∷ []) ≡ length policies + 1 = length-append policies (policy ∷ []) in
+    let place : length (policies ++ policy ∷ []) - 1 ≡ length policies = omega (arith, count) in
+    subst (λ (ps : List Policy). IsLast ps policy) (sym made)
+    (record { some = omega (arith, count); last = ap (λ (k : ℕ). slice_get (policies ++ policy ∷ []) k) place ∙ read_last policies policy })
+
+last_read : (policies : List Policy) (policy : Policy) (k : ℕ) → k ≡ length policies - 1 → IsLast policies policy → slice_get policies k ≡ Some policy
+last_read policies policy k place last = ap (λ (i : ℕ). slice_get policies i) place ∙ last.last
+
+-- what holds of the policy holds of the last one
+pub at_last : (policies : List Policy) (policy : Policy) (k : ℕ) → k ≡ length policies - 1 → IsLast policies policy → (P : Policy → Type 0) → P policy → ForSome (slice_get policies k) P
+at_last policies policy k place last P holds = λ other at.
+    subst P (same_Some policy other (sym (last_read policies policy k place last) ∙ at)) holds
+
+pub of_last : (policies : List Policy) (policy : Policy) (k : ℕ) → k ≡ length policies - 1 → IsLast policies policy → (P : Policy → Type 0) → IfSome (slice_get policies k) P → P policy
+of_last policies policy k place last P holds = subst (λ (o : Option Policy). IfSome o P) (last_read policies policy k place last) holds

@@ -1,0 +1,12 @@
+pub mod OneInput
+pub mod NodesTold
+pub mod NamedRouters
+pub mod PrefersTold
+pub mod RecheckTold
+pub mod NodesAnswered
+pub mod PrefersAnswered
+pub mod RecheckAnswered
+pub mod AddedPolicy
+pub mod Zipping
+pub mod RecheckedEach
+pub mod FewClasses

@@ -1,0 +1,85 @@
+-- What the status of `nodes` tells.
+use Rattle.std.proofs.Common.{◌≡◌, ℕ, inl, inr, Bool, true, false, List, [], refl, sym, ◌∙◌, ap, arith}
+use Rattle.std.specs.Prelude.{if◌then◌else◌}
+use Rattle.std.proofs.lemmas.Bool.{false≢true}
+use Rattle.arc_outside.specs.Files.{Files}
+use Rattle.net_model.specs.declared.policies.Document.{Document}
+use Rattle.net_model.specs.declared.rows.Network.{Network}
+use Rattle.net_build.specs.Addressing.{HasEndpoints}
+use Rattle.arc_nodecut.specs.RouterFailures.{MeetsPast}
+use Rattle.arc_nodecut.specs.NodeWitnesses.{is_yes}
+use Rattle.arc_nodecut.proofs.NodeVerdicts.{right_verdicts_decide}
+use Rattle.command_words.specs.declared.commands.NodesWords.{NodesWords}
+use Rattle.run_files.specs.declared.limits.Limits.TheVariants.{Judging}
+use Rattle.run_files.specs.declared.outcome.Done.{Done}
+use Rattle.run_files.specs.declared.outcome.FileRefusal.{FileRefusal}
+use Rattle.run_files.specs.Answers.{IsTold}
+use Rattle.run_inputs.specs.Counts.{HasFewClasses}
+use Rattle.run_inputs.specs.Inputs.{HoldsInput}
+use Rattle.run_inputs.proofs.ClassCounts.{few_or_many}
+use Rattle.run_inputs.proofs.Determined.{determined}
+use Rattle.reach_commands.specs.Added.{judged}
+use Rattle.reach_commands.specs.Nodes.{nodes_policy, IsNodesRefusal, IsNodesAnswer, NodesSayYes, NodesSayNo, TellsNodes}
+use Rattle.reach_commands.proofs.OneInput.{one_input}
+
+module _ (words : NodesWords) (files : Files) where
+  yes_or_no : NodesSayYes words files → NodesSayNo words files → ⊥
+  yes_or_no yes' no' =
+      no'.meets_not (one_input words.document files yes'.doc no'.doc yes'.net no'.net yes'.input no'.input (λ d n. MeetsPast n (nodes_policy words)) yes'.meets)
+
+  held_or_refused : (doc : Document) (net : Network) → HoldsInput Judging [] words.document files doc net → HasEndpoints net words.from words.to →
+      HasFewClasses net (judged doc (nodes_policy words)) → (r : FileRefusal) → IsNodesRefusal words files r → ⊥
+  held_or_refused doc net input ends classes r (inl refused) = (determined Judging [] words.document files).not_both doc net r input refused
+  held_or_refused doc net input ends classes r (inr (inl u)) =
+      u.ends (one_input words.document files doc u.doc net u.net input u.input (λ d n. HasEndpoints n words.from words.to) ends)
+  held_or_refused doc net input ends classes r (inr (inr u)) =
+      few_or_many u.net (judged u.doc (nodes_policy words)) u.count
+      (one_input words.document files doc u.doc net u.net input u.input (λ d n. HasFewClasses n (judged d (nodes_policy words))) classes) u.many
+
+  told_as : (d : Done) (done : IsNodesAnswer words files d) (b : Bool) → is_yes done.verdict ≡ b → TellsNodes words d.status files
+  told_as d done true is =
+      let status : d.status ≡ 0 = done.status ∙ ap (λ (y : Bool). if y then 0 else 1) is in
+      let says : NodesSayYes words files = record {
+        doc = done.doc;
+        net = done.net;
+        input = done.input;
+        ends = done.ends;
+        classes = done.classes;
+        meets = (right_verdicts_decide done.net done.valid (nodes_policy words) done.verdict done.right).0 is;
+      } in
+      record {
+        yes_exactly = (λ e. says, λ s. status);
+        no_exactly = (λ e. absurd (omega (arith, status, e)), λ no'. absurd (yes_or_no says no'));
+        refused_exactly = (λ e. absurd (omega (arith, status, e)), λ u. absurd (held_or_refused done.doc done.net done.input done.ends done.classes u.refusal u.refused));
+        nothing_else = inl status;
+      }
+  told_as d done false is =
+      let status : d.status ≡ 1 = done.status ∙ ap (λ (y : Bool). if y then 0 else 1) is in
+      let says : NodesSayNo words files = record {
+        doc = done.doc;
+        net = done.net;
+        input = done.input;
+        ends = done.ends;
+        classes = done.classes;
+        meets_not = λ meets. false≢true (sym is ∙ (right_verdicts_decide done.net done.valid (nodes_policy words) done.verdict done.right).1 meets);
+      } in
+      record {
+        yes_exactly = (λ e. absurd (omega (arith, status, e)), λ yes'. absurd (yes_or_no yes' says));
+        no_exactly = (λ e. says, λ s. status);
+        refused_exactly = (λ e. absurd (omega (arith, status, e)), λ u. absurd (held_or_refused done.doc done.net done.input done.ends done.classes u.refusal u.refused));
+        nothing_else = inr (inl status);
+      }
+
+  pub told_done : (d : Done) → IsNodesAnswer words files d → TellsNodes words d.status files
+  told_done d done = told_as d done (is_yes done.verdict) refl
+
+  pub told_refused : (r : FileRefusal) → IsNodesRefusal words files r → TellsNodes words 5 files
+  told_refused r refused = record {
+    yes_exactly = (λ e. absurd (omega (arith, e)), λ yes'. absurd (held_or_refused yes'.doc yes'.net yes'.input yes'.ends yes'.classes r refused));
+    no_exactly = (λ e. absurd (omega (arith, e)), λ no'. absurd (held_or_refused no'.doc no'.net no'.input no'.ends no'.classes r refused));
+    refused_exactly = (λ e. record { refusal = r; refused = refused }, λ u. refl);
+    nothing_else = inr (inr refl);
+  }
+
+pub nodes_told : (words : NodesWords) → IsTold (IsNodesRefusal words) (IsNodesAnswer words) (λ status before after. TellsNodes words status before)
+nodes_told words = record { answered = told_done words; refused = told_refused words }

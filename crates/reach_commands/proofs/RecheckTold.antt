@@ -1,0 +1,139 @@
+-- What the status of `recheck` tells.
+use Rattle.std.proofs.Common.{◌≡◌, ℕ, zero, suc, ◌+◌, ◌<◌, inl, inr, Bool, true, false, List, [], ◌∷◌, length, get_or, refl, sym, ◌∙◌, ap, subst, arith}
+use Rattle.std.specs.Prelude.{if◌then◌else◌, Option, Some, None, All, IsTrue, IsSomeAnd, slice_get, ◌&&◌, ◌↔◌}
+use Rattle.std.specs.List.{AllZip, list_all}
+use Rattle.std.proofs.lemmas.Bool.{false≢true, and_parts}
+use Rattle.arc_outside.specs.Files.{Files}
+use Rattle.net_model.specs.declared.policies.Document.{Document}
+use Rattle.net_model.specs.declared.policies.Policy.{Policy}
+use Rattle.net_model.specs.declared.rows.Network.{Network}
+use Rattle.net_model.specs.declared.verdicts.Verdict.{Verdict}
+use Rattle.net_model.specs.Policies.{Meets, MeetsDocument}
+use Rattle.net_model.specs.Validity.{IsValid}
+use Rattle.net_model.specs.Witnesses.{is_yes, IsRight}
+use Rattle.net_laws.proofs.RightVerdicts.{right_verdicts_decide}
+use Rattle.arc_recheck.specs.declared.rechecking.Rechecked.{Rechecked}
+use Rattle.arc_recheck.specs.Rechecks.{IsRechecked}
+use Rattle.command_words.specs.declared.commands.RecheckWords.{RecheckWords}
+use Rattle.run_files.specs.declared.limits.Limits.TheVariants.{Judging}
+use Rattle.run_files.specs.declared.outcome.Done.{Done}
+use Rattle.run_files.specs.declared.outcome.FileRefusal.{FileRefusal}
+use Rattle.run_files.specs.Answers.{IsTold}
+use Rattle.run_inputs.specs.Counts.{HasFewClasses}
+use Rattle.run_inputs.specs.Inputs.{HoldsInput}
+use Rattle.run_files.specs.Limits.{proof_limit}
+use Rattle.run_files.specs.Refusals.{read_refusal}
+use Rattle.run_inputs.proofs.Determined.{determined, judged_once}
+use Rattle.reach_commands.specs.RecheckRuns.{AreRechecked, IsRecheckRefusal, IsRecheckAnswer, RecheckSaysYes, RecheckSaysNo, TellsRecheck}
+use Rattle.reach_commands.proofs.OneInput.{one_input}
+
+-- the rechecked verdict is right
+abbrev pub IsRightOn : Network → Policy → Rechecked → Type 0
+IsRightOn net policy r = IsRight net policy r.verdict
+
+all_right : (net : Network) (policies : List Policy) (rs : List Rechecked) → length rs ≡ length policies →
+    ((k : ℕ) (policy : Policy) → slice_get policies k ≡ Some policy → IsSomeAnd (slice_get rs k) (IsRightOn net policy)) → AllZip (IsRightOn net) policies rs
+all_right net [] [] count each = tt
+all_right net [] (r ∷ rs) count each = absurd (omega (arith, count))
+all_right net (policy ∷ policies) [] count each = absurd (omega (arith, count))
+all_right net (policy ∷ policies) (r ∷ rs) count each =
+    (each 0 policy refl, all_right net policies rs (omega (arith, count)) (λ k p at. each (suc k) p at))
+
+right_of : (net : Network) (policies : List Policy) (policy : Policy) (old : Option Verdict) (o : Option Rechecked) → IsSomeAnd o (IsRechecked net policies policy old) → IsSomeAnd o (IsRightOn net policy)
+right_of net policies policy old None h = absurd h
+right_of net policies policy old (Some r) h = h.right
+
+abbrev pub yes : Rechecked → Bool
+yes r = is_yes r.verdict
+
+-- each policy is met exactly where each verdict is a yes
+met_if : (net : Network) → IsValid net → (policies : List Policy) (rs : List Rechecked) → AllZip (IsRightOn net) policies rs → list_all yes rs ≡ true → All (Meets net) policies
+met_if net valid [] [] right all k d within = absurd (omega (arith, within))
+met_if net valid [] (r ∷ rs) right all k d within = absurd right
+met_if net valid (policy ∷ policies) [] right all k d within = absurd right
+met_if net valid (policy ∷ policies) (r ∷ rs) right all zero d within =
+    (right_verdicts_decide net valid policy r.verdict right.0).0 (and_parts (yes r) (list_all yes rs) all).0
+met_if net valid (policy ∷ policies) (r ∷ rs) right all (suc k) d within =
+    met_if net valid policies rs right.1 (and_parts (yes r) (list_all yes rs) all).1 k d (omega (arith, within))
+
+both_true : (a b : Bool) → a ≡ true → b ≡ true → (a && b) ≡ true
+both_true a b e f = ap (λ (x : Bool). x && b) e ∙ f
+
+yes_if : (net : Network) → IsValid net → (policies : List Policy) (rs : List Rechecked) → AllZip (IsRightOn net) policies rs → All (Meets net) policies → list_all yes rs ≡ true
+yes_if net valid [] [] right met = refl
+yes_if net valid [] (r ∷ rs) right met = absurd right
+yes_if net valid (policy ∷ policies) [] right met = absurd right
+yes_if net valid (policy ∷ policies) (r ∷ rs) right met =
+    both_true (yes r) (list_all yes rs) ((right_verdicts_decide net valid policy r.verdict right.0).1 (met 0 policy (omega arith)))
+    (yes_if net valid policies rs right.1 (λ k d within. met (suc k) d (omega (arith, within))))
+
+refused_none : (o : Option FileRefusal) (r : FileRefusal) → o ≡ None → o ≡ Some r → ⊥
+refused_none o r e f = absurd (cc)
+
+module _ (words : RecheckWords) (files : Files) where
+  yes_or_no : RecheckSaysYes words files → RecheckSaysNo words files → ⊥
+  yes_or_no yes' no' =
+      no'.meets_not (one_input words.document files yes'.doc no'.doc yes'.net no'.net yes'.input no'.input (λ d n. MeetsDocument n d) yes'.meets)
+
+  held_or_refused : (doc : Document) (net : Network) → HoldsInput Judging [] words.document files doc net → read_refusal proof_limit files words.report ≡ None → HasFewClasses net doc.policies →
+      (r : FileRefusal) → IsRecheckRefusal words files r → ⊥
+  held_or_refused doc net input held classes r (inl e) = (determined Judging [] words.document files).not_both doc net r input (inl e)
+  held_or_refused doc net input held classes r (inr (inl u)) = (determined Judging [] words.document files).not_both doc net r input (inr (inl u))
+  held_or_refused doc net input held classes r (inr (inr (inl u))) = refused_none (read_refusal proof_limit files words.report) r held u.refused
+  held_or_refused doc net input held classes r (inr (inr (inr u))) =
+      elim u.refused [
+        | inl behind ↦ (determined Judging [] words.document files).not_both doc net r input (inr (inr behind))
+        | inr many ↦ (judged_once Judging words.document files).not_both doc net r input classes (inr many)
+      ]
+
+  rights : (d : Done) (done : IsRecheckAnswer words files d) → AllZip (IsRightOn done.net) done.doc.policies done.rechecked
+  rights d done = all_right done.net done.doc.policies done.rechecked done.are_rechecked.count
+      (λ k policy at. right_of done.net done.doc.policies policy _ (slice_get done.rechecked k) (done.are_rechecked.each k policy at))
+
+  told_as : (d : Done) (done : IsRecheckAnswer words files d) (b : Bool) → list_all yes done.rechecked ≡ b → TellsRecheck words d.status files
+  told_as d done true is =
+      let status : d.status ≡ 0 = done.status ∙ ap (λ (y : Bool). if y then 0 else 1) is in
+      let says : RecheckSaysYes words files = record {
+        doc = done.doc;
+        net = done.net;
+        input = done.input;
+        held = done.held;
+        classes = done.classes;
+        meets = met_if done.net done.valid done.doc.policies done.rechecked (rights d done) is;
+      } in
+      record {
+        yes_exactly = (λ e. says, λ s. status);
+        no_exactly = (λ e. absurd (omega (arith, status, e)), λ no'. absurd (yes_or_no says no'));
+        refused_exactly = (λ e. absurd (omega (arith, status, e)), λ u. absurd (held_or_refused done.doc done.net done.input done.held done.classes u.refusal u.refused));
+        nothing_else = inl status;
+      }
+  told_as d done false is =
+      let status : d.status ≡ 1 = done.status ∙ ap (λ (y : Bool). if y then 0 else 1) is in
+      let says : RecheckSaysNo words files = record {
+        doc = done.doc;
+        net = done.net;
+        input = done.input;
+        held = done.held;
+        classes = done.classes;
+        meets_not = λ meets. false≢true (sym is ∙ yes_if done.net done.valid done.doc.policies done.rechecked (rights d done) meets);
+      } in
+      record {
+        yes_exactly = (λ e. absurd (omega (arith, status, e)), λ yes'. absurd (yes_or_no yes' says));
+        no_exactly = (λ e. says, λ s. status);
+        refused_exactly = (λ e. absurd (omega (arith, status, e)), λ u. absurd (held_or_refused done.doc done.net done.input done.held done.classes u.refusal u.refused));
+        nothing_else = inr (inl status);
+      }
+
+  pub told_done : (d : Done) → IsRecheckAnswer words files d → TellsRecheck words d.status files
+  told_done d done = told_as d done (list_all yes done.rechecked) refl
+
+  pub told_refused : (r : FileRefusal) → IsRecheckRefusal words files r → TellsRecheck words 5 files
+  told_refused r refused = record {
+    yes_exactly = (λ e. absurd (omega (arith, e)), λ yes'. absurd (held_or_refused yes'.doc yes'.net yes'.input yes'.held yes'.classes r refused));
+    no_exactly = (λ e. absurd (omega (arith, e)), λ no'. absurd (held_or_refused no'.doc no'.net no'.input no'.held no'.classes r refused));
+    refused_exactly = (λ e. record { refusal = r; refused = refused }, λ u. refl);
+    nothing_else = inr (inr refl);
+  }
+
+pub recheck_told : (words : RecheckWords) → IsTold (IsRecheckRefusal words) (IsRecheckAnswer words) (λ status before after. TellsRecheck words status before)
+recheck_told words = record { answered = told_done words; refused = told_refused words }

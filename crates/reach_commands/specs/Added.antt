@@ -1,0 +1,51 @@
+-- A command that judges one more policy beside those of the document: it goes from the one prefix of the words to the other, and stands at the end of their list.
+use Rattle.std.specs.Prelude.{◌≡◌, ◌⊎◌, ◌<◌, ◌-◌, ℕ, List, [], ◌∷◌, ◌++◌, length, slice_get, Some, Result, Ok, Err}
+use Rattle.arc_base.specs.declared.prefix.Prefix.{Prefix}
+use Rattle.arc_base.specs.declared.refusal.Kind.TheVariants.{Endpoint, Limit}
+use Rattle.arc_base.specs.declared.refusal.LimitKind.TheVariants.{Classes}
+use Rattle.arc_outside.specs.Files.{Files}
+use Rattle.net_model.specs.declared.policies.Document.{Document}
+use Rattle.net_model.specs.declared.policies.Policy.{Policy}
+use Rattle.net_model.specs.declared.rows.Network.{Network}
+use Rattle.net_build.specs.Addressing.{HasEndpoints}
+use Rattle.run_files.specs.declared.limits.Limits.TheVariants.{Judging}
+use Rattle.run_files.specs.declared.outcome.FileRefusal.{FileRefusal}
+use Rattle.run_files.specs.declared.outcome.Stop.{Stop}
+use Rattle.run_files.specs.declared.outcome.Stop.TheVariants as stops
+use Rattle.run_inputs.specs.Counts.{HasManyClasses}
+use Rattle.run_inputs.specs.Inputs.{HoldsInput}
+use Rattle.run_files.specs.Refusals.{refusal_of}
+
+-- the policies of the document, and this one at their end
+abbrev pub judged : Document → Policy → List Policy
+judged doc policy = doc.policies ++ policy ∷ []
+
+-- the document and its files have a network, and the policy's prefixes do not lie in two different host networks of it
+pub record RefusesEnds (document : List ℕ) (policy : Policy) (files : Files) (r : FileRefusal) : Type 0 where
+  pub doc : Document
+  pub net : Network
+  pub input : HoldsInput Judging [] document files doc net
+  pub ends : ¬ HasEndpoints net policy.from policy.to
+  pub told : r ≡ refusal_of document 0 Endpoint
+
+-- with the policy the document's policies have too many classes
+pub record RefusesClassesWith (document : List ℕ) (policy : Policy) (files : Files) (r : FileRefusal) : Type 0 where
+  pub doc : Document
+  pub net : Network
+  pub input : HoldsInput Judging [] document files doc net
+  pub ends : HasEndpoints net policy.from policy.to
+  pub count : ℕ
+  pub many : HasManyClasses net (judged doc policy) count
+  pub told : r ≡ refusal_of document 0 (Limit Classes count)
+
+-- the policies with this one at their end, or the refusal of its prefixes
+abbrev pub AddsPolicy : List ℕ → Network → List Policy → Policy → Result (List Policy) Stop → Type 0
+AddsPolicy document net policies policy (Ok judged) = HasEndpoints net policy.from policy.to × (judged ≡ policies ++ policy ∷ [])
+AddsPolicy document net policies policy (Err (stops.Refused r)) = (¬ HasEndpoints net policy.from policy.to) × (r ≡ refusal_of document 0 Endpoint)
+AddsPolicy document net policies policy (Err stops.Memory) = Unit {0}
+AddsPolicy document net policies policy (Err stops.Failed) = ⊥
+
+-- the policy stands last among these
+pub record IsLast (policies : List Policy) (policy : Policy) : Type 0 where
+  pub some : 0 < length policies
+  pub last : slice_get policies (length policies - 1) ≡ Some policy

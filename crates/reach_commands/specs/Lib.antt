@@ -1,0 +1,4 @@
+pub mod Added
+pub mod Nodes
+pub mod PreferRuns
+pub mod RecheckRuns

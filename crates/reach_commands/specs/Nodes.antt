@@ -1,0 +1,80 @@
+-- The command `nodes DOC FROM TO K`.
+use Rattle.std.specs.Prelude.{◌≡◌, ◌↔◌, ◌⊎◌, ℕ, List, [], if◌then◌else◌}
+use Rattle.arc_outside.specs.Files.{Files}
+use Rattle.net_model.specs.declared.policies.Document.{Document}
+use Rattle.net_model.specs.declared.policies.Policy.{Policy}
+use Rattle.net_model.specs.declared.policies.PolicyKind.TheVariants.{Reach}
+use Rattle.net_model.specs.declared.rows.Network.{Network}
+use Rattle.net_model.specs.Validity.{IsValid}
+use Rattle.net_build.specs.Addressing.{HasEndpoints}
+use Rattle.arc_nodecut.specs.declared.verdict.NodeVerdict.{NodeVerdict}
+use Rattle.arc_nodecut.specs.RouterFailures.{MeetsPast}
+use Rattle.arc_nodecut.specs.NodeWitnesses.{IsRight, is_yes}
+use Rattle.arc_nodecut.specs.Given.{IsGiven}
+use Rattle.arc_nodecut.specs.NodeText.{nodes_text}
+use Rattle.command_words.specs.declared.commands.NodesWords.{NodesWords}
+use Rattle.run_files.specs.declared.limits.Limits.TheVariants.{Judging}
+use Rattle.run_files.specs.declared.outcome.Done.{Done}
+use Rattle.run_files.specs.declared.outcome.FileRefusal.{FileRefusal}
+use Rattle.run_inputs.specs.Counts.{HasFewClasses}
+use Rattle.run_inputs.specs.Inputs.{HoldsInput, IsInputRefusal}
+use Rattle.reach_commands.specs.Added.{judged, RefusesEnds, RefusesClassesWith}
+
+-- the policy that the words make: reach under at most so many failed routers
+abbrev pub nodes_policy : NodesWords → Policy
+nodes_policy words = record { kind = Reach words.failures; from = words.from; to = words.to }
+
+-- The first refusal: of the input; that the prefixes do not lie in two different host networks; or that there are too many classes.
+abbrev pub IsNodesRefusal : NodesWords → Files → FileRefusal → Type 0
+IsNodesRefusal words files r =
+    IsInputRefusal Judging [] words.document files r ⊎
+    (RefusesEnds words.document (nodes_policy words) files r ⊎ RefusesClassesWith words.document (nodes_policy words) files r)
+
+-- 0 for a yes, and else 1
+abbrev pub nodes_status : NodeVerdict → ℕ
+nodes_status v = if is_yes v then 0 else 1
+
+-- the text of a right verdict, which is the one that is given
+pub record IsNodesAnswer (words : NodesWords) (files : Files) (done : Done) : Type 0 where
+  pub doc : Document
+  pub net : Network
+  pub input : HoldsInput Judging [] words.document files doc net
+  pub valid : IsValid net
+  pub ends : HasEndpoints net words.from words.to
+  pub classes : HasFewClasses net (judged doc (nodes_policy words))
+  pub verdict : NodeVerdict
+  pub right : IsRight net (nodes_policy words) verdict
+  pub given : IsGiven net (judged doc (nodes_policy words)) (nodes_policy words) verdict
+  pub text : done.text ≡ nodes_text net words.failures verdict
+  pub writes : done.writes ≡ []
+  pub status : done.status ≡ nodes_status verdict
+
+-- the input has a network with these ends and not too many classes, which meets the policy whichever so many routers fail
+pub record NodesSayYes (words : NodesWords) (files : Files) : Type 0 where
+  pub doc : Document
+  pub net : Network
+  pub input : HoldsInput Judging [] words.document files doc net
+  pub ends : HasEndpoints net words.from words.to
+  pub classes : HasFewClasses net (judged doc (nodes_policy words))
+  pub meets : MeetsPast net (nodes_policy words)
+
+-- it has such a network, which does not: some packet is stuck once some of so many routers fail, or the policy is not clear
+pub record NodesSayNo (words : NodesWords) (files : Files) : Type 0 where
+  pub doc : Document
+  pub net : Network
+  pub input : HoldsInput Judging [] words.document files doc net
+  pub ends : HasEndpoints net words.from words.to
+  pub classes : HasFewClasses net (judged doc (nodes_policy words))
+  pub meets_not : ¬ MeetsPast net (nodes_policy words)
+
+-- it has none, and there is a first reason for it
+pub record NodesAreRefused (words : NodesWords) (files : Files) : Type 0 where
+  pub refusal : FileRefusal
+  pub refused : IsNodesRefusal words files refusal
+
+-- Which of the three it is, the status tells: 0 for yes, 1 for no, and 5 for refused.
+pub record TellsNodes (words : NodesWords) (status : ℕ) (files : Files) : Type 0 where
+  pub yes_exactly : (status ≡ 0) ↔ NodesSayYes words files
+  pub no_exactly : (status ≡ 1) ↔ NodesSayNo words files
+  pub refused_exactly : (status ≡ 5) ↔ NodesAreRefused words files
+  pub nothing_else : (status ≡ 0) ⊎ ((status ≡ 1) ⊎ (status ≡ 5))

@@ -1,0 +1,34 @@
+//! One more policy beside those of the document.
+ghost use Rattle.std.specs.Prelude.{◌≡◌, IfOk};
+ghost use Rattle.net_model.specs.Packets.{subject};
+ghost use Rattle.net_model.specs.Forwarding.{HasEnds};
+ghost use Rattle.net_model.specs.Validity.{IsValid};
+ghost use Rattle.reach_commands.specs.Added.{AddsPolicy};
+
+use arc_base::{Kind, List, Name};
+use net_build::has_endpoints;
+use net_model::{Network, Policy};
+use run_files::{Stop, refused};
+use std::alloc::Global;
+
+/// The policies with one more at their end. The document is refused where that does not go from one host network to another.
+pub(crate) fn with_policy(
+    alloc: Global,
+    document: &Name,
+    net: &Network,
+    mut policies: List<Policy>,
+    policy: Policy,
+) -> Result<List<Policy>, Stop>
+    requires { IsValid net.now }
+    ensures told { AddsPolicy document.now net.now policies policy result }
+    ensures ends { IfOk result (λ judged. HasEnds net.now (subject policy)) }
+{
+    if !has_endpoints(net, policy.from, policy.to) {
+        return Err(refused(alloc, document, 0, Kind::Endpoint));
+    }
+    if policies.len() == u32::MAX {
+        return Err(Stop::Memory);
+    }
+    policies.push(policy)?;
+    Ok(policies)
+}

@@ -1,0 +1,15 @@
+//! The commands that reach further: `nodes` judges reach under failed routers, `prefers` whether packets go by a list of routers,
+//! and `recheck` an old report after a change. Each reads its input, judges it by a crate of its own, and tells the answer with
+//! what shows it.
+#![tactic(auto)]
+
+mod added;
+pub mod laws;
+mod preferring;
+mod rechecked;
+mod router_failures;
+mod routers;
+
+pub use preferring::prefers;
+pub use rechecked::recheck;
+pub use router_failures::nodes;

@@ -1,0 +1,89 @@
+//! The command `prefers DOC FROM TO ROUTERS`.
+ghost use Rattle.std.specs.Prelude.{◌≡◌, ◌≤◌, IfOk, IfSome};
+ghost use Rattle.net_model.specs.Packets.{subject};
+ghost use Rattle.net_model.specs.Forwarding.{HasEnds};
+ghost use Rattle.net_model.specs.Validity.{IsValid};
+ghost use Rattle.arc_prefer.specs.Answers.{IsRightPreferred};
+ghost use Rattle.arc_prefer.specs.Firsts.{IsOfFirstClass};
+ghost use Rattle.run_inputs.specs.Counts.{HasFewClasses};
+ghost use Rattle.run_files.specs.Answers.{Answers, IsJudging, OnlyReads};
+ghost use Rattle.reach_commands.specs.Added.{IsLast};
+ghost use Rattle.reach_commands.specs.PreferRuns.{prefers_policy, prefers_status, IsPrefersRefusal, IsPrefersAnswer};
+
+use crate::added::with_policy;
+use crate::routers::routers_named;
+use arc_base::{List, Memory, Name, Router};
+use arc_outside::Store;
+use arc_prefer::{Preferred, prefers_text};
+use command_words::PrefersWords;
+use net_model::{Network, Policy, PolicyKind};
+use run_files::{Done, Limits, Stop};
+use run_inputs::{Input, count_classes, read_input};
+use std::alloc::Global;
+use traffic_classes::ClassFault;
+
+/// The policy that the words make, of which only the prefixes count.
+fn policy_of(words: &PrefersWords) -> Policy
+    ensures { result ≡ prefers_policy words.now }
+{
+    Policy {
+        kind: PolicyKind::Reach(0),
+        from: words.from,
+        to: words.to,
+    }
+}
+
+/// The answer for the policy, which is the last. All classes are few, and no policy has more than all of them.
+fn answer_last(
+    alloc: Global,
+    net: &Network,
+    policies: &List<Policy>,
+    policy: Policy,
+    wanted: &List<Router>,
+) -> Result<Preferred, Memory>
+    requires valid { IsValid net.now }
+    requires last { IsLast policies.now policy }
+    requires ends { HasEnds net.now (subject policy) }
+    requires few { HasFewClasses net.now policies.now }
+    ensures right { IfOk result (IsRightPreferred net.now policy wanted.now) }
+    ensures first { IfOk result (λ a. IfSome a.fault (IsOfFirstClass net.now policies.now policy wanted.now)) }
+{
+    let last = policies.len() - 1;
+    match arc_prefer::prefers(alloc, net, policies, last, wanted) {
+        Ok(answer) => Ok(answer),
+        Err(ClassFault::TooMany(_)) => unreachable!(),
+        Err(ClassFault::Memory) => Err(Memory),
+    }
+}
+
+/// The status of the answer.
+fn status_of(answer: &Preferred) -> u8
+    ensures value { result ≡ prefers_status answer.now.fault }
+    ensures small { result ≤ 1 }
+{
+    match answer.fault {
+        None => 0,
+        Some(_) => 1,
+    }
+}
+
+/// Judges whether, with all links up, the packets from the one prefix to the other go by exactly these routers, and tells the
+/// answer with its distances and, where it is a no, what goes another way.
+pub fn prefers<S: Store>(alloc: Global, words: &PrefersWords, store: &mut S) -> Result<Done, Stop>
+    ensures answer { Answers IsJudging (IsPrefersRefusal words.now) (IsPrefersAnswer words.now) (S.held store.old) result }
+    ensures reads { OnlyReads S.held S.faults S.absences store.old store.new result }
+{
+    let policy = policy_of(words);
+    let input = read_input(alloc, &words.document, &[], Limits::Judging, store)?;
+    let Input { doc, net } = input;
+    let judged = with_policy(alloc, &words.document, &net, doc.policies, policy)?;
+    let wanted = routers_named(alloc, &words.document, &net, &words.routers)?;
+    count_classes(alloc, &words.document, &net, &judged)?;
+    let answer = answer_last(alloc, &net, &judged, policy, &wanted)?;
+    let text = prefers_text(alloc, &net, &answer)?;
+    Ok(Done {
+        text: Name::of(text),
+        writes: List::make(alloc),
+        status: status_of(&answer),
+    })
+}

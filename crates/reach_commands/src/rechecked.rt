@@ -1,0 +1,102 @@
+//! The command `recheck DOC REPORT`.
+ghost use Rattle.std.specs.Prelude.{◌≡◌, ◌≤◌, length, IfOk};
+ghost use Rattle.std.specs.List.{AllZip, list_all};
+ghost use Rattle.net_model.specs.Witnesses.{is_yes};
+ghost use Rattle.arc_recheck.specs.Singles.{IsAloneAnswer};
+ghost use Rattle.run_inputs.specs.Counts.{HasFewClasses};
+ghost use Rattle.run_inputs.specs.Inputs.{IsFit};
+ghost use Rattle.run_files.specs.Answers.{Answers, IsJudging, OnlyReads};
+ghost use Rattle.reach_commands.specs.RecheckRuns.{AreRechecked, rechecked_status, IsRecheckRefusal, IsRecheckAnswer};
+
+use arc_base::{Link, List, Memory, Name};
+use arc_outside::Store;
+use arc_recheck::{Rechecked, alone, held_verdicts, recheck_text};
+use command_words::RecheckWords;
+use net_model::Verdict;
+use run_files::{Done, Limits, PROOF_LIMIT, Stop, read_file};
+use run_inputs::{Input, count_classes, read_document, read_files};
+use std::alloc::Global;
+use verdicts::JudgeFault;
+
+/// Rechecks each policy in order against the block that is held for it. All classes are few, and no policy has more than all of
+/// them.
+fn recheck_all(
+    alloc: Global,
+    input: &Input,
+    held: &List<Verdict>,
+) -> Result<List<Rechecked>, Memory>
+    requires fit { IsFit input.now }
+    requires few { HasFewClasses input.now.net input.now.doc.policies }
+    ensures { IfOk result (AreRechecked input.now.net input.now.doc.policies held.now) }
+{
+    let mut rechecked = List::make(alloc);
+    for which in 0..input.doc.policies.len() {
+        let old = held.get(which);
+        match arc_recheck::recheck(alloc, &input.net, &input.doc.policies, which, old) {
+            Ok(one) => rechecked.push(one)?,
+            Err(JudgeFault::TooMany(_)) => unreachable!(),
+            Err(JudgeFault::Memory) => return Err(Memory),
+        }
+    }
+    Ok(rechecked)
+}
+
+/// For each policy in order the links whose failure alone breaks it, if it has an answer.
+fn alone_all(alloc: Global, input: &Input) -> Result<List<Option<List<Link>>>, Memory>
+    requires fit { IsFit input.now }
+    requires few { HasFewClasses input.now.net input.now.doc.policies }
+    ensures { IfOk result (AllZip (IsAloneAnswer input.now.net) input.now.doc.policies) }
+{
+    let mut found = List::make(alloc);
+    for which in 0..input.doc.policies.len() {
+        match alone(alloc, &input.net, &input.doc.policies, which) {
+            Ok(links) => found.push(links)?,
+            Err(JudgeFault::TooMany(_)) => unreachable!(),
+            Err(JudgeFault::Memory) => return Err(Memory),
+        }
+    }
+    Ok(found)
+}
+
+/// Whether the verdict is a yes.
+fn is_yes(verdict: &Verdict) -> bool
+    ensures { result ≡ is_yes verdict.now }
+{
+    matches!(verdict, Verdict::Closed(_) | Verdict::Paths(_))
+}
+
+/// The status of these verdicts.
+fn status_of(rechecked: &[Rechecked]) -> u8
+    ensures value { result ≡ rechecked_status rechecked.now }
+    ensures small { result ≤ 1 }
+{
+    if are_all_yes(rechecked) { 0 } else { 1 }
+}
+
+/// Whether each verdict is a yes.
+fn are_all_yes(rechecked: &[Rechecked]) -> bool
+    ensures { result ≡ list_all (λ r. is_yes r.verdict) rechecked.now }
+{
+    rechecked.iter().all(|one| is_yes(&one.verdict))
+}
+
+/// Rechecks an old report over the document and the router files as they are now: keeps each verdict whose witness is still
+/// right, gives the others anew, and tells for each reach policy that holds the links whose failure alone breaks it.
+pub fn recheck<S: Store>(alloc: Global, words: &RecheckWords, store: &mut S) -> Result<Done, Stop>
+    ensures answer { Answers IsJudging (IsRecheckRefusal words.now) (IsRecheckAnswer words.now) (S.held store.old) result }
+    ensures reads { OnlyReads S.held S.faults S.absences store.old store.new result }
+{
+    let doc = read_document(alloc, &words.document, store)?;
+    let bytes = read_file(alloc, store, &words.report, PROOF_LIMIT)?;
+    let input = read_files(alloc, &words.document, doc, &[], Limits::Judging, store)?;
+    count_classes(alloc, &words.document, &input.net, &input.doc.policies)?;
+    let held = held_verdicts(alloc, &input.net, &input.doc, bytes.as_slice())?;
+    let rechecked = recheck_all(alloc, &input, &held)?;
+    let found = alone_all(alloc, &input)?;
+    let text = recheck_text(alloc, &input.net, &input.doc.policies, &rechecked, &found)?;
+    Ok(Done {
+        text: Name::of(text),
+        writes: List::make(alloc),
+        status: status_of(rechecked.slice()),
+    })
+}

@@ -1,0 +1,89 @@
+//! The command `nodes DOC FROM TO K`.
+ghost use Rattle.std.specs.Prelude.{◌≡◌, ◌≤◌, IfOk};
+ghost use Rattle.net_model.specs.Packets.{subject};
+ghost use Rattle.net_model.specs.Forwarding.{HasEnds};
+ghost use Rattle.net_model.specs.Validity.{IsValid};
+ghost use Rattle.arc_nodecut.specs.NodeWitnesses.{IsRight};
+ghost use Rattle.arc_nodecut.specs.Given.{IsGiven};
+ghost use Rattle.arc_nodecut.specs.Judged.{IsFewReach};
+ghost use Rattle.run_inputs.specs.Counts.{HasFewClasses};
+ghost use Rattle.run_files.specs.Answers.{Answers, IsJudging, OnlyReads};
+ghost use Rattle.reach_commands.specs.Added.{IsLast};
+ghost use Rattle.reach_commands.specs.Nodes.{nodes_policy, nodes_status, IsNodesRefusal, IsNodesAnswer};
+
+use crate::added::with_policy;
+use arc_base::{List, Memory, Name};
+use arc_nodecut::{NodeVerdict, judge_nodes, nodes_text};
+use arc_outside::Store;
+use command_words::NodesWords;
+use net_model::{Network, Policy, PolicyKind};
+use run_files::{Done, Limits, Stop};
+use run_inputs::{Input, count_classes, read_input};
+use std::alloc::Global;
+use traffic_classes::ClassFault;
+
+/// The policy that the words make.
+fn policy_of(words: &NodesWords) -> Policy
+    ensures { result ≡ nodes_policy words.now }
+{
+    Policy {
+        kind: PolicyKind::Reach(words.failures),
+        from: words.from,
+        to: words.to,
+    }
+}
+
+/// The verdict on the policy, which is the last. All classes are few, and no policy has more than all of them.
+fn judge_last(
+    alloc: Global,
+    net: &Network,
+    policies: &List<Policy>,
+    policy: Policy,
+) -> Result<NodeVerdict, Memory>
+    requires valid { IsValid net.now }
+    requires last { IsLast policies.now policy }
+    requires ends { HasEnds net.now (subject policy) }
+    requires reach { IsFewReach policy.kind }
+    requires few { HasFewClasses net.now policies.now }
+    ensures right { IfOk result (IsRight net.now policy) }
+    ensures given { IfOk result (IsGiven net.now policies.now policy) }
+{
+    let last = policies.len() - 1;
+    match judge_nodes(alloc, net, policies, last) {
+        Ok(verdict) => Ok(verdict),
+        Err(ClassFault::TooMany(_)) => unreachable!(),
+        Err(ClassFault::Memory) => Err(Memory),
+    }
+}
+
+/// The status of the verdict.
+fn status_of(verdict: &NodeVerdict) -> u8
+    ensures value { result ≡ nodes_status verdict.now }
+    ensures small { result ≤ 1 }
+{
+    match verdict {
+        NodeVerdict::Same | NodeVerdict::Direct(_) | NodeVerdict::Apart(_) => 0,
+        NodeVerdict::Denied(_) | NodeVerdict::Cut(_, _) | NodeVerdict::Refused(_, _) => 1,
+    }
+}
+
+/// Judges whether the packets from the one prefix to the other reach it whichever so many routers fail beside their ends, and
+/// tells the verdict with its witness.
+pub fn nodes<S: Store>(alloc: Global, words: &NodesWords, store: &mut S) -> Result<Done, Stop>
+    requires few { words.now.failures ≤ 16 }
+    ensures answer { Answers IsJudging (IsNodesRefusal words.now) (IsNodesAnswer words.now) (S.held store.old) result }
+    ensures reads { OnlyReads S.held S.faults S.absences store.old store.new result }
+{
+    let policy = policy_of(words);
+    let input = read_input(alloc, &words.document, &[], Limits::Judging, store)?;
+    let Input { doc, net } = input;
+    let judged = with_policy(alloc, &words.document, &net, doc.policies, policy)?;
+    count_classes(alloc, &words.document, &net, &judged)?;
+    let verdict = judge_last(alloc, &net, &judged, policy)?;
+    let text = nodes_text(alloc, &net, words.failures, &verdict)?;
+    Ok(Done {
+        text: Name::of(text),
+        writes: List::make(alloc),
+        status: status_of(&verdict),
+    })
+}

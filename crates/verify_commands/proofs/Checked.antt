@@ -1,0 +1,159 @@
+-- The judgement of a certificate, and what its status says.
+use Rattle.std.proofs.Common.{◌≡◌, ℕ, ◌<◌, ◌≤◌, inl, inr, List, [], ◌∷◌, refl, sym, ◌∙◌, ap, subst, arith}
+use Rattle.std.specs.Prelude.{Option, Some, None, IfSome, Ok, Err, Vec, ◌↔◌}
+use Rattle.std.specs.List.{AllZip}
+use Rattle.std.specs.declared.alloc.Global.{Global}
+use Rattle.arc_outside.specs.Files.{Files}
+use Rattle.cnf_types.specs.Words.{lines}
+use Rattle.net_model.specs.declared.policies.Document.{Document}
+use Rattle.net_model.specs.declared.policies.Policy.{Policy}
+use Rattle.net_model.specs.declared.rows.Network.{Network}
+use Rattle.net_model.specs.declared.verdicts.Verdict.{Verdict}
+use Rattle.net_model.specs.Validity.{IsValid}
+use Rattle.net_model.specs.Witnesses.{IsRight}
+use Rattle.policy_report.specs.Rereading.{answers}
+use Rattle.policy_report.specs.Steps.{start}
+use Rattle.report_check.specs.declared.outcome.Outcome.{Outcome as Judgement}
+use Rattle.report_check.specs.declared.outcome.Outcome.TheVariants.{Accepted, Rejected}
+use Rattle.report_check.specs.Outcomes.{IsOutcome, IsReport}
+use Rattle.run_inputs.specs.declared.inputs.Input.{Input}
+use Rattle.run_files.specs.declared.outcome.Done.{Done}
+use Rattle.run_files.specs.declared.outcome.FileRefusal.{FileRefusal}
+use Rattle.run_files.specs.declared.outcome.Stop.{Stop}
+use Rattle.run_files.specs.declared.outcome.Stop.TheVariants as stops
+use Rattle.run_files.specs.Reading.{ReadsFile}
+use Rattle.run_files.specs.declared.limits.Limits.TheVariants.{Judging}
+use Rattle.run_files.specs.Answers.{Answers, IsJudging, IsTold}
+use Rattle.run_inputs.specs.Counts.{CountsClasses, HasFewClasses}
+use Rattle.run_inputs.specs.Inputs.{HoldsDocument, HoldsInput, IsFit, ReadsDocumentAt, ReadsFiles}
+use Rattle.run_files.specs.Judgements.{judgement_status, judgement_text}
+use Rattle.run_files.specs.Limits.{proof_limit}
+use Rattle.run_inputs.proofs.Determined.{determined, judged_once}
+use Rattle.verify_commands.specs.Checks.{IsAccepted, IsChecked, IsCheckRefusal, IsRejected, IsUnchecked, TellsCheck, judgement_of}
+use Rattle.verify_commands.proofs.Verified.{all_true}
+use Rattle.run_files.specs.Refusals.{bytes_at, read_refusal}
+
+-- a document that is refused for its classes
+classes_stopped_here : (held : Option Files) (document certificate : List ℕ) (doc : Document) (v : Vec ℕ Global) (input : Input) (stop : Stop) →
+    IfSome held (λ files. ReadsDocumentAt document files (Ok doc)) → IfSome held (λ files. ReadsFile proof_limit files certificate (Ok v)) →
+    IfSome held (λ files. HoldsDocument document files doc → ReadsFiles Judging [] document files (Ok input)) → CountsClasses document input.net input.doc.policies (Err stop) →
+    Answers IsJudging (IsCheckRefusal document certificate) (IsChecked document certificate) held (Err stop)
+classes_stopped_here None document certificate doc v input (stops.Refused r) told read input_is counts = tt
+classes_stopped_here (Some files) document certificate doc v input (stops.Refused r) told read input_is counts =
+    inr (inr (inr (record {
+      held = read.0;
+      refused = inr (record { doc = input.doc; net = input.net; input = input_is told; count = counts.0; many = counts.1; told = counts.2 });
+    })))
+classes_stopped_here held document certificate doc v input stops.Memory told read input_is counts = tt
+classes_stopped_here held document certificate doc v input stops.Failed told read input_is counts = tt
+
+pub classes_stopped : (held one two : Option Files) → one ≡ held → two ≡ one → (document certificate : List ℕ) (doc : Document) (v : Vec ℕ Global) (input : Input) (stop : Stop) →
+    IfSome held (λ files. ReadsDocumentAt document files (Ok doc)) → IfSome one (λ files. ReadsFile proof_limit files certificate (Ok v)) →
+    IfSome two (λ files. HoldsDocument document files doc → ReadsFiles Judging [] document files (Ok input)) → CountsClasses document input.net input.doc.policies (Err stop) →
+    Answers IsJudging (IsCheckRefusal document certificate) (IsChecked document certificate) held (Err stop)
+classes_stopped held one two first second document certificate doc v input stop told read input_is =
+    let P : Option Files → Type 0 = λ o. IfSome o (λ files. ReadsFile proof_limit files certificate (Ok v)) in
+    let Q : Option Files → Type 0 = λ o. IfSome o (λ files. HoldsDocument document files doc → ReadsFiles Judging [] document files (Ok input)) in
+    classes_stopped_here held document certificate doc v input stop told (subst P first read) (subst Q (second ∙ first) input_is)
+
+-- the judgement where nothing is refused
+judged_here : (held : Option Files) (document certificate slice : List ℕ) (doc : Document) (v : Vec ℕ Global) (input : Input) (judgement : Judgement) (done : Done) →
+    IfSome held (λ files. ReadsDocumentAt document files (Ok doc)) → IfSome held (λ files. ReadsFile proof_limit files certificate (Ok v)) →
+    IfSome held (λ files. HoldsDocument document files doc → ReadsFiles Judging [] document files (Ok input)) → IsFit input → HasFewClasses input.net input.doc.policies → slice ≡ v.items →
+    IsOutcome input.net input.doc.policies 1 1 (answers input.net input.doc [] start (lines slice)) judgement → (judgement ≡ Accepted) ↔ IsReport input.net input.doc slice →
+    done.text ≡ judgement_text (judgement_of judgement) → done.status ≡ judgement_status (judgement_of judgement) → IsJudging done → Answers IsJudging (IsCheckRefusal document certificate) (IsChecked document certificate) held (Ok done)
+judged_here None document certificate slice doc v input judgement done told read files fit classes whole is accepted text status own = (own, tt)
+judged_here (Some files) document certificate slice doc v input judgement done told read input_is fit classes whole is accepted text status own =
+    let bytes : slice ≡ bytes_at files certificate = whole ∙ read.1 in (
+      own,
+      record {
+        doc = input.doc;
+        net = input.net;
+        input = input_is told;
+        valid = fit.valid;
+        held = read.0;
+        classes = classes;
+        outcome = judgement;
+        outcome_is = subst (λ l. IsOutcome input.net input.doc.policies 1 1 (answers input.net input.doc [] start (lines l)) judgement) bytes is;
+        accepted = subst (λ l. (judgement ≡ Accepted) ↔ IsReport input.net input.doc l) bytes accepted;
+        text = text;
+        writes = own.writes;
+        status = status;
+      },
+    )
+
+pub judged : (held one two : Option Files) → one ≡ held → two ≡ one → (document certificate slice : List ℕ) (doc : Document) (v : Vec ℕ Global) (input : Input) (judgement : Judgement) (done : Done) →
+    IfSome held (λ files. ReadsDocumentAt document files (Ok doc)) → IfSome one (λ files. ReadsFile proof_limit files certificate (Ok v)) →
+    IfSome two (λ files. HoldsDocument document files doc → ReadsFiles Judging [] document files (Ok input)) → IsFit input → HasFewClasses input.net input.doc.policies → slice ≡ v.items →
+    IsOutcome input.net input.doc.policies 1 1 (answers input.net input.doc [] start (lines slice)) judgement → (judgement ≡ Accepted) ↔ IsReport input.net input.doc slice →
+    done.text ≡ judgement_text (judgement_of judgement) → done.status ≡ judgement_status (judgement_of judgement) → IsJudging done → Answers IsJudging (IsCheckRefusal document certificate) (IsChecked document certificate) held (Ok done)
+judged held one two first second document certificate slice doc v input judgement done told read input_is =
+    let P : Option Files → Type 0 = λ o. IfSome o (λ files. ReadsFile proof_limit files certificate (Ok v)) in
+    let Q : Option Files → Type 0 = λ o. IfSome o (λ files. HoldsDocument document files doc → ReadsFiles Judging [] document files (Ok input)) in
+    judged_here held document certificate slice doc v input judgement done told (subst P first read) (subst Q (second ∙ first) input_is)
+
+-- of accepted, rejected and refused only one is said
+refused_none : (o : Option FileRefusal) (r : FileRefusal) → o ≡ None → o ≡ Some r → ⊥
+refused_none o r e f = absurd (cc)
+
+module _ (document certificate : List ℕ) (files : Files) where
+  accepted_or_rejected : IsAccepted document certificate files → IsRejected document certificate files → ⊥
+  accepted_or_rejected yes' no' =
+      let known = determined Judging [] document files in
+      let docs : yes'.doc ≡ no'.doc = known.one_document yes'.doc no'.doc yes'.input.files_are.document_is no'.input.files_are.document_is in
+      let P : Document → Type 0 = λ d. HoldsInput Judging [] document files d yes'.net in
+      let Q : Document → Type 0 = λ d. IsReport yes'.net d (bytes_at files certificate) in
+      let nets : yes'.net ≡ no'.net = known.one_network no'.doc yes'.net no'.net (subst P docs yes'.input) no'.input in
+      let R : Network → Type 0 = λ n. IsReport n no'.doc (bytes_at files certificate) in
+      no'.no_report (subst R nets (subst Q docs yes'.report))
+
+  pub held_or_refused : (doc : Document) (net : Network) (r : FileRefusal) → HoldsInput Judging [] document files doc net → read_refusal proof_limit files certificate ≡ None → HasFewClasses net doc.policies → IsCheckRefusal document certificate files r → ⊥
+  held_or_refused doc net r input held classes (inl e) = (determined Judging [] document files).not_both doc net r input (inl e)
+  held_or_refused doc net r input held classes (inr (inl u)) = (determined Judging [] document files).not_both doc net r input (inr (inl u))
+  held_or_refused doc net r input held classes (inr (inr (inl u))) = refused_none (read_refusal proof_limit files certificate) r held u.refused
+  held_or_refused doc net r input held classes (inr (inr (inr u))) =
+      elim u.refused [
+        | inl behind ↦ (determined Judging [] document files).not_both doc net r input (inr (inr behind))
+        | inr many ↦ (judged_once Judging document files).not_both doc net r input classes (inr many)
+      ]
+
+  told_done : (d : Done) → (done : IsChecked document certificate files d) → (o : Judgement) → done.outcome ≡ o → TellsCheck document certificate d.status files
+  told_done d done Accepted is =
+      let zero' : d.status ≡ 0 = done.status ∙ ap (λ (o : Judgement). judgement_status (judgement_of o)) is in
+      let report = done.accepted.0 is in
+      let says : IsAccepted document certificate files = record { doc = done.doc; net = done.net; input = done.input; held = done.held; classes = done.classes; report = report; are_true = all_true done.net done.valid done.doc.policies report.verdicts report.right } in
+      record {
+        accepted_exactly = (λ e. says, λ s. zero');
+        rejected_exactly = (λ e. absurd (omega (arith, zero', e)), λ no'. absurd (accepted_or_rejected says no'));
+        refused_exactly = (λ e. absurd (omega (arith, zero', e)), λ r. absurd (held_or_refused done.doc done.net r.refusal done.input done.held done.classes r.refused));
+        nothing_else = inl zero';
+      }
+  told_done d done (Rejected fault) is =
+      let one : d.status ≡ 1 = done.status ∙ ap (λ (o : Judgement). judgement_status (judgement_of o)) is in
+      let says : IsRejected document certificate files = record { doc = done.doc; net = done.net; input = done.input; held = done.held; classes = done.classes; no_report = λ report. not_both (sym is ∙ done.accepted.1 report) } in
+      record {
+        accepted_exactly = (λ e. absurd (omega (arith, one, e)), λ yes'. absurd (accepted_or_rejected yes' says));
+        rejected_exactly = (λ e. says, λ s. one);
+        refused_exactly = (λ e. absurd (omega (arith, one, e)), λ r. absurd (held_or_refused done.doc done.net r.refusal done.input done.held done.classes r.refused));
+        nothing_else = inr (inl one);
+      }
+    where
+      not_both : Rejected fault ≡ Accepted → ⊥
+      not_both e = cc
+
+  told_refused : (r : FileRefusal) → IsCheckRefusal document certificate files r → TellsCheck document certificate 5 files
+  told_refused r refused =
+      let says : IsUnchecked document certificate files = record { refusal = r; refused = refused } in
+      record {
+        accepted_exactly = (λ e. absurd (omega arith), λ yes'. absurd (held_or_refused yes'.doc yes'.net r yes'.input yes'.held yes'.classes refused));
+        rejected_exactly = (λ e. absurd (omega arith), λ no'. absurd (held_or_refused no'.doc no'.net r no'.input no'.held no'.classes refused));
+        refused_exactly = (λ e. says, λ s. refl);
+        nothing_else = inr (inr refl);
+      }
+
+pub check_told : (document certificate : List ℕ) → IsTold (IsCheckRefusal document certificate) (IsChecked document certificate)
+    (λ status before after. TellsCheck document certificate status before)
+check_told document certificate = record {
+  answered = λ files d done. told_done document certificate files d done done.outcome refl;
+  refused = told_refused document certificate;
+}

@@ -1,0 +1,9 @@
+pub mod DownFlags
+pub mod Judging
+pub mod Verified
+pub mod TraceOnce
+pub mod OneTrace
+pub mod Traced
+pub mod Checked
+pub mod CheckOnce
+pub mod VerifiedAccepted

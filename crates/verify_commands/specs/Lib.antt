@@ -1,0 +1,3 @@
+pub mod Verifies
+pub mod Traces
+pub mod Checks
