@@ -14,6 +14,11 @@ pub mod PrintedSides
 pub mod PrintedSteps
 pub mod Pushes
 pub mod RenumberedLines
+pub mod Sequences
 pub mod Trials
 pub mod Units
 pub mod WordLists
+pub mod Returns
+pub mod TextKept
+pub mod ListLines
+pub mod PrefixNames

@@ -1,19 +1,18 @@
 -- The parts of a row that read no number of an entry read the same whatever the number is.
-use Rattle.std.proofs.Common.{◌≡◌, ℕ, ◌+◌, ◌&&◌, not, Bool, true, false, cond, List, [], ◌∷◌, Option, Some, None, Result, Ok, Err, refl, sym, ap, subst, ◌∙◌, codes}
+use Rattle.std.proofs.Common.{◌≡◌, ℕ, ◌+◌, ◌&&◌, not, Bool, true, false, cond, List, [], ◌∷◌, Option, Some, None, Result, Ok, Err, refl, ap, ◌∙◌, codes}
 use Rattle.std.proofs.lemmas.Bool.{and_parts}
 use Rattle.std.specs.List.{list_all}
 use Rattle.std.specs.Str.{bytes_eq}
 use Rattle.ios_words.specs.declared.kinds.Flaw.{Flaw}
 use Rattle.ios_words.specs.declared.kinds.Flaw.TheVariants.{Amiss}
 use Rattle.ios_words.specs.declared.kinds.WordFault.{WordFault}
-use Rattle.ios_words.specs.declared.kinds.WordFault.TheVariants.{BadWord}
 use Rattle.ios_words.specs.declared.rows.Form.{Form}
 use Rattle.ios_words.specs.declared.rows.Form.TheVariants.{Address, Host, Wildcard, Route, AtLeast, AtMost}
 use Rattle.arc_base.specs.PrefixText.{address_of}
 use Rattle.ios_words.specs.Numbers.{number_in, wildcard_length}
 use Rattle.ios_words.specs.Prefixes.{holding}
-use Rattle.ios_words.specs.Readings.{State, begins, begins_verdict, after_word, next_word, place, this_word, permits, verdict, passed, then_do, stands_alone, alone, any, width, side, as_source, step, read_parts, finish_words, finish}
-use Rattle.ios_words.specs.Rows.{Piece, Word, Verdict, Place, Bracket, Flag, EntryNumber, Protocol, Source, Destination, Anything}
+use Rattle.ios_words.specs.Readings.{State, begins, after_word, next_word, place, this_word, permits, verdict, passed, then_do, stands_alone, alone, any, width, side, as_source, step, read_parts, finish_words, finish}
+use Rattle.ios_words.specs.Rows.{Piece, Word, Verdict, Place, Bracket, Flag, Source, Destination}
 use Rattle.ios_words.specs.Values.{Values, with_value, with_result, route_of, values_with}
 
 -- values and states with another number of an entry

@@ -1,10 +1,10 @@
 -- Entries whose numbers change are read as the same entries with the other numbers.
-use Rattle.std.proofs.Common.{◌≡◌, ℕ, ◌+◌, ◌^◌, ◌<◌, ◌≤◌, ◌||◌, not, Bool, true, false, cond, List, [], ◌∷◌, ◌++◌, take, drop, Option, Some, None, Result, Ok, Err, refl, sym, ap, subst, ◌∙◌, arith, codes, decimal, ⊎_elim, take-append-drop, is_ok, true≢false}
+use Rattle.std.proofs.Common.{◌≡◌, ℕ, ◌^◌, ◌<◌, ◌||◌, not, Bool, true, false, cond, List, [], ◌∷◌, ◌++◌, take, drop, Option, Some, None, Result, Ok, Err, refl, sym, ap, subst, ◌∙◌, arith, codes, decimal, ⊎_elim, is_ok, true≢false}
 use Rattle.std.proofs.lemmas.Bool.{cases_Bool, cond-true, cond-false}
 use Rattle.std.proofs.lemmas.List.Folds.{find-append}
 use Rattle.std.proofs.lemmas.Option.{none-some, same_Some}
 use Rattle.std.proofs.lemmas.Slice.Eq.{bytes_eq-Decides}
-use Rattle.std.specs.List.{find, list_all}
+use Rattle.std.specs.List.{find}
 use Rattle.std.specs.Option.{option_or, option_map_or}
 use Rattle.std.specs.Str.{bytes_eq}
 use Rattle.ios_words.specs.declared.commands.Command.{Command}
@@ -18,17 +18,16 @@ use Rattle.ios_words.specs.declared.rows.Form.TheVariants.{Name, Order, Route, A
 use Rattle.ios_words.specs.declared.rows.Meaning.{Meaning}
 use Rattle.ios_words.specs.declared.rows.Meaning.TheVariants as means
 use Rattle.ios_words.specs.Commands.{completes, ReadBy}
-use Rattle.ios_words.specs.Forms.{IsOrder}
 use Rattle.ios_words.specs.Language.{rows, fixed, inert}
 use Rattle.ios_words.specs.Meanings.{give}
 use Rattle.ios_words.specs.Names.{is_name}
 use Rattle.ios_words.specs.Numbers.{number_in}
-use Rattle.ios_words.specs.Readings.{State, begins, begins_verdict, begins_entry, after, after_word, match_words, matches, place, then_do, step, read_parts, finish, start, read}
+use Rattle.ios_words.specs.Readings.{State, begins_verdict, begins_entry, after, after_word, match_words, matches, place, then_do, step, read_parts, finish, start, read}
 use Rattle.ios_words.specs.Renumbered.{EntriesMayBeRenumbered, PrefixLinesMayBeRenumbered}
-use Rattle.ios_words.specs.Rows.{Piece, Word, Verdict, Place, Bracket, Flag, EntryNumber, Protocol, Source, Destination, Anything, Rule, row}
+use Rattle.ios_words.specs.Rows.{Piece, Word, Verdict, Place, Bracket, Flag, EntryNumber, Source, Destination, Anything, Rule, row}
 use Rattle.ios_words.specs.Values.{Values, with_value, tested, no_values}
 use Rattle.ios_words.proofs.Heads.{find-passes}
-use Rattle.ios_words.proofs.OrderKept.{reordered, reorder, map_values, read-kept}
+use Rattle.ios_words.proofs.OrderKept.{reordered, map_values, read-kept}
 use Rattle.ios_words.proofs.Printed.{reads-at, none-split, fails-by}
 use Rattle.ios_words.proofs.PrintedSteps.{at, chain, name-step, order-step, number-begins}
 
@@ -40,7 +39,7 @@ matches-by extended ws rule false is completed = let no_match = fails-by extende
 one-ok : (a b : Values) (r : Result Values WordFault) → r ≡ Ok a → r ≡ Ok b → a ≡ b
 one-ok a b r one two = cc
 
-no-ok : {A : Type 0} → (v : Values) (f : WordFault) (r : Result Values WordFault) → r ≡ Ok v → r ≡ Err f → A
+pub no-ok : {A : Type 0} → (v : Values) (f : WordFault) (r : Result Values WordFault) → r ≡ Ok v → r ≡ Err f → A
 no-ok v f r one two = absurd cc
 
 -- the rows of an extended list
@@ -141,10 +140,10 @@ entries-renumbered word ws n m e reads ranged =
     (ap (Entry (Some m)) parts.1)
 
 -- the parts of a prefix list's line after its number, and its row
-abbrev route_parts : List Piece
+abbrev pub route_parts : List Piece
 route_parts = Verdict ∷ Place Route ∷ Bracket (codes "ge") AtLeast ∷ Bracket (codes "le") AtMost ∷ []
 
-abbrev prefix_row : Rule
+abbrev pub prefix_row : Rule
 prefix_row = row (fixed (codes "ip prefix-list") ++ Place Name ∷ Bracket (codes "seq") (Order 4294967294) ∷ route_parts) means.PrefixLine
 
 abbrev sequence_number : Rule
@@ -168,12 +167,12 @@ prefix-give means.PrefixLine values = refl
 prefix-give _ values = refl
 
 -- which row a prefix list's line is read by
-record PrefixBy (ws : List (List ℕ)) (reads_rule : Rule) : Type 0 where
-  none : find (completes false ws) (take 81 (rows blocks.Top)) ≡ None
-  completed : completes false ws prefix_row ≡ true
-  rule : reads_rule ≡ prefix_row
+pub record PrefixBy (ws : List (List ℕ)) (reads_rule : Rule) : Type 0 where
+  pub none : find (completes false ws) (take 81 (rows blocks.Top)) ≡ None
+  pub completed : completes false ws prefix_row ≡ true
+  pub rule : reads_rule ≡ prefix_row
 
-prefix-by : (ws : List (List ℕ)) (list : List ℕ) (o : Option ℕ) (e : RouteText) (reads : ReadBy false ws (rows blocks.Top) (PrefixLine list o e)) → PrefixBy ws reads.rule
+pub prefix-by : (ws : List (List ℕ)) (list : List ℕ) (o : Option ℕ) (e : RouteText) (reads : ReadBy false ws (rows blocks.Top) (PrefixLine list o e)) → PrefixBy ws reads.rule
 prefix-by ws list o e reads = by (find (completes false ws) (take 81 (rows blocks.Top))) refl
   where
     by : (f : Option Rule) → find (completes false ws) (take 81 (rows blocks.Top)) ≡ f → PrefixBy ws reads.rule
@@ -204,7 +203,7 @@ none-at p (b ∷ before) rule later none = ⊎_elim
     (cases_Bool (p b))
 
 -- the name of a list that is read is not the word of the inert row
-named-other : (name : List ℕ) (ws : List (List ℕ)) → find (completes false (codes "ip" ∷ codes "prefix-list" ∷ name ∷ ws)) (take 81 (rows blocks.Top)) ≡ None → bytes_eq name (codes "sequence-number") ≡ false
+pub named-other : (name : List ℕ) (ws : List (List ℕ)) → find (completes false (codes "ip" ∷ codes "prefix-list" ∷ name ∷ ws)) (take 81 (rows blocks.Top)) ≡ None → bytes_eq name (codes "sequence-number") ≡ false
 named-other name ws none = ⊎_elim
     (λ same.
     let words = codes "ip" ∷ codes "prefix-list" ∷ name ∷ ws in

@@ -17,3 +17,5 @@ pub mod Trials
 pub mod Units
 pub mod Values
 pub mod Views
+pub mod Returns
+pub mod ListLines

@@ -1,5 +1,5 @@
 -- Entries whose numbers change.
-use Rattle.std.specs.Prelude.{ℕ, true, false, List, ◌∷◌, codes, decimal, Some}
+use Rattle.std.specs.Prelude.{◌≡◌, ℕ, true, false, List, ◌∷◌, codes, decimal, Some}
 use Rattle.ios_words.specs.declared.commands.Command.TheVariants.{Entry, PrefixLine}
 use Rattle.ios_words.specs.declared.commands.PacketText.{PacketText}
 use Rattle.ios_words.specs.declared.commands.RouteText.{RouteText}
@@ -20,3 +20,15 @@ PrefixLinesMayBeRenumbered =
     (name word list : List ℕ) (ws : List (List ℕ)) (n m : ℕ) (entry : RouteText) →
     ReadBy false (codes "ip" ∷ codes "prefix-list" ∷ name ∷ codes "seq" ∷ word ∷ ws) (rows blocks.Top) (PrefixLine list (Some n) entry) → IsOrder 4294967294 (Some m) →
     ReadBy false (codes "ip" ∷ codes "prefix-list" ∷ name ∷ codes "seq" ∷ decimal m ∷ ws) (rows blocks.Top) (PrefixLine list (Some m) entry)
+
+-- the words of a prefix list's line that has a number: it is the fifth
+pub record HasSequence (ws : List (List ℕ)) : Type 0 where
+  pub name : List ℕ
+  pub word : List ℕ
+  pub rest : List (List ℕ)
+  pub are : ws ≡ codes "ip" ∷ codes "prefix-list" ∷ name ∷ codes "seq" ∷ word ∷ rest
+
+-- what is read as such a line has these words
+abbrev pub NumberedLinesHaveSequences : Type 0
+NumberedLinesHaveSequences =
+    (ws : List (List ℕ)) (list : List ℕ) (n : ℕ) (entry : RouteText) → ReadBy false ws (rows blocks.Top) (PrefixLine list (Some n) entry) → HasSequence ws

@@ -1,9 +1,11 @@
 //! Laws over the definitions alone: each is the contract of a function that does nothing.
+ghost use Rattle.ios_words.specs.Returns.{ReturnsSayNothing, HeadsHaveNoReturn};
 ghost use Rattle.ios_words.specs.Forms.{CommandsAreInForm, AllAddressesFit};
 ghost use Rattle.std.specs.Prelude.{codes};
 ghost use Rattle.ios_words.specs.Names.{NamesHaveTheirForm};
 ghost use Rattle.ios_words.specs.Printed.{PassiveLinesAreRead, NeighborLinesAreRead, NeighborListLinesAreRead, GroupLinesAreRead, EntryLinesAreRead, ListHeadsAreRead, ListLinesAreRead, PrefixLinesAreRead, PermitAllLinesAreRead, IsClosingLine};
-ghost use Rattle.ios_words.specs.Renumbered.{EntriesMayBeRenumbered, PrefixLinesMayBeRenumbered};
+ghost use Rattle.ios_words.specs.Renumbered.{EntriesMayBeRenumbered, PrefixLinesMayBeRenumbered, NumberedLinesHaveSequences};
+ghost use Rattle.ios_words.specs.ListLines.{ListLinesAreTopLines, PrefixListsHaveOtherNames};
 ghost use Rattle.ios_words.specs.Laws.{HeadsAreTopLines, AnswersAreOne, UnknownMatchesNone, InertCounts};
 
 /// A line reads as one command, or is unknown, or has one faulty word.
@@ -51,8 +53,23 @@ pub fn heads_are_top_lines()
     ensures { HeadsAreTopLines }
 {}
 
-/// An entry whose number is written anew is the same entry with that number.
+/// An entry whose number is written anew is the same entry with that number. In a prefix list it is the fifth word.
 pub fn entries_may_be_renumbered()
     ensures packet { EntriesMayBeRenumbered }
     ensures route { PrefixLinesMayBeRenumbered }
+    ensures sequence { NumberedLinesHaveSequences }
+{}
+
+/// In the blocks of interfaces and processes a line that ends with a carriage return says nothing, and says the same
+/// where that carriage return is part of its end. No such line heads one of these blocks.
+pub fn returns_say_nothing()
+    ensures lines { ReturnsSayNothing }
+    ensures heads { HeadsHaveNoReturn }
+{}
+
+/// The lines of lists that stand as lines are read outside blocks alone, and open none; and no prefix list has the name
+/// of a line that says nothing.
+pub fn list_lines_are_top_lines()
+    ensures top { ListLinesAreTopLines }
+    ensures names { PrefixListsHaveOtherNames }
 {}

@@ -1,0 +1,154 @@
+-- The parts of a row that read no name read the same whatever the name is.
+use Rattle.std.proofs.Common.{◌≡◌, ℕ, ◌+◌, ◌&&◌, not, Bool, true, false, cond, List, [], ◌∷◌, Option, Some, None, Result, Ok, Err, refl, ap, ◌∙◌, codes}
+use Rattle.std.proofs.lemmas.Bool.{and_parts}
+use Rattle.std.specs.List.{list_all}
+use Rattle.std.specs.Str.{bytes_eq}
+use Rattle.ios_words.specs.declared.kinds.Flaw.{Flaw}
+use Rattle.ios_words.specs.declared.kinds.Flaw.TheVariants.{Amiss}
+use Rattle.ios_words.specs.declared.kinds.WordFault.{WordFault}
+use Rattle.ios_words.specs.declared.rows.Form.{Form}
+use Rattle.ios_words.specs.declared.rows.Form.TheVariants.{Address, Host, Wildcard, Route, AtLeast, AtMost, Order}
+use Rattle.arc_base.specs.PrefixText.{address_of}
+use Rattle.ios_words.specs.Numbers.{number_in, wildcard_length}
+use Rattle.ios_words.specs.Prefixes.{holding}
+use Rattle.ios_words.specs.Readings.{State, begins, after_word, next_word, place, this_word, permits, verdict, passed, then_do, stands_alone, alone, any, width, side, as_source, step, read_parts, finish_words, finish}
+use Rattle.ios_words.specs.Rows.{Piece, Word, Verdict, Place, Bracket, Flag, Source, Destination}
+use Rattle.ios_words.specs.Values.{Values, with_value, with_result, route_of, values_with}
+
+-- values and states with another name
+abbrev pub retitled : List ℕ → Values → Values
+retitled o v = record v { text = o }
+
+abbrev pub retitle : List ℕ → State → State
+retitle o s = record { taken = s.taken; words = s.words; values = retitled o s.values }
+
+abbrev pub map_values : {E : Type 0} → List ℕ → Result Values E → Result Values E
+map_values o (Ok v) = Ok (retitled o v)
+map_values o (Err e) = Err e
+
+abbrev pub map_state : List ℕ → Result State WordFault → Result State WordFault
+map_state o (Ok s) = Ok (retitle o s)
+map_state o (Err e) = Err e
+
+cond-state : (o : List ℕ) (b : Bool) (x y x' y' : Result State WordFault) → x' ≡ map_state o x → y' ≡ map_state o y → cond b x' y' ≡ map_state o (cond b x y)
+cond-state o true x y x' y' one two = one
+cond-state o false x y x' y' one two = two
+
+cond-values : (o : List ℕ) (b : Bool) (x y x' y' : Result Values Flaw) → x' ≡ map_values o x → y' ≡ map_values o y → cond b x' y' ≡ map_values o (cond b x y)
+cond-values o true x y x' y' one two = one
+cond-values o false x y x' y' one two = two
+
+after-kept : (o : List ℕ) (taken : ℕ) (words : List (List ℕ)) (r r' : Result Values Flaw) → r' ≡ map_values o r → after_word taken words r' ≡ map_state o (after_word taken words r)
+after-kept o taken words (Ok v) r' is = ap (after_word taken words) is
+after-kept o taken words (Err f) r' is = ap (after_word taken words) is
+
+next-kept : (o : List ℕ) (give more : List ℕ → Result Values Flaw) (taken : ℕ) (words : List (List ℕ)) → ((w : List ℕ) → more w ≡ map_values o (give w)) → next_word more taken words ≡ map_state o (next_word give taken words)
+next-kept o give more taken [] same = refl
+next-kept o give more taken (w ∷ words) same = after-kept o (taken + 1) words (give w) (more w) (same w)
+
+value-kept : {A : Type 0} → (o : List ℕ) (set more : A → Values) (a : Option A) → ((x : A) → more x ≡ retitled o (set x)) → with_value more a ≡ map_values o (with_value set a)
+value-kept o set more None same = refl
+value-kept o set more (Some x) same = ap Ok (same x)
+
+result-kept : {A : Type 0} → (o : List ℕ) (set more : A → Values) (a : Result A Flaw) → ((x : A) → more x ≡ retitled o (set x)) → with_result more a ≡ map_values o (with_result set a)
+result-kept o set more (Err f) same = refl
+result-kept o set more (Ok x) same = ap Ok (same x)
+
+then-kept : (o : List ℕ) (next : State → Result State WordFault) (r r' : Result State WordFault) → r' ≡ map_state o r → ((s : State) → next (retitle o s) ≡ map_state o (next s)) → then_do next r' ≡ map_state o (then_do next r)
+then-kept o next (Ok s) r' is same = ap (then_do next) is ∙ same s
+then-kept o next (Err f) r' is same = ap (then_do next) is
+
+-- the forms that the other parts read
+keeps_form : Form → Bool
+keeps_form Address = true
+keeps_form Host = true
+keeps_form Wildcard = true
+keeps_form Route = true
+keeps_form AtLeast = true
+keeps_form AtMost = true
+keeps_form _ = false
+
+address-kept : (o : List ℕ) (s : State) → place Address (retitle o s) ≡ map_state o (place Address s)
+address-kept o s = next-kept o (values_with Address s.values) (values_with Address (retitled o s.values)) s.taken s.words (λ w. value-kept o (λ a. record s.values { address = a }) (λ a. record (retitled o s.values) { address = a }) (address_of w) (λ a. refl))
+
+host-kept : (o : List ℕ) (s : State) → place Host (retitle o s) ≡ map_state o (place Host s)
+host-kept o s = next-kept o (values_with Host s.values) (values_with Host (retitled o s.values)) s.taken s.words (λ w. value-kept o (λ a. record s.values { address = a; to = holding a 32 }) (λ a. record (retitled o s.values) { address = a; to = holding a 32 }) (address_of w) (λ a. refl))
+
+wildcard-kept : (o : List ℕ) (s : State) → place Wildcard (retitle o s) ≡ map_state o (place Wildcard s)
+wildcard-kept o s = next-kept o (values_with Wildcard s.values) (values_with Wildcard (retitled o s.values)) s.taken s.words
+    (λ w. result-kept o (λ l. record s.values { length = l; to = holding s.values.address l }) (λ l. record (retitled o s.values) { length = l; to = holding s.values.address l }) (wildcard_length w) (λ l. refl))
+
+route-kept : (o : List ℕ) (s : State) → place Route (retitle o s) ≡ map_state o (place Route s)
+route-kept o s = next-kept o (values_with Route s.values) (values_with Route (retitled o s.values)) s.taken s.words
+    (λ w. value-kept o (λ r. record s.values { to = holding r.0 r.1; low = r.1; high = r.1 }) (λ r. record (retitled o s.values) { to = holding r.0 r.1; low = r.1; high = r.1 }) (route_of w) (λ r. refl))
+
+least-kept : (o : List ℕ) (s : State) → place AtLeast (retitle o s) ≡ map_state o (place AtLeast s)
+least-kept o s = next-kept o (values_with AtLeast s.values) (values_with AtLeast (retitled o s.values)) s.taken s.words
+    (λ w. value-kept o (λ n. record s.values { low = n; high = 32 }) (λ n. record (retitled o s.values) { low = n; high = 32 }) (number_in s.values.to.len 32 w) (λ n. refl))
+
+most-kept : (o : List ℕ) (s : State) → place AtMost (retitle o s) ≡ map_state o (place AtMost s)
+most-kept o s = next-kept o (values_with AtMost s.values) (values_with AtMost (retitled o s.values)) s.taken s.words
+    (λ w. value-kept o (λ n. record s.values { high = n }) (λ n. record (retitled o s.values) { high = n }) (number_in s.values.low 32 w) (λ n. refl))
+
+order-kept : (o : List ℕ) (high : ℕ) (s : State) → place (Order high) (retitle o s) ≡ map_state o (place (Order high) s)
+order-kept o high s = next-kept o (values_with (Order high) s.values) (values_with (Order high) (retitled o s.values)) s.taken s.words
+    (λ w. value-kept o (λ n. record s.values { order = Some n }) (λ n. record (retitled o s.values) { order = Some n }) (number_in 1 high w) (λ n. refl))
+
+word-kept : (o : List ℕ) (word : List ℕ) (s : State) → this_word word (retitle o s) ≡ map_state o (this_word word s)
+word-kept o word s = next-kept o (λ w. cond (bytes_eq w word) (Ok s.values) (Err Amiss)) (λ w. cond (bytes_eq w word) (Ok (retitled o s.values)) (Err Amiss)) s.taken s.words (λ w. cond-values o (bytes_eq w word) (Ok s.values) (Err Amiss) _ _ refl refl)
+
+verdict-kept : (o : List ℕ) (s : State) → verdict (retitle o s) ≡ map_state o (verdict s)
+verdict-kept o s = next-kept o (permits s.values) (permits (retitled o s.values)) s.taken s.words
+    (λ w. cond-values o (bytes_eq w (codes "permit")) (Ok (record s.values { permit = true })) _ _ _ refl
+    (cond-values o (bytes_eq w (codes "deny")) (Ok (record s.values { permit = false })) (Err Amiss) _ _ refl refl))
+
+width-kept : (o : List ℕ) (extended : Bool) (s : State) → width extended (retitle o s) ≡ map_state o (width extended s)
+width-kept o extended s = cond-state o (not extended && stands_alone s.words) (Ok (alone s)) (place Wildcard s) _ _ refl (wildcard-kept o s)
+
+side-kept : (o : List ℕ) (extended : Bool) (s : State) → side extended (retitle o s) ≡ map_state o (side extended s)
+side-kept o extended s = cond-state o (begins (codes "any") s.words) (Ok (any s)) _ _ _ refl
+    (cond-state o (begins (codes "host") s.words) (place Host (passed s)) _ _ _ (host-kept o (passed s))
+    (then-kept o (width extended) (place Address s) (place Address (retitle o s)) (address-kept o s) (width-kept o extended)))
+
+-- whether the part reads no name
+abbrev pub keeps : Piece → Bool
+keeps (Word word) = true
+keeps Verdict = true
+keeps (Place Route) = true
+keeps (Bracket word AtLeast) = true
+keeps (Bracket word AtMost) = true
+keeps (Bracket word (Order high)) = true
+keeps (Flag word) = true
+keeps Source = true
+keeps Destination = true
+keeps _ = false
+
+step-kept : (o : List ℕ) (piece : Piece) (s : State) → keeps piece ≡ true → step piece (retitle o s) ≡ map_state o (step piece s)
+step-kept o (Word word) s is = word-kept o word s
+step-kept o Verdict s is = verdict-kept o s
+step-kept o (Place Route) s is = route-kept o s
+step-kept o (Bracket word AtLeast) s is = cond-state o (begins word s.words) (place AtLeast (passed s)) (Ok s) _ _ (least-kept o (passed s)) refl
+step-kept o (Bracket word AtMost) s is = cond-state o (begins word s.words) (place AtMost (passed s)) (Ok s) _ _ (most-kept o (passed s)) refl
+step-kept o (Bracket word (Order high)) s is = cond-state o (begins word s.words) (place (Order high) (passed s)) (Ok s) _ _ (order-kept o high (passed s)) refl
+step-kept o (Flag word) s is = cond-state o (begins word s.words) (Ok (passed s)) (Ok s) _ _ refl refl
+step-kept o Source s is = then-kept o as_source (side s.values.extended s) (side s.values.extended (retitle o s)) (side-kept o s.values.extended s) (λ t. refl)
+step-kept o Destination s is = cond-state o s.values.extended (side true s) (Ok s) _ _ (side-kept o true s) refl
+step-kept o _ s is = absurd cc
+
+parts-kept : (o : List ℕ) (pieces : List Piece) (s : State) → list_all keeps pieces ≡ true → read_parts pieces (retitle o s) ≡ map_state o (read_parts pieces s)
+parts-kept o [] s all = refl
+parts-kept o (piece ∷ pieces) s all =
+    let parts = and_parts _ _ all in
+    then-kept o (read_parts pieces) (step piece s) (step piece (retitle o s)) (step-kept o piece s parts.0) (λ t. parts-kept o pieces t parts.1)
+
+finish-kept : (o : List ℕ) (r : Result State WordFault) → finish (map_state o r) ≡ map_values o (finish r)
+finish-kept o (Err f) = refl
+finish-kept o (Ok s) = words-kept s s.words
+  where
+    words-kept : (s : State) (words : List (List ℕ)) → finish_words (retitle o s) words ≡ map_values o (finish_words s words)
+    words-kept s [] = refl
+    words-kept s (w ∷ words) = refl
+
+-- what parts that read no name give, where the name is another
+pub read-kept : (o : List ℕ) (pieces : List Piece) (s : State) → list_all keeps pieces ≡ true → finish (read_parts pieces (retitle o s)) ≡ map_values o (finish (read_parts pieces s))
+read-kept o pieces s all = ap finish (parts-kept o pieces s all) ∙ finish-kept o (read_parts pieces s)
