@@ -9,7 +9,7 @@ use std::alloc::Global;
 
 /// The prefix of all addresses.
 #[tactic(auto, using(arc_base::proofs::SamePrefix::same_prefix))]
-fn any() -> Prefix
+pub fn any() -> Prefix
     ensures { result ≡ any }
 {
     Prefix { addr: 0, len: 0 }
@@ -37,14 +37,14 @@ fn class_entry(permit: bool, class: Class) -> PacketEntry
 }
 
 /// The entry for exactly this prefix with the answer that the list does not give.
-fn opposite_route_entry(list: &RouteList, prefix: Prefix) -> RouteEntry
+pub fn opposite_route_entry(list: &RouteList, prefix: Prefix) -> RouteEntry
     ensures { result ≡ opposite_route_entry list.now.entries prefix }
 {
     exact_entry(!list.permits(prefix), prefix)
 }
 
 /// The entry for the class with the answer that the list does not give.
-fn opposite_packet_entry(list: &PacketList, class: Class) -> PacketEntry
+pub fn opposite_packet_entry(list: &PacketList, class: Class) -> PacketEntry
     ensures { result ≡ opposite_packet_entry list.now.entries class }
 {
     class_entry(!list.permits(class.first_packet()), class)

@@ -22,8 +22,12 @@ mod route_lists;
 mod rows;
 mod sites;
 
+pub use changes::Changes;
 pub use claims::Claim;
 pub use edit_kinds::{Edit, EditFault};
+pub use entries::{any, opposite_packet_entry, opposite_route_entry};
 pub use listing::edits;
 pub use network_after::after;
-pub use prices::price;
+pub use new_lists::{NewList, lists_made, new_names};
+pub use numbered::{Group, add, empty_groups, grouped, is_filled, things_at};
+pub use prices::{chosen_edits, price};

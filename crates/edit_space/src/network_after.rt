@@ -6,7 +6,7 @@ ghost use Rattle.edit_space.specs.Prices.{chosen_of};
 
 use crate::changes::Changes;
 use crate::edit_kinds::Edit;
-use crate::new_lists::{named_lists, new_lists, new_names};
+use crate::new_lists::{lists_made, named_lists, new_names};
 use crate::order::{find_places, in_order};
 use crate::packet_lists::{keyed_packet_lists, packet_lists_after};
 use crate::prices::chosen_edits;
@@ -29,7 +29,7 @@ pub fn after(
     ensures valid { IfOk result IsValid }
 {
     let changes = Changes::of(alloc, net, chosen_edits(alloc, edits.slice(), chosen)?)?;
-    let lists = new_lists(alloc, net, &changes)?;
+    let lists = lists_made(alloc, net, &changes)?;
     let names = new_names(alloc, net, &lists)?;
     let named = named_lists(alloc, net, &names, &lists)?;
     let packets = in_order(keyed_packet_lists(alloc, net, &named)?)?;

@@ -94,7 +94,7 @@ fn new_packet_lists(
 }
 
 /// All new lists, each with the place of its router.
-pub fn new_lists(
+pub fn lists_made(
     alloc: Global,
     net: &Network,
     changes: &Changes,

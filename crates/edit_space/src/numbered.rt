@@ -51,7 +51,7 @@ impl<T> Group<T> {
 }
 
 /// So many empty groups.
-fn empty_groups<T>(alloc: Global, count: u32) -> Result<Vec<Group<T>>, Memory>
+pub fn empty_groups<T>(alloc: Global, count: u32) -> Result<Vec<Group<T>>, Memory>
 where
     T: Drop,
     ensures { IfOk result (λ groups. Tells count (λ number. []) groups.items) }
@@ -64,9 +64,9 @@ where
 }
 
 /// Puts a thing at the end of the group with its number, if there is one.
-fn add<T>(groups: &mut Vec<Group<T>>, number: u32, thing: T) -> Result<(), Memory>
+pub fn add<T>(groups: &mut Vec<Group<T>>, number: u32, thing: T) -> Result<(), Memory>
 where
-    T: Copy + Drop,
+    T: Drop,
     ensures { OnOk result (groups.new.items ≡ slice_set groups.old.items number (slice_index_or groups.old.items number [] ++ thing ∷ [])) }
 {
     let at = number as usize;

@@ -1,7 +1,7 @@
 use Rattle.std.proofs.Common.{◌∙◌, ap, arith, length, ◌++◌}
 use Rattle.edit_space.specs.NewLists.{new_route_list, new_packet_list}
 use Rattle.edit_space.proofs.Counts.{few_new_lists}
-use Rattle.edit_space.proofs.new_lists.new_lists.Goals as goal
+use Rattle.edit_space.proofs.new_lists.lists_made.Goals as goal
 
 pub returns-clause-few : goal.returns-clause-few
 returns-clause-few c =

@@ -1,0 +1,6 @@
+pub mod Growing
+pub mod RowsWithin
+pub mod NewFaces
+pub mod Tables
+pub mod BuiltFiles
+pub mod Patched

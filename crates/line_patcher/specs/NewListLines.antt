@@ -1,0 +1,72 @@
+-- The lines of new lists, and those that bind them.
+use Rattle.std.specs.Prelude.{ℕ, ◌+◌, ◌*◌, true, false, Option, Some, None, List, [], ◌∷◌, ◌++◌, map, flat_map, length, codes, option_map, slice_get}
+use Rattle.std.specs.List.{filter_map, zip, enumerate_from}
+use Rattle.arc_base.specs.declared.prefix.Prefix.{Prefix}
+use Rattle.net_model.specs.declared.policies.Class.{Class}
+use Rattle.net_model.specs.declared.rows.Network.{Network}
+use Rattle.net_model.specs.Routing.{session_at}
+use Rattle.ios_lines.specs.Written.{spaced}
+use Rattle.edit_space.specs.After.{any}
+use Rattle.ios_words.specs.Printed.{prefix_line_words, permit_all_words, list_head_words, entry_words, neighbor_list_words, group_words, top_line}
+use Rattle.net_build.specs.declared.built.Places.{Places}
+use Rattle.net_build.specs.declared.built.FacePlace.{FacePlace}
+use Rattle.edit_space.specs.declared.edit_kinds.Edit.{Edit}
+use Rattle.edit_space.specs.declared.new_lists.NewList.{NewList}
+use Rattle.edit_space.specs.declared.new_lists.NewList.TheVariants.{Route, Packet}
+use Rattle.edit_space.specs.Changes.{new_prefixes, new_classes}
+use Rattle.edit_space.specs.NewLists.{new_lists_of, new_names_of}
+
+-- the line of a new route list that denies a prefix, at a place of the list that is counted from 1
+abbrev pub deny_line : List ℕ → ℕ × Prefix → List ℕ
+deny_line name entry = top_line (prefix_line_words name (Some (5 * entry.0)) false entry.1)
+
+-- the lines of a new route list: it denies these prefixes and permits all others
+abbrev pub new_route_lines : List ℕ → List Prefix → List (List ℕ)
+new_route_lines name prefixes =
+    map (deny_line name) (enumerate_from 1 prefixes) ++ top_line (permit_all_words name (5 * (length prefixes + 1))) ∷ []
+
+-- the line of a new packet list that denies a class
+abbrev pub deny_class_line : Class → List ℕ
+deny_class_line class = spaced (entry_words None false class.from class.to)
+
+-- the lines of a new packet list: it denies these classes and permits all other packets
+abbrev pub new_packet_lines : List ℕ → List Class → List (List ℕ)
+new_packet_lines name classes =
+    top_line (list_head_words name) ∷ map deny_class_line classes ++ spaced (entry_words None true any any) ∷ codes "!" ∷ []
+
+-- the lines of a new list of this name
+abbrev pub new_list_lines : List Edit → NewList → List ℕ → List (List ℕ)
+new_list_lines chosen (Route face) name = new_route_lines name (new_prefixes chosen face.0)
+new_list_lines chosen (Packet face) name = new_packet_lines name (new_classes chosen face.0)
+
+-- the new lists of a router with their names, in the order of these names' numbers
+abbrev pub named_lists : Network → List Edit → ℕ → List (NewList × List ℕ)
+named_lists net chosen router = zip (new_lists_of net chosen router) (new_names_of net chosen router)
+
+-- the lines of all new lists of a router
+abbrev pub lines_of_new_lists : Network → List Edit → ℕ → List (List ℕ)
+lines_of_new_lists net chosen router = flat_map (λ named. new_list_lines chosen named.0 named.1) (named_lists net chosen router)
+
+-- the line that binds a new route list at the neighbour of its interface
+abbrev pub filter_line : Network → NewList → List ℕ → Option (List ℕ)
+filter_line net (Route face) name = option_map (λ s. spaced (neighbor_list_words s.peer name)) (session_at net face)
+filter_line net (Packet face) name = None
+
+-- the lines that bind the new route lists of a router
+abbrev pub filter_lines : Network → List Edit → ℕ → List (List ℕ)
+filter_lines net chosen router = filter_map (λ named. filter_line net named.0 named.1) (named_lists net chosen router)
+
+-- where the interfaces of all routers have their blocks
+abbrev pub face_places : List Places → List FacePlace
+face_places places = flat_map (λ own. own.faces) places
+
+-- the line that binds a new packet list at its interface, with the last command line of that interface, which has its block at its
+-- place among these
+abbrev pub group_line_among : List FacePlace → NewList → List ℕ → Option (ℕ × List ℕ)
+group_line_among faces (Route face) name = None
+group_line_among faces (Packet face) name = option_map (λ place. (place.last, spaced (group_words name))) (slice_get faces face.0)
+
+-- the lines that bind the new packet lists of a router, each with the line after which it stands
+abbrev pub group_lines : Network → List Places → List Edit → ℕ → List (ℕ × List ℕ)
+group_lines net places chosen router =
+    filter_map (λ named. group_line_among (face_places places) named.0 named.1) (named_lists net chosen router)

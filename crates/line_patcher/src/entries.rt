@@ -1,0 +1,187 @@
+//! The lines of entries at the front of lists, and the new numbers of the old ones.
+ghost use Rattle.std.specs.Prelude.{◌≡◌, ◌<◌, ◌≤◌, ◌+◌, ◌*◌, ◌^◌, ◌++◌, length, IfOk, OnOk};
+ghost use Rattle.std.specs.Option.{option_copied};
+ghost use Rattle.line_patcher.specs.EntryLines.{order_at, packet_line, class_line, prefix_line, class_lines, prefix_lines, is_packet_form, packet_place, route_place, first_line, at_front, new_numbers};
+
+use crate::additions::NewNumber;
+use arc_base::{Memory, Name, Prefix};
+use edit_space::{Changes, opposite_packet_entry, opposite_route_entry, things_at};
+use ios_config::ListForm;
+use ios_words::printing::{push_entry, push_list_line, push_prefix_line};
+use net_build::{ListPlace, Places};
+use net_model::{Class, Network, PacketEntry, PacketList, RouteList};
+use std::alloc::Global;
+
+/// The number of the entry at a place of its list, if the list has numbers.
+fn order_at(place: &ListPlace, step: u32, at: u32) -> Option<u32>
+    requires { step * at < 2 ^ 32 }
+    ensures { result ≡ order_at place.now step at }
+{
+    if place.numbered {
+        Some(step * at)
+    } else {
+        None
+    }
+}
+
+/// The line of an entry of a packet list that stands in a form.
+fn packet_line(
+    alloc: Global,
+    form: ListForm,
+    name: &[u8],
+    order: Option<u32>,
+    entry: &PacketEntry,
+) -> Result<Name, Memory>
+    ensures { IfOk result (λ line. line ≡ packet_line form name.now order entry.now) }
+{
+    let mut text = Vec::new(alloc);
+    match form {
+        ListForm::Block => {
+            push_entry(
+                alloc,
+                &mut text,
+                order,
+                entry.permit,
+                &entry.from,
+                &entry.to,
+            )?
+        }
+        ListForm::Lines => {
+            push_list_line(alloc, &mut text, name, entry.permit, &entry.from, &entry.to)?
+        }
+        ListForm::PrefixLines => (),
+    }
+    Ok(Name::of(text))
+}
+
+/// The line of a new entry of a packet list, which turns its answer for a class.
+fn class_line(
+    alloc: Global,
+    place: &ListPlace,
+    list: &PacketList,
+    at: u32,
+    class: Class,
+) -> Result<Name, Memory>
+    requires { 10 * at < 2 ^ 32 }
+    ensures { IfOk result (λ line. line ≡ class_line place.now list.now (at, class)) }
+{
+    let entry = opposite_packet_entry(list, class);
+    let order = order_at(place, 10, at);
+    packet_line(alloc, place.form, list.name.bytes(), order, &entry)
+}
+
+/// The line of a new entry of a route list, which turns its answer for a prefix.
+fn prefix_line(
+    alloc: Global,
+    place: &ListPlace,
+    list: &RouteList,
+    at: u32,
+    prefix: Prefix,
+) -> Result<Name, Memory>
+    requires { 5 * at < 2 ^ 32 }
+    ensures { IfOk result (λ line. line ≡ prefix_line place.now list.now (at, prefix)) }
+{
+    let permit = opposite_route_entry(list, prefix).permit;
+    let order = order_at(place, 5, at);
+    let mut text = Vec::new(alloc);
+    push_prefix_line(alloc, &mut text, list.name.bytes(), order, permit, &prefix)?;
+    Ok(Name::of(text))
+}
+
+fn first_line(place: &ListPlace) -> u32
+    ensures { result ≡ first_line place.now }
+{
+    match place.entries.get(0) {
+        Some(line) => *line,
+        None => 0,
+    }
+}
+
+/// Adds the new entries of a packet list.
+pub fn push_class_lines(
+    alloc: Global,
+    lines: &mut Vec<(u32, Name)>,
+    place: &ListPlace,
+    list: &PacketList,
+    classes: &[Class],
+) -> Result<(), Memory>
+    requires { length classes.now ≤ 8192 }
+    ensures { OnOk result (lines.new.items ≡ lines.old.items ++ at_front place.now (class_lines place.now list.now classes.now)) }
+{
+    let first = first_line(place);
+    for (at, class) in classes.iter().enumerate() {
+        let line = class_line(alloc, place, list, at as u32 + 1, *class)?;
+        lines.push((first, line))?;
+    }
+    Ok(())
+}
+
+/// Adds the new entries of a route list.
+pub fn push_prefix_lines(
+    alloc: Global,
+    lines: &mut Vec<(u32, Name)>,
+    place: &ListPlace,
+    list: &RouteList,
+    prefixes: &[Prefix],
+) -> Result<(), Memory>
+    requires { length prefixes.now ≤ 8192 }
+    ensures { OnOk result (lines.new.items ≡ lines.old.items ++ at_front place.now (prefix_lines place.now list.now prefixes.now)) }
+{
+    let first = first_line(place);
+    for (at, prefix) in prefixes.iter().enumerate() {
+        let line = prefix_line(alloc, place, list, at as u32 + 1, *prefix)?;
+        lines.push((first, line))?;
+    }
+    Ok(())
+}
+
+/// Adds the new numbers of the old entries of a list.
+pub fn push_numbers(
+    numbers: &mut Vec<(u32, NewNumber)>,
+    place: &ListPlace,
+    word: u32,
+    step: u64,
+    count: usize,
+) -> Result<(), Memory>
+    requires step { step ≤ 10 }
+    requires count { count ≤ 8192 }
+    ensures { OnOk result (numbers.new.items ≡ numbers.old.items ++ new_numbers place.now word step count) }
+{
+    if !place.numbered {
+        return Ok(());
+    }
+    for (at, line) in place.entries.slice().iter().enumerate() {
+        let number = step * (count as u64 + at as u64 + 1);
+        numbers.push((*line, NewNumber { word, number }))?;
+    }
+    Ok(())
+}
+
+fn is_packet_form(form: ListForm) -> bool
+    ensures { result ≡ is_packet_form form }
+{
+    match form {
+        ListForm::Block | ListForm::Lines => true,
+        ListForm::PrefixLines => false,
+    }
+}
+
+/// Where the file has its packet list of a name.
+pub fn packet_place<'a>(own: &'a Places, name: &[u8]) -> Option<&'a ListPlace>
+    ensures { option_copied result ≡ packet_place own.now name.now }
+{
+    own.lists
+        .slice()
+        .iter()
+        .find(|place| place.name.is(name) && is_packet_form(place.form))
+}
+
+/// Where the file has its route list of a name.
+pub fn route_place<'a>(own: &'a Places, name: &[u8]) -> Option<&'a ListPlace>
+    ensures { option_copied result ≡ route_place own.now name.now }
+{
+    own.lists
+        .slice()
+        .iter()
+        .find(|place| place.name.is(name) && !is_packet_form(place.form))
+}

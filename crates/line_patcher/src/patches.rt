@@ -1,0 +1,66 @@
+//! The files after edits.
+ghost use Rattle.std.specs.Prelude.{◌≡◌, ◌≤◌, ◌<◌, length, All, IfOk, slice_get, Some};
+ghost use Rattle.net_build.specs.Networks.{IsBuilt};
+ghost use Rattle.edit_space.specs.EditLists.{AreEdits};
+ghost use Rattle.edit_space.specs.Prices.{chosen_of};
+ghost use Rattle.ios_lines.specs.declared.line.Lines.{Lines};
+ghost use Rattle.ios_lines.specs.Lines.{AreLinesOf};
+ghost use Rattle.line_patcher.specs.Patches.{IsPatched, ArePatched};
+ghost use Rattle.line_patcher.specs.Working.{IsPlan};
+
+use crate::additions::Additions;
+use crate::plans::Plan;
+use crate::texts::patched_text;
+use arc_base::{List, Memory, Name};
+use edit_space::{Edit, chosen_edits};
+use net_build::Built;
+use net_model::Document;
+use std::alloc::Global;
+
+/// The file of a router after the edits of a plan.
+fn patched_file(
+    alloc: Global,
+    built: &Built,
+    plan: &Plan,
+    router: usize,
+    text: &[u8],
+) -> Result<Name, Memory>
+    requires plan { IsPlan built.now plan.now }
+    requires few { length plan.now.changes.edits.items ≤ 8192 }
+    requires router { router < length built.now.net.routers }
+    requires places { router < length built.now.places }
+    requires rows { router < length built.now.lines }
+    requires lines { (lines : Lines) → slice_get built.now.lines router ≡ Some lines → AreLinesOf text.now lines }
+    requires bytes { length text.now ≤ 1048576 }
+    ensures { IfOk result (IsPatched built.now plan.now.changes.edits.items router text.now) }
+{
+    let lines = &built.lines.slice()[router];
+    let own = &built.places.slice()[router];
+    let all = Additions::of(alloc, built, plan, router as u32, own)?;
+    patched_text(alloc, text, lines, &all)
+}
+
+/// The router files after the chosen edits, in the order of the document. A file that no chosen edit concerns is given as
+/// it is. The time is linear in the bytes of the files and in what is put into them.
+pub fn patch(
+    alloc: Global,
+    doc: &Document,
+    built: &Built,
+    files: &List<Name>,
+    edits: &List<Edit>,
+    chosen: &[bool],
+) -> Result<List<Name>, Memory>
+    requires built { IsBuilt doc.now files.now built.now }
+    requires bytes { All (λ text. length text ≤ 1048576) files.now }
+    requires edits { AreEdits built.now.net doc.now edits.now }
+    requires few { length edits.now ≤ 8192 }
+    requires flags { length chosen.now ≡ length edits.now }
+    ensures { IfOk result (ArePatched built.now (chosen_of edits.now chosen.now) files.now) }
+{
+    let plan = Plan::of(alloc, built, chosen_edits(alloc, edits.slice(), chosen)?)?;
+    let mut new = List::make(alloc);
+    for (router, text) in files.slice().iter().enumerate() {
+        new.push(patched_file(alloc, built, &plan, router, text.bytes())?)?;
+    }
+    Ok(new)
+}

@@ -1,0 +1,171 @@
+//! The text of a file with what is put into it.
+ghost use Rattle.std.specs.Prelude.{◌≡◌, ◌<◌, ◌-◌, ◌^◌, ◌++◌, ◌∷◌, [], flat_map, length, All, IfOk, OnOk};
+ghost use Rattle.ios_lines.specs.Lines.{AreLinesOf};
+ghost use Rattle.edit_space.specs.Numbered.{of_number, Tells};
+ghost use Rattle.line_patcher.specs.Patches.{end_of, line_end, row_bytes, ended, following, patched_text};
+ghost use Rattle.line_patcher.specs.Working.{LiesWithin, row_around};
+
+use crate::additions::{Additions, NewNumber};
+use arc_base::{Memory, Name, push_number};
+use edit_space::{Group, add, empty_groups, grouped, things_at};
+use ios_lines::{Line, Lines};
+use std::alloc::Global;
+
+/// The lines at each place below the count.
+fn lines_at(alloc: Global, count: u32, lines: &[(u32, Name)]) -> Result<Vec<Group<Name>>, Memory>
+    ensures { IfOk result (λ groups. Tells count (λ number. of_number number lines.now) groups.items) }
+{
+    let mut groups = empty_groups(alloc, count)?;
+    for (number, line) in lines {
+        add(&mut groups, *number, Name::make(alloc, line.bytes())?)?;
+    }
+    Ok(groups)
+}
+
+/// What ends the lines of a file: what ends its first line.
+fn line_end<'a>(text: &'a [u8], rows: &[Line]) -> &'a [u8]
+    requires { All (LiesWithin text.now) rows.now }
+    ensures { result.now ≡ line_end text.now rows.now }
+{
+    match rows.first() {
+        Some(row) if row.end != 0 => end_of(text, row),
+        _ => b"\n",
+    }
+}
+
+/// What ends a row.
+fn end_of<'a>(text: &'a [u8], row: &Line) -> &'a [u8]
+    requires { LiesWithin text.now row.now }
+    ensures { result.now ≡ end_of text.now row.now }
+{
+    let from = row.span.to as usize;
+    &text[from..from + row.end as usize]
+}
+
+/// Adds lines that are each ended.
+fn push_ended(text: &mut Vec<u8>, end: &[u8], lines: &[Name]) -> Result<(), Memory>
+    ensures { OnOk result (text.new.items ≡ text.old.items ++ ended end.now lines.now) }
+{
+    for line in lines {
+        text.extend_from_slice(line.bytes())?;
+        text.extend_from_slice(end)?;
+    }
+    Ok(())
+}
+
+/// Adds lines that each stand after an end.
+fn push_begun(text: &mut Vec<u8>, end: &[u8], lines: &[Name]) -> Result<(), Memory>
+    ensures { OnOk result (text.new.items ≡ text.old.items ++ flat_map (λ line. end.now ++ line) lines.now) }
+{
+    for line in lines {
+        text.extend_from_slice(end)?;
+        text.extend_from_slice(line.bytes())?;
+    }
+    Ok(())
+}
+
+/// Adds lines after a row with an end of so many bytes.
+fn push_following(text: &mut Vec<u8>, end: &[u8], len: u8, lines: &[Name]) -> Result<(), Memory>
+    ensures { OnOk result (text.new.items ≡ text.old.items ++ following end.now len lines.now) }
+{
+    if len == 0 {
+        push_begun(text, end, lines)
+    } else {
+        push_ended(text, end, lines)
+    }
+}
+
+/// Adds the bytes of a row with a number in place of one of its words.
+fn push_rewritten(
+    alloc: Global,
+    new: &mut Vec<u8>,
+    text: &[u8],
+    row: &Line,
+    number: NewNumber,
+) -> Result<(), Memory>
+    requires { LiesWithin text.now row.now }
+    ensures { OnOk result (new.new.items ≡ new.old.items ++ row_bytes text.now row.now (number ∷ [])) }
+{
+    let (from, to) = (row.span.from as usize, row.span.to as usize);
+    let Some(word) = row.words.get(number.word) else {
+        new.extend_from_slice(&text[from..to])?;
+        return Ok(());
+    };
+    new.extend_from_slice(&text[from..word.from as usize])?;
+    push_number(alloc, new, number.number)?;
+    new.extend_from_slice(&text[word.to as usize..to])?;
+    Ok(())
+}
+
+/// Adds the bytes of a row, in which a word may be another number.
+fn push_row_bytes(
+    alloc: Global,
+    new: &mut Vec<u8>,
+    text: &[u8],
+    row: &Line,
+    numbers: &[NewNumber],
+) -> Result<(), Memory>
+    requires { LiesWithin text.now row.now }
+    ensures { OnOk result (new.new.items ≡ new.old.items ++ row_bytes text.now row.now numbers.now) }
+{
+    match numbers.first() {
+        Some(number) => push_rewritten(alloc, new, text, row, *number),
+        None => {
+            new.extend_from_slice(&text[row.span.from as usize..row.span.to as usize])?;
+            Ok(())
+        }
+    }
+}
+
+/// What is put in at each line.
+#[derive(Debug, Drop)]
+struct Table {
+    before: Vec<Group<Name>>,
+    numbers: Vec<Group<NewNumber>>,
+    after: Vec<Group<Name>>,
+}
+
+/// Adds a row with what is put before it, into it and after it.
+fn push_row(
+    alloc: Global,
+    new: &mut Vec<u8>,
+    text: &[u8],
+    end: &[u8],
+    table: &Table,
+    number: u32,
+    row: &Line,
+) -> Result<(), Memory>
+    requires { LiesWithin text.now row.now }
+    ensures { OnOk result (new.new.items ≡ new.old.items ++ row_around text.now end.now table.now number row.now) }
+{
+    push_ended(new, end, things_at(&table.before, number))?;
+    push_row_bytes(alloc, new, text, row, things_at(&table.numbers, number))?;
+    new.extend_from_slice(end_of(text, row))?;
+    push_following(new, end, row.end, things_at(&table.after, number))
+}
+
+/// The text of a file, of which these are the lines, with what is put into it.
+pub fn patched_text(
+    alloc: Global,
+    text: &[u8],
+    lines: &Lines,
+    all: &Additions,
+) -> Result<Name, Memory>
+    requires few { length text.now < 2 ^ 32 - 1 }
+    requires lines { AreLinesOf text.now lines.now }
+    ensures { IfOk result (λ new. new ≡ patched_text text.now lines.now all.now.before.items all.now.numbers.items all.now.after.items) }
+{
+    let rows = lines.rows.slice();
+    let count = rows.len() as u32 + 1;
+    let table = Table {
+        before: lines_at(alloc, count, &all.before)?,
+        numbers: grouped(alloc, count, &all.numbers)?,
+        after: lines_at(alloc, count, &all.after)?,
+    };
+    let end = line_end(text, rows);
+    let mut new = Vec::new(alloc);
+    for (place, row) in rows.iter().enumerate() {
+        push_row(alloc, &mut new, text, end, &table, place as u32 + 1, row)?;
+    }
+    Ok(Name::of(new))
+}
