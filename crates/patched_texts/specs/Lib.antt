@@ -1,0 +1,14 @@
+pub mod Sessions
+pub mod Fits
+pub mod Sites
+pub mod Grown
+pub mod NewListSites
+pub mod EntrySites
+pub mod ListsGrow
+pub mod EndLines
+pub mod FaceBlocks
+pub mod Files
+pub mod EditSites
+pub mod EditFiles
+pub mod EditSiteLaws
+pub mod Laws
