@@ -1,10 +1,10 @@
 pub mod OneOutcome
-mod Rights
+pub mod Rights
 mod Heads
-mod Zipped
+pub mod Zipped
 mod Readable
 mod Exactly
-mod AtPlaces
+pub mod AtPlaces
 mod Leading
 mod Feeding
 pub mod Short

@@ -1,0 +1,72 @@
+-- Which texts are certificates of a repair, and when the formula of one is counted.
+use Rattle.std.specs.Prelude.{◌≡◌, ◌↔◌, ◌⊎◌, ℕ, ◌≤◌, List, ◌∷◌, length, Ok}
+use Rattle.std.specs.List.{filter_map}
+use Rattle.cnf_types.specs.Words.{lines}
+use Rattle.net_model.specs.declared.policies.Document.{Document}
+use Rattle.net_model.specs.declared.rows.Network.{Network}
+use Rattle.net_model.specs.Validity.{IsValid}
+use Rattle.edit_space.specs.declared.claims.Claim.{Claim}
+use Rattle.edit_space.specs.declared.edit_kinds.Edit.{Edit}
+use Rattle.edit_space.specs.declared.edit_kinds.EditFault.{EditFault}
+use Rattle.edit_space.specs.declared.edit_kinds.EditFault.TheVariants.{Limit, Memory}
+use Rattle.edit_space.specs.Determined.{IsCountable}
+use Rattle.edit_space.specs.EditLists.{AreEdits}
+use Rattle.policy_encode.specs.Formulas.{IsFaultOf, IsWithin}
+use Rattle.policy_report.specs.declared.got.Got.TheVariants.{Head, More}
+use Rattle.policy_report.specs.declared.got.CertForm.{CertForm}
+use Rattle.policy_report.specs.declared.got.CertForm.TheVariants.{Repaired, NoRepair}
+use Rattle.policy_report.specs.Edits.{HasAddresses}
+use Rattle.policy_report.specs.Recertifying.{Told}
+use Rattle.policy_report.specs.Recertifying as texts
+use Rattle.policy_report.specs.Rereading.{answers}
+use Rattle.policy_report.specs.Steps.{start}
+use Rattle.report_check.specs.declared.outcome.Outcome.{Outcome}
+use Rattle.report_check.specs.declared.outcome.Outcome.TheVariants.{Accepted}
+use Rattle.arc_repair.specs.Claims.{IsCertificate, IsTrueClaim}
+use Rattle.repair_check.specs.Outcomes.{Answers, IsOutcome}
+
+-- the text is a certificate of this claim: its lines are those of the claim's text with a log between its two lines, and that log
+-- shows the claim
+pub record Certifies (net : Network) (doc : Document) (list : List Edit) (claim : Claim) (text : List ℕ) : Type 0 where
+  pub told : List Told
+  pub is_text : texts.IsCertificate net doc list claim told (lines text)
+  pub certificate : IsCertificate net doc list claim (filter_map (λ t. t) told)
+
+-- some claim has this text as its certificate
+abbrev pub IsCertified : Network → Document → List Edit → List ℕ → Type 0
+IsCertified net doc list text = (claim : Claim) × Certifies net doc list claim text
+
+-- the judgement of a text tells exactly whether it is a certificate
+abbrev pub CertificatesAreAccepted : Type 0
+CertificatesAreAccepted = (net : Network) (doc : Document) (list : List Edit) (text : List ℕ) (o : Outcome) → IsValid net → IsCountable net → HasAddresses net →
+    AreEdits net doc list → length doc.policies ≤ 4294967295 → IsOutcome net doc list text o → (o ≡ Accepted) ↔ IsCertified net doc list text
+
+-- and of what has a certificate each claim is true
+abbrev pub CertifiedClaimsAreTrue : Type 0
+CertifiedClaimsAreTrue = (net : Network) (doc : Document) (list : List Edit) (text : List ℕ) (claim : Claim) → IsValid net → IsCountable net →
+    AreEdits net doc list → Certifies net doc list claim text → IsTrueClaim net doc list claim
+
+-- what is claimed names this bound
+abbrev pub HasBound : ℕ → CertForm → Type 0
+HasBound bound form = ((price : ℕ) × (form ≡ Repaired price bound)) ⊎ (form ≡ NoRepair bound)
+
+-- the lines begin with the head of a repair and an answer in its form, with this bound, which is at most 512
+pub record CountsBound (told : Answers) (bound : ℕ) : Type 0 where
+  pub few : bound ≤ 512
+  pub form : CertForm
+  pub has_bound : HasBound bound form
+  pub rest : Answers
+  pub begins : told ≡ Ok More ∷ Ok (Head form) ∷ rest
+
+-- the answers to the lines of the text
+abbrev pub text_answers : Network → Document → List Edit → List ℕ → Answers
+text_answers net doc list text = answers net doc list start (lines text)
+
+-- where the formula is counted it is within its limits
+abbrev pub IsCounted : Network → Document → List Edit → Answers → Type 0
+IsCounted net doc list told = (bound : ℕ) → CountsBound told bound → IsWithin net doc list bound
+
+-- the formula is counted, and passes the limit that the fault names; or memory is wanting
+abbrev pub IsCountFault : Network → Document → List Edit → Answers → EditFault → Type 0
+IsCountFault net doc list told (Limit what count) = (bound : ℕ) × CountsBound told bound × IsFaultOf net doc list bound (Limit what count)
+IsCountFault net doc list told Memory = Unit {0}

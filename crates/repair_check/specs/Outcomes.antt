@@ -1,0 +1,149 @@
+-- What the text of a certificate of a repair is judged to, by what a reader answers to its lines. The first line is told that is
+-- rejected: one that the reader rejects; the line of the answer where its price is wrong; the first line of a block whose verdict
+-- is not right in the network after the edits; a step of the log that is not accepted; the line `end` where something is left
+-- to refute; or the line after the last one where the text ends too early.
+use Rattle.std.specs.Prelude.{◌≡◌, ◌⊎◌, ℕ, ◌+◌, ◌<◌, ◌≤◌, ◌==◌, ◌||◌, Bool, true, false, not, List, [], ◌∷◌, length, Some, MatchBool, MatchOption, Result, Ok, Err, set}
+use Rattle.arc_base.specs.declared.certificate.CertKind.{CertKind}
+use Rattle.arc_base.specs.declared.certificate.CertKind.TheVariants as kinds
+use Rattle.cnf_types.specs.declared.clauses.Formula.{Formula}
+use Rattle.cnf_types.specs.declared.literal.Lit.{Lit}
+use Rattle.cnf_types.specs.Words.{lines}
+use Rattle.net_model.specs.declared.policies.Document.{Document}
+use Rattle.net_model.specs.declared.policies.Policy.{Policy}
+use Rattle.net_model.specs.declared.rows.Network.{Network}
+use Rattle.edit_space.specs.declared.edit_kinds.Edit as edits
+use Rattle.edit_space.specs.After.{IsAfter}
+use Rattle.edit_space.specs.Prices.{chosen_of}
+use Rattle.policy_encode.specs.Formulas.{IsRepairFormula}
+use Rattle.price_descent.specs.Outcomes.{least_below}
+use Rattle.proof_check.specs.declared.faults.StepFault.{StepFault}
+use Rattle.proof_check.specs.declared.faults.StepFault.TheVariants as steps
+use Rattle.proof_check.specs.Knowledge.{Knowledge, after, start, step_fault}
+use Rattle.policy_report.specs.declared.got.Got.{Got}
+use Rattle.policy_report.specs.declared.got.Got.TheVariants.{More, Head, Verdict, Edit, Step, End}
+use Rattle.policy_report.specs.declared.got.CertForm.TheVariants.{Repaired, NoRepair}
+use Rattle.policy_report.specs.declared.got.CertFault.{CertFault}
+use Rattle.policy_report.specs.Rereading.{answers}
+use Rattle.policy_report.specs.Steps as reader
+use Rattle.report_check.specs.declared.outcome.Outcome.{Outcome}
+use Rattle.report_check.specs.declared.outcome.Outcome.TheVariants.{Accepted, Rejected}
+use Rattle.report_check.specs.Outcomes.{IsRightAt}
+use Rattle.arc_repair.specs.Checks.{IsMispriced}
+use Rattle.arc_repair.specs.Claims.{is_above_zero}
+use Rattle.arc_repair.specs.Repairs.{none_of}
+
+-- the line with this number is rejected for this
+abbrev pub rejected : ℕ → CertKind → Outcome
+rejected number kind = Rejected (record { line = number; kind = kind })
+
+-- the kind of a step's fault
+abbrev pub fault_kind : StepFault → CertKind
+fault_kind steps.IdNotRising = kinds.IdNotRising
+fault_kind (steps.NegativeHint place) = kinds.NegativeHint
+fault_kind (steps.UnknownId place) = kinds.UnknownId
+fault_kind (steps.HintNotUnit place) = kinds.HintNotUnit
+fault_kind steps.NoConflict = kinds.NoConflict
+fault_kind steps.BoundTooLow = kinds.BoundTooLow
+fault_kind steps.BoundTooHigh = kinds.BoundTooHigh
+fault_kind steps.Memory = kinds.Memory
+
+-- the line is rejected as the line of an edit
+abbrev pub is_edit_kind : CertKind → Bool
+is_edit_kind kinds.Edit = true
+is_edit_kind other = false
+
+-- what a reader answers to the lines that are left
+abbrev pub Answers : Type 0
+Answers = List (Result Got CertFault)
+
+-- the outcome behind the line `end`: nothing may follow it
+abbrev pub IsEnded : ℕ → Answers → Outcome → Type 0
+IsEnded number [] o = o ≡ Accepted
+IsEnded number (told ∷ rest) o = o ≡ rejected number kinds.NoEnd
+
+-- The outcome by the lines of the log that are left, where the next of them has this number and this is known. At the line `end`
+-- the empty clause has to be known, but for a claim with nothing to refute.
+abbrev pub IsLogOutcome : Bool → Knowledge → ℕ → Answers → Outcome → Type 0
+IsLogOutcome needs known number [] o = o ≡ rejected number kinds.NoEnd
+IsLogOutcome needs known number (Err fault ∷ rest) o = o ≡ Rejected fault
+IsLogOutcome needs known number (Ok More ∷ rest) o = IsLogOutcome needs known (number + 1) rest o
+IsLogOutcome needs known number (Ok (Step s) ∷ rest) o =
+    MatchOption (step_fault known s) (IsLogOutcome needs (after known s) (number + 1) rest o) (λ fault. o ≡ rejected number (fault_kind fault))
+IsLogOutcome needs known number (Ok End ∷ rest) o =
+    MatchBool (not needs || known.refuted) (IsEnded (number + 1) rest o) (o ≡ rejected number kinds.NotRefuted)
+IsLogOutcome needs known number (Ok other ∷ rest) o = o ≡ rejected number kinds.Form
+
+-- the outcome by the line before the log of a claim that there is no repair, and the lines after it
+abbrev pub IsReadyOutcome : Knowledge → ℕ → Answers → Outcome → Type 0
+IsReadyOutcome known number [] o = o ≡ rejected number kinds.NoEnd
+IsReadyOutcome known number (Err fault ∷ rest) o = o ≡ Rejected fault
+IsReadyOutcome known number (Ok More ∷ rest) o = IsLogOutcome true known (number + 1) rest o
+IsReadyOutcome known number (Ok other ∷ rest) o = o ≡ rejected number kinds.Form
+
+-- The outcome by the lines after the edits, where this is the network after them. So many policies are judged, and the block that
+-- the next line belongs to begins at `first`. A line that goes on is one of a block, or, when all policies are judged, that
+-- before the log. A verdict that is not right is rejected at the first line of its block.
+abbrev pub IsBlocksOutcome : Network → List Policy → Bool → Knowledge → ℕ → ℕ → ℕ → Answers → Outcome → Type 0
+IsBlocksOutcome now policies needs known judged first number [] o = o ≡ rejected number kinds.NoEnd
+IsBlocksOutcome now policies needs known judged first number (Err fault ∷ rest) o = o ≡ Rejected fault
+IsBlocksOutcome now policies needs known judged first number (Ok More ∷ rest) o =
+    MatchBool (judged == length policies) (IsLogOutcome needs known (number + 1) rest o) (IsBlocksOutcome now policies needs known judged first (number + 1) rest o)
+IsBlocksOutcome now policies needs known judged first number (Ok (Verdict which v) ∷ rest) o =
+    (IsRightAt now policies which v × IsBlocksOutcome now policies needs known (which + 1) (number + 1) (number + 1) rest o) ⊎
+    ((¬ IsRightAt now policies which v) × (o ≡ rejected first kinds.Witness))
+IsBlocksOutcome now policies needs known judged first number (Ok other ∷ rest) o = o ≡ rejected number kinds.Form
+
+-- The edits have ended before the line with this number, and their price is right: what follows is judged in the network after
+-- them, with the repair formula for the bound and one less than the price as the least bound of the log.
+pub record AfterEdits (net : Network) (doc : Document) (list : List edits.Edit) (price bound : ℕ) (flags : List Bool) (number : ℕ) (told : Answers) (o : Outcome) : Type 0 where
+  pub priced : ¬ IsMispriced doc list price bound flags
+  pub now : Network
+  pub is_after : IsAfter net (chosen_of list flags) now
+  pub formula : Formula
+  pub tops : List Lit
+  pub is_formula : IsRepairFormula net doc list bound formula tops
+  pub outcome : IsBlocksOutcome now doc.policies (is_above_zero price) (start formula (least_below price) tops) 0 number number told o
+
+-- the outcome where the edits have ended: a price that is wrong is rejected at the line of the answer
+abbrev pub IsEditsEnd : Network → Document → List edits.Edit → ℕ → ℕ → List Bool → ℕ → Answers → Outcome → Type 0
+IsEditsEnd net doc list price bound flags number told o =
+    (IsMispriced doc list price bound flags × (o ≡ rejected 2 kinds.Price)) ⊎ AfterEdits net doc list price bound flags number told o
+
+-- The outcome by the lines after the answer that there is a repair, where these edits are chosen so far. A line whose first word
+-- is `edit` is taken as an edit or rejected as one; any other line, or the end of the text, ends the edits before it is judged.
+abbrev pub IsEditsOutcome : Network → Document → List edits.Edit → ℕ → ℕ → List Bool → ℕ → Answers → Outcome → Type 0
+IsEditsOutcome net doc list price bound flags number [] o = IsEditsEnd net doc list price bound flags number [] o
+IsEditsOutcome net doc list price bound flags number (Err fault ∷ rest) o =
+    MatchBool (is_edit_kind fault.kind) (o ≡ Rejected fault) (IsEditsEnd net doc list price bound flags number (Err fault ∷ rest) o)
+IsEditsOutcome net doc list price bound flags number (Ok (Edit place) ∷ rest) o =
+    IsEditsOutcome net doc list price bound (set flags place true) (number + 1) rest o
+IsEditsOutcome net doc list price bound flags number (Ok got ∷ rest) o = IsEditsEnd net doc list price bound flags number (Ok got ∷ rest) o
+
+-- the outcome by the lines after the answer that there is no repair within a bound of at most 512
+pub record AfterNone (net : Network) (doc : Document) (list : List edits.Edit) (bound number : ℕ) (told : Answers) (o : Outcome) : Type 0 where
+  pub few : bound ≤ 512
+  pub formula : Formula
+  pub tops : List Lit
+  pub is_formula : IsRepairFormula net doc list bound formula tops
+  pub outcome : IsReadyOutcome (start formula (Some bound) tops) number told o
+
+-- the outcome by the lines from that of the answer on
+abbrev pub IsAnswerOutcome : Network → Document → List edits.Edit → ℕ → Answers → Outcome → Type 0
+IsAnswerOutcome net doc list number [] o = o ≡ rejected number kinds.NoEnd
+IsAnswerOutcome net doc list number (Err fault ∷ rest) o = o ≡ Rejected fault
+IsAnswerOutcome net doc list number (Ok (Head (Repaired price bound)) ∷ rest) o =
+    IsEditsOutcome net doc list price bound (none_of list) (number + 1) rest o
+IsAnswerOutcome net doc list number (Ok (Head (NoRepair bound)) ∷ rest) o =
+    ((512 < bound) × (o ≡ rejected 2 kinds.Price)) ⊎ AfterNone net doc list bound (number + 1) rest o
+IsAnswerOutcome net doc list number (Ok other ∷ rest) o = o ≡ rejected number kinds.Form
+
+-- the outcome by all lines
+abbrev pub IsHeadOutcome : Network → Document → List edits.Edit → ℕ → Answers → Outcome → Type 0
+IsHeadOutcome net doc list number [] o = o ≡ rejected number kinds.NoEnd
+IsHeadOutcome net doc list number (Err fault ∷ rest) o = o ≡ Rejected fault
+IsHeadOutcome net doc list number (Ok More ∷ rest) o = IsAnswerOutcome net doc list (number + 1) rest o
+IsHeadOutcome net doc list number (Ok other ∷ rest) o = o ≡ rejected number kinds.Form
+
+-- what a text is judged to
+abbrev pub IsOutcome : Network → Document → List edits.Edit → List ℕ → Outcome → Type 0
+IsOutcome net doc list text o = IsHeadOutcome net doc list 1 (answers net doc list reader.start (lines text)) o

@@ -1,0 +1,214 @@
+//! The lines before the blocks: what they claim, and what is judged once that is known.
+ghost use Rattle.std.specs.Prelude.{◌≡◌, ◌<◌, ◌≤◌, Some, None, List as Items, length, All, IfOk, IfErr, IfSome, OnOk, MatchOption};
+ghost use Rattle.net_model.specs.Forwarding.{HasEnds};
+ghost use Rattle.net_model.specs.Packets.{subject};
+ghost use Rattle.net_model.specs.Validity.{IsValid};
+ghost use Rattle.edit_space.specs.EditLists.{AreEdits, HasFewClasses};
+ghost use Rattle.policy_encode.specs.Formulas.{IsFaultOf, IsWithin};
+ghost use Rattle.verdicts.specs.Judged.{HasFewFailures};
+ghost use Rattle.arc_repair.specs.Checks.{IsMispriced};
+ghost use Rattle.arc_repair.specs.Repairs.{none_of};
+ghost use Rattle.price_descent.specs.Outcomes.{least_below};
+ghost use Rattle.repair_check.specs.Outcomes.{rejected};
+ghost use Rattle.repair_check.specs.Phases.{IsFaultAt, IsJudgeable, IsOpened, IsReady, IsReadyWithin, LeadsTo};
+
+use crate::phases::{Blocks, Next, Phase};
+use arc_base::{CertKind, List, Memory};
+use edit_space::laws::edits_keep_classes;
+use edit_space::{Edit, EditFault, after, price};
+use net_model::{Document, Network};
+use policy_encode::encode;
+use policy_report::{CertFault, CertForm, Got};
+use proof_check::Checker;
+use report_check::Outcome;
+use std::alloc::Global;
+
+/// The line with this number is rejected.
+pub(crate) fn rejected(number: u64, kind: CertKind) -> Next
+    ensures { result ≡ Next.Done (rejected number kind) }
+{
+    Next::Done(Outcome::Rejected(CertFault { line: number, kind }))
+}
+
+// A checker before the first step of a log, for the repair formula of the bound.
+fn ready(
+    alloc: Global,
+    net: &Network,
+    doc: &Document,
+    list: &List<Edit>,
+    bound: u32,
+    least: Option<u32>,
+) -> Result<Checker, EditFault>
+    requires valid { IsValid net.now }
+    requires policies { length doc.now.policies ≤ 256 }
+    requires ends { All (λ policy. HasEnds net.now (subject policy)) doc.now.policies }
+    requires failures { All (λ policy. HasFewFailures policy.kind) doc.now.policies }
+    requires edits { AreEdits net.now doc.now list.now }
+    requires few { length list.now ≤ 8192 }
+    requires few_classes { HasFewClasses net.now doc.now }
+    requires bound { bound ≤ 512 }
+    ensures ready { IfOk result (IsReady net.now doc.now list.now bound least) }
+    ensures limits { OnOk result (IsWithin net.now doc.now list.now bound) }
+    ensures fault { IfErr result (IsFaultOf net.now doc.now list.now bound) }
+{
+    let encoded = encode(alloc, net, doc, list, bound)?;
+    let checker = Checker::make(alloc, &encoded.formula, least, &encoded.tops)?;
+    Ok(checker)
+}
+
+// A flag for each of the edits, which chooses none.
+fn unchosen(alloc: Global, edits: &[Edit]) -> Result<Vec<bool>, Memory>
+    ensures { IfOk result (λ flags. flags.items ≡ none_of edits.now) }
+{
+    Ok(edits.iter().map(|_| false).collect(alloc)?)
+}
+
+// The least bound of the log of a repair: one less than its price.
+fn least_below(price: u32) -> Option<u32>
+    ensures { result ≡ least_below price }
+{
+    price.checked_sub(1)
+}
+
+// What is judged after the answer that there is a repair.
+fn begin_repair(
+    alloc: Global,
+    net: &Network,
+    doc: &Document,
+    list: &List<Edit>,
+    price: u32,
+    bound: u32,
+    number: u64,
+) -> Result<Next, EditFault>
+    requires valid { IsValid net.now }
+    requires policies { length doc.now.policies ≤ 256 }
+    requires ends { All (λ policy. HasEnds net.now (subject policy)) doc.now.policies }
+    requires failures { All (λ policy. HasFewFailures policy.kind) doc.now.policies }
+    requires edits { AreEdits net.now doc.now list.now }
+    requires few { length list.now ≤ 8192 }
+    requires few_classes { HasFewClasses net.now doc.now }
+    ensures leads { IfOk result (LeadsTo net.now doc.now list.now Phase.Answer number (Ok (Got.Head (CertForm.Repaired price bound)))) }
+    ensures fault { IfErr result (IsFaultAt net.now doc.now list.now Phase.Answer (Ok (Got.Head (CertForm.Repaired price bound)))) }
+{
+    let log = if bound <= 512 {
+        Some(ready(alloc, net, doc, list, bound, least_below(price))?)
+    } else {
+        None
+    };
+    let flags = unchosen(alloc, list.slice())?;
+    Ok(Next::Line(Phase::Edits(price, bound, flags, log)))
+}
+
+// What is judged after the answer that there is no repair.
+fn begin_none(
+    alloc: Global,
+    net: &Network,
+    doc: &Document,
+    list: &List<Edit>,
+    bound: u32,
+    number: u64,
+) -> Result<Next, EditFault>
+    requires valid { IsValid net.now }
+    requires policies { length doc.now.policies ≤ 256 }
+    requires ends { All (λ policy. HasEnds net.now (subject policy)) doc.now.policies }
+    requires failures { All (λ policy. HasFewFailures policy.kind) doc.now.policies }
+    requires edits { AreEdits net.now doc.now list.now }
+    requires few { length list.now ≤ 8192 }
+    requires few_classes { HasFewClasses net.now doc.now }
+    ensures leads { IfOk result (LeadsTo net.now doc.now list.now Phase.Answer number (Ok (Got.Head (CertForm.NoRepair bound)))) }
+    ensures fault { IfErr result (IsFaultAt net.now doc.now list.now Phase.Answer (Ok (Got.Head (CertForm.NoRepair bound)))) }
+{
+    if bound > 512 {
+        return Ok(rejected(2, CertKind::Price));
+    }
+    let checker = ready(alloc, net, doc, list, bound, Some(bound))?;
+    Ok(Next::Line(Phase::Ready(checker)))
+}
+
+/// Judges the first line.
+pub(crate) fn judge_head(number: u64, told: Result<Got, CertFault>) -> Next
+    ensures { (net : Network) (doc : Document) (list : Items Edit) → LeadsTo net doc list Phase.Head number told result }
+{
+    match told {
+        Ok(Got::More) => Next::Line(Phase::Answer),
+        Ok(Got::Head(_form)) => rejected(number, CertKind::Form),
+        Ok(Got::Verdict(_which, _verdict)) => rejected(number, CertKind::Form),
+        Ok(Got::Edit(_place)) => rejected(number, CertKind::Form),
+        Ok(Got::Step(_step)) => rejected(number, CertKind::Form),
+        Ok(Got::End) => rejected(number, CertKind::Form),
+        Err(fault) => Next::Done(Outcome::Rejected(fault)),
+    }
+}
+
+/// Judges the line of the answer.
+pub(crate) fn judge_answer(
+    alloc: Global,
+    net: &Network,
+    doc: &Document,
+    list: &List<Edit>,
+    number: u64,
+    told: Result<Got, CertFault>,
+) -> Result<Next, EditFault>
+    requires valid { IsValid net.now }
+    requires policies { length doc.now.policies ≤ 256 }
+    requires ends { All (λ policy. HasEnds net.now (subject policy)) doc.now.policies }
+    requires failures { All (λ policy. HasFewFailures policy.kind) doc.now.policies }
+    requires edits { AreEdits net.now doc.now list.now }
+    requires few { length list.now ≤ 8192 }
+    requires few_classes { HasFewClasses net.now doc.now }
+    ensures leads { IfOk result (LeadsTo net.now doc.now list.now Phase.Answer number told) }
+    ensures fault { IfErr result (IsFaultAt net.now doc.now list.now Phase.Answer told) }
+{
+    match told {
+        Ok(Got::Head(CertForm::Repaired(price, bound))) => {
+            begin_repair(alloc, net, doc, list, price, bound, number)
+        }
+        Ok(Got::Head(CertForm::NoRepair(bound))) => {
+            begin_none(alloc, net, doc, list, bound, number)
+        }
+        Ok(Got::Head(CertForm::Report)) => Ok(rejected(number, CertKind::Form)),
+        Ok(Got::More) => Ok(rejected(number, CertKind::Form)),
+        Ok(Got::Verdict(_which, _verdict)) => Ok(rejected(number, CertKind::Form)),
+        Ok(Got::Edit(_place)) => Ok(rejected(number, CertKind::Form)),
+        Ok(Got::Step(_step)) => Ok(rejected(number, CertKind::Form)),
+        Ok(Got::End) => Ok(rejected(number, CertKind::Form)),
+        Err(fault) => Ok(Next::Done(Outcome::Rejected(fault))),
+    }
+}
+
+/// What is judged where the edits end before the line with this number; nothing where their price is wrong.
+pub(crate) fn end_edits(
+    alloc: Global,
+    net: &Network,
+    doc: &Document,
+    list: &List<Edit>,
+    claimed: u32,
+    bound: u32,
+    chosen: Vec<bool>,
+    log: Option<Checker>,
+    number: u64,
+) -> Result<Option<Blocks>, Memory>
+    requires valid { IsValid net.now }
+    requires ends { All (λ policy. HasEnds net.now (subject policy)) doc.now.policies }
+    requires flags { length chosen.items ≡ length list.now }
+    requires ready { IsReadyWithin net.now doc.now list.now claimed bound log }
+    ensures opened { IfOk result (λ opened. MatchOption opened (IsMispriced doc.now list.now claimed bound chosen.items) (IsOpened net.now doc.now list.now claimed bound chosen.items number)) }
+    ensures judgeable { IfOk result (λ opened. IfSome opened (λ blocks. IsJudgeable doc.now blocks.now)) }
+{
+    let Some(checker) = log else {
+        return Ok(None);
+    };
+    let cost = price(doc, list, chosen.as_slice());
+    if claimed > bound || cost != u64::from(claimed) {
+        return Ok(None);
+    }
+    edits_keep_classes();
+    let now = after(alloc, net, list, chosen.as_slice())?;
+    Ok(Some(Blocks {
+        now,
+        needs: claimed > 0,
+        judged: 0,
+        first: number,
+        checker,
+    }))
+}

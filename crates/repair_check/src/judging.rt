@@ -1,0 +1,263 @@
+//! The lines after the answer, one by one.
+ghost use Rattle.std.specs.Prelude.{◌≡◌, ◌↔◌, ◌<◌, ◌≤◌, List as Items, true, length, set, All, IfOk, IsTrue};
+ghost use Rattle.net_model.specs.Forwarding.{HasEnds};
+ghost use Rattle.net_model.specs.Packets.{subject};
+ghost use Rattle.net_model.specs.Validity.{IsValid};
+ghost use Rattle.report_check.specs.Outcomes.{IsRightAt};
+ghost use Rattle.repair_check.specs.Outcomes.{fault_kind, is_edit_kind};
+ghost use Rattle.repair_check.specs.Phases.{EndsEdits, IsJudgeable, IsReadyWithin, LeadsTo};
+
+use crate::beginning::{end_edits, rejected};
+use crate::phases::{Blocks, Next, Phase};
+use arc_base::{CertKind, List, Memory};
+use edit_space::Edit;
+use net_model::{Document, Network, Policy, Verdict};
+use policy_report::{CertFault, Got};
+use proof_check::{Checker, StepFault};
+use proof_log::Step;
+use report_check::Outcome;
+use std::alloc::Global;
+use witness_check::accepts;
+
+// The kind of a step's fault.
+fn fault_kind(fault: StepFault) -> CertKind
+    ensures { result ≡ fault_kind fault }
+{
+    match fault {
+        StepFault::IdNotRising => CertKind::IdNotRising,
+        StepFault::NegativeHint(_place) => CertKind::NegativeHint,
+        StepFault::UnknownId(_place) => CertKind::UnknownId,
+        StepFault::HintNotUnit(_place) => CertKind::HintNotUnit,
+        StepFault::NoConflict => CertKind::NoConflict,
+        StepFault::BoundTooLow => CertKind::BoundTooLow,
+        StepFault::BoundTooHigh => CertKind::BoundTooHigh,
+        StepFault::Memory => CertKind::Memory,
+    }
+}
+
+// Whether a line is rejected as that of an edit.
+fn is_edit_kind(kind: CertKind) -> bool
+    ensures { result ≡ is_edit_kind kind }
+{
+    matches!(kind, CertKind::Edit)
+}
+
+// Whether the verdict on the policy at this place is right.
+fn is_right_at(net: &Network, policies: &[Policy], which: u32, verdict: &Verdict) -> bool
+    requires valid { IsValid net.now }
+    requires ends { All (λ policy. HasEnds net.now (subject policy)) policies.now }
+    ensures { IsTrue result ↔ IsRightAt net.now policies.now which verdict.now }
+{
+    match policies.get(which as usize) {
+        Some(policy) => accepts(net, policy, verdict),
+        None => false,
+    }
+}
+
+// Judges a step of the log.
+fn judge_step(needs: bool, checker: Checker, number: u64, step: &Step) -> Result<Next, Memory>
+    ensures { IfOk result (λ next. (net : Network) (doc : Document) (list : Items Edit) →
+        LeadsTo net doc list (Phase.Log needs checker) number (Ok (Got.Step step.now)) next) }
+{
+    let mut now = checker;
+    match now.step(step) {
+        Ok(()) => Ok(Next::Line(Phase::Log(needs, now))),
+        Err(fault) => {
+            let kind = fault_kind(fault);
+            if kind == CertKind::Memory {
+                return Err(Memory);
+            }
+            Ok(rejected(number, kind))
+        }
+    }
+}
+
+/// Judges a line of the log.
+pub(crate) fn judge_log(
+    needs: bool,
+    checker: Checker,
+    number: u64,
+    told: Result<Got, CertFault>,
+) -> Result<Next, Memory>
+    ensures { IfOk result (λ next. (net : Network) (doc : Document) (list : Items Edit) →
+        LeadsTo net doc list (Phase.Log needs checker) number told next) }
+{
+    match told {
+        Ok(Got::More) => Ok(Next::Line(Phase::Log(needs, checker))),
+        Ok(Got::Step(step)) => judge_step(needs, checker, number, &step),
+        Ok(Got::End) => {
+            if !needs || checker.refuted() {
+                Ok(Next::Line(Phase::Ended))
+            } else {
+                Ok(rejected(number, CertKind::NotRefuted))
+            }
+        }
+        Ok(Got::Head(_form)) => Ok(rejected(number, CertKind::Form)),
+        Ok(Got::Verdict(_which, _verdict)) => Ok(rejected(number, CertKind::Form)),
+        Ok(Got::Edit(_place)) => Ok(rejected(number, CertKind::Form)),
+        Err(fault) => Ok(Next::Done(Outcome::Rejected(fault))),
+    }
+}
+
+/// Judges the line before the log of a claim that there is no repair.
+pub(crate) fn judge_ready(checker: Checker, number: u64, told: Result<Got, CertFault>) -> Next
+    ensures { (net : Network) (doc : Document) (list : Items Edit) →
+        LeadsTo net doc list (Phase.Ready checker) number told result }
+{
+    match told {
+        Ok(Got::More) => Next::Line(Phase::Log(true, checker)),
+        Ok(Got::Head(_form)) => rejected(number, CertKind::Form),
+        Ok(Got::Verdict(_which, _verdict)) => rejected(number, CertKind::Form),
+        Ok(Got::Edit(_place)) => rejected(number, CertKind::Form),
+        Ok(Got::Step(_step)) => rejected(number, CertKind::Form),
+        Ok(Got::End) => rejected(number, CertKind::Form),
+        Err(fault) => Next::Done(Outcome::Rejected(fault)),
+    }
+}
+
+// Judges a line that goes on: one of a block, or that before the log.
+fn go_on(doc: &Document, blocks: Blocks, number: u64) -> Next
+    requires { IsJudgeable doc.now blocks.now }
+    ensures { (net : Network) (list : Items Edit) → LeadsTo net doc.now list (Phase.Blocks blocks) number (Ok Got.More) result }
+{
+    if blocks.judged == u64::from(doc.policies.len()) {
+        Next::Line(Phase::Log(blocks.needs, blocks.checker))
+    } else {
+        Next::Line(Phase::Blocks(blocks))
+    }
+}
+
+// Judges the verdict on the policy at this place.
+fn judge_verdict(doc: &Document, blocks: Blocks, number: u64, which: u32, verdict: &Verdict) -> Next
+    requires judgeable { IsJudgeable doc.now blocks.now }
+    requires number { number < 18446744073709551615 }
+    ensures { (net : Network) (list : Items Edit) →
+        LeadsTo net doc.now list (Phase.Blocks blocks) number (Ok (Got.Verdict which verdict.now)) result }
+{
+    if !is_right_at(&blocks.now, doc.policies.slice(), which, verdict) {
+        return rejected(blocks.first, CertKind::Witness);
+    }
+    Next::Line(Phase::Blocks(Blocks {
+        now: blocks.now,
+        needs: blocks.needs,
+        judged: u64::from(which) + 1,
+        first: number + 1,
+        checker: blocks.checker,
+    }))
+}
+
+/// Judges a line of the blocks, or that before the log.
+pub(crate) fn judge_block(
+    doc: &Document,
+    blocks: Blocks,
+    number: u64,
+    told: Result<Got, CertFault>,
+) -> Next
+    requires judgeable { IsJudgeable doc.now blocks.now }
+    requires number { number < 18446744073709551615 }
+    ensures { (net : Network) (list : Items Edit) → LeadsTo net doc.now list (Phase.Blocks blocks) number told result }
+{
+    match told {
+        Ok(Got::More) => go_on(doc, blocks, number),
+        Ok(Got::Verdict(which, verdict)) => judge_verdict(doc, blocks, number, which, &verdict),
+        Ok(Got::Head(_form)) => rejected(number, CertKind::Form),
+        Ok(Got::Edit(_place)) => rejected(number, CertKind::Form),
+        Ok(Got::Step(_step)) => rejected(number, CertKind::Form),
+        Ok(Got::End) => rejected(number, CertKind::Form),
+        Err(fault) => Next::Done(Outcome::Rejected(fault)),
+    }
+}
+
+// The flag of the edit at this place is set.
+fn choose(chosen: Vec<bool>, place: u32) -> Vec<bool>
+    ensures { result.items ≡ set chosen.items place true }
+{
+    let mut flags = chosen;
+    if (place as usize) < flags.len() {
+        flags[place as usize] = true;
+    }
+    flags
+}
+
+// Judges a line that is none of the edits: they have ended before it.
+fn judge_after_edits(
+    alloc: Global,
+    net: &Network,
+    doc: &Document,
+    list: &List<Edit>,
+    price: u32,
+    bound: u32,
+    chosen: Vec<bool>,
+    log: Option<Checker>,
+    number: u64,
+    told: Result<Got, CertFault>,
+) -> Result<Next, Memory>
+    requires valid { IsValid net.now }
+    requires ends { All (λ policy. HasEnds net.now (subject policy)) doc.now.policies }
+    requires flags { length chosen.items ≡ length list.now }
+    requires ready { IsReadyWithin net.now doc.now list.now price bound log }
+    requires number { number < 18446744073709551615 }
+    requires ends_edits { EndsEdits told }
+    ensures { IfOk result (LeadsTo net.now doc.now list.now (Phase.Edits price bound chosen log) number told) }
+{
+    match end_edits(alloc, net, doc, list, price, bound, chosen, log, number)? {
+        Some(blocks) => Ok(judge_block(doc, blocks, number, told)),
+        None => Ok(rejected(2, CertKind::Price)),
+    }
+}
+
+/// Judges a line after the answer that there is a repair.
+pub(crate) fn judge_edits(
+    alloc: Global,
+    net: &Network,
+    doc: &Document,
+    list: &List<Edit>,
+    price: u32,
+    bound: u32,
+    chosen: Vec<bool>,
+    log: Option<Checker>,
+    number: u64,
+    told: Result<Got, CertFault>,
+) -> Result<Next, Memory>
+    requires valid { IsValid net.now }
+    requires ends { All (λ policy. HasEnds net.now (subject policy)) doc.now.policies }
+    requires flags { length chosen.items ≡ length list.now }
+    requires ready { IsReadyWithin net.now doc.now list.now price bound log }
+    requires number { number < 18446744073709551615 }
+    ensures { IfOk result (LeadsTo net.now doc.now list.now (Phase.Edits price bound chosen log) number told) }
+{
+    match told {
+        Ok(Got::Edit(place)) => {
+            Ok(Next::Line(Phase::Edits(price, bound, choose(chosen, place), log)))
+        }
+        Ok(got) => judge_after_edits(
+            alloc,
+            net,
+            doc,
+            list,
+            price,
+            bound,
+            chosen,
+            log,
+            number,
+            Ok(got),
+        ),
+        Err(fault) => {
+            if is_edit_kind(fault.kind) {
+                return Ok(Next::Done(Outcome::Rejected(fault)));
+            }
+            judge_after_edits(
+                alloc,
+                net,
+                doc,
+                list,
+                price,
+                bound,
+                chosen,
+                log,
+                number,
+                Err(fault),
+            )
+        }
+    }
+}

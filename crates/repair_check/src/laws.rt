@@ -1,0 +1,27 @@
+//! Laws over the definitions alone: each is the contract of a function that does nothing.
+ghost use Rattle.repair_check.specs.Certifies.{CertificatesAreAccepted, CertifiedClaimsAreTrue};
+
+use arc_repair::laws::certificates_are_true;
+use edit_space::laws::networks_after_edits_are_valid;
+use policy_encode::laws::one_formula;
+use policy_report::laws::{
+    certificates_are_read_again, edits_are_told_apart, only_certificates_are_taken,
+};
+
+/// A text is accepted exactly where it is the certificate of a claim.
+pub fn certificates_are_accepted()
+    ensures { CertificatesAreAccepted }
+{
+    networks_after_edits_are_valid();
+    one_formula();
+    certificates_are_read_again();
+    only_certificates_are_taken();
+    edits_are_told_apart();
+}
+
+/// A claim with a certificate is true.
+pub fn certified_claims_are_true()
+    ensures { CertifiedClaimsAreTrue }
+{
+    certificates_are_true();
+}
