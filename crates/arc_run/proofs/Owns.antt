@@ -3,7 +3,7 @@ use Rattle.std.proofs.Common.{◌≤◌, inl, inr, ◌≡◌, ◌∙◌, ◌⊎�
 use Rattle.std.specs.Prelude.{Option, Some, None}
 use Rattle.arc_outside.specs.Files.{Files}
 use Rattle.command_words.specs.declared.commands.Command.{Command}
-use Rattle.command_words.specs.declared.commands.Command.TheVariants.{Verify, Trace, Check, Solve, Lrat, Nodes, Prefers, Recheck}
+use Rattle.command_words.specs.declared.commands.Command.TheVariants.{Verify, Trace, Repair, Check, Apply, Solve, Lrat, Nodes, Prefers, Recheck}
 use Rattle.run_files.specs.declared.outcome.Done.{Done}
 use Rattle.arc_run.specs.declared.outcome.Outcome.{Outcome}
 use Rattle.arc_run.specs.declared.outcome.Outcome.TheVariants as outcomes
@@ -18,7 +18,9 @@ of_three n (inr (inr e)) = omega (arith, e)
 pub own_small : (command : Command) (d : Done) → IsOwn command d → d.status ≤ 3
 own_small (Verify document) d own = omega (arith, own.status)
 own_small (Trace words) d own = omega (arith, own.status)
+own_small (Repair words) d own = of_three d.status own.status
 own_small (Check document certificate) d own = omega (arith, own.status)
+own_small (Apply words) d own = omega (arith, own.status)
 own_small (Solve words) d own = of_three d.status own.status
 own_small (Lrat cnf proof) d own = omega (arith, own.status)
 own_small (Nodes words) d own = omega (arith, own.status)

@@ -2,12 +2,14 @@
 use Rattle.std.specs.Prelude.{ℕ}
 use Rattle.arc_outside.specs.Files.{Files}
 use Rattle.command_words.specs.declared.commands.Command.{Command}
-use Rattle.command_words.specs.declared.commands.Command.TheVariants.{Verify, Trace, Check, Solve, Lrat, Nodes, Prefers, Recheck}
+use Rattle.command_words.specs.declared.commands.Command.TheVariants.{Verify, Trace, Repair, Check, Apply, Solve, Lrat, Nodes, Prefers, Recheck}
+use Rattle.apply_commands.specs.Applies.{TellsApply}
 use Rattle.cnf_commands.specs.Lrats.{TellsRefutation}
 use Rattle.cnf_commands.specs.Solves.{TellsSolution}
 use Rattle.reach_commands.specs.Nodes.{TellsNodes}
 use Rattle.reach_commands.specs.PreferRuns.{TellsPrefers}
 use Rattle.reach_commands.specs.RecheckRuns.{TellsRecheck}
+use Rattle.repair_commands.specs.Tells.{TellsRepair}
 use Rattle.verify_commands.specs.Checks.{TellsCheck}
 use Rattle.verify_commands.specs.Traces.{TellsTrace}
 use Rattle.verify_commands.specs.Verifies.{TellsVerdicts}
@@ -21,10 +23,21 @@ Tells (Verify document) status before after = TellsVerdicts document status befo
 -- `trace`: 0 exactly where the document and its router files have a network with the links and the prefixes, and 5 exactly where
 -- they are refused.
 Tells (Trace words) status before after = TellsTrace words status before
+-- `repair`: after 0 the router files that were left are the patches, by the cheapest edits within the bound after which the network
+-- meets every policy, of those that were read; read again, they have exactly the network after these edits; and the certificate was
+-- written. After 2 no edits within the bound make the network meet every policy, and the
+-- certificate of this was written; and after 3 a log that is spent was written in place of either. It is 5 exactly where something is
+-- refused, and then nothing is written.
+Tells (Repair words) status before after = TellsRepair words status before after
 -- `check`: 0 exactly where the certificate is a report with one block for each policy of the document in order, each with a right
 -- verdict over the network of the files, and then each verdict is true; 1 exactly where they have a network and it is no such
 -- report, and 5 exactly where they are refused.
 Tells (Check document certificate) status before after = TellsCheck document certificate status before
+-- `apply`: 0 exactly where the document and its router files have a network, the names of the copies are free, and each line of the
+-- edit file names an edit of it, no two the same; and then the router files that were left are the patches by these edits of those that
+-- were read, and have, read again, exactly the network after these edits. It is 5 exactly where something is refused, and then nothing
+-- is written.
+Tells (Apply words) status before after = TellsApply words status before after
 -- `solve`: some assignment satisfies the formula where it is 0, none does where it is 2, and it is 5 exactly where the formula or
 -- the name of the proof is refused. 3 may come in place of 0 and 2. A proof is written in all three cases: after 2 it is one that
 -- `lrat` accepts, and after 3 it is a log that is spent at the limit.

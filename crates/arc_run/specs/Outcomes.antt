@@ -2,15 +2,17 @@
 use Rattle.std.specs.Prelude.{ℕ, List, [], Option, Some, None, IfSome}
 use Rattle.arc_outside.specs.Files.{Files}
 use Rattle.command_words.specs.declared.commands.Command.{Command}
-use Rattle.command_words.specs.declared.commands.Command.TheVariants.{Verify, Trace, Check, Solve, Lrat, Nodes, Prefers, Recheck}
+use Rattle.command_words.specs.declared.commands.Command.TheVariants.{Verify, Trace, Repair, Check, Apply, Solve, Lrat, Nodes, Prefers, Recheck}
 use Rattle.run_files.specs.declared.limits.Limits.TheVariants.{Judging}
 use Rattle.run_files.specs.declared.outcome.Done.{Done}
 use Rattle.run_files.specs.declared.outcome.FileRefusal.{FileRefusal}
 use Rattle.run_files.specs.Answers.{HasRefusalCause, IsJudging}
 use Rattle.run_inputs.specs.Counts.{IsJudgingRefusal}
 use Rattle.run_files.specs.Refusals.{refusal_line}
+use Rattle.apply_commands.specs.Applies.{IsApplied, IsApplyRefusal, WritesCopies}
 use Rattle.cnf_commands.specs.Lrats.{IsJudged, IsLratRefusal}
 use Rattle.cnf_commands.specs.Solves.{IsSolved, IsSolveRefusal, WritesProof}
+use Rattle.repair_commands.specs.Repairs.{IsRepaired, IsRepairRefusal, WritesCertificate}
 use Rattle.verify_commands.specs.Checks.{IsChecked, IsCheckRefusal}
 use Rattle.verify_commands.specs.Traces.{IsTraced, IsTraceRefusal}
 use Rattle.verify_commands.specs.Verifies.{IsVerified}
@@ -25,7 +27,9 @@ use Rattle.arc_run.specs.Words.{usage}
 abbrev pub IsRefusal : Command → Files → FileRefusal → Type 0
 IsRefusal (Verify document) = IsJudgingRefusal Judging document
 IsRefusal (Trace words) = IsTraceRefusal words
+IsRefusal (Repair words) = IsRepairRefusal words
 IsRefusal (Check document certificate) = IsCheckRefusal document certificate
+IsRefusal (Apply words) = IsApplyRefusal words
 IsRefusal (Solve words) = IsSolveRefusal words
 IsRefusal (Lrat cnf proof) = IsLratRefusal cnf proof
 IsRefusal (Nodes words) = IsNodesRefusal words
@@ -36,7 +40,9 @@ IsRefusal (Recheck words) = IsRecheckRefusal words
 abbrev pub IsAnswer : Command → Files → Done → Type 0
 IsAnswer (Verify document) = IsVerified document
 IsAnswer (Trace words) = IsTraced words
+IsAnswer (Repair words) = IsRepaired words
 IsAnswer (Check document certificate) = IsChecked document certificate
+IsAnswer (Apply words) = IsApplied words
 IsAnswer (Solve words) = IsSolved words
 IsAnswer (Lrat cnf proof) = IsJudged cnf proof
 IsAnswer (Nodes words) = IsNodesAnswer words
@@ -47,7 +53,9 @@ IsAnswer (Recheck words) = IsRecheckAnswer words
 abbrev pub IsOwn : Command → Done → Type 0
 IsOwn (Verify document) = IsJudging
 IsOwn (Trace words) = IsJudging
+IsOwn (Repair words) = WritesCertificate words
 IsOwn (Check document certificate) = IsJudging
+IsOwn (Apply words) = WritesCopies words
 IsOwn (Solve words) = WritesProof words
 IsOwn (Lrat cnf proof) = IsJudging
 IsOwn (Nodes words) = IsJudging

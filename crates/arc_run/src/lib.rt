@@ -9,7 +9,10 @@ mod surely;
 mod top;
 mod writing;
 
-pub use command_words::{Command, NodesWords, PrefersWords, RecheckWords, SolveWords, TraceWords};
+pub use command_words::{
+    ApplyWords, Command, NodesWords, PrefersWords, RecheckWords, RepairWords, SolveWords,
+    TraceWords,
+};
 pub use outcome::{Outcome, Status};
 pub use run_files::{Done, FileRefusal, Reason, Stop};
 pub use surely::run_surely;

@@ -9,11 +9,13 @@ ghost use Rattle.arc_run.specs.Runs.{Runs};
 
 use crate::ending::finish;
 use crate::outcome::{Outcome, Status};
+use apply_commands::apply;
 use arc_base::Name;
 use arc_outside::{Sink, Store};
 use cnf_commands::{lrat, solve};
 use command_words::{Command, read_words};
 use reach_commands::{nodes, prefers, recheck};
+use repair_commands::repair;
 use run_files::{Done, Stop};
 use std::alloc::Global;
 use verify_commands::{check, trace, verify};
@@ -34,7 +36,9 @@ fn answer<S: Store>(alloc: Global, command: &Command, store: &mut S) -> Result<D
     match command {
         Command::Verify(document) => verify(alloc, document, store),
         Command::Trace(words) => trace(alloc, words, store),
+        Command::Repair(words) => repair(alloc, words, store),
         Command::Check(document, certificate) => check(alloc, document, certificate, store),
+        Command::Apply(words) => apply(alloc, words, store),
         Command::Solve(words) => solve(alloc, words, store),
         Command::Lrat(cnf, proof) => lrat(alloc, cnf, proof, store),
         Command::Nodes(words) => nodes(alloc, words, store),

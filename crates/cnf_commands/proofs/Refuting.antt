@@ -1,5 +1,5 @@
 -- The judgement of a proof, and what its status says.
-use Rattle.std.proofs.Common.{◌≡◌, ℕ, ◌<◌, ◌≤◌, inl, inr, List, [], refl, sym, ◌∙◌, ap, subst, arith}
+use Rattle.std.proofs.Common.{◌≡◌, ℕ, inl, inr, List, refl, sym, ◌∙◌, ap, subst, arith}
 use Rattle.std.specs.Prelude.{Option, Some, None, IfSome, Ok, Err}
 use Rattle.arc_outside.specs.Files.{Files}
 use Rattle.cnf_types.specs.declared.clauses.Formula.{Formula}

@@ -14,14 +14,14 @@ use Rattle.command_words.specs.Matched.{matched_command}
 use Rattle.command_words.specs.declared.commands.Command.{Command}
 use Rattle.command_words.proofs.Entering.{commands, entered_fault_is, entered_rows, form_label, form_rules, form_shape, names, no_word, unnamed}
 use Rattle.command_words.proofs.FormLaws.{Answer, Law}
-use Rattle.command_words.proofs.OptionForms.{solve_law, trace_law}
+use Rattle.command_words.proofs.OptionForms.{apply_law, repair_law, solve_law, trace_law}
 use Rattle.command_words.proofs.PlainForms.{check_law, lrat_law, nodes_law, prefers_law, recheck_law, verify_law}
 use Rattle.command_words.proofs.Rules.{first_empty}
 
 -- ---- the table
 
 all_laws : AllByRecursion Law forms
-all_laws = (verify_law, (trace_law, (check_law, (solve_law, (lrat_law, (nodes_law, (prefers_law, (recheck_law, tt))))))))
+all_laws = (verify_law, (trace_law, (repair_law, (check_law, (apply_law, (solve_law, (lrat_law, (nodes_law, (prefers_law, (recheck_law, tt))))))))))
 
 abbrev is_called : Text → Form → Bool
 is_called word form = bytes_eq form.name word

@@ -5,8 +5,8 @@ use Rattle.std.specs.Str.{bytes_eq, is_utf8}
 use Rattle.std.proofs.lemmas.Bool.{and_parts, leb-true}
 use Rattle.arc_base.specs.PrefixText.{prefix_of}
 use Rattle.cnf_types.specs.Numbers.{is_natural, value_after}
-use Rattle.command_words.specs.Commands.{Form, HasLimit, check_by, command_among, command_in, command_of, conflicts_by, down_by, forms, lrat_by, meaning, nodes_by, prefers_by, recheck_by, solve_by, trace_by, verify_by}
-use Rattle.command_words.specs.Values.{number_within, router_names, solve_of, trace_of}
+use Rattle.command_words.specs.Commands.{Form, HasLimit, apply_by, bound_by, check_by, command_among, command_in, command_of, conflicts_by, down_by, forms, lrat_by, meaning, nodes_by, prefers_by, recheck_by, repair_by, solve_by, trace_by, verify_by}
+use Rattle.command_words.specs.Values.{number_within, repair_of, router_names, solve_of, trace_of}
 use Rattle.command_words.specs.Words.{Given, arguments_of, positionals, value_of}
 use Rattle.command_words.specs.declared.commands.Command.{Command}
 
@@ -77,6 +77,30 @@ solve_limited (Some proof) conflicts [] = tt
 solve_limited (Some proof) conflicts (f ∷ []) = solve_of_limited f proof (conflicts_by conflicts) (conflicts_in_range conflicts)
 solve_limited (Some proof) conflicts (f ∷ x ∷ words) = tt
 
+repair_of_limited : (document suffix proof : List ℕ) (bound limit : Option ℕ) → IfSome bound (IsWithin 0 512) → IfSome limit (IsWithin 1 200000) → Limited (repair_of document suffix proof bound limit)
+repair_of_limited document suffix proof None limit within few = tt
+repair_of_limited document suffix proof (Some bound) None within few = tt
+repair_of_limited document suffix proof (Some bound) (Some conflicts) within few = (within.1, few)
+
+bound_in_range : (text : Option (List ℕ)) → IfSome (bound_by text) (IsWithin 0 512)
+bound_in_range None = (leb-true _ _ refl, leb-true _ _ refl)
+bound_in_range (Some text) = in_range 0 512 text
+
+repair_limited : (suffix proof price conflicts : Option (List ℕ)) (words : List (List ℕ)) → Limited (repair_by suffix proof price conflicts words)
+repair_limited None proof price conflicts words = tt
+repair_limited (Some suffix) None price conflicts words = tt
+repair_limited (Some suffix) (Some proof) price conflicts [] = tt
+repair_limited (Some suffix) (Some proof) price conflicts (d ∷ []) =
+    repair_of_limited d suffix proof (bound_by price) (conflicts_by conflicts) (bound_in_range price) (conflicts_in_range conflicts)
+repair_limited (Some suffix) (Some proof) price conflicts (d ∷ x ∷ words) = tt
+
+apply_limited : (suffix : Option (List ℕ)) (words : List (List ℕ)) → Limited (apply_by suffix words)
+apply_limited None words = tt
+apply_limited (Some suffix) [] = tt
+apply_limited (Some suffix) (d ∷ []) = tt
+apply_limited (Some suffix) (d ∷ e ∷ []) = tt
+apply_limited (Some suffix) (d ∷ e ∷ x ∷ words) = tt
+
 -- a number that is read is in its range
 then_within : (least most : ℕ) (word : List ℕ) (by : ℕ → Option Command) → ((n : ℕ) → IsWithin least most n → Limited (by n)) → Limited (option_and_then by (number_within least most word))
 then_within least most word by h = go (number_within least most word) (in_range least most word)
@@ -119,12 +143,18 @@ all_limited = (
   (
     λ given. trace_limited (value_of (codes "down") given) (positionals given),
     (
-      λ given. check_limited (positionals given),
+      λ given. repair_limited (value_of (codes "out") given) (value_of (codes "proof") given) (value_of (codes "max-price") given) (value_of (codes "conflicts") given) (positionals given),
       (
-        λ given. solve_limited (value_of (codes "proof") given) (value_of (codes "conflicts") given) (positionals given),
+        λ given. check_limited (positionals given),
         (
-          λ given. lrat_limited (positionals given),
-          (λ given. nodes_limited (positionals given), (λ given. prefers_limited (positionals given), (λ given. recheck_limited (positionals given), tt))),
+          λ given. apply_limited (value_of (codes "out") given) (positionals given),
+          (
+            λ given. solve_limited (value_of (codes "proof") given) (value_of (codes "conflicts") given) (positionals given),
+            (
+              λ given. lrat_limited (positionals given),
+              (λ given. nodes_limited (positionals given), (λ given. prefers_limited (positionals given), (λ given. recheck_limited (positionals given), tt))),
+            ),
+          ),
         ),
       ),
     ),

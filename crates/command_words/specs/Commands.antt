@@ -2,10 +2,10 @@
 use Rattle.std.specs.Prelude.{ℕ, ◌≤◌, List, [], ◌∷◌, ◌++◌, Option, Some, None, find, option_and_then, bytes_eq, codes, if◌then◌else◌}
 use Rattle.std.specs.List.{list_all}
 use Rattle.std.specs.Str.{is_utf8}
-use Rattle.command_words.specs.Values.{conflict_limit, link_numbers, nodes_of, prefers_of, solve_of, trace_of}
+use Rattle.command_words.specs.Values.{conflict_limit, link_numbers, nodes_of, prefers_of, price_bound, repair_of, solve_of, trace_of}
 use Rattle.command_words.specs.Words.{Given, arguments_of, positionals, value_of}
 use Rattle.command_words.specs.declared.commands.Command.{Command}
-use Rattle.command_words.specs.declared.commands.Command.TheVariants.{Verify, Trace, Check, Solve, Lrat, Nodes, Prefers, Recheck}
+use Rattle.command_words.specs.declared.commands.Command.TheVariants.{Verify, Trace, Repair, Check, Apply, Solve, Lrat, Nodes, Prefers, Recheck}
 
 -- `verify DOC`
 abbrev pub verify_by : List (List ℕ) → Option Command
@@ -41,6 +41,21 @@ solve_by _ conflicts _ = None
 abbrev pub lrat_by : List (List ℕ) → Option Command
 lrat_by (formula ∷ proof ∷ []) = Some (Lrat formula proof)
 lrat_by _ = None
+
+-- the highest price that `--max-price` allows, and 32 where it does not stand
+abbrev pub bound_by : Option (List ℕ) → Option ℕ
+bound_by None = Some 32
+bound_by (Some text) = price_bound text
+
+-- `repair DOC --out SUFFIX --proof NAME [--max-price N] [--conflicts N]`
+abbrev pub repair_by : Option (List ℕ) → Option (List ℕ) → Option (List ℕ) → Option (List ℕ) → List (List ℕ) → Option Command
+repair_by (Some suffix) (Some proof) price conflicts (document ∷ []) = repair_of document suffix proof (bound_by price) (conflicts_by conflicts)
+repair_by _ _ price conflicts _ = None
+
+-- `apply DOC EDITS --out SUFFIX`
+abbrev pub apply_by : Option (List ℕ) → List (List ℕ) → Option Command
+apply_by (Some suffix) (document ∷ edits ∷ []) = Some (Apply (record { document = document; edits = edits; suffix = suffix }))
+apply_by _ _ = None
 
 -- `nodes DOC FROM TO K`
 abbrev pub nodes_by : List (List ℕ) → Option Command
@@ -83,8 +98,27 @@ trace_form = record {
   means = λ given. trace_by (value_of (codes "down") given) (positionals given);
 }
 
+abbrev pub repair_form : Form
+repair_form = record {
+  name = codes "repair";
+  places = codes "document" ∷ [];
+  needed = codes "out" ∷ codes "proof" ∷ [];
+  optional = codes "max-price" ∷ codes "conflicts" ∷ [];
+  means = λ given. repair_by (value_of (codes "out") given) (value_of (codes "proof") given) (value_of (codes "max-price") given)
+      (value_of (codes "conflicts") given) (positionals given);
+}
+
 abbrev pub check_form : Form
 check_form = plain (codes "check") (codes "document" ∷ codes "certificate" ∷ []) check_by
+
+abbrev pub apply_form : Form
+apply_form = record {
+  name = codes "apply";
+  places = codes "document" ∷ codes "edits" ∷ [];
+  needed = codes "out" ∷ [];
+  optional = [];
+  means = λ given. apply_by (value_of (codes "out") given) (positionals given);
+}
 
 abbrev pub solve_form : Form
 solve_form = record {
@@ -109,7 +143,8 @@ recheck_form = plain (codes "recheck") (codes "document" ∷ codes "report" ∷ 
 
 -- all of them
 abbrev pub forms : List Form
-forms = verify_form ∷ trace_form ∷ check_form ∷ solve_form ∷ lrat_form ∷ nodes_form ∷ prefers_form ∷ recheck_form ∷ []
+forms =
+    verify_form ∷ trace_form ∷ repair_form ∷ check_form ∷ apply_form ∷ solve_form ∷ lrat_form ∷ nodes_form ∷ prefers_form ∷ recheck_form ∷ []
 
 -- what the words that follow a command's name mean
 abbrev pub meaning : Form → List (List ℕ) → Option Command
@@ -127,11 +162,14 @@ command_in (name ∷ words) = command_among forms name words
 abbrev pub command_of : List (List ℕ) → Option Command
 command_of words = if list_all is_utf8 words then command_in words else None
 
--- the numbers of a command are in their ranges: a search may learn from 1 to 200,000 conflicts, and at most 16 routers fail
+-- the numbers of a command are in their ranges: a search may learn from 1 to 200,000 conflicts, a repair cost at most 512, and
+-- at most 16 routers fail
 abbrev pub HasLimit : Command → Type 0
 HasLimit (Verify document) = Unit {0}
 HasLimit (Trace words) = Unit {0}
+HasLimit (Repair words) = (words.bound ≤ 512) × ((1 ≤ words.conflicts) × (words.conflicts ≤ 200000))
 HasLimit (Check document certificate) = Unit {0}
+HasLimit (Apply words) = Unit {0}
 HasLimit (Solve words) = (1 ≤ words.conflicts) × (words.conflicts ≤ 200000)
 HasLimit (Lrat formula proof) = Unit {0}
 HasLimit (Nodes words) = words.failures ≤ 16

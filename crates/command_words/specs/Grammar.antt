@@ -31,6 +31,16 @@ solve = with_rule (with_rule (with_rule (new_app (codes "solve")) (positional (c
 abbrev pub lrat : App
 lrat = with_rule (with_rule (new_app (codes "lrat")) (positional (codes "formula"))) (positional (codes "proof"))
 
+abbrev pub repair_names : App
+repair_names = with_rule (with_rule (with_rule (new_app (codes "repair")) (positional (codes "document"))) (required_option (codes "out")))
+    (required_option (codes "proof"))
+
+abbrev pub repair : App
+repair = with_rule (with_rule repair_names (option (codes "max-price"))) (option (codes "conflicts"))
+
+abbrev pub apply : App
+apply = with_rule (with_rule (with_rule (new_app (codes "apply")) (positional (codes "document"))) (positional (codes "edits"))) (required_option (codes "out"))
+
 abbrev pub nodes : App
 nodes = with_rule (with_rule (with_rule (with_rule (new_app (codes "nodes")) (positional (codes "document"))) (positional (codes "from")))
     (positional (codes "to"))) (positional (codes "failures"))
@@ -53,12 +63,12 @@ bare = record (new_app (codes "arcv")) {
   };
 }
 
--- the commands that come before others
+-- the commands that come after others
 abbrev pub with_first : App
-with_first = with_subcommand (with_subcommand (with_subcommand bare verify.top) trace.top) check.top
+with_first = with_subcommand (with_subcommand (with_subcommand (with_subcommand bare verify.top) trace.top) repair.top) check.top
 
 abbrev pub with_middle : App
-with_middle = with_subcommand (with_subcommand with_first solve.top) lrat.top
+with_middle = with_subcommand (with_subcommand (with_subcommand with_first apply.top) solve.top) lrat.top
 
 abbrev pub app : App
 app = with_subcommand (with_subcommand (with_subcommand with_middle nodes.top) prefers.top) recheck.top

@@ -1,10 +1,10 @@
 -- The command with the values that `clap` found.
 use Rattle.std.specs.Prelude.{List, Option, Some, None, option_and_then, bytes_eq, codes, if◌then◌else◌}
 use Rattle.clap.specs.Walk.{Row, Text, first_of}
-use Rattle.command_words.specs.Commands.{conflicts_by, down_by}
-use Rattle.command_words.specs.Values.{nodes_of, prefers_of, solve_of, trace_of}
+use Rattle.command_words.specs.Commands.{bound_by, conflicts_by, down_by}
+use Rattle.command_words.specs.Values.{nodes_of, prefers_of, repair_of, solve_of, trace_of}
 use Rattle.command_words.specs.declared.commands.Command.{Command}
-use Rattle.command_words.specs.declared.commands.Command.TheVariants.{Check, Lrat, Recheck, Verify}
+use Rattle.command_words.specs.declared.commands.Command.TheVariants.{Apply, Check, Lrat, Recheck, Verify}
 
 infixl 10 ◌>>=◌
 abbrev ◌>>=◌ : {A B : Type 0} → Option A → (A → Option B) → Option B
@@ -40,6 +40,20 @@ matched_lrat rows = do
   proof ← first_of (codes "proof") rows
   Some (Lrat formula proof)
 
+abbrev pub matched_repair : List Row → Option Command
+matched_repair rows = do
+  document ← first_of (codes "document") rows
+  suffix ← first_of (codes "out") rows
+  proof ← first_of (codes "proof") rows
+  repair_of document suffix proof (bound_by (first_of (codes "max-price") rows)) (conflicts_by (first_of (codes "conflicts") rows))
+
+abbrev pub matched_apply : List Row → Option Command
+matched_apply rows = do
+  document ← first_of (codes "document") rows
+  edits ← first_of (codes "edits") rows
+  suffix ← first_of (codes "out") rows
+  Some (Apply (record { document = document; edits = edits; suffix = suffix }))
+
 abbrev pub matched_nodes : List Row → Option Command
 matched_nodes rows = do
   document ← first_of (codes "document") rows
@@ -62,13 +76,15 @@ matched_recheck rows = do
   report ← first_of (codes "report") rows
   Some (Recheck (record { document = document; report = report }))
 
--- the commands that judge beyond failed links
+-- the commands that edit files, and those that judge beyond failed links
 abbrev pub matched_later : Text → List Row → Option Command
 matched_later name rows =
-    if bytes_eq name (codes "nodes") then matched_nodes rows
+    if bytes_eq name (codes "repair") then matched_repair rows
+    else (if bytes_eq name (codes "apply") then matched_apply rows
+    else (if bytes_eq name (codes "nodes") then matched_nodes rows
     else (if bytes_eq name (codes "prefers") then matched_prefers rows
     else (if bytes_eq name (codes "recheck") then matched_recheck rows
-    else None))
+    else None))))
 
 abbrev pub matched_named : Text → List Row → Option Command
 matched_named name rows =

@@ -5,7 +5,7 @@ use Rattle.std.specs.List.{list_all, slice_split}
 use Rattle.arc_base.specs.PrefixText.{prefix_of}
 use Rattle.cnf_types.specs.Numbers.{natural}
 use Rattle.command_words.specs.declared.commands.Command.{Command}
-use Rattle.command_words.specs.declared.commands.Command.TheVariants.{Nodes, Prefers, Solve, Trace}
+use Rattle.command_words.specs.declared.commands.Command.TheVariants.{Nodes, Prefers, Repair, Solve, Trace}
 
 -- what a value that is there is read as
 infixl 10 ◌>>=◌
@@ -52,6 +52,10 @@ solve_of formula proof limit = do
   conflicts ← limit
   Some (Solve (record { formula = formula; proof = proof; conflicts = conflicts }))
 
+-- the highest price of a repair
+abbrev pub price_bound : List ℕ → Option ℕ
+price_bound word = number_within 0 512 word
+
 -- how many routers may fail
 abbrev pub failed_routers : List ℕ → Option ℕ
 failed_routers word = number_within 0 16 word
@@ -72,6 +76,13 @@ comma_words text = slice_split (λ b. b == 44) text
 -- the names of routers that commas join, at most 256
 abbrev pub router_names : List ℕ → Option (List (List ℕ))
 router_names text = if nat_le (length (comma_words text)) 256 && list_all is_router_name (comma_words text) then Some (comma_words text) else None
+
+-- a repair: the document, the suffix of changed files, the name of the certificate, the highest price and the limit of its search
+abbrev pub repair_of : List ℕ → List ℕ → List ℕ → Option ℕ → Option ℕ → Option Command
+repair_of document suffix proof highest limit = do
+  bound ← highest
+  conflicts ← limit
+  Some (Repair (record { document = document; suffix = suffix; proof = proof; bound = bound; conflicts = conflicts }))
 
 -- a judgement under failed routers: the document, the two prefixes, and how many may fail
 abbrev pub nodes_of : List ℕ → List ℕ → List ℕ → List ℕ → Option Command

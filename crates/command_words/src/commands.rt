@@ -7,8 +7,12 @@ pub enum Command {
     Verify(Name),
     /// `trace DOC FROM TO [--down A,B]`.
     Trace(TraceWords),
+    /// `repair DOC --out SUFFIX --proof NAME [--max-price N] [--conflicts N]`.
+    Repair(RepairWords),
     /// `check DOC CERT`: the document and the certificate.
     Check(Name, Name),
+    /// `apply DOC EDITS --out SUFFIX`.
+    Apply(ApplyWords),
     /// `solve CNF --proof NAME [--conflicts N]`.
     Solve(SolveWords),
     /// `lrat CNF PROOF`: the formula and the proof.
@@ -39,6 +43,30 @@ pub struct SolveWords {
     pub proof: Name,
     /// How many conflicts the search may learn from.
     pub conflicts: u64,
+}
+
+/// The words of a repair.
+#[derive(Drop)]
+pub struct RepairWords {
+    pub document: Name,
+    /// What follows the name of a router file in the name of its changed copy.
+    pub suffix: Name,
+    /// The name that the certificate is written under.
+    pub proof: Name,
+    /// The highest price of a repair, at most 512.
+    pub bound: u32,
+    /// How many conflicts the search may learn from, from 1 to 200,000.
+    pub conflicts: u64,
+}
+
+/// The words of an application of edits.
+#[derive(Drop)]
+pub struct ApplyWords {
+    pub document: Name,
+    /// The file with the texts of the edits, one a line.
+    pub edits: Name,
+    /// What follows the name of a router file in the name of its changed copy.
+    pub suffix: Name,
 }
 
 /// The words of a judgement under failed routers.

@@ -4,6 +4,7 @@ ghost use Rattle.std.specs.Prelude.{◌≡◌, IfOk, false};
 ghost use Rattle.clap.specs.Words.{app_of, rule_of};
 ghost use Rattle.command_words.specs.Grammar.{
   app,
+  apply,
   check,
   lrat,
   nodes,
@@ -11,6 +12,8 @@ ghost use Rattle.command_words.specs.Grammar.{
   positional,
   prefers,
   recheck,
+  repair,
+  repair_names,
   required_option,
   solve,
   trace,
@@ -104,6 +107,43 @@ fn lrat<'a>(alloc: Global) -> Result<Command<'a>, Memory>
     Ok(Command::new(alloc, "lrat").arg(formula)?.arg(proof)?)
 }
 
+// The names that `repair` is given.
+fn repair_names<'a>(alloc: Global) -> Result<Command<'a>, Memory>
+    ensures { IfOk result (λ command. app_of command ≡ repair_names) }
+{
+    let document = positional(alloc, "document");
+    let out = required_option(alloc, "out");
+    let proof = required_option(alloc, "proof");
+    Ok(
+        Command::new(alloc, "repair")
+            .arg(document)?
+            .arg(out)?
+            .arg(proof)?,
+    )
+}
+
+fn repair<'a>(alloc: Global) -> Result<Command<'a>, Memory>
+    ensures { IfOk result (λ command. app_of command ≡ repair) }
+{
+    let max_price = option(alloc, "max-price");
+    let conflicts = option(alloc, "conflicts");
+    Ok(repair_names(alloc)?.arg(max_price)?.arg(conflicts)?)
+}
+
+fn apply<'a>(alloc: Global) -> Result<Command<'a>, Memory>
+    ensures { IfOk result (λ command. app_of command ≡ apply) }
+{
+    let document = positional(alloc, "document");
+    let edits = positional(alloc, "edits");
+    let out = required_option(alloc, "out");
+    Ok(
+        Command::new(alloc, "apply")
+            .arg(document)?
+            .arg(edits)?
+            .arg(out)?,
+    )
+}
+
 fn nodes<'a>(alloc: Global) -> Result<Command<'a>, Memory>
     ensures { IfOk result (λ command. app_of command ≡ nodes) }
 {
@@ -155,6 +195,7 @@ fn with_first<'a>(alloc: Global) -> Result<Command<'a>, Memory>
         .subcommand_required(true)
         .subcommand(verify(alloc)?)?
         .subcommand(trace(alloc)?)?
+        .subcommand(repair(alloc)?)?
         .subcommand(check(alloc)?)?;
     Ok(arcv)
 }
@@ -164,6 +205,7 @@ fn with_middle<'a>(alloc: Global) -> Result<Command<'a>, Memory>
     ensures { IfOk result (λ command. app_of command ≡ with_middle) }
 {
     let arcv = with_first(alloc)?
+        .subcommand(apply(alloc)?)?
         .subcommand(solve(alloc)?)?
         .subcommand(lrat(alloc)?)?;
     Ok(arcv)

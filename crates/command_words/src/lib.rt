@@ -11,7 +11,10 @@ mod reading;
 mod router_lists;
 mod values;
 
-pub use commands::{Command, NodesWords, PrefersWords, RecheckWords, SolveWords, TraceWords};
+pub use commands::{
+    ApplyWords, Command, NodesWords, PrefersWords, RecheckWords, RepairWords, SolveWords,
+    TraceWords,
+};
 pub use reading::read_words;
 
 #[cfg(test)]

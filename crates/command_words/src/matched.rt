@@ -3,6 +3,7 @@ ghost use Rattle.std.specs.Prelude.{◌≡◌, IfOk, MatchOption, None, Some, co
 ghost use Rattle.clap.specs.Words.{first_of, found_of, rows_of, subcommand_rows_of};
 ghost use Rattle.command_words.specs.Commands.{conflicts_by};
 ghost use Rattle.command_words.specs.Matched.{
+  matched_apply,
   matched_check,
   matched_command,
   matched_later,
@@ -11,20 +12,24 @@ ghost use Rattle.command_words.specs.Matched.{
   matched_nodes,
   matched_prefers,
   matched_recheck,
+  matched_repair,
   matched_solve,
   matched_trace,
   matched_verify,
 };
 
-use crate::commands::{Command, RecheckWords, SolveWords};
+use crate::commands::{ApplyWords, Command, RecheckWords, SolveWords};
 use crate::router_lists::prefers_of;
-use crate::values::{conflict_limit, link_numbers, nodes_of, trace_of};
+use crate::values::{conflict_limit, link_numbers, nodes_of, price_bound, repair_of, trace_of};
 use arc_base::{List, Memory, Name};
 use clap::ArgMatches;
 use std::alloc::Global;
 
 // How many conflicts a search may learn from where the words do not say it.
 const CONFLICTS: u64 = 50_000;
+
+// The highest price of a repair where the words do not say it.
+const BOUND: u32 = 32;
 
 // The value of an argument.
 fn value<'a>(found: &ArgMatches<'a>, id: &str) -> Option<&'a str>
@@ -127,6 +132,55 @@ fn lrat(alloc: Global, found: &ArgMatches<'_>) -> Result<Option<Command>, Memory
     Ok(Some(Command::Lrat(formula, proof)))
 }
 
+fn repair(alloc: Global, found: &ArgMatches<'_>) -> Result<Option<Command>, Memory>
+    ensures { IfOk result (λ command. command ≡ matched_repair (rows_of (found_of found.now))) }
+{
+    let Some(document) = value(found, "document") else {
+        return Ok(None);
+    };
+    let Some(suffix) = value(found, "out") else {
+        return Ok(None);
+    };
+    let Some(proof) = value(found, "proof") else {
+        return Ok(None);
+    };
+    let bound = match value(found, "max-price") {
+        Some(text) => price_bound(text.as_bytes()),
+        None => Some(BOUND),
+    };
+    let conflicts = conflicts_of(found);
+    repair_of(
+        alloc,
+        document.as_bytes(),
+        suffix.as_bytes(),
+        proof.as_bytes(),
+        bound,
+        conflicts,
+    )
+}
+
+fn apply(alloc: Global, found: &ArgMatches<'_>) -> Result<Option<Command>, Memory>
+    ensures { IfOk result (λ command. command ≡ matched_apply (rows_of (found_of found.now))) }
+{
+    let Some(document) = value(found, "document") else {
+        return Ok(None);
+    };
+    let Some(edits) = value(found, "edits") else {
+        return Ok(None);
+    };
+    let Some(suffix) = value(found, "out") else {
+        return Ok(None);
+    };
+    let document = Name::make(alloc, document.as_bytes())?;
+    let edits = Name::make(alloc, edits.as_bytes())?;
+    let suffix = Name::make(alloc, suffix.as_bytes())?;
+    Ok(Some(Command::Apply(ApplyWords {
+        document,
+        edits,
+        suffix,
+    })))
+}
+
 fn nodes(alloc: Global, found: &ArgMatches<'_>) -> Result<Option<Command>, Memory>
     ensures { IfOk result (λ command. command ≡ matched_nodes (rows_of (found_of found.now))) }
 {
@@ -189,10 +243,16 @@ fn recheck(alloc: Global, found: &ArgMatches<'_>) -> Result<Option<Command>, Mem
     Ok(Some(Command::Recheck(RecheckWords { document, report })))
 }
 
-// The command of this name, where it judges beyond failed links.
+// The command of this name, where it edits files or judges beyond failed links.
 fn later(alloc: Global, name: &str, found: &ArgMatches<'_>) -> Result<Option<Command>, Memory>
     ensures { IfOk result (λ command. command ≡ matched_later name.now (rows_of (found_of found.now))) }
 {
+    if name == "repair" {
+        return repair(alloc, found);
+    }
+    if name == "apply" {
+        return apply(alloc, found);
+    }
     if name == "nodes" {
         return nodes(alloc, found);
     }

@@ -1,5 +1,7 @@
 //! Command lines, and what they match.
 
+mod editing;
+
 use super::{Command, read_words};
 use arc_base::{Memory, Name, Prefix};
 use std::alloc::Global;
@@ -20,9 +22,13 @@ enum Match {
     // the same with the names of routers
     Prefers(&'static [&'static [u8]]),
     Recheck(&'static [u8], &'static [u8]),
+    // the suffix, the name of the certificate, the bound and the limit, over the document `d`
+    Repair(&'static [u8], &'static [u8], u32, u64),
+    // the edit file and the suffix, over the document `d`
+    Apply(&'static [u8], &'static [u8]),
 }
 
-use Match::{Check, Lrat, Nodes, Nothing, Prefers, Recheck, Solve, Trace, Verify};
+use Match::{Apply, Check, Lrat, Nodes, Nothing, Prefers, Recheck, Repair, Solve, Trace, Verify};
 
 struct Row {
     words: &'static [&'static [u8]],
@@ -469,6 +475,16 @@ fn is_match(command: &Option<Command>, found: Match) -> bool {
         (Some(Command::Recheck(words)), Recheck(d, r)) => {
             words.document.is(d) && words.report.is(r)
         }
+        (Some(Command::Repair(words)), Repair(suffix, proof, bound, conflicts)) => {
+            words.document.is(b"d")
+                && words.suffix.is(suffix)
+                && words.proof.is(proof)
+                && words.bound == bound
+                && words.conflicts == conflicts
+        }
+        (Some(Command::Apply(words)), Apply(edits, suffix)) => {
+            words.document.is(b"d") && words.edits.is(edits) && words.suffix.is(suffix)
+        }
         _ => false,
     }
 }
@@ -510,6 +526,16 @@ fn rows_of_solve_match(rt: HostRuntime) -> Result<(), Fail> {
 fn rows_of_the_further_commands_match(rt: HostRuntime) -> Result<(), Fail> {
     let alloc = rt.alloc();
     for (at, row) in REACH_ROWS.iter().enumerate() {
+        let command = read_words(alloc, &names(alloc, row.words)?)?;
+        assert!(rt; is_match(&command, row.found), "at {at}");
+    }
+    Ok(())
+}
+
+#[test]
+fn rows_of_repair_and_apply_match(rt: HostRuntime) -> Result<(), Fail> {
+    let alloc = rt.alloc();
+    for (at, row) in editing::ROWS.iter().enumerate() {
         let command = read_words(alloc, &names(alloc, row.words)?)?;
         assert!(rt; is_match(&command, row.found), "at {at}");
     }

@@ -7,10 +7,12 @@ ghost use Rattle.command_words.specs.Values.{
   link_numbers,
   nodes_of,
   number_within,
+  price_bound,
+  repair_of,
   trace_of,
 };
 
-use crate::commands::{Command, NodesWords, TraceWords};
+use crate::commands::{Command, NodesWords, RepairWords, TraceWords};
 use arc_base::{List, Memory, Name, cut_at, read_prefix};
 use cnf_types::natural;
 use std::alloc::Global;
@@ -91,12 +93,46 @@ pub fn link_numbers(alloc: Global, text: &[u8]) -> Result<Option<List<u32>>, Mem
     Ok(Some(List::of(numbers)?))
 }
 
+/// The highest price of a repair.
+pub fn price_bound(word: &[u8]) -> Option<u32>
+    ensures { result ≡ price_bound word.now }
+{
+    let number = number_within(word, 0, 512)?;
+    Some(number as u32)
+}
+
 // How many routers may fail.
 fn failed_routers(word: &[u8]) -> Option<u32>
     ensures { result ≡ failed_routers word.now }
 {
     let number = number_within(word, 0, 16)?;
     Some(number as u32)
+}
+
+/// The repair with these words, if the numbers are some.
+pub fn repair_of(
+    alloc: Global,
+    document: &[u8],
+    suffix: &[u8],
+    proof: &[u8],
+    bound: Option<u32>,
+    conflicts: Option<u64>,
+) -> Result<Option<Command>, Memory>
+    ensures { IfOk result (λ command. command ≡ repair_of document.now suffix.now proof.now bound conflicts) }
+{
+    let Some(bound) = bound else {
+        return Ok(None);
+    };
+    let Some(conflicts) = conflicts else {
+        return Ok(None);
+    };
+    Ok(Some(Command::Repair(RepairWords {
+        document: Name::make(alloc, document)?,
+        suffix: Name::make(alloc, suffix)?,
+        proof: Name::make(alloc, proof)?,
+        bound,
+        conflicts,
+    })))
 }
 
 /// The judgement under failed routers with these words, if they are prefixes and the count is one.

@@ -1,2 +1,2 @@
-mod Copied
-mod Left
+pub mod Copied
+pub mod Left

@@ -2,6 +2,7 @@
 
 mod certificates;
 mod documents;
+mod edited;
 mod further;
 mod listed;
 mod lrat;
@@ -19,6 +20,7 @@ use arc_base::{List, Memory, Name};
 use arc_outside::{MemSink, MemStore, SureSink, SureStore};
 use arc_run::run;
 use certificates::{CERTIFICATES, JUDGED};
+use edited::{EDITED, are_left};
 use further::{KEPT_BLOCK, NO_BLOCK, NO_REPORT, RECHECKED_KEPT, RECHECKED_NEW, SQUARE_FURTHER};
 use listed::LISTED;
 use lrat::PROOFS;
@@ -264,6 +266,11 @@ fn formulas_are_searched(rt: HostRuntime) -> Result<(), Fail> {
     are_found(&rt, rt.alloc(), &SEARCHES)?;
     empty_clause_is_told(&rt, rt.alloc())?;
     Ok(are_refused(&rt, rt.alloc(), &REFUSED)?)
+}
+
+#[test]
+fn files_are_edited(rt: HostRuntime) -> Result<(), Fail> {
+    Ok(are_left(&rt, rt.alloc(), &EDITED)?)
 }
 
 const WALK: &[u8] = b"arc-report 1\n1 blocked no 1\nwalk 10.1.0.0/24 10.2.0.0/24 1\nend\n";

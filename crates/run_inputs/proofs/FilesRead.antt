@@ -10,7 +10,7 @@ use Rattle.run_inputs.specs.declared.inputs.Sources.{Sources}
 use Rattle.run_files.specs.declared.limits.Limits.{Limits}
 use Rattle.run_files.specs.declared.outcome.Stop.{Stop}
 use Rattle.run_files.specs.declared.outcome.Stop.TheVariants as stops
-use Rattle.run_inputs.specs.Inputs.{AreSources, HoldsDocument, ReadsFiles, ReadsSources, contents, named}
+use Rattle.run_inputs.specs.Inputs.{HoldsDocument, ReadsFiles, ReadsSources, contents, named}
 use Rattle.run_files.specs.Reading.{ReadsRouters}
 use Rattle.run_files.specs.Limits.{entries_limit}
 use Rattle.run_files.specs.Refusals.{bytes_at, routers_refusal}

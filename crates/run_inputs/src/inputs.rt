@@ -86,6 +86,7 @@ pub fn read_sources<S: Store>(
         → ReadsSources limits down.now name.now doc.now files result) }
     ensures fit { IfOk result (λ sources. AreFit doc.now sources.built.net) }
     ensures built { IfOk result (λ sources. IsBuiltWithin down.now (entries_limit limits) doc.now sources.files sources.built) }
+    ensures count { IfOk result (λ sources. length sources.files ≡ length doc.now.routers) }
     ensures bytes { IfOk result (λ sources. All (λ text. length text ≤ router_limit limits) sources.files) }
     ensures down { IfOk result (λ sources. first_above (length sources.built.net.links) down.now ≡ None) }
     ensures reads { OnlyReads S.held S.faults S.absences store.old store.new result }

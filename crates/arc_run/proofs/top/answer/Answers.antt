@@ -6,8 +6,14 @@ returns-in-Verify-clause-answer g c = rw c.in-Verify.is c.verify.ensures.answer
 pub returns-in-Trace-clause-answer : goal.returns-in-Trace-clause-answer
 returns-in-Trace-clause-answer g c = rw c.in-Trace.is c.trace.ensures.answer
 
+pub returns-in-Repair-clause-answer : goal.returns-in-Repair-clause-answer
+returns-in-Repair-clause-answer g c = rw c.in-Repair.is c.repair.ensures.answer
+
 pub returns-in-Check-clause-answer : goal.returns-in-Check-clause-answer
 returns-in-Check-clause-answer g c = rw c.in-Check.is c.check.ensures.answer
+
+pub returns-in-Apply-clause-answer : goal.returns-in-Apply-clause-answer
+returns-in-Apply-clause-answer g c = rw c.in-Apply.is c.apply.ensures.answer
 
 pub returns-in-Solve-clause-answer : goal.returns-in-Solve-clause-answer
 returns-in-Solve-clause-answer g c = rw c.in-Solve.is c.solve.ensures.answer

@@ -1,6 +1,6 @@
 use Rattle.std.proofs.Common.{◌≡◌, ◌∙◌, true, ap, ap₂, refl}
 use Rattle.clap.specs.Simple.{App, app_of, app_of_fields, with_subcommand}
-use Rattle.command_words.specs.Grammar.{bare, check, trace, verify}
+use Rattle.command_words.specs.Grammar.{bare, check, repair, trace, verify}
 use Rattle.command_words.proofs.PlainCommands.{local}
 use Rattle.command_words.proofs.grammar.with_first.Goals as goal
 
@@ -21,6 +21,7 @@ returns c =
     ∙ ap (λ (a : App). record a { top = record a.top { no_binary_name = true; disable_help_flag = true; disable_help_subcommand = true; subcommand_required = true } }) c.new.ensures.app))) in
     let one = c.in_ok-subcommand.ensures.shape (local c.in_ok-verify.field-0 verify c.in_ok-verify.ensures refl) in
     let two = c.in_ok-subcommand-2.ensures.shape (local c.in_ok-trace.field-0 trace c.in_ok-trace.ensures refl) in
-    let three = c.in_ok-arcv.ensures.shape (local c.in_ok-check.field-0 check c.in_ok-check.ensures refl) in
-    three ∙ ap₂ with_subcommand (two ∙ ap₂ with_subcommand (one ∙ ap₂ with_subcommand bare_is
-    (ap (λ (a : App). a.top) c.in_ok-verify.ensures)) (ap (λ (a : App). a.top) c.in_ok-trace.ensures)) (ap (λ (a : App). a.top) c.in_ok-check.ensures)
+    let three = c.in_ok-subcommand-3.ensures.shape (local c.in_ok-repair.field-0 repair c.in_ok-repair.ensures refl) in
+    let four = c.in_ok-arcv.ensures.shape (local c.in_ok-check.field-0 check c.in_ok-check.ensures refl) in
+    four ∙ ap₂ with_subcommand (three ∙ ap₂ with_subcommand (two ∙ ap₂ with_subcommand (one ∙ ap₂ with_subcommand bare_is
+    (ap (λ (a : App). a.top) c.in_ok-verify.ensures)) (ap (λ (a : App). a.top) c.in_ok-trace.ensures)) (ap (λ (a : App). a.top) c.in_ok-repair.ensures)) (ap (λ (a : App). a.top) c.in_ok-check.ensures)

@@ -1,0 +1,182 @@
+-- The command `apply DOC EDITS --out SUFFIX`.
+use Rattle.std.specs.Prelude.{◌≡◌, ◌↔◌, ◌⊎◌, ◌||◌, ◌≤◌, ℕ, Bool, true, false, List, [], ◌∷◌, length, Some, None, All, Contains, bytes_eq}
+use Rattle.std.specs.List.{list_any}
+use Rattle.arc_base.specs.declared.refusal.Kind.TheVariants.{EditLine, Limit, OutputName}
+use Rattle.arc_base.specs.declared.refusal.LimitKind.{LimitKind}
+use Rattle.arc_outside.specs.Files.{Files}
+use Rattle.net_model.specs.declared.policies.Document.{Document}
+use Rattle.net_model.specs.declared.rows.Network.{Network}
+use Rattle.net_model.specs.Validity.{IsValid}
+use Rattle.net_build.specs.declared.built.Built.{Built}
+use Rattle.edit_space.specs.declared.edit_kinds.Edit.{Edit}
+use Rattle.edit_space.specs.declared.edit_kinds.EditFault.TheVariants as faults
+use Rattle.edit_space.specs.After.{IsAfter}
+use Rattle.edit_space.specs.EditLists.{AreEdits, HasFewClasses, NamesLimit}
+use Rattle.edit_space.specs.Prices.{chosen_of}
+use Rattle.edit_files.specs.EditFiles.{line_texts, chosen_by, AreEditLines, IsWrongLine}
+use Rattle.output_files.specs.Outputs.{clashes, copy_name, copy_names, wrote_lines}
+use Rattle.changed_files.specs.Changes.{changed_names, AreLeftPatched, AreReadAgain, Changes, IsEditable}
+use Rattle.command_words.specs.declared.commands.ApplyWords.{ApplyWords}
+use Rattle.run_files.specs.declared.limits.Limits.TheVariants.{Editing}
+use Rattle.run_files.specs.declared.outcome.Done.{Done}
+use Rattle.run_files.specs.declared.outcome.FileRefusal.{FileRefusal}
+use Rattle.run_files.specs.Refusals.{bytes_at, read_refusal, refusal_of}
+use Rattle.run_inputs.specs.Inputs.{HoldsDocument, HoldsInput, IsDocumentRefusal, IsFilesRefusal, contents}
+
+-- how many bytes an edit file may have
+abbrev pub edit_file_limit : ℕ
+edit_file_limit = 1048576
+
+-- whether a copy of a router file has the name of a file that is read, or of another copy
+abbrev pub has_clash : ApplyWords → Document → Bool
+has_clash words doc =
+    clashes (words.document ∷ doc.routers) (copy_names words.suffix doc.routers)
+    || list_any (λ name. bytes_eq name words.edits) (copy_names words.suffix doc.routers)
+
+-- the lines of the edit file
+abbrev pub edit_texts : ApplyWords → Files → List (List ℕ)
+edit_texts words files = line_texts (bytes_at files words.edits)
+
+-- those of these edits that the edit file names
+abbrev pub named_edits : ApplyWords → Files → Network → List Edit → List Edit
+named_edits words files net list = chosen_of list (chosen_by net list (edit_texts words files))
+
+-- the document is held, the names of the copies are free, and the edit file is held
+pub record IsReady (words : ApplyWords) (files : Files) (doc : Document) : Type 0 where
+  pub document_is : HoldsDocument words.document files doc
+  pub free : has_clash words doc ≡ false
+  pub edits_held : read_refusal edit_file_limit files words.edits ≡ None
+
+-- the document is held, and the name of a copy is not free
+pub record RefusesNames (words : ApplyWords) (files : Files) (r : FileRefusal) : Type 0 where
+  pub doc : Document
+  pub document_is : HoldsDocument words.document files doc
+  pub clash : has_clash words doc ≡ true
+  pub told : r ≡ refusal_of words.document 0 OutputName
+
+-- the names are free, and the edit file is missing or too long
+pub record RefusesEditFile (words : ApplyWords) (files : Files) (r : FileRefusal) : Type 0 where
+  pub doc : Document
+  pub document_is : HoldsDocument words.document files doc
+  pub free : has_clash words doc ≡ false
+  pub refused : read_refusal edit_file_limit files words.edits ≡ Some r
+
+-- the edit file is held, and the router files or their network are refused
+pub record RefusesSources (words : ApplyWords) (files : Files) (r : FileRefusal) : Type 0 where
+  pub doc : Document
+  pub ready : IsReady words files doc
+  pub refused : IsFilesRefusal Editing [] words.document files r
+
+-- they have a network
+pub record HasNetwork (words : ApplyWords) (files : Files) (doc : Document) (net : Network) : Type 0 where
+  pub ready : IsReady words files doc
+  pub input : HoldsInput Editing [] words.document files doc net
+
+-- these are the edits of a network, which does not have too many classes or edits
+pub record AreFewEdits (net : Network) (doc : Document) (list : List Edit) : Type 0 where
+  pub are : AreEdits net doc list
+  pub few : length list ≤ 8192
+  pub few_classes : HasFewClasses net doc
+
+-- the network has too many classes or edits
+pub record PassesLimit (words : ApplyWords) (net : Network) (doc : Document) (r : FileRefusal) : Type 0 where
+  pub what : LimitKind
+  pub count : ℕ
+  pub many : NamesLimit net doc (faults.Limit what count)
+  pub told : r ≡ refusal_of words.document 0 (Limit what count)
+
+-- a line of this text names no edit of the network, or one that a line before names, and it is the first such line
+pub record HasWrongLine (words : ApplyWords) (net : Network) (doc : Document) (text : List ℕ) (r : FileRefusal) : Type 0 where
+  pub list : List Edit
+  pub edits : AreFewEdits net doc list
+  pub number : ℕ
+  pub wrong : IsWrongLine net list (line_texts text) number
+  pub told : r ≡ refusal_of words.edits number EditLine
+
+pub record RefusesCounts (words : ApplyWords) (files : Files) (r : FileRefusal) : Type 0 where
+  pub doc : Document
+  pub net : Network
+  pub has : HasNetwork words files doc net
+  pub valid : IsValid net
+  pub passes : PassesLimit words net doc r
+
+pub record RefusesLine (words : ApplyWords) (files : Files) (r : FileRefusal) : Type 0 where
+  pub doc : Document
+  pub net : Network
+  pub has : HasNetwork words files doc net
+  pub valid : IsValid net
+  pub line : HasWrongLine words net doc (bytes_at files words.edits) r
+
+-- the first refusal before the router files are read: of the document; of the names of the copies; or of the edit file
+abbrev pub IsReadyRefusal : ApplyWords → Files → FileRefusal → Type 0
+IsReadyRefusal words files r = IsDocumentRefusal words.document files r ⊎ (RefusesNames words files r ⊎ RefusesEditFile words files r)
+
+-- The first refusal: one of these; of the router files and their network; of the number of classes or edits; or of a line of the
+-- edit file.
+abbrev pub IsApplyRefusal : ApplyWords → Files → FileRefusal → Type 0
+IsApplyRefusal words files r =
+    IsReadyRefusal words files r ⊎ (RefusesSources words files r ⊎ (RefusesCounts words files r ⊎ RefusesLine words files r))
+
+-- the name is that of a copy
+pub record IsCopyName (suffix name : List ℕ) : Type 0 where
+  pub router : List ℕ
+  pub named : name ≡ copy_name suffix router
+
+-- an answer of the command: status 0, and it writes copies of files, and tells their names
+pub record WritesCopies (words : ApplyWords) (done : Done) : Type 0 where
+  pub status : done.status ≡ 0
+  pub copies : All (λ write. IsCopyName words.suffix write.0) done.writes
+  pub text : done.text ≡ wrote_lines done.writes
+
+-- The answer: each line of the edit file names an edit of the network, no two the same; a copy of each router file that these
+-- edits change is written, which is its patch; and a line tells the name of each.
+pub record IsApplied (words : ApplyWords) (files : Files) (done : Done) : Type 0 where
+  pub doc : Document
+  pub built : Built
+  pub has : HasNetwork words files doc built.net
+  pub editable : IsEditable doc built (contents files doc)
+  pub list : List Edit
+  pub edits : AreFewEdits built.net doc list
+  pub lines : AreEditLines built.net list (edit_texts words files)
+  pub changes : Changes words.suffix doc built (contents files doc) (named_edits words files built.net list) done.writes
+  pub text : done.text ≡ wrote_lines done.writes
+  pub status : done.status ≡ 0
+
+-- The document and its files have a network, the names of the copies are free, and each line of the edit file names one of its edits,
+-- no two the same.
+pub record CanBeApplied (words : ApplyWords) (files : Files) : Type 0 where
+  pub doc : Document
+  pub net : Network
+  pub has : HasNetwork words files doc net
+  pub list : List Edit
+  pub edits : AreFewEdits net doc list
+  pub lines : AreEditLines net list (edit_texts words files)
+
+-- And the router files as the command left them are the patches by these edits of those that were read; read again, they have exactly
+-- the network after these edits. All names but those of the copies of changed files hold what they held.
+pub record IsLeftApplied (words : ApplyWords) (before after : Files) : Type 0 where
+  pub doc : Document
+  pub built : Built
+  pub has : HasNetwork words before doc built.net
+  pub editable : IsEditable doc built (contents before doc)
+  pub list : List Edit
+  pub edits : AreFewEdits built.net doc list
+  pub lines : AreEditLines built.net list (edit_texts words before)
+  pub patched : AreLeftPatched words.suffix doc built before after (named_edits words before built.net list)
+  pub changed : Network
+  pub is_after : IsAfter built.net (named_edits words before built.net list) changed
+  pub read_again : AreReadAgain words.suffix doc before after changed
+  pub kept : (name : List ℕ) → ¬ Contains (changed_names words.suffix doc before patched.new) name → after name ≡ before name
+
+-- the document, the name of a copy, the edit file, the router files, their network, a count or a line of the edit file is refused
+pub record CannotBeApplied (words : ApplyWords) (files : Files) : Type 0 where
+  pub refusal : FileRefusal
+  pub refused : IsApplyRefusal words files refusal
+
+-- What the status tells, of the files before and after: 0 where the edits were applied, and 5 for refused, with nothing written.
+pub record TellsApply (words : ApplyWords) (status : ℕ) (before after : Files) : Type 0 where
+  pub applied_exactly : (status ≡ 0) ↔ CanBeApplied words before
+  pub applied : status ≡ 0 → IsLeftApplied words before after
+  pub refused_exactly : (status ≡ 5) ↔ CannotBeApplied words before
+  pub nothing_written : status ≡ 5 → after ≡ before
+  pub nothing_else : (status ≡ 0) ⊎ (status ≡ 5)

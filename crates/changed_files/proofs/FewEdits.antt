@@ -1,0 +1,22 @@
+-- A network with few classes and few edits passes neither limit.
+use Rattle.std.proofs.Common.{◌≡◌, ℕ, ◌≤◌, List, length, ap, arith}
+use Rattle.arc_base.specs.declared.refusal.LimitKind.{LimitKind}
+use Rattle.arc_base.specs.declared.refusal.LimitKind.TheVariants.{Classes, Edits}
+use Rattle.net_model.specs.declared.policies.Document.{Document}
+use Rattle.net_model.specs.declared.rows.Network.{Network}
+use Rattle.net_model.specs.Validity.{IsValid}
+use Rattle.edit_space.specs.declared.edit_kinds.Edit.{Edit}
+use Rattle.edit_space.specs.declared.edit_kinds.EditFault.TheVariants.{Limit}
+use Rattle.edit_space.specs.EditLists.{AreEdits, HasFewClasses, NamesLimit}
+use Rattle.edit_space.proofs.OneEditList.{edit_lists_are_one}
+use Rattle.run_inputs.proofs.ClassCounts.{few_or_many}
+
+pub few_or_limit : (net : Network) (doc : Document) (list : List Edit) → IsValid net → AreEdits net doc list → length list ≤ 8192 → HasFewClasses net doc
+    → (what : LimitKind) (count : ℕ) → NamesLimit net doc (Limit what count) → ⊥
+few_or_limit net doc list valid are few classes Classes count names =
+    few_or_many net doc.policies count (record { classes = are.classes; are = are.classes_are; few = classes are.classes are.classes_are }) (record { first = names.0; many = names.1 })
+few_or_limit net doc list valid are few classes Edits count names =
+    let same : list ≡ names.0.list = edit_lists_are_one net doc list names.0.list valid are names.0.are in
+    let long : length list ≡ length names.0.list = ap length same in
+    absurd (omega (arith, long, names.0.counted, names.1, few))
+few_or_limit net doc list valid are few classes other count names = absurd names

@@ -1,0 +1,4 @@
+pub mod ReadAgain
+pub mod Patched
+pub mod FewEdits
+pub mod OneMore

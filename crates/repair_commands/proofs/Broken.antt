@@ -1,0 +1,46 @@
+-- A network of files that meets the document is mended by no edits.
+use Rattle.std.proofs.Common.{◌≡◌, ℕ, false, List, [], ◌∷◌, refl, sym, subst}
+use Rattle.std.specs.Prelude.{All, AllPairs}
+use Rattle.std.specs.List.{AllZip}
+use Rattle.std.proofs.lemmas.List.{length-map}
+use Rattle.std.proofs.lemmas.List.Elements.{All-cons, All-nil}
+use Rattle.ios_config.specs.declared.settings.Config.{Config}
+use Rattle.net_model.specs.declared.policies.Document.{Document}
+use Rattle.net_model.specs.declared.rows.Network.{Network}
+use Rattle.net_model.specs.declared.rows.Protocol.{Protocol}
+use Rattle.net_model.specs.declared.rows.RouterRow.{RouterRow}
+use Rattle.net_model.specs.Policies.{MeetsDocument}
+use Rattle.net_model.specs.Validity.{IsValid}
+use Rattle.net_build.specs.Networks.{IsNetworkWithin}
+use Rattle.net_build.specs.Rows.{IsRouterRow}
+use Rattle.edit_space.specs.declared.edit_kinds.Edit.{Edit}
+use Rattle.edit_space.specs.After.{IsAfter}
+use Rattle.edit_space.specs.Ordered.{IsNameBefore}
+use Rattle.edit_space.specs.Prices.{chosen_of}
+use Rattle.edit_space.proofs.NoEdits.{none_change}
+use Rattle.arc_repair.specs.Repairs.{Mends, none_of}
+
+abbrev HasNamesInOrder : RouterRow → Type 0
+HasNamesInOrder router = AllPairs IsNameBefore router.names
+
+names_in_order : (protocol : Protocol) (configs : List Config) (rows : List RouterRow) → AllZip (IsRouterRow protocol) configs rows → All HasNamesInOrder rows
+names_in_order protocol [] [] are = All-nil HasNamesInOrder
+names_in_order protocol [] (row ∷ rows) are = absurd are
+names_in_order protocol (config ∷ configs) [] are = absurd are
+names_in_order protocol (config ∷ configs) (row ∷ rows) are = All-cons HasNamesInOrder row rows are.0.names.order (names_in_order protocol configs rows are.1)
+
+none_chosen : (list : List Edit) → chosen_of list (none_of list) ≡ []
+none_chosen [] = refl
+none_chosen (edit ∷ list) = none_chosen list
+
+pub met_by_none : (down : List ℕ) (most : ℕ) (doc : Document) (files : List (List ℕ)) (net : Network) (list : List Edit) → IsNetworkWithin down most doc files net → IsValid net → MeetsDocument net doc
+    → Mends net doc list (none_of list)
+met_by_none down most doc files net list is valid meets =
+    let base = is.rows.base in
+    let P : List Edit → Type 0 = λ chosen. IsAfter net chosen net in
+    record {
+      one_each = length-map list (λ (edit : Edit). false);
+      after = net;
+      is_after = subst P (sym (none_chosen list)) (none_change net valid (names_in_order net.protocol is.configs net.routers base.routers) base.packet_lists.order base.route_lists.order);
+      meets = meets;
+    }

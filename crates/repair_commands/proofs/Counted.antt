@@ -1,0 +1,41 @@
+-- A network whose formula keeps all limits is refused for none.
+use Rattle.std.proofs.Common.{◌≡◌, ℕ, inl, inr, List, subst, arith}
+use Rattle.arc_base.specs.declared.refusal.LimitKind.{LimitKind}
+use Rattle.arc_base.specs.declared.refusal.LimitKind.TheVariants.{Literals, Variables}
+use Rattle.condition_formula.specs.declared.network.ConditionNet.{ConditionNet}
+use Rattle.condition_formula.specs.Limits.{IsWithinLimits, HasTooManyLiterals, HasTooManyVariables}
+use Rattle.net_model.specs.declared.policies.Document.{Document}
+use Rattle.net_model.specs.declared.rows.Network.{Network}
+use Rattle.net_model.specs.Validity.{IsValid}
+use Rattle.edit_space.specs.declared.edit_kinds.Edit.{Edit}
+use Rattle.edit_space.specs.declared.edit_kinds.EditFault.TheVariants.{Limit}
+use Rattle.edit_space.specs.EditLists.{AreEdits}
+use Rattle.edit_space.proofs.OneEditList.{edit_lists_are_one}
+use Rattle.policy_encode.specs.Formulas.{IsFaultOf, IsWithin}
+use Rattle.policy_encode.proofs.One.{one_net}
+use Rattle.arc_repair.specs.Answers.{IsRepairFault, KeepsLimits}
+use Rattle.changed_files.proofs.FewEdits.{few_or_limit}
+
+too_many_variables : (x y : ConditionNet) (bound count : ℕ) → x ≡ y → IsWithinLimits x bound → HasTooManyVariables y bound count → ⊥
+too_many_variables x y bound count same within many =
+    let P : ConditionNet → Type 0 = λ z. IsWithinLimits z bound in
+    omega (arith, (subst P same within).variables, many.many, many.exact)
+
+too_many_literals : (x y : ConditionNet) (bound count : ℕ) → x ≡ y → IsWithinLimits x bound → HasTooManyLiterals y bound count → ⊥
+too_many_literals x y bound count same within many =
+    let P : ConditionNet → Type 0 = λ z. IsWithinLimits z bound in
+    omega (arith, (subst P same within).literals, many.many)
+
+within_or_passed : (net : Network) (doc : Document) (list : List Edit) (bound : ℕ) → IsValid net → IsWithin net doc list bound
+    → (what : LimitKind) (count : ℕ) → IsFaultOf net doc list bound (Limit what count) → ⊥
+within_or_passed net doc list bound valid within Variables count passed = too_many_variables within.0 passed.0 bound count (one_net net doc list within.0 passed.0 valid within.1 passed.1) within.2 passed.2
+within_or_passed net doc list bound valid within Literals count passed = too_many_literals within.0 passed.0 bound count (one_net net doc list within.0 passed.0 valid within.1 passed.1) within.2 passed.2
+within_or_passed net doc list bound valid within other count passed = absurd passed
+
+pub kept_or_passed : (net : Network) (doc : Document) (list : List Edit) (bound : ℕ) → IsValid net → AreEdits net doc list → KeepsLimits net doc list bound
+    → (what : LimitKind) (count : ℕ) → IsRepairFault net doc bound (Limit what count) → ⊥
+kept_or_passed net doc list bound valid are kept what count (inl names) = few_or_limit net doc list valid are kept.edits kept.classes what count names
+kept_or_passed net doc list bound valid are kept what count (inr passes) =
+    let same : list ≡ passes.list = edit_lists_are_one net doc list passes.list valid are passes.are in
+    let P : List Edit → Type 0 = λ l. IsWithin net doc l bound in
+    within_or_passed net doc passes.list bound valid (subst P same kept.formula) what count passes.formula

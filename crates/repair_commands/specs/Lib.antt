@@ -1,0 +1,3 @@
+pub mod Repairs
+pub mod Steps
+pub mod Tells

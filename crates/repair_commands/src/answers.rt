@@ -1,0 +1,176 @@
+//! What the answer of a repair writes.
+ghost use Rattle.std.specs.Prelude.{◌≡◌, ◌<◌, ◌≤◌, ◌-◌, ◌^◌, ◌++◌, [], length, All, IfOk, codes, decimal};
+ghost use Rattle.net_build.specs.Networks.{IsBuiltWithin};
+ghost use Rattle.edit_space.specs.EditLists.{AreEdits};
+ghost use Rattle.edit_space.specs.Prices.{chosen_of};
+ghost use Rattle.policy_report.specs.Certificates.{budget_text, IsWholeClaim};
+ghost use Rattle.policy_report.specs.Edits.{edit_lines};
+ghost use Rattle.repair_commands.specs.Repairs.{Writes, WritesAnswer, WritesClaim, WritesRepair};
+ghost use Rattle.repair_commands.specs.Steps.{IsWholeAnswer};
+
+use arc_base::{List, Memory, Name};
+use arc_repair::Answer;
+use changed_files::changes;
+use command_words::RepairWords;
+use edit_space::{Claim, Edit};
+use net_model::{Document, Network};
+use output_files::push_wrote;
+use policy_report::{budget, certificate, edit_lines};
+use proof_log::Log;
+use run_files::{Done, PROOF_LIMIT};
+use run_inputs::Sources;
+use std::alloc::Global;
+
+// The answer that tells these lines and writes these files, and then the certificate. Want of memory stands for a certificate
+// that is longer than one may be.
+fn done_with(
+    alloc: Global,
+    words: &RepairWords,
+    told: Vec<u8>,
+    changed: List<(Name, Name)>,
+    certificate: Vec<u8>,
+    status: u8,
+) -> Result<Done, Memory>
+    requires { length changed < 2 ^ 32 - 1 }
+    ensures { IfOk result (Writes words.now told.items changed certificate.items status) }
+{
+    if certificate.len() as u64 > PROOF_LIMIT {
+        return Err(Memory);
+    }
+    let name = Name::make(alloc, words.proof.bytes())?;
+    let mut writes = changed;
+    writes.push((name, Name::of(certificate)))?;
+    let mut text = told;
+    push_wrote(&mut text, writes.slice())?;
+    Ok(Done {
+        text: Name::of(text),
+        writes,
+        status,
+    })
+}
+
+// A word, a number and the end of a line.
+fn number_line(alloc: Global, word: &[u8], number: u64) -> Result<Vec<u8>, Memory>
+    ensures { IfOk result (λ text. text.items ≡ word.now ++ decimal number ++ codes "\n") }
+{
+    let mut text = Vec::from_slice(alloc, word)?;
+    let digits = number.to_string(alloc)?;
+    text.extend_from_slice(digits.as_bytes())?;
+    text.extend_from_slice(b"\n")?;
+    Ok(text)
+}
+
+// The first lines of a repair: its price, and its edits.
+fn repair_lines(
+    alloc: Global,
+    net: &Network,
+    list: &List<Edit>,
+    price: u32,
+    chosen: &[bool],
+) -> Result<Vec<u8>, Memory>
+    requires { length chosen.now ≡ length list.now }
+    ensures { IfOk result (λ text. text.items ≡ codes "repaired " ++ decimal price ++ codes "\n" ++ edit_lines net.now (chosen_of list.now chosen.now)) }
+{
+    let mut text = number_line(alloc, b"repaired ", u64::from(price))?;
+    let edits = edit_lines(alloc, net, list, chosen)?;
+    text.extend_from_slice(edits.as_slice())?;
+    Ok(text)
+}
+
+// A repair of this price by the chosen edits, with its certificate.
+fn repair_done(
+    alloc: Global,
+    words: &RepairWords,
+    doc: &Document,
+    sources: &Sources,
+    list: &List<Edit>,
+    price: u32,
+    chosen: &[bool],
+    certificate: Vec<u8>,
+) -> Result<Done, Memory>
+    requires built { IsBuiltWithin [] 2048 doc.now sources.now.files sources.now.built }
+    requires count { length sources.now.files ≡ length doc.now.routers }
+    requires bytes { All (λ text. length text ≤ 1048576) sources.now.files }
+    requires routers { length doc.now.routers ≤ 256 }
+    requires edits { AreEdits sources.now.built.net doc.now list.now }
+    requires few { length list.now ≤ 8192 }
+    requires flags { length chosen.now ≡ length list.now }
+    ensures { IfOk result (WritesRepair words.now doc.now sources.now.built sources.now.files list.now price chosen.now certificate.items) }
+{
+    let told = repair_lines(alloc, &sources.built.net, list, price, chosen)?;
+    let changed = changes(alloc, &words.suffix, doc, sources, list, chosen)?;
+    done_with(alloc, words, told, changed, certificate, 0)
+}
+
+// A claim, with its certificate.
+fn claim_done(
+    alloc: Global,
+    words: &RepairWords,
+    doc: &Document,
+    sources: &Sources,
+    list: &List<Edit>,
+    claim: &Claim,
+    log: &Log,
+) -> Result<Done, Memory>
+    requires built { IsBuiltWithin [] 2048 doc.now sources.now.files sources.now.built }
+    requires count { length sources.now.files ≡ length doc.now.routers }
+    requires bytes { All (λ text. length text ≤ 1048576) sources.now.files }
+    requires routers { length doc.now.routers ≤ 256 }
+    requires edits { AreEdits sources.now.built.net doc.now list.now }
+    requires few { length list.now ≤ 8192 }
+    requires whole { IsWholeClaim doc.now list.now claim.now }
+    ensures { IfOk result (WritesClaim words.now doc.now sources.now.built sources.now.files list.now claim.now log.now) }
+{
+    let proof = certificate(alloc, &sources.built.net, doc, list, claim, log)?;
+    match claim {
+        Claim::Repaired { price, chosen, .. } => {
+            repair_done(
+                alloc,
+                words,
+                doc,
+                sources,
+                list,
+                *price,
+                chosen.slice(),
+                proof,
+            )
+        }
+        Claim::NoRepair { bound } => {
+            let told = number_line(alloc, b"none ", u64::from(*bound))?;
+            done_with(alloc, words, told, List::make(alloc), proof, 2)
+        }
+    }
+}
+
+// What was used up, and what is written of it.
+fn budget_done(alloc: Global, words: &RepairWords, log: &Log) -> Result<Done, Memory>
+    ensures { IfOk result (Writes words.now (codes "budget " ++ decimal words.now.conflicts ++ codes "\n") [] (budget_text words.now.conflicts words.now.bound log.now) 3) }
+{
+    let told = number_line(alloc, b"budget ", words.conflicts)?;
+    let proof = budget(alloc, words.conflicts, words.bound, log)?;
+    done_with(alloc, words, told, List::make(alloc), proof, 3)
+}
+
+/// The answer with what it writes: a repair the changed files and its certificate, and each other its certificate alone.
+pub fn answer_done(
+    alloc: Global,
+    words: &RepairWords,
+    doc: &Document,
+    sources: &Sources,
+    list: &List<Edit>,
+    answer: &Answer,
+) -> Result<Done, Memory>
+    requires built { IsBuiltWithin [] 2048 doc.now sources.now.files sources.now.built }
+    requires count { length sources.now.files ≡ length doc.now.routers }
+    requires bytes { All (λ text. length text ≤ 1048576) sources.now.files }
+    requires routers { length doc.now.routers ≤ 256 }
+    requires edits { AreEdits sources.now.built.net doc.now list.now }
+    requires few { length list.now ≤ 8192 }
+    requires whole { IsWholeAnswer doc.now list.now answer.now }
+    ensures { IfOk result (WritesAnswer words.now doc.now sources.now.built sources.now.files list.now answer.now) }
+{
+    match answer {
+        Answer::Done(claim, log) => claim_done(alloc, words, doc, sources, list, claim, log),
+        Answer::Budget(log) => budget_done(alloc, words, log),
+    }
+}

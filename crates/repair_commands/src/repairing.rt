@@ -1,0 +1,84 @@
+//! The command `repair DOC --out SUFFIX --proof NAME [--max-price N] [--conflicts N]`.
+ghost use Rattle.std.specs.Prelude.{◌≡◌, ◌≤◌, ◌⊎◌, length, All, IfOk, IfErr};
+ghost use Rattle.net_model.specs.Forwarding.{HasEnds};
+ghost use Rattle.net_model.specs.Packets.{subject};
+ghost use Rattle.net_model.specs.Validity.{IsValid};
+ghost use Rattle.edit_space.specs.declared.edit_kinds.EditFault.TheVariants as faults;
+ghost use Rattle.verdicts.specs.Judged.{HasFewFailures};
+ghost use Rattle.arc_repair.specs.Answers.{IsRepairFault};
+ghost use Rattle.run_files.specs.Answers.{Answers, OnlyReads};
+ghost use Rattle.repair_commands.specs.Repairs.{has_clash, IsRepaired, IsRepairRefusal, WritesCertificate};
+ghost use Rattle.repair_commands.specs.Steps.{IsFound, StopsFor};
+
+use crate::answers::answer_done;
+use arc_base::{Kind, List, Memory, Name};
+use arc_outside::Store;
+use arc_repair::Answer;
+use command_words::RepairWords;
+use edit_space::{Edit, EditFault, edits};
+use net_model::{Document, Network};
+use output_files::{clashes, copy_names};
+use run_files::{Done, Limits, Stop, refused};
+use run_inputs::{read_document, read_sources};
+use std::alloc::Global;
+
+// Whether an output has the name of a file that is read, or of another output.
+fn has_clash(alloc: Global, words: &RepairWords, doc: &Document) -> Result<bool, Memory>
+    ensures { IfOk result (λ clash. clash ≡ has_clash words.now doc.now) }
+{
+    let routers = doc.routers.slice();
+    let mut outputs = copy_names(alloc, &words.suffix, routers)?;
+    outputs.push(Name::make(alloc, words.proof.bytes())?)?;
+    Ok(clashes(&words.document, routers, outputs.as_slice()))
+}
+
+// A count that passes its limit refuses the document.
+fn fault_stop(alloc: Global, document: &Name, fault: EditFault) -> Stop
+    ensures { StopsFor document.now fault result }
+{
+    match fault {
+        EditFault::Limit(what, count) => refused(alloc, document, 0, Kind::Limit(what, count)),
+        EditFault::Memory => Stop::Memory,
+    }
+}
+
+// The edits of the network, and its cheapest repair within the words' bound.
+fn find_repair(
+    alloc: Global,
+    words: &RepairWords,
+    net: &Network,
+    doc: &Document,
+) -> Result<(List<Edit>, Answer), EditFault>
+    requires valid { IsValid net.now }
+    requires policies { length doc.now.policies ≤ 256 }
+    requires ends { All (λ policy. HasEnds net.now (subject policy)) doc.now.policies }
+    requires failures { All (λ policy. HasFewFailures policy.kind) doc.now.policies }
+    requires bound { words.now.bound ≤ 512 }
+    requires most { words.now.conflicts ≤ 200000 }
+    ensures found { IfOk result (λ found. IsFound words.now net.now doc.now found.0 found.1) }
+    ensures fault { IfErr result (IsRepairFault net.now doc.now words.now.bound) }
+{
+    let list = edits(alloc, net, doc)?;
+    let answer = arc_repair::repair(alloc, net, doc, words.bound, words.conflicts)?;
+    Ok((list, answer))
+}
+
+/// Finds the cheapest edits after which the network meets the document, and writes the changed files and a certificate.
+pub fn repair<S: Store>(alloc: Global, words: &RepairWords, store: &mut S) -> Result<Done, Stop>
+    requires bound { words.now.bound ≤ 512 }
+    requires most { words.now.conflicts ≤ 200000 }
+    ensures answer { Answers (WritesCertificate words.now) (IsRepairRefusal words.now) (IsRepaired words.now) (S.held store.old) result }
+    ensures reads { OnlyReads S.held S.faults S.absences store.old store.new result }
+{
+    let doc = read_document(alloc, &words.document, store)?;
+    if has_clash(alloc, words, &doc)? {
+        return Err(refused(alloc, &words.document, 0, Kind::OutputName));
+    }
+    let sources = read_sources(alloc, &words.document, &doc, &[], Limits::Editing, store)?;
+    let (list, answer) = match find_repair(alloc, words, &sources.built.net, &doc) {
+        Ok(found) => found,
+        Err(fault) => return Err(fault_stop(alloc, &words.document, fault)),
+    };
+    let done = answer_done(alloc, words, &doc, &sources, &list, &answer)?;
+    Ok(done)
+}
