@@ -1,5 +1,5 @@
 use crate::{
-    DiskStore, Fault, MemSink, MemStore, Pieces, ReadAll, Sink, StdSink, Store, SureSink,
+    Deed, DiskStore, Fault, MemSink, MemStore, Pieces, ReadAll, Sink, StdSink, Store, SureSink,
     SureStore, read_all,
 };
 use arc_base::{List, Name};
@@ -139,7 +139,7 @@ fn disk_and_standard_output(rt: HostRuntime) -> Result<(), Fail> {
     place.push(format!(in alloc; "arcv-test-{stamp}")?)?;
     let path = place.as_path().as_str();
     let name = Name::make(alloc, path.as_bytes())?;
-    let mut store = DiskStore::make(rt);
+    let mut store = DiskStore::make(rt, alloc);
     assert_eq!(rt;
         read_all(alloc, &mut store, &name, 9).err(),
         Some(ReadAll::Fault(Fault::Missing))
@@ -153,10 +153,19 @@ fn disk_and_standard_output(rt: HostRuntime) -> Result<(), Fail> {
         read_all(alloc, &mut store, &name, 6).err(),
         Some(ReadAll::TooLong)
     );
+    store.write_whole(&name, b"written again")?;
+    assert_eq!(rt;
+        read_all(alloc, &mut store, &name, 99)?.as_slice(),
+        b"written again".as_slice()
+    );
     let no_path = Name::make(alloc, b"\xff")?;
     assert_eq!(rt;
         read_all(alloc, &mut store, &no_path, 9).err(),
         Some(ReadAll::Fault(Fault::Failed))
+    );
+    assert_eq!(rt;
+        store.failure().map(|failure| failure.deed),
+        Some(Deed::Reading)
     );
     fs::remove_file(&rt, path)?;
     let mut out = StdSink::make(rt);

@@ -1,10 +1,15 @@
 //! The command `arcv`: `run` over the files of the system and its standard output, with the words that follow the
-//! program's name. The exit status is the run's.
+//! program's name. The exit status is the run's. What more there is to say of a run that did not end well goes to the
+//! standard error, and bears on neither.
 #![tactic(auto)]
 
+mod messages;
+
+use crate::messages::explain;
 use arc_base::{List, Memory, Name};
 use arc_outside::{DiskStore, StdSink};
 use arc_run::run;
+use run_messages::Heard;
 use std::alloc::Global;
 use std::process::ExitCode;
 use std::{env, io};
@@ -32,7 +37,9 @@ fn main(rt: HostRuntime) -> ExitCode {
     let Ok(words) = words(&rt, alloc) else {
         return ExitCode::from(8);
     };
-    let mut store = DiskStore::make(rt);
-    let mut out = StdSink::make(rt);
-    ExitCode::from(run(alloc, words.slice(), &mut store, &mut out).code)
+    let mut store = DiskStore::make(rt, alloc);
+    let mut out = Heard::make(alloc, StdSink::make(rt));
+    let code = run(alloc, words.slice(), &mut store, &mut out).code;
+    let _said = explain(&rt, words.slice(), code, &mut store, &out);
+    ExitCode::from(code)
 }

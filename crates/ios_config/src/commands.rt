@@ -19,8 +19,8 @@ pub struct FileCommand {
     pub command: Command,
 }
 
-/// The kind of block that a top line's command opens.
-fn opened_by(command: &Command) -> BlockKind
+/// The kind of block that the command of a top line opens. One that opens none counts as inert.
+pub fn opened_by(command: &Command) -> BlockKind
     ensures { result ≡ opened_by command.now }
 {
     match command {

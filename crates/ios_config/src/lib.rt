@@ -18,6 +18,7 @@ mod settings;
 mod tests;
 mod twice;
 
+pub use commands::opened_by;
 pub use configs::config;
 pub use fault::ConfigFault;
 pub use rising::lesser;

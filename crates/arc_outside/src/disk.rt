@@ -1,0 +1,226 @@
+//! The trusted edge to the files of the system. Nothing is told of what they hold.
+ghost use Rattle.std.specs.Prelude.{◌≡◌, ◌<◌, ◌≤◌, None, length, IfOk};
+
+use crate::{Fault, Store};
+use arc_base::{Memory, Name};
+use std::alloc::Global;
+use std::fs::{File, OpenFile, Permissions};
+use std::io::{Read, Seek, SeekFrom, Write};
+use std::rt::Files;
+use std::{fs, io, str};
+
+/// What was done to a file when the system failed.
+#[derive(Clone, Copy, Debug, PartialEq, Eq)]
+pub enum Deed {
+    Reading,
+    Writing,
+}
+
+/// What the system refused: which file was read or written, and what the system said.
+#[derive(Drop)]
+pub struct Failure {
+    pub name: Name,
+    pub deed: Deed,
+    pub error: io::Error,
+}
+
+// A file that is being read, and how many of its bytes were.
+#[derive(Drop)]
+struct Reading<F: Drop> {
+    name: Name,
+    file: F,
+    place: u64,
+}
+
+/// The files of the system, named by paths in UTF-8. A file to be read that is not there is Missing and raises the
+/// count of absences. Every other error is Failed and raises the count of faults, also a name that is no path.
+///
+/// A file stays open from its first piece to its last, so that one that is replaced meanwhile is read as it was, and a
+/// pipe can be read once. A plain file is written beside its name, as NAME.part, and then renamed, so that it is whole or
+/// as it was; where no such file can be made, and at a link, a pipe or a device, the bytes are written in its place.
+#[derive(Drop)]
+pub struct DiskStore<R: Files> {
+    rt: R,
+    alloc: Global,
+    reading: Option<Reading<R::File>>,
+    failure: Option<Failure>,
+    faults: u64,
+    absences: u64,
+    taken: u64,
+}
+
+impl<R: Files> DiskStore<R> {
+    /// The store over the system's files.
+    pub fn make(rt: R, alloc: Global) -> Self
+        ensures faults { result.faults ≡ 0 }
+        ensures absences { result.absences ≡ 0 }
+        ensures taken { result.taken ≡ 0 }
+    {
+        DiskStore {
+            rt,
+            alloc,
+            reading: None,
+            failure: None,
+            faults: 0,
+            absences: 0,
+            taken: 0,
+        }
+    }
+
+    /// What the system refused last, if it did and there was memory to keep it.
+    pub fn failure(&self) -> Option<&Failure> {
+        self.failure.as_ref()
+    }
+}
+
+fn path_of(name: &Name) -> io::Result<&str>
+    ensures { IfOk result (λ path. path.now ≡ name.now) }
+{
+    match str::from_utf8(name.bytes()) {
+        Ok(path) => Ok(path),
+        Err(_) => Err(io::Error::from(io::ErrorKind::InvalidInput)),
+    }
+}
+
+fn copy_of(alloc: Global, name: &Name) -> io::Result<Name> {
+    match Name::make(alloc, name.bytes()) {
+        Ok(copy) => Ok(copy),
+        Err(Memory) => Err(io::Error::from(io::ErrorKind::OutOfMemory)),
+    }
+}
+
+fn failure_of(alloc: Global, name: &Name, deed: Deed, error: io::Error) -> Option<Failure> {
+    match copy_of(alloc, name) {
+        Ok(name) => Some(Failure { name, deed, error }),
+        Err(_) => None,
+    }
+}
+
+// Opens a file at a place. One that is read from its start need not know places, as a pipe does not.
+fn opened<R: Files>(
+    rt: &R,
+    alloc: Global,
+    name: &Name,
+    place: u64,
+) -> io::Result<Reading<R::File>> {
+    let mut file = fs::open(rt, path_of(name)?)?;
+    if place > 0 {
+        file.seek(SeekFrom::Start(place))?;
+    }
+    Ok(Reading {
+        name: copy_of(alloc, name)?,
+        file,
+        place,
+    })
+}
+
+// Reads on where the file stands open at this place, and else opens it there. At its end it is closed.
+fn read_on<R: Files>(
+    rt: &R,
+    alloc: Global,
+    reading: &mut Option<Reading<R::File>>,
+    name: &Name,
+    place: u64,
+    buf: &mut [u8],
+) -> io::Result<usize>
+    ensures { IfOk result (λ n. n ≤ length buf.new) }
+{
+    let mut current = match reading.take() {
+        Some(open) if place > 0 && open.place == place && open.name.bytes() == name.bytes() => open,
+        _ => opened(rt, alloc, name, place)?,
+    };
+    let n = current.file.read(buf)?;
+    if n > 0 {
+        current.place = current.place.saturating_add(n as u64);
+        *reading = Some(current);
+    }
+    Ok(n)
+}
+
+// Fills a new file, which has the permissions of the one that it will stand for.
+fn fill<F: Write + OpenFile>(
+    file: &mut F,
+    bytes: &[u8],
+    permissions: Option<Permissions>,
+) -> io::Result<()> {
+    if let Some(permissions) = permissions {
+        file.set_permissions(permissions)?;
+    }
+    file.write_all(bytes)?;
+    file.sync_data()
+}
+
+// Writes a file beside a name, and then gives it the name.
+fn write_beside<R: Files>(
+    rt: &R,
+    alloc: Global,
+    path: &str,
+    bytes: &[u8],
+    permissions: Option<Permissions>,
+) -> io::Result<()> {
+    let beside = format!(in alloc; "{path}.part")?;
+    let Ok(mut file) = File::create_new(rt, beside.as_str()) else {
+        return fs::write(rt, path, bytes);
+    };
+    let filled = fill(&mut file, bytes, permissions);
+    drop(file);
+    let written = match filled {
+        Ok(()) => fs::rename(rt, beside.as_str(), path),
+        Err(error) => Err(error),
+    };
+    if written.is_err() {
+        let _gone = fs::remove_file(rt, beside.as_str());
+    }
+    written
+}
+
+fn write_to<R: Files>(rt: &R, alloc: Global, name: &Name, bytes: &[u8]) -> io::Result<()> {
+    let path = path_of(name)?;
+    match fs::symlink_metadata(rt, path) {
+        Ok(old) if old.is_file() => write_beside(rt, alloc, path, bytes, Some(old.permissions())),
+        Ok(_) => fs::write(rt, path, bytes),
+        Err(error) if error.kind() == io::ErrorKind::NotFound => {
+            write_beside(rt, alloc, path, bytes, None)
+        }
+        Err(error) => Err(error),
+    }
+}
+
+impl<R: Files> Store for DiskStore<R> {
+    ghost held = { λ s. None };
+
+    ghost faults = { λ s. s.faults };
+
+    ghost absences = { λ s. s.absences };
+
+    ghost taken = { λ s. s.taken };
+
+    fn read_at(&mut self, name: &Name, place: u64, buf: &mut [u8]) -> Result<usize, Fault> {
+        match read_on(&self.rt, self.alloc, &mut self.reading, name, place, buf) {
+            Ok(n) => {
+                self.taken = self.taken.saturating_add(n as u64);
+                Ok(n)
+            }
+            Err(error) => {
+                if error.kind() == io::ErrorKind::NotFound {
+                    self.absences = self.absences.saturating_add(1);
+                    return Err(Fault::Missing);
+                }
+                self.failure = failure_of(self.alloc, name, Deed::Reading, error);
+                self.faults = self.faults.saturating_add(1);
+                Err(Fault::Failed)
+            }
+        }
+    }
+
+    fn write_whole(&mut self, name: &Name, bytes: &[u8]) -> Result<(), Fault> {
+        match write_to(&self.rt, self.alloc, name, bytes) {
+            Ok(()) => Ok(()),
+            Err(error) => {
+                self.failure = failure_of(self.alloc, name, Deed::Writing, error);
+                self.faults = self.faults.saturating_add(1);
+                Err(Fault::Failed)
+            }
+        }
+    }
+}

@@ -1,0 +1,50 @@
+//! A sink that keeps the front of what is put.
+ghost use Rattle.std.specs.Prelude.{◌≡◌, ◌<◌, ◌≤◌, length, IfOk};
+
+use arc_outside::{Fault, Sink};
+use std::alloc::Global;
+
+// How much is kept: the line of a refusal, of which a name has at most 1,024 bytes, fits in.
+const KEPT: usize = 4096;
+
+/// A sink that puts all into another one, and keeps the front of it for messages, as far as there is memory for it.
+#[derive(Drop)]
+pub struct Heard<K: Drop> {
+    pub out: K,
+    front: Vec<u8>,
+}
+
+impl<K: Drop> Heard<K> {
+    /// A sink over this one, before anything is put.
+    pub fn make(alloc: Global, out: K) -> Self
+        ensures { result.out ≡ out }
+    {
+        Heard {
+            out,
+            front: Vec::new(alloc),
+        }
+    }
+
+    /// The front of what was put.
+    pub fn front(&self) -> &[u8] {
+        &self.front
+    }
+}
+
+fn keep(front: &mut Vec<u8>, bytes: &[u8]) {
+    let room = KEPT.saturating_sub(front.len());
+    let kept = bytes.get(..room).unwrap_or(bytes);
+    let _kept = front.extend_from_slice(kept);
+}
+
+impl<K: Sink + Drop> Sink for Heard<K> {
+    ghost written = { λ s. K.written s.out };
+
+    ghost faults = { λ s. K.faults s.out };
+
+    fn put(&mut self, bytes: &[u8]) -> Result<usize, Fault> {
+        let n = self.out.put(bytes)?;
+        keep(&mut self.front, bytes.get(..n).unwrap_or(bytes));
+        Ok(n)
+    }
+}
