@@ -3,8 +3,8 @@
 use arc_base::Name;
 use arc_outside::{Deed, DiskStore, StdSink, read_all};
 use run_messages::{Heard, WrongWord, form_of, line_at, told_refusal, visible, wrong_word};
-use std::io;
 use std::io::Write;
+use std::{env, fs, io, str};
 
 // A file that is read again for a message has at most as many bytes as a router file.
 const FILE_LIMIT: u64 = 8_388_608;
@@ -21,11 +21,25 @@ fn say(rt: &HostRuntime, pieces: &[&[u8]]) -> io::Result<()> {
 // The words match no command: the form of the command that the first of them names.
 fn explain_words(rt: &HostRuntime, words: &[Name]) -> io::Result<()> {
     let Some(command) = words.first() else {
-        return say(rt, &[b"arcv: a command is missing"]);
+        return match env::args(rt) {
+            Ok(_) => say(rt, &[b"arcv: a command is missing"]),
+            Err(_) => say(rt, &[b"arcv: a word is not UTF-8"]),
+        };
     };
     match form_of(command.bytes()) {
         Some(form) => say(rt, &[b"arcv: its form is: arcv ", form.as_bytes()]),
         None => say(rt, &[b"arcv: no command is named ", command.bytes()]),
+    }
+}
+
+// Whether a file can be read again at once, as a pipe cannot: there a second reading would wait for ever.
+fn is_plain(rt: &HostRuntime, name: &[u8]) -> bool {
+    let Ok(path) = str::from_utf8(name) else {
+        return false;
+    };
+    match fs::metadata(rt, path) {
+        Ok(found) => found.is_file(),
+        Err(_) => false,
     }
 }
 
@@ -40,7 +54,8 @@ fn explain_refusal(
         return Ok(());
     };
     let alloc = rt.alloc();
-    if !told.names_line(words.iter().any(|word| word.bytes() == told.name)) {
+    let is_of_the_words = words.iter().any(|word| word.bytes() == told.name);
+    if !told.names_line(is_of_the_words) || !is_plain(rt, told.name) {
         return Ok(());
     }
     let Ok(name) = Name::make(alloc, told.name) else {
