@@ -12,4 +12,5 @@ pub mod FilesClear
 pub mod LinksClear
 pub mod SubnetsClear
 pub mod EndpointsClear
+pub mod Planned
 pub mod Networks

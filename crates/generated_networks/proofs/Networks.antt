@@ -16,7 +16,7 @@ use Rattle.net_model.specs.declared.rows.Protocol.{Protocol}
 use Rattle.net_model.specs.declared.rows.Protocol.TheVariants.{Ospf}
 use Rattle.ios_config.specs.declared.settings.Config.{Config}
 use Rattle.net_build.specs.Lists.{IsPacketListRow, IsRouteListRow, packet_row_at, route_row_at, route_list_key}
-use Rattle.net_build.specs.Networks.{IsFirstRefusalWithin, IsNetworkWithin}
+use Rattle.net_build.specs.Networks.{Says, IsFirstRefusalWithin, IsNetworkWithin}
 use Rattle.net_build.specs.Order.{Try, tries, RefusesWithin, IsFirstOf}
 use Rattle.net_build.specs.Order as order
 use Rattle.net_build.specs.Ordered.{AreInOrder}
@@ -28,11 +28,12 @@ use Rattle.net_gen.specs.Generated.{asked, Asks}
 use Rattle.net_gen.specs.Plans.{numbers, link_count}
 use Rattle.net_gen.specs.RouterFiles.{host_name}
 use Rattle.net_gen.proofs.Lengths.{asked_length}
-use Rattle.generated_networks.specs.Laws.{GeneratedFilesAreNotRefused, HasPlan, HasNetwork, GeneratedNetworksHaveTheirPlan}
+use Rattle.generated_networks.specs.Laws.{GeneratedFilesAreNotRefused, GeneratedNetworksHaveTheirPlan, GeneratedDocumentsHaveTheirPolicies}
 use Rattle.generated_networks.proofs.EndpointsClear.{endpoint-clear}
 use Rattle.generated_networks.proofs.FilesClear.{hostname-clear, protocol-is, protocol-clear, areas-clear, as-clear, down-clear, neighbor-clear, network-clear, interfaces-clear, entries-clear, stops-clear, adjacency-clear}
 use Rattle.generated_networks.proofs.Items.{zip-length}
 use Rattle.generated_networks.proofs.LinksClear.{all_links, faces-clear, subnets-clear}
+use Rattle.generated_networks.proofs.Planned.{joins, has-host}
 use Rattle.generated_networks.proofs.Plans.{mapped-at}
 use Rattle.generated_networks.proofs.Said.{settings_of, all_settings, files-say, none-faulty}
 use Rattle.generated_networks.proofs.SubnetsClear.{overlap-clear}
@@ -95,7 +96,7 @@ have-plan n most generated net g is =
     let few : n ≤ 40 = g.few in
     let some : 6 ≤ n = g.some in
     let doc = generated.doc in
-    let said = subst (λ files. AllZip _ files is.configs) g.is.files is.said in
+    let said = subst (λ files. AllZip Says files is.configs) g.is.files is.said in
     let rows : AreRows doc (all_settings n) net = subst (λ cs. AreRows doc cs net) (files-say n is.configs few said) is.rows in
     let base = rows.base in
     let ospf : net.protocol ≡ Ospf = base.protocol ∙ protocol-is n (omega arith) in
@@ -103,16 +104,17 @@ have-plan n most generated net g is =
     let zipped = zip-length (IsRouterRow net.protocol) (all_settings n) net.routers base.routers in
     let joined = zip-length (IsLinkRow (full_names (all_settings n))) doc.links net.links base.links in
     let counted : length doc.links ≡ link_count n = ap length g.is.doc.links ∙ length-map (numbers (link_count n)) _ ∙ length-range_with_len 1 (link_count n) in
-    let all = zip-length Asks (asked n) doc.policies g.is.doc.policies in
     record {
-      plan = record {
-        protocol = ospf;
-        names = names-are net.protocol (settings_of n) host_name (numbers n) net.routers (λ x. refl) base.routers;
-        routers = sym zipped ∙ long;
-        links = sym joined ∙ counted;
-        packet_lists = nothing-in net.packet_lists (λ row there. no-packet-row n row ((base.packet_lists.just row).0 there));
-        route_lists = nothing-in net.route_lists (λ row there. no-route-row n row ((base.route_lists.just row).0 there));
-        sessions = subst (λ p. AreSessions p (all_settings n) net.links (map route_list_key net.route_lists) net.sessions) ospf rows.sessions;
-      };
-      policies = sym all ∙ asked_length n;
+      protocol = ospf;
+      names = names-are net.protocol (settings_of n) host_name (numbers n) net.routers (λ x. refl) base.routers;
+      routers = sym zipped ∙ long;
+      links = sym joined ∙ counted;
+      joined = joins n doc net rows some few g.is.doc.links;
+      hosts = has-host n doc net rows some few g.is.doc.links;
+      packet_lists = nothing-in net.packet_lists (λ row there. no-packet-row n row ((base.packet_lists.just row).0 there));
+      route_lists = nothing-in net.route_lists (λ row there. no-route-row n row ((base.route_lists.just row).0 there));
+      sessions = subst (λ p. AreSessions p (all_settings n) net.links (map route_list_key net.route_lists) net.sessions) ospf rows.sessions;
     }
+
+pub have-policies : GeneratedDocumentsHaveTheirPolicies
+have-policies n generated g = sym (zip-length Asks (asked n) generated.doc.policies g.is.doc.policies) ∙ asked_length n
