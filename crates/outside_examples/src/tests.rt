@@ -1,8 +1,10 @@
-use crate::{
+//! What each call gives, with ample memory.
+
+use arc_base::{List, Name};
+use arc_outside::{
     Deed, DiskStore, Fault, MemSink, MemStore, Pieces, ReadAll, Sink, StdSink, Store, SureSink,
     SureStore, read_all,
 };
-use arc_base::{List, Name};
 use std::alloc::Global;
 use std::test::Fail;
 use std::time::SystemTime;
@@ -126,6 +128,35 @@ fn chosen_calls_fail(rt: HostRuntime) -> Result<(), Fail> {
     assert_eq!(rt; out.put(b"lost").err(), Some(Fault::Failed));
     assert_eq!(rt; out.put(b"kept")?, 4);
     assert_eq!(rt; out.bytes(), b"kept".as_slice());
+    Ok(())
+}
+
+// Reads and puts of at most three bytes give the same, and those whose numbers are given fail.
+#[test]
+fn short_calls_give_the_same(rt: HostRuntime) -> Result<(), Fail> {
+    let alloc = rt.alloc();
+    let name = Name::make(alloc, b"a")?;
+    let mut fourth = List::make(alloc);
+    fourth.push(4)?;
+    let mut store = MemStore::short(alloc, files(alloc)?, 3, fourth)?;
+    let mut piece = [0u8; 4];
+    assert_eq!(rt; store.read_at(&name, 1, &mut piece)?, 3);
+    assert_eq!(rt; &piece[..3], b"ell".as_slice());
+    assert_eq!(rt;
+        read_all(alloc, &mut store, &name, 5).err(),
+        Some(ReadAll::Fault(Fault::Failed))
+    );
+    assert_eq!(rt;
+        read_all(alloc, &mut store, &name, 5)?.as_slice(),
+        b"hello".as_slice()
+    );
+    let mut second = List::make(alloc);
+    second.push(2)?;
+    let mut out = MemSink::short(alloc, 3, second);
+    assert_eq!(rt; out.put(b"text")?, 3);
+    assert_eq!(rt; out.put(b"t").err(), Some(Fault::Failed));
+    assert_eq!(rt; out.put(b"t")?, 1);
+    assert_eq!(rt; out.bytes(), b"text".as_slice());
     Ok(())
 }
 

@@ -1,6 +1,6 @@
 use Rattle.std.proofs.Common.{◌≡◌, false}
 use Rattle.arc_outside.specs.LinesRead.{ahead}
-use Rattle.arc_outside.proofs.tests.lines_of.Given as goal
+use Rattle.outside_examples.proofs.tests.lines_of.Given as goal
 
 abbrev pub invariant-loop-lines : goal.invariant-loop-lines
 invariant-loop-lines g l = l.pieces.failed ≡ false
