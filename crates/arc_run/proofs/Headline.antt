@@ -7,13 +7,13 @@ use Rattle.command_words.specs.declared.commands.Command.{Command}
 use Rattle.command_words.specs.declared.commands.Command.TheVariants.{Verify, Trace, Repair, Check, Apply, Solve, Lrat, Nodes, Prefers, Recheck}
 use Rattle.run_files.specs.Answers.{IsTold}
 use Rattle.apply_commands.proofs.Told.{apply_told}
+use Rattle.check_commands.proofs.Told.{any_check_told}
 use Rattle.cnf_commands.proofs.Refuting.{lrat_told}
 use Rattle.cnf_commands.proofs.SolveHeadline.{solve_told}
 use Rattle.reach_commands.proofs.NodesTold.{nodes_told}
 use Rattle.reach_commands.proofs.PrefersTold.{prefers_told}
 use Rattle.reach_commands.proofs.RecheckTold.{recheck_told}
 use Rattle.repair_commands.proofs.Told.{repair_told}
-use Rattle.verify_commands.proofs.Checked.{check_told}
 use Rattle.verify_commands.proofs.Traced.{trace_told}
 use Rattle.verify_commands.proofs.Verified.{verify_told}
 use Rattle.arc_run.specs.declared.outcome.Outcome.{Outcome}
@@ -27,7 +27,7 @@ command_told : (command : Command) → IsTold (IsRefusal command) (IsAnswer comm
 command_told (Verify document) = verify_told document
 command_told (Trace words) = trace_told words
 command_told (Repair words) = repair_told words
-command_told (Check document certificate) = check_told document certificate
+command_told (Check document certificate) = any_check_told document certificate
 command_told (Apply words) = apply_told words
 command_told (Solve words) = solve_told words
 command_told (Lrat cnf proof) = lrat_told cnf proof

@@ -4,13 +4,13 @@ use Rattle.arc_outside.specs.Files.{Files}
 use Rattle.command_words.specs.declared.commands.Command.{Command}
 use Rattle.command_words.specs.declared.commands.Command.TheVariants.{Verify, Trace, Repair, Check, Apply, Solve, Lrat, Nodes, Prefers, Recheck}
 use Rattle.apply_commands.specs.Applies.{TellsApply}
+use Rattle.check_commands.specs.Tells.{TellsAnyCheck}
 use Rattle.cnf_commands.specs.Lrats.{TellsRefutation}
 use Rattle.cnf_commands.specs.Solves.{TellsSolution}
 use Rattle.reach_commands.specs.Nodes.{TellsNodes}
 use Rattle.reach_commands.specs.PreferRuns.{TellsPrefers}
 use Rattle.reach_commands.specs.RecheckRuns.{TellsRecheck}
 use Rattle.repair_commands.specs.Tells.{TellsRepair}
-use Rattle.verify_commands.specs.Checks.{TellsCheck}
 use Rattle.verify_commands.specs.Traces.{TellsTrace}
 use Rattle.verify_commands.specs.Verifies.{TellsVerdicts}
 
@@ -29,10 +29,11 @@ Tells (Trace words) status before after = TellsTrace words status before
 -- certificate of this was written; and after 3 a log that is spent was written in place of either. It is 5 exactly where something is
 -- refused, and then nothing is written.
 Tells (Repair words) status before after = TellsRepair words status before after
--- `check`: 0 exactly where the certificate is a report with one block for each policy of the document in order, each with a right
--- verdict over the network of the files, and then each verdict is true; 1 exactly where they have a network and it is no such
--- report, and 5 exactly where they are refused.
-Tells (Check document certificate) status before after = TellsCheck document certificate status before
+-- `check`: 0 exactly where the certificate shows that the edits it names are a cheapest repair of the network of the files, or that
+-- none within its bound is one, and then that is true; or where its first line is another than such a one has, and it is a report with
+-- one block for each policy of the document in order, each with a right verdict over the network of the files, and then each verdict
+-- is true. 1 exactly where they have a network and it is neither, and 5 exactly where they are refused.
+Tells (Check document certificate) status before after = TellsAnyCheck document certificate status before
 -- `apply`: 0 exactly where the document and its router files have a network, the names of the copies are free, and each line of the
 -- edit file names an edit of it, no two the same; and then the router files that were left are the patches by these edits of those that
 -- were read, and have, read again, exactly the network after these edits. It is 5 exactly where something is refused, and then nothing

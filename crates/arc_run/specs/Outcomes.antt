@@ -10,10 +10,10 @@ use Rattle.run_files.specs.Answers.{HasRefusalCause, IsJudging}
 use Rattle.run_inputs.specs.Counts.{IsJudgingRefusal}
 use Rattle.run_files.specs.Refusals.{refusal_line}
 use Rattle.apply_commands.specs.Applies.{IsApplied, IsApplyRefusal, WritesCopies}
+use Rattle.check_commands.specs.RepairChecks.{IsAnyChecked, IsAnyRefusal}
 use Rattle.cnf_commands.specs.Lrats.{IsJudged, IsLratRefusal}
 use Rattle.cnf_commands.specs.Solves.{IsSolved, IsSolveRefusal, WritesProof}
 use Rattle.repair_commands.specs.Repairs.{IsRepaired, IsRepairRefusal, WritesCertificate}
-use Rattle.verify_commands.specs.Checks.{IsChecked, IsCheckRefusal}
 use Rattle.verify_commands.specs.Traces.{IsTraced, IsTraceRefusal}
 use Rattle.verify_commands.specs.Verifies.{IsVerified}
 use Rattle.reach_commands.specs.Nodes.{IsNodesAnswer, IsNodesRefusal}
@@ -28,7 +28,7 @@ abbrev pub IsRefusal : Command → Files → FileRefusal → Type 0
 IsRefusal (Verify document) = IsJudgingRefusal Judging document
 IsRefusal (Trace words) = IsTraceRefusal words
 IsRefusal (Repair words) = IsRepairRefusal words
-IsRefusal (Check document certificate) = IsCheckRefusal document certificate
+IsRefusal (Check document certificate) = IsAnyRefusal document certificate
 IsRefusal (Apply words) = IsApplyRefusal words
 IsRefusal (Solve words) = IsSolveRefusal words
 IsRefusal (Lrat cnf proof) = IsLratRefusal cnf proof
@@ -41,7 +41,7 @@ abbrev pub IsAnswer : Command → Files → Done → Type 0
 IsAnswer (Verify document) = IsVerified document
 IsAnswer (Trace words) = IsTraced words
 IsAnswer (Repair words) = IsRepaired words
-IsAnswer (Check document certificate) = IsChecked document certificate
+IsAnswer (Check document certificate) = IsAnyChecked document certificate
 IsAnswer (Apply words) = IsApplied words
 IsAnswer (Solve words) = IsSolved words
 IsAnswer (Lrat cnf proof) = IsJudged cnf proof

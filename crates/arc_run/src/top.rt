@@ -12,13 +12,14 @@ use crate::outcome::{Outcome, Status};
 use apply_commands::apply;
 use arc_base::Name;
 use arc_outside::{Sink, Store};
+use check_commands::check;
 use cnf_commands::{lrat, solve};
 use command_words::{Command, read_words};
 use reach_commands::{nodes, prefers, recheck};
 use repair_commands::repair;
 use run_files::{Done, Stop};
 use std::alloc::Global;
-use verify_commands::{check, trace, verify};
+use verify_commands::{trace, verify};
 
 // Why a run has no outcome.
 #[derive(Clone, Copy, Debug, PartialEq, Eq)]

@@ -26,7 +26,7 @@ too_many_literals x y bound count same within many =
     let P : ConditionNet → Type 0 = λ z. IsWithinLimits z bound in
     omega (arith, (subst P same within).literals, many.many)
 
-within_or_passed : (net : Network) (doc : Document) (list : List Edit) (bound : ℕ) → IsValid net → IsWithin net doc list bound
+pub within_or_passed : (net : Network) (doc : Document) (list : List Edit) (bound : ℕ) → IsValid net → IsWithin net doc list bound
     → (what : LimitKind) (count : ℕ) → IsFaultOf net doc list bound (Limit what count) → ⊥
 within_or_passed net doc list bound valid within Variables count passed = too_many_variables within.0 passed.0 bound count (one_net net doc list within.0 passed.0 valid within.1 passed.1) within.2 passed.2
 within_or_passed net doc list bound valid within Literals count passed = too_many_literals within.0 passed.0 bound count (one_net net doc list within.0 passed.0 valid within.1 passed.1) within.2 passed.2

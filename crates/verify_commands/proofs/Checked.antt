@@ -1,16 +1,10 @@
 -- The judgement of a certificate, and what its status says.
-use Rattle.std.proofs.Common.{◌≡◌, ℕ, ◌<◌, ◌≤◌, inl, inr, List, [], ◌∷◌, refl, sym, ◌∙◌, ap, subst, arith}
-use Rattle.std.specs.Prelude.{Option, Some, None, IfSome, Ok, Err, Vec, ◌↔◌}
-use Rattle.std.specs.List.{AllZip}
-use Rattle.std.specs.declared.alloc.Global.{Global}
+use Rattle.std.proofs.Common.{◌≡◌, ℕ, inl, inr, List, [], refl, sym, ◌∙◌, ap, subst, arith}
+use Rattle.std.specs.Prelude.{Option, Some, None, IfSome, Result, Ok, Err, ◌↔◌}
 use Rattle.arc_outside.specs.Files.{Files}
 use Rattle.cnf_types.specs.Words.{lines}
 use Rattle.net_model.specs.declared.policies.Document.{Document}
-use Rattle.net_model.specs.declared.policies.Policy.{Policy}
 use Rattle.net_model.specs.declared.rows.Network.{Network}
-use Rattle.net_model.specs.declared.verdicts.Verdict.{Verdict}
-use Rattle.net_model.specs.Validity.{IsValid}
-use Rattle.net_model.specs.Witnesses.{IsRight}
 use Rattle.policy_report.specs.Rereading.{answers}
 use Rattle.policy_report.specs.Steps.{start}
 use Rattle.report_check.specs.declared.outcome.Outcome.{Outcome as Judgement}
@@ -21,76 +15,71 @@ use Rattle.run_files.specs.declared.outcome.Done.{Done}
 use Rattle.run_files.specs.declared.outcome.FileRefusal.{FileRefusal}
 use Rattle.run_files.specs.declared.outcome.Stop.{Stop}
 use Rattle.run_files.specs.declared.outcome.Stop.TheVariants as stops
-use Rattle.run_files.specs.Reading.{ReadsFile}
 use Rattle.run_files.specs.declared.limits.Limits.TheVariants.{Judging}
-use Rattle.run_files.specs.Answers.{Answers, IsJudging, IsTold}
+use Rattle.run_files.specs.Answers.{Gives, IsJudging, IsTold}
 use Rattle.run_inputs.specs.Counts.{CountsClasses, HasFewClasses}
-use Rattle.run_inputs.specs.Inputs.{HoldsDocument, HoldsInput, IsFit, ReadsDocumentAt, ReadsFiles}
+use Rattle.run_inputs.specs.Inputs.{HoldsDocument, HoldsInput, IsFit, ReadsFiles}
 use Rattle.run_files.specs.Judgements.{judgement_status, judgement_text}
 use Rattle.run_files.specs.Limits.{proof_limit}
 use Rattle.run_inputs.proofs.Determined.{determined, judged_once}
-use Rattle.verify_commands.specs.Checks.{IsAccepted, IsChecked, IsCheckRefusal, IsRejected, IsUnchecked, TellsCheck, judgement_of}
+use Rattle.verify_commands.specs.Checks.{IsAccepted, IsChecked, IsCheckRefusal, IsRejected, IsTextChecked, IsUnchecked, RefusesInput, TellsCheck, judgement_of}
 use Rattle.verify_commands.proofs.Verified.{all_true}
 use Rattle.run_files.specs.Refusals.{bytes_at, read_refusal}
 
--- a document that is refused for its classes
-classes_stopped_here : (held : Option Files) (document certificate : List ℕ) (doc : Document) (v : Vec ℕ Global) (input : Input) (stop : Stop) →
-    IfSome held (λ files. ReadsDocumentAt document files (Ok doc)) → IfSome held (λ files. ReadsFile proof_limit files certificate (Ok v)) →
-    IfSome held (λ files. HoldsDocument document files doc → ReadsFiles Judging [] document files (Ok input)) → CountsClasses document input.net input.doc.policies (Err stop) →
-    Answers IsJudging (IsCheckRefusal document certificate) (IsChecked document certificate) held (Err stop)
-classes_stopped_here None document certificate doc v input (stops.Refused r) told read input_is counts = tt
-classes_stopped_here (Some files) document certificate doc v input (stops.Refused r) told read input_is counts =
-    inr (inr (inr (record {
-      held = read.0;
-      refused = inr (record { doc = input.doc; net = input.net; input = input_is told; count = counts.0; many = counts.1; told = counts.2 });
-    })))
-classes_stopped_here held document certificate doc v input stops.Memory told read input_is counts = tt
-classes_stopped_here held document certificate doc v input stops.Failed told read input_is counts = tt
+-- what is answered for a text where the document is held
+abbrev pub IsGiven : List ℕ → List ℕ → Document → Option Files → Result Done Stop → Type 0
+IsGiven document text doc held result = IfSome held (λ files. HoldsDocument document files doc → Gives (RefusesInput document files) (IsTextChecked document text files) result)
 
-pub classes_stopped : (held one two : Option Files) → one ≡ held → two ≡ one → (document certificate : List ℕ) (doc : Document) (v : Vec ℕ Global) (input : Input) (stop : Stop) →
-    IfSome held (λ files. ReadsDocumentAt document files (Ok doc)) → IfSome one (λ files. ReadsFile proof_limit files certificate (Ok v)) →
-    IfSome two (λ files. HoldsDocument document files doc → ReadsFiles Judging [] document files (Ok input)) → CountsClasses document input.net input.doc.policies (Err stop) →
-    Answers IsJudging (IsCheckRefusal document certificate) (IsChecked document certificate) held (Err stop)
-classes_stopped held one two first second document certificate doc v input stop told read input_is =
-    let P : Option Files → Type 0 = λ o. IfSome o (λ files. ReadsFile proof_limit files certificate (Ok v)) in
-    let Q : Option Files → Type 0 = λ o. IfSome o (λ files. HoldsDocument document files doc → ReadsFiles Judging [] document files (Ok input)) in
-    classes_stopped_here held document certificate doc v input stop told (subst P first read) (subst Q (second ∙ first) input_is)
+-- the router files gave this
+abbrev pub ReadInput : List ℕ → Document → Option Files → Input → Type 0
+ReadInput document doc held input = IfSome held (λ files. HoldsDocument document files doc → ReadsFiles Judging [] document files (Ok input))
+
+-- a document that is refused for its classes
+pub classes_stopped : (held : Option Files) (document text : List ℕ) (doc : Document) (input : Input) (stop : Stop) → ReadInput document doc held input
+    → CountsClasses document input.net input.doc.policies (Err stop) → IsGiven document text doc held (Err stop)
+classes_stopped None document text doc input stop told counts = tt
+classes_stopped (Some files) document text doc input (stops.Refused r) told counts = λ is.
+    inr (record { doc = input.doc; net = input.net; input = told is; count = counts.0; many = counts.1; told = counts.2 })
+classes_stopped (Some files) document text doc input stops.Memory told counts = λ is. tt
+classes_stopped (Some files) document text doc input stops.Failed told counts = λ is. tt
 
 -- the judgement where nothing is refused
-judged_here : (held : Option Files) (document certificate slice : List ℕ) (doc : Document) (v : Vec ℕ Global) (input : Input) (judgement : Judgement) (done : Done) →
-    IfSome held (λ files. ReadsDocumentAt document files (Ok doc)) → IfSome held (λ files. ReadsFile proof_limit files certificate (Ok v)) →
-    IfSome held (λ files. HoldsDocument document files doc → ReadsFiles Judging [] document files (Ok input)) → IsFit input → HasFewClasses input.net input.doc.policies → slice ≡ v.items →
-    IsOutcome input.net input.doc.policies 1 1 (answers input.net input.doc [] start (lines slice)) judgement → (judgement ≡ Accepted) ↔ IsReport input.net input.doc slice →
-    done.text ≡ judgement_text (judgement_of judgement) → done.status ≡ judgement_status (judgement_of judgement) → IsJudging done → Answers IsJudging (IsCheckRefusal document certificate) (IsChecked document certificate) held (Ok done)
-judged_here None document certificate slice doc v input judgement done told read files fit classes whole is accepted text status own = (own, tt)
-judged_here (Some files) document certificate slice doc v input judgement done told read input_is fit classes whole is accepted text status own =
-    let bytes : slice ≡ bytes_at files certificate = whole ∙ read.1 in (
-      own,
-      record {
-        doc = input.doc;
-        net = input.net;
-        input = input_is told;
-        valid = fit.valid;
-        held = read.0;
-        classes = classes;
-        outcome = judgement;
-        outcome_is = subst (λ l. IsOutcome input.net input.doc.policies 1 1 (answers input.net input.doc [] start (lines l)) judgement) bytes is;
-        accepted = subst (λ l. (judgement ≡ Accepted) ↔ IsReport input.net input.doc l) bytes accepted;
-        text = text;
-        writes = own.writes;
-        status = status;
-      },
-    )
+pub judged : (held : Option Files) (document text : List ℕ) (doc : Document) (input : Input) (judgement : Judgement) (done : Done) → ReadInput document doc held input
+    → IsFit input → HasFewClasses input.net input.doc.policies
+    → IsOutcome input.net input.doc.policies 1 1 (answers input.net input.doc [] start (lines text)) judgement → (judgement ≡ Accepted) ↔ IsReport input.net input.doc text
+    → done.text ≡ judgement_text (judgement_of judgement) → done.status ≡ judgement_status (judgement_of judgement) → IsJudging done → IsGiven document text doc held (Ok done)
+judged None document text doc input judgement done told fit classes is accepted text_is status own = tt
+judged (Some files) document text doc input judgement done told fit classes is accepted text_is status own = λ held. record {
+  doc = input.doc;
+  net = input.net;
+  input = told held;
+  valid = fit.valid;
+  classes = classes;
+  outcome = judgement;
+  outcome_is = is;
+  accepted = accepted;
+  text_is = text_is;
+  writes = own.writes;
+  status = status;
+}
 
-pub judged : (held one two : Option Files) → one ≡ held → two ≡ one → (document certificate slice : List ℕ) (doc : Document) (v : Vec ℕ Global) (input : Input) (judgement : Judgement) (done : Done) →
-    IfSome held (λ files. ReadsDocumentAt document files (Ok doc)) → IfSome one (λ files. ReadsFile proof_limit files certificate (Ok v)) →
-    IfSome two (λ files. HoldsDocument document files doc → ReadsFiles Judging [] document files (Ok input)) → IsFit input → HasFewClasses input.net input.doc.policies → slice ≡ v.items →
-    IsOutcome input.net input.doc.policies 1 1 (answers input.net input.doc [] start (lines slice)) judgement → (judgement ≡ Accepted) ↔ IsReport input.net input.doc slice →
-    done.text ≡ judgement_text (judgement_of judgement) → done.status ≡ judgement_status (judgement_of judgement) → IsJudging done → Answers IsJudging (IsCheckRefusal document certificate) (IsChecked document certificate) held (Ok done)
-judged held one two first second document certificate slice doc v input judgement done told read input_is =
-    let P : Option Files → Type 0 = λ o. IfSome o (λ files. ReadsFile proof_limit files certificate (Ok v)) in
-    let Q : Option Files → Type 0 = λ o. IfSome o (λ files. HoldsDocument document files doc → ReadsFiles Judging [] document files (Ok input)) in
-    judged_here held document certificate slice doc v input judgement done told (subst P first read) (subst Q (second ∙ first) input_is)
+-- a certificate that is held is judged as its text is
+pub as_checked : (document certificate : List ℕ) (files : Files) (done : Done) → read_refusal proof_limit files certificate ≡ None
+    → IsTextChecked document (bytes_at files certificate) files done → IsChecked document certificate files done
+as_checked document certificate files done held checked = record {
+  doc = checked.doc;
+  net = checked.net;
+  input = checked.input;
+  valid = checked.valid;
+  held = held;
+  classes = checked.classes;
+  outcome = checked.outcome;
+  outcome_is = checked.outcome_is;
+  accepted = checked.accepted;
+  text = checked.text_is;
+  writes = checked.writes;
+  status = checked.status;
+}
 
 -- of accepted, rejected and refused only one is said
 refused_none : (o : Option FileRefusal) (r : FileRefusal) → o ≡ None → o ≡ Some r → ⊥

@@ -1,4 +1,4 @@
--- The command `check DOC CERT`.
+-- The command `check DOC CERT` for a certificate that is a report.
 use Rattle.std.specs.Prelude.{◌≡◌, ◌↔◌, ◌⊎◌, ℕ, List, [], None, Some}
 use Rattle.std.specs.List.{AllZip}
 use Rattle.arc_outside.specs.Files.{Files}
@@ -29,10 +29,14 @@ pub record RefusesCertificate (document certificate : List ℕ) (files : Files) 
   pub document_is : HoldsDocument document files doc
   pub refused : read_refusal proof_limit files certificate ≡ Some r
 
--- the certificate is held, and the router files, their network or its classes are refused
+-- the router files, their network or its classes are refused
+abbrev pub RefusesInput : List ℕ → Files → FileRefusal → Type 0
+RefusesInput document files r = IsFilesRefusal Judging [] document files r ⊎ RefusesClasses Judging document files r
+
+-- and the certificate is held
 pub record RefusesBehind (document certificate : List ℕ) (files : Files) (r : FileRefusal) : Type 0 where
   pub held : read_refusal proof_limit files certificate ≡ None
-  pub refused : IsFilesRefusal Judging [] document files r ⊎ RefusesClasses Judging document files r
+  pub refused : RefusesInput document files r
 
 -- The first refusal: of the document; of the certificate's file; of the router files and their network; or that there are
 -- too many classes.
@@ -45,6 +49,21 @@ IsCheckRefusal document certificate files r =
 abbrev pub judgement_of : Outcome → Judgement
 judgement_of Accepted = judgements.Accepted
 judgement_of (Rejected fault) = judgements.Rejected fault.line fault.kind
+
+-- The judgement of a text over the network of the document and its files: that it is accepted, or the first line that is rejected. It is
+-- accepted exactly where it is a report of right verdicts on the document's policies.
+pub record IsTextChecked (document text : List ℕ) (files : Files) (done : Done) : Type 0 where
+  pub doc : Document
+  pub net : Network
+  pub input : HoldsInput Judging [] document files doc net
+  pub valid : IsValid net
+  pub classes : HasFewClasses net doc.policies
+  pub outcome : Outcome
+  pub outcome_is : IsOutcome net doc.policies 1 1 (answers net doc [] start (lines text)) outcome
+  pub accepted : (outcome ≡ Accepted) ↔ IsReport net doc text
+  pub text_is : done.text ≡ judgement_text (judgement_of outcome)
+  pub writes : done.writes ≡ []
+  pub status : done.status ≡ judgement_status (judgement_of outcome)
 
 -- The judgement of the certificate over the network of the document and its files: that it is accepted, or the first line
 -- that is rejected. It is accepted exactly where it is a report of right verdicts on the document's policies.

@@ -1,6 +1,6 @@
 //! The commands that judge a network as its files give it: `verify` judges each policy of a document and reports the
-//! verdicts, `trace` follows packets with some links down, and `check` judges such a report again. Each has a spec file with
-//! its first refusal, its answer, and what its status tells.
+//! verdicts, `trace` follows packets with some links down, and `check_text` judges such a report again, for the command `check`. Each
+//! has a spec file with its first refusal, its answer, and what its status tells.
 #![tactic(auto)]
 
 mod checking;
@@ -8,6 +8,6 @@ pub mod laws;
 mod tracing;
 mod verifying;
 
-pub use checking::check;
+pub use checking::{check_text, judgement_of};
 pub use tracing::trace;
 pub use verifying::verify;

@@ -1,4 +1,4 @@
-//! Certificates of two links side by side, and what `check` answers.
+//! Certificates of two links side by side, of reports and of repairs, and what `check` answers.
 
 use super::File;
 use super::documents::{AND, CLOSE, DOUBLE, REACH_1_TO_2, REACH_2_TO_2};
@@ -17,7 +17,7 @@ pub const JUDGED: [File; 3] = [
 // A certificate, the text that is put and the status.
 type Certificate = (&'static [u8], &'static [u8], u8);
 
-pub const CERTIFICATES: [Certificate; 16] = [
+pub const CERTIFICATES: [Certificate; 20] = [
     // the report of `verify`, with and without the end of its last line
     (
         b"arc-report 1\n1 reach yes 2\npath 1\npath 2\n2 reach no 2\ncut 1 2\nside r1\nend\n",
@@ -90,4 +90,25 @@ pub const CERTIFICATES: [Certificate; 16] = [
         1,
     ),
     (b"arc-report 1", b"rejected 2 no-end\n", 1),
+    // a repair without edits where a policy is not met, one that names a price for them, and claims that nothing shows
+    (
+        b"arc-repair 1\nanswer repaired 0 32\n1 reach yes 2\npath 1\npath 2\n2 reach no 2\ncut 1 2\nside r1\nlog\nend\n",
+        b"rejected 6 not-yes\n",
+        1,
+    ),
+    (
+        b"arc-repair 1\nanswer repaired 1 32\n1 reach yes 2\n",
+        b"rejected 2 price\n",
+        1,
+    ),
+    (
+        b"arc-repair 1\nanswer none 0\nlog\nend\n",
+        b"rejected 4 not-refuted\n",
+        1,
+    ),
+    (
+        b"arc-repair 1\nanswer budget 5 32\nlog\nend\n",
+        b"rejected 2 no-claim\n",
+        1,
+    ),
 ];

@@ -1,0 +1,2 @@
+pub mod RepairChecks
+pub mod Tells

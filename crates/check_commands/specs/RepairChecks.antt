@@ -1,0 +1,114 @@
+-- The command `check DOC CERT`: the first line of the certificate decides whether it is judged as that of a repair or as a report.
+use Rattle.std.specs.Prelude.{◌≡◌, ◌↔◌, ◌⊎◌, ℕ, ◌≤◌, Bool, true, false, List, [], ◌∷◌, None, Some, length, bytes_eq, codes}
+use Rattle.arc_base.specs.declared.refusal.Kind.TheVariants.{Limit}
+use Rattle.arc_base.specs.declared.refusal.LimitKind.{LimitKind}
+use Rattle.arc_outside.specs.Files.{Files}
+use Rattle.cnf_types.specs.Words.{lines}
+use Rattle.net_model.specs.declared.policies.Document.{Document}
+use Rattle.net_model.specs.declared.rows.Network.{Network}
+use Rattle.net_model.specs.Validity.{IsValid}
+use Rattle.edit_space.specs.declared.claims.Claim.{Claim}
+use Rattle.edit_space.specs.declared.edit_kinds.Edit.{Edit}
+use Rattle.edit_space.specs.declared.edit_kinds.EditFault.{EditFault}
+use Rattle.edit_space.specs.declared.edit_kinds.EditFault.TheVariants as faults
+use Rattle.edit_space.specs.EditLists.{AreEdits, HasFewClasses, NamesLimit}
+use Rattle.report_check.specs.declared.outcome.Outcome.{Outcome}
+use Rattle.report_check.specs.declared.outcome.Outcome.TheVariants.{Accepted}
+use Rattle.arc_repair.specs.Claims.{IsTrueClaim}
+use Rattle.repair_check.specs.Certifies.{Certifies, IsCertified, IsCounted, IsCountFault, text_answers}
+use Rattle.repair_check.specs.Outcomes.{IsOutcome}
+use Rattle.run_files.specs.declared.limits.Limits.TheVariants.{Editing}
+use Rattle.run_files.specs.declared.outcome.Done.{Done}
+use Rattle.run_files.specs.declared.outcome.FileRefusal.{FileRefusal}
+use Rattle.run_files.specs.declared.outcome.Stop.{Stop}
+use Rattle.run_files.specs.declared.outcome.Stop.TheVariants as stops
+use Rattle.run_files.specs.Judgements.{judgement_status, judgement_text}
+use Rattle.run_files.specs.Limits.{document_limit, proof_limit}
+use Rattle.run_files.specs.Refusals.{bytes_at, read_refusal, refusal_of}
+use Rattle.run_inputs.specs.Inputs.{HoldsInput, IsFilesRefusal, RefusesDocument}
+use Rattle.verify_commands.specs.Checks.{IsChecked, RefusesBehind, RefusesCertificate, judgement_of}
+
+-- whether a text is judged as the certificate of a repair: its first line is the head of one
+abbrev pub begins_repair : List (List ℕ) → Bool
+begins_repair [] = false
+begins_repair (line ∷ ls) = bytes_eq line (codes "arc-repair 1")
+
+-- the certificate is held, and begins so
+pub record HoldsRepair (certificate : List ℕ) (files : Files) : Type 0 where
+  pub held : read_refusal proof_limit files certificate ≡ None
+  pub begins : begins_repair (lines (bytes_at files certificate)) ≡ true
+
+-- a count passes its limit: of classes or of edits; or, with few of both, of the variables or literals of the formula for the
+-- bound of the answer
+pub record PassesCounted (net : Network) (doc : Document) (text : List ℕ) (fault : EditFault) : Type 0 where
+  pub list : List Edit
+  pub edits : AreEdits net doc list
+  pub classes : HasFewClasses net doc
+  pub few : length list ≤ 8192
+  pub formula : IsCountFault net doc list (text_answers net doc list text) fault
+
+abbrev pub IsTextFault : Network → Document → List ℕ → EditFault → Type 0
+IsTextFault net doc text fault = NamesLimit net doc fault ⊎ PassesCounted net doc text fault
+
+-- the network of the document and its files passes a limit
+pub record RefusesCounts (document text : List ℕ) (files : Files) (r : FileRefusal) : Type 0 where
+  pub doc : Document
+  pub net : Network
+  pub input : HoldsInput Editing [] document files doc net
+  pub valid : IsValid net
+  pub what : LimitKind
+  pub count : ℕ
+  pub fault : IsTextFault net doc text (faults.Limit what count)
+  pub told : r ≡ refusal_of document 0 (Limit what count)
+
+-- the router files or their network are refused, within the limits of a repair; or a count
+abbrev pub IsTextRefusal : List ℕ → List ℕ → Files → FileRefusal → Type 0
+IsTextRefusal document text files r = IsFilesRefusal Editing [] document files r ⊎ RefusesCounts document text files r
+
+-- what is refused behind the certificate's file
+abbrev pub RefusesJudging : List ℕ → List ℕ → Files → FileRefusal → Type 0
+RefusesJudging document certificate files r =
+    (HoldsRepair certificate files × IsTextRefusal document (bytes_at files certificate) files r) ⊎
+    ((¬ HoldsRepair certificate files) × RefusesBehind document certificate files r)
+
+-- The judgement of the text over the network: that it is accepted, or the first line that is rejected. It is accepted exactly where
+-- it is the certificate of a claim, and each such claim is true.
+pub record IsJudged (net : Network) (doc : Document) (text : List ℕ) (outcome : Outcome) : Type 0 where
+  pub list : List Edit
+  pub edits : AreEdits net doc list
+  pub classes : HasFewClasses net doc
+  pub few : length list ≤ 8192
+  pub counted : IsCounted net doc list (text_answers net doc list text)
+  pub outcome_is : IsOutcome net doc list text outcome
+  pub accepted : (outcome ≡ Accepted) ↔ IsCertified net doc list text
+  pub are_true : (claim : Claim) → Certifies net doc list claim text → IsTrueClaim net doc list claim
+
+-- the text is judged so over the network of the document and its files, and that is told
+pub record IsRepairJudged (document text : List ℕ) (files : Files) (done : Done) : Type 0 where
+  pub doc : Document
+  pub net : Network
+  pub input : HoldsInput Editing [] document files doc net
+  pub valid : IsValid net
+  pub outcome : Outcome
+  pub judged : IsJudged net doc text outcome
+  pub text_is : done.text ≡ judgement_text (judgement_of outcome)
+  pub writes : done.writes ≡ []
+  pub status : done.status ≡ judgement_status (judgement_of outcome)
+
+-- The first refusal: of the document; of the certificate's file; or, by its first line, of the router files, their network or a count
+-- within the limits of a repair, or of these as for a report.
+abbrev pub IsAnyRefusal : List ℕ → List ℕ → Files → FileRefusal → Type 0
+IsAnyRefusal document certificate files r =
+    (read_refusal document_limit files document ≡ Some r) ⊎
+    (RefusesDocument document files r ⊎ (RefusesCertificate document certificate files r ⊎ RefusesJudging document certificate files r))
+
+-- the judgement of a certificate of either form
+abbrev pub IsAnyChecked : List ℕ → List ℕ → Files → Done → Type 0
+IsAnyChecked document certificate files done =
+    (HoldsRepair certificate files × IsRepairJudged document (bytes_at files certificate) files done) ⊎
+    ((¬ HoldsRepair certificate files) × IsChecked document certificate files done)
+
+-- a count that passes its limit refuses the document, but for want of memory
+abbrev pub StopsFor : List ℕ → EditFault → Stop → Type 0
+StopsFor document (faults.Limit what count) stop = (stop ≡ stops.Memory) ⊎ (stop ≡ stops.Refused (refusal_of document 0 (Limit what count)))
+StopsFor document faults.Memory stop = stop ≡ stops.Memory
