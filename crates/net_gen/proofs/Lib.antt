@@ -1,2 +1,2 @@
-mod Counted
-mod Lengths
+pub mod Counted
+pub mod Lengths

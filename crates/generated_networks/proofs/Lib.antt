@@ -1,0 +1,16 @@
+pub mod Items
+pub mod Texts
+pub mod LineReads
+pub mod AddedLines
+pub mod Files
+pub mod Settings
+pub mod Plans
+pub mod Once
+pub mod Said
+pub mod Faces
+pub mod FilesClear
+pub mod LinksClear
+pub mod SubnetsClear
+pub mod EndpointsClear
+pub mod Planned
+pub mod Networks
