@@ -1,27 +1,27 @@
 -- `clap` refuses the whole line exactly where it matches no command, but for the values' readers, and else it finds what the words give.
-use Rattle.std.proofs.Common.{◌≡◌, ◌∙◌, ◌&&◌, ◌||◌, Bool, true, false, List, [], ◌∷◌, map, Option, Some, None, refl, sym, ap, subst, if◌then◌else◌, codes, option_and_then, find}
+use Rattle.std.proofs.Common.{◌≡◌, ◌&&◌, ◌||◌, Bool, true, false, List, [], ◌∷◌, map, Option, Some, None, refl, sym, ap, subst, if◌then◌else◌, codes, option_and_then, find}
 use Rattle.std.specs.List.{AllByRecursion, list_all}
 use Rattle.std.specs.Str.{bytes_eq, is_utf8}
 use Rattle.std.proofs.lemmas.Bool.{and_parts}
 use Rattle.std.proofs.lemmas.Slice.Eq.{bytes_eq-Decides}
 use Rattle.clap.specs.Walk.{Row, Text, answers_to, nothing_held, rows_after}
-use Rattle.clap.specs.Simple.{Shape, label_of, subcommand_of}
+use Rattle.clap.specs.Simple.{label_of, subcommand_of}
 use Rattle.clap.specs.Kinds.{Kinds, or_else}
 use Rattle.clap.specs.Faults.{fault_of, level_fault}
-use Rattle.command_words.specs.Commands.{Form, command_among, command_in, forms, meaning}
+use Rattle.command_words.specs.Commands.{Form, command_in, forms, meaning}
 use Rattle.command_words.specs.Grammar.{app}
 use Rattle.command_words.specs.Matched.{matched_command}
 use Rattle.command_words.specs.declared.commands.Command.{Command}
-use Rattle.command_words.proofs.Entering.{commands, entered_fault_is, entered_rows, form_label, form_rules, form_shape, names, no_word, unnamed}
+use Rattle.command_words.proofs.Entering.{entered_fault_is, entered_rows, form_label, form_rules, form_shape, no_word, unnamed}
 use Rattle.command_words.proofs.FormLaws.{Answer, Law}
-use Rattle.command_words.proofs.OptionForms.{apply_law, repair_law, solve_law, trace_law}
+use Rattle.command_words.proofs.OptionForms.{apply_law, generate_law, repair_law, solve_law, trace_law}
 use Rattle.command_words.proofs.PlainForms.{check_law, lrat_law, nodes_law, prefers_law, recheck_law, verify_law}
 use Rattle.command_words.proofs.Rules.{first_empty}
 
 -- ---- the table
 
 all_laws : AllByRecursion Law forms
-all_laws = (verify_law, (trace_law, (repair_law, (check_law, (apply_law, (solve_law, (lrat_law, (nodes_law, (prefers_law, (recheck_law, tt))))))))))
+all_laws = (verify_law, (trace_law, (repair_law, (check_law, (apply_law, (solve_law, (lrat_law, (generate_law, (nodes_law, (prefers_law, (recheck_law, tt)))))))))))
 
 abbrev is_called : Text → Form → Bool
 is_called word form = bytes_eq form.name word

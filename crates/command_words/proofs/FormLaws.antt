@@ -1,8 +1,7 @@
 -- `clap` refuses the words exactly where they match no command, but for the values' readers, and else it finds what they give.
-use Rattle.std.proofs.Common.{◌≡◌, ℕ, ◌==◌, ◌&&◌, ◌≤◌, ◌++◌, Bool, true, false, List, [], ◌∷◌, length, Option, Some, None, refl, slice_get, if◌then◌else◌, codes, option_and_then, arith, is_some}
+use Rattle.std.proofs.Common.{◌≡◌, ℕ, ◌==◌, ◌&&◌, ◌≤◌, ◌++◌, Bool, true, false, List, [], length, Option, Some, None, refl, slice_get, if◌then◌else◌, option_and_then, is_some}
 use Rattle.std.specs.List.{list_all}
 use Rattle.std.specs.Str.{is_utf8}
-use Rattle.std.proofs.lemmas.Bool.{eqb-true}
 use Rattle.clap.specs.Walk.{Row, Rule, Text, first_of, nothing_held, rows_after}
 use Rattle.clap.specs.Faults.{level_fault}
 use Rattle.clap.specs.Kinds.{Kinds}

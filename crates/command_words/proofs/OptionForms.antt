@@ -1,10 +1,10 @@
 -- What `clap` makes of the words of the commands with options.
-use Rattle.std.proofs.Common.{◌≡◌, ◌==◌, ◌&&◌, Bool, true, false, List, [], ◌∷◌, length, Option, Some, None, refl, slice_get, codes, arith, is_some}
+use Rattle.std.proofs.Common.{◌≡◌, ◌==◌, ◌&&◌, true, false, List, [], ◌∷◌, length, Option, Some, None, refl, slice_get, codes, arith, is_some}
 use Rattle.std.proofs.lemmas.Bool.{eqb-true}
 use Rattle.clap.specs.Walk.{Text, first_of, rows_after}
 use Rattle.command_words.specs.Words.{positionals, value_of}
-use Rattle.command_words.specs.Commands.{trace_form, repair_form, apply_form, solve_form, trace_by, repair_by, apply_by, solve_by}
-use Rattle.command_words.specs.Matched.{matched_trace, matched_repair, matched_apply, matched_solve}
+use Rattle.command_words.specs.Commands.{trace_form, repair_form, apply_form, solve_form, generate_form, trace_by, repair_by, apply_by, solve_by, generate_by}
+use Rattle.command_words.specs.Matched.{matched_trace, matched_repair, matched_apply, matched_solve, matched_generate}
 use Rattle.command_words.proofs.Entering.{form_rules}
 use Rattle.command_words.proofs.FormLaws.{FormFits, FormUnfit, Law, form_answers}
 
@@ -116,3 +116,28 @@ solve_unfit given apart = go (positionals given) (value_of (codes "proof") given
 
 pub solve_law : Law solve_form
 solve_law = form_answers solve_form matched_solve refl (omega arith) solve_fits solve_unfit
+
+generate_fits : FormFits generate_form matched_generate
+generate_fits words given same v = go (positionals given) (value_of (codes "proof") given) same (v.places 0 (codes "number") refl) (v.named (codes "proof") refl)
+  where
+    go : (ps : List Text) (o0 : Option Text) → ((is_some o0 && true) && (length ps == 1)) ≡ true
+        → first_of (codes "number") (rows_after (form_rules generate_form) [] words) ≡ slice_get ps 0 → first_of (codes "proof") (rows_after (form_rules generate_form) [] words) ≡ o0
+        → matched_generate (rows_after (form_rules generate_form) [] words) ≡ generate_by o0 ps
+    go ps None e p0 n0 = absurd (cc)
+    go [] (Some s0) e p0 n0 = absurd (cc)
+    go (wa ∷ []) (Some s0) e p0 n0 = rw (p0, n0) refl
+    go (wa ∷ wb ∷ xs) (Some s0) e p0 n0 =
+        let count : length (wa ∷ wb ∷ xs) ≡ 1 = eqb-true _ _ e in
+        absurd (omega arith)
+
+generate_unfit : FormUnfit generate_form
+generate_unfit given apart = go (positionals given) (value_of (codes "proof") given) apart
+  where
+    go : (ps : List Text) (o0 : Option Text) → ((is_some o0 && true) && (length ps == 1)) ≡ false → generate_by o0 ps ≡ None
+    go ps None e = refl
+    go [] (Some s0) e = refl
+    go (wa ∷ []) (Some s0) e = absurd (cc)
+    go (wa ∷ wb ∷ xs) (Some s0) e = refl
+
+pub generate_law : Law generate_form
+generate_law = form_answers generate_form matched_generate refl (omega arith) generate_fits generate_unfit

@@ -1,8 +1,8 @@
 -- What `clap` makes of the words of the commands without options.
-use Rattle.std.proofs.Common.{◌≡◌, ◌==◌, ◌&&◌, Bool, true, false, List, [], ◌∷◌, length, Option, Some, None, refl, slice_get, codes, arith, is_some}
+use Rattle.std.proofs.Common.{◌≡◌, ◌==◌, ◌&&◌, true, false, List, [], ◌∷◌, length, None, refl, slice_get, codes, arith}
 use Rattle.std.proofs.lemmas.Bool.{eqb-true}
 use Rattle.clap.specs.Walk.{Text, first_of, rows_after}
-use Rattle.command_words.specs.Words.{positionals, value_of}
+use Rattle.command_words.specs.Words.{positionals}
 use Rattle.command_words.specs.Commands.{verify_form, check_form, lrat_form, nodes_form, prefers_form, recheck_form, verify_by, check_by, lrat_by, nodes_by, prefers_by, recheck_by}
 use Rattle.command_words.specs.Matched.{matched_verify, matched_check, matched_lrat, matched_nodes, matched_prefers, matched_recheck}
 use Rattle.command_words.proofs.Entering.{form_rules}

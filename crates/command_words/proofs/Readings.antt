@@ -1,12 +1,12 @@
 -- The rules of a command are of its positional words and options.
-use Rattle.std.proofs.Common.{◌≡◌, ◌∙◌, ◌⊎◌, inl, inr, ◌&&◌, not, ℕ, zero, suc, ◌+◌, ◌≤◌, ◌==◌, ◌||◌, Bool, true, false, List, [], ◌∷◌, ◌++◌, map, length, Option, Some, None, refl, sym, ap, ap₂, subst, slice_get, cond, if◌then◌else◌, arith, fold, find, option_map, is_some}
+use Rattle.std.proofs.Common.{◌≡◌, ◌∙◌, ◌&&◌, not, ℕ, zero, suc, ◌+◌, ◌≤◌, ◌==◌, ◌||◌, Bool, true, false, List, [], ◌∷◌, ◌++◌, map, length, Some, None, refl, sym, ap, subst, slice_get, cond, if◌then◌else◌, arith, fold, find, option_map, is_some}
 use Rattle.std.specs.List.{list_all, list_any}
 use Rattle.std.specs.Option.{option_map_or}
 use Rattle.std.specs.Str.{bytes_eq}
 use Rattle.std.proofs.lemmas.Bool.{and_parts, ne_eqb}
 use Rattle.std.proofs.lemmas.Slice.Eq.{bytes_eq-Decides}
 use Rattle.clap.specs.Takes.{is_given}
-use Rattle.clap.specs.Walk.{Row, Rule, Text, arg_by_id, arg_by_index, arg_by_long, arg_by_short, has_long, has_row, has_short, with_default}
+use Rattle.clap.specs.Walk.{Row, Rule, Text, arg_by_id, arg_by_index, has_long, has_row, has_short, with_default}
 use Rattle.clap.specs.Faults.{default_fault, defaults_fault}
 use Rattle.command_words.specs.Words.{names_one}
 use Rattle.command_words.proofs.Rules.{Reads, both_empty, option_rule, place_rule}

@@ -5,7 +5,7 @@ use Rattle.std.specs.Str.{bytes_eq, is_utf8}
 use Rattle.std.proofs.lemmas.Bool.{and_parts, leb-true}
 use Rattle.arc_base.specs.PrefixText.{prefix_of}
 use Rattle.cnf_types.specs.Numbers.{is_natural, value_after}
-use Rattle.command_words.specs.Commands.{Form, HasLimit, apply_by, bound_by, check_by, command_among, command_in, command_of, conflicts_by, down_by, forms, lrat_by, meaning, nodes_by, prefers_by, recheck_by, repair_by, solve_by, trace_by, verify_by}
+use Rattle.command_words.specs.Commands.{Form, HasLimit, apply_by, bound_by, check_by, command_among, command_in, command_of, conflicts_by, down_by, forms, generate_by, lrat_by, meaning, nodes_by, prefers_by, recheck_by, repair_by, solve_by, trace_by, verify_by}
 use Rattle.command_words.specs.Values.{number_within, repair_of, router_names, solve_of, trace_of}
 use Rattle.command_words.specs.Words.{Given, arguments_of, positionals, value_of}
 use Rattle.command_words.specs.declared.commands.Command.{Command}
@@ -109,6 +109,12 @@ then_within least most word by h = go (number_within least most word) (in_range 
     go None within = tt
     go (Some n) within = h n within
 
+generate_limited : (proof : Option (List ℕ)) (words : List (List ℕ)) → Limited (generate_by proof words)
+generate_limited None words = tt
+generate_limited (Some proof) [] = tt
+generate_limited (Some proof) (n ∷ []) = then_within 6 40 n _ (λ number within. within)
+generate_limited (Some proof) (n ∷ x ∷ words) = tt
+
 nodes_limited : (words : List (List ℕ)) → Limited (nodes_by words)
 nodes_limited [] = tt
 nodes_limited (d ∷ []) = tt
@@ -152,7 +158,10 @@ all_limited = (
             λ given. solve_limited (value_of (codes "proof") given) (value_of (codes "conflicts") given) (positionals given),
             (
               λ given. lrat_limited (positionals given),
-              (λ given. nodes_limited (positionals given), (λ given. prefers_limited (positionals given), (λ given. recheck_limited (positionals given), tt))),
+              (
+                λ given. generate_limited (value_of (codes "proof") given) (positionals given),
+                (λ given. nodes_limited (positionals given), (λ given. prefers_limited (positionals given), (λ given. recheck_limited (positionals given), tt))),
+              ),
             ),
           ),
         ),

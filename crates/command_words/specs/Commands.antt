@@ -2,10 +2,10 @@
 use Rattle.std.specs.Prelude.{ℕ, ◌≤◌, List, [], ◌∷◌, ◌++◌, Option, Some, None, find, option_and_then, bytes_eq, codes, if◌then◌else◌}
 use Rattle.std.specs.List.{list_all}
 use Rattle.std.specs.Str.{is_utf8}
-use Rattle.command_words.specs.Values.{conflict_limit, link_numbers, nodes_of, prefers_of, price_bound, repair_of, solve_of, trace_of}
+use Rattle.command_words.specs.Values.{conflict_limit, generate_of, link_numbers, nodes_of, prefers_of, price_bound, repair_of, solve_of, trace_of}
 use Rattle.command_words.specs.Words.{Given, arguments_of, positionals, value_of}
 use Rattle.command_words.specs.declared.commands.Command.{Command}
-use Rattle.command_words.specs.declared.commands.Command.TheVariants.{Verify, Trace, Repair, Check, Apply, Solve, Lrat, Nodes, Prefers, Recheck}
+use Rattle.command_words.specs.declared.commands.Command.TheVariants.{Verify, Trace, Repair, Check, Apply, Solve, Lrat, Generate, Nodes, Prefers, Recheck}
 
 -- `verify DOC`
 abbrev pub verify_by : List (List ℕ) → Option Command
@@ -56,6 +56,11 @@ repair_by _ _ price conflicts _ = None
 abbrev pub apply_by : Option (List ℕ) → List (List ℕ) → Option Command
 apply_by (Some suffix) (document ∷ edits ∷ []) = Some (Apply (record { document = document; edits = edits; suffix = suffix }))
 apply_by _ _ = None
+
+-- `generate N --proof NAME`
+abbrev pub generate_by : Option (List ℕ) → List (List ℕ) → Option Command
+generate_by (Some proof) (count ∷ []) = generate_of count proof
+generate_by _ _ = None
 
 -- `nodes DOC FROM TO K`
 abbrev pub nodes_by : List (List ℕ) → Option Command
@@ -132,6 +137,15 @@ solve_form = record {
 abbrev pub lrat_form : Form
 lrat_form = plain (codes "lrat") (codes "formula" ∷ codes "proof" ∷ []) lrat_by
 
+abbrev pub generate_form : Form
+generate_form = record {
+  name = codes "generate";
+  places = codes "number" ∷ [];
+  needed = codes "proof" ∷ [];
+  optional = [];
+  means = λ given. generate_by (value_of (codes "proof") given) (positionals given);
+}
+
 abbrev pub nodes_form : Form
 nodes_form = plain (codes "nodes") (codes "document" ∷ codes "from" ∷ codes "to" ∷ codes "failures" ∷ []) nodes_by
 
@@ -144,7 +158,7 @@ recheck_form = plain (codes "recheck") (codes "document" ∷ codes "report" ∷ 
 -- all of them
 abbrev pub forms : List Form
 forms =
-    verify_form ∷ trace_form ∷ repair_form ∷ check_form ∷ apply_form ∷ solve_form ∷ lrat_form ∷ nodes_form ∷ prefers_form ∷ recheck_form ∷ []
+    verify_form ∷ trace_form ∷ repair_form ∷ check_form ∷ apply_form ∷ solve_form ∷ lrat_form ∷ generate_form ∷ nodes_form ∷ prefers_form ∷ recheck_form ∷ []
 
 -- what the words that follow a command's name mean
 abbrev pub meaning : Form → List (List ℕ) → Option Command
@@ -162,8 +176,8 @@ command_in (name ∷ words) = command_among forms name words
 abbrev pub command_of : List (List ℕ) → Option Command
 command_of words = if list_all is_utf8 words then command_in words else None
 
--- the numbers of a command are in their ranges: a search may learn from 1 to 200,000 conflicts, a repair cost at most 512, and
--- at most 16 routers fail
+-- the numbers of a command are in their ranges: a search may learn from 1 to 200,000 conflicts, a repair cost at most 512, a
+-- network that is made has 6 to 40 routers, and at most 16 routers fail
 abbrev pub HasLimit : Command → Type 0
 HasLimit (Verify document) = Unit {0}
 HasLimit (Trace words) = Unit {0}
@@ -172,6 +186,7 @@ HasLimit (Check document certificate) = Unit {0}
 HasLimit (Apply words) = Unit {0}
 HasLimit (Solve words) = (1 ≤ words.conflicts) × (words.conflicts ≤ 200000)
 HasLimit (Lrat formula proof) = Unit {0}
+HasLimit (Generate words) = (6 ≤ words.number) × (words.number ≤ 40)
 HasLimit (Nodes words) = words.failures ≤ 16
 HasLimit (Prefers words) = Unit {0}
 HasLimit (Recheck words) = Unit {0}

@@ -41,6 +41,9 @@ repair = with_rule (with_rule repair_names (option (codes "max-price"))) (option
 abbrev pub apply : App
 apply = with_rule (with_rule (with_rule (new_app (codes "apply")) (positional (codes "document"))) (positional (codes "edits"))) (required_option (codes "out"))
 
+abbrev pub generate : App
+generate = with_rule (with_rule (new_app (codes "generate")) (positional (codes "number"))) (required_option (codes "proof"))
+
 abbrev pub nodes : App
 nodes = with_rule (with_rule (with_rule (with_rule (new_app (codes "nodes")) (positional (codes "document"))) (positional (codes "from")))
     (positional (codes "to"))) (positional (codes "failures"))
@@ -68,7 +71,7 @@ abbrev pub with_first : App
 with_first = with_subcommand (with_subcommand (with_subcommand (with_subcommand bare verify.top) trace.top) repair.top) check.top
 
 abbrev pub with_middle : App
-with_middle = with_subcommand (with_subcommand (with_subcommand with_first apply.top) solve.top) lrat.top
+with_middle = with_subcommand (with_subcommand (with_subcommand (with_subcommand with_first apply.top) solve.top) lrat.top) generate.top
 
 abbrev pub app : App
 app = with_subcommand (with_subcommand (with_subcommand with_middle nodes.top) prefers.top) recheck.top

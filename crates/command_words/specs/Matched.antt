@@ -2,7 +2,7 @@
 use Rattle.std.specs.Prelude.{List, Option, Some, None, option_and_then, bytes_eq, codes, if◌then◌else◌}
 use Rattle.clap.specs.Walk.{Row, Text, first_of}
 use Rattle.command_words.specs.Commands.{bound_by, conflicts_by, down_by}
-use Rattle.command_words.specs.Values.{nodes_of, prefers_of, repair_of, solve_of, trace_of}
+use Rattle.command_words.specs.Values.{generate_of, nodes_of, prefers_of, repair_of, solve_of, trace_of}
 use Rattle.command_words.specs.declared.commands.Command.{Command}
 use Rattle.command_words.specs.declared.commands.Command.TheVariants.{Apply, Check, Lrat, Recheck, Verify}
 
@@ -54,6 +54,12 @@ matched_apply rows = do
   suffix ← first_of (codes "out") rows
   Some (Apply (record { document = document; edits = edits; suffix = suffix }))
 
+abbrev pub matched_generate : List Row → Option Command
+matched_generate rows = do
+  count ← first_of (codes "number") rows
+  proof ← first_of (codes "proof") rows
+  generate_of count proof
+
 abbrev pub matched_nodes : List Row → Option Command
 matched_nodes rows = do
   document ← first_of (codes "document") rows
@@ -76,15 +82,16 @@ matched_recheck rows = do
   report ← first_of (codes "report") rows
   Some (Recheck (record { document = document; report = report }))
 
--- the commands that edit files, and those that judge beyond failed links
+-- the commands that edit files or make some, and those that judge beyond failed links
 abbrev pub matched_later : Text → List Row → Option Command
 matched_later name rows =
     if bytes_eq name (codes "repair") then matched_repair rows
     else (if bytes_eq name (codes "apply") then matched_apply rows
+    else (if bytes_eq name (codes "generate") then matched_generate rows
     else (if bytes_eq name (codes "nodes") then matched_nodes rows
     else (if bytes_eq name (codes "prefers") then matched_prefers rows
     else (if bytes_eq name (codes "recheck") then matched_recheck rows
-    else None))))
+    else None)))))
 
 abbrev pub matched_named : Text → List Row → Option Command
 matched_named name rows =

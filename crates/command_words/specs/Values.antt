@@ -5,7 +5,7 @@ use Rattle.std.specs.List.{list_all, slice_split}
 use Rattle.arc_base.specs.PrefixText.{prefix_of}
 use Rattle.cnf_types.specs.Numbers.{natural}
 use Rattle.command_words.specs.declared.commands.Command.{Command}
-use Rattle.command_words.specs.declared.commands.Command.TheVariants.{Nodes, Prefers, Repair, Solve, Trace}
+use Rattle.command_words.specs.declared.commands.Command.TheVariants.{Generate, Nodes, Prefers, Repair, Solve, Trace}
 
 -- what a value that is there is read as
 infixl 10 ◌>>=◌
@@ -83,6 +83,16 @@ repair_of document suffix proof highest limit = do
   bound ← highest
   conflicts ← limit
   Some (Repair (record { document = document; suffix = suffix; proof = proof; bound = bound; conflicts = conflicts }))
+
+-- how many routers a network that is made has
+abbrev pub router_count : List ℕ → Option ℕ
+router_count word = number_within 6 40 word
+
+-- a network to make: how many routers it has, and the name of the certificate of its repair
+abbrev pub generate_of : List ℕ → List ℕ → Option Command
+generate_of count proof = do
+  number ← router_count count
+  Some (Generate (record { number = number; proof = proof }))
 
 -- a judgement under failed routers: the document, the two prefixes, and how many may fail
 abbrev pub nodes_of : List ℕ → List ℕ → List ℕ → List ℕ → Option Command

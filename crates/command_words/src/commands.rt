@@ -17,6 +17,8 @@ pub enum Command {
     Solve(SolveWords),
     /// `lrat CNF PROOF`: the formula and the proof.
     Lrat(Name, Name),
+    /// `generate N --proof NAME`.
+    Generate(GenerateWords),
     /// `nodes DOC FROM TO K`.
     Nodes(NodesWords),
     /// `prefers DOC FROM TO ROUTERS`.
@@ -67,6 +69,15 @@ pub struct ApplyWords {
     pub edits: Name,
     /// What follows the name of a router file in the name of its changed copy.
     pub suffix: Name,
+}
+
+/// The words of a network to make.
+#[derive(Drop)]
+pub struct GenerateWords {
+    /// How many routers it has, from 6 to 40.
+    pub number: u32,
+    /// The name that the certificate of its repair is written under.
+    pub proof: Name,
 }
 
 /// The words of a judgement under failed routers.

@@ -6,6 +6,7 @@ ghost use Rattle.command_words.specs.Grammar.{
   app,
   apply,
   check,
+  generate,
   lrat,
   nodes,
   option,
@@ -144,6 +145,14 @@ fn apply<'a>(alloc: Global) -> Result<Command<'a>, Memory>
     )
 }
 
+fn generate<'a>(alloc: Global) -> Result<Command<'a>, Memory>
+    ensures { IfOk result (λ command. app_of command ≡ generate) }
+{
+    let number = positional(alloc, "number");
+    let proof = required_option(alloc, "proof");
+    Ok(Command::new(alloc, "generate").arg(number)?.arg(proof)?)
+}
+
 fn nodes<'a>(alloc: Global) -> Result<Command<'a>, Memory>
     ensures { IfOk result (λ command. app_of command ≡ nodes) }
 {
@@ -207,7 +216,8 @@ fn with_middle<'a>(alloc: Global) -> Result<Command<'a>, Memory>
     let arcv = with_first(alloc)?
         .subcommand(apply(alloc)?)?
         .subcommand(solve(alloc)?)?
-        .subcommand(lrat(alloc)?)?;
+        .subcommand(lrat(alloc)?)?
+        .subcommand(generate(alloc)?)?;
     Ok(arcv)
 }
 

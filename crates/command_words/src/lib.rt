@@ -12,8 +12,8 @@ mod router_lists;
 mod values;
 
 pub use commands::{
-    ApplyWords, Command, NodesWords, PrefersWords, RecheckWords, RepairWords, SolveWords,
-    TraceWords,
+    ApplyWords, Command, GenerateWords, NodesWords, PrefersWords, RecheckWords, RepairWords,
+    SolveWords, TraceWords,
 };
 pub use reading::read_words;
 

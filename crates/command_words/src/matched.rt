@@ -6,6 +6,7 @@ ghost use Rattle.command_words.specs.Matched.{
   matched_apply,
   matched_check,
   matched_command,
+  matched_generate,
   matched_later,
   matched_lrat,
   matched_named,
@@ -20,7 +21,9 @@ ghost use Rattle.command_words.specs.Matched.{
 
 use crate::commands::{ApplyWords, Command, RecheckWords, SolveWords};
 use crate::router_lists::prefers_of;
-use crate::values::{conflict_limit, link_numbers, nodes_of, price_bound, repair_of, trace_of};
+use crate::values::{
+    conflict_limit, generate_of, link_numbers, nodes_of, price_bound, repair_of, trace_of,
+};
 use arc_base::{List, Memory, Name};
 use clap::ArgMatches;
 use std::alloc::Global;
@@ -181,6 +184,18 @@ fn apply(alloc: Global, found: &ArgMatches<'_>) -> Result<Option<Command>, Memor
     })))
 }
 
+fn generate(alloc: Global, found: &ArgMatches<'_>) -> Result<Option<Command>, Memory>
+    ensures { IfOk result (λ command. command ≡ matched_generate (rows_of (found_of found.now))) }
+{
+    let Some(number) = value(found, "number") else {
+        return Ok(None);
+    };
+    let Some(proof) = value(found, "proof") else {
+        return Ok(None);
+    };
+    generate_of(alloc, number.as_bytes(), proof.as_bytes())
+}
+
 fn nodes(alloc: Global, found: &ArgMatches<'_>) -> Result<Option<Command>, Memory>
     ensures { IfOk result (λ command. command ≡ matched_nodes (rows_of (found_of found.now))) }
 {
@@ -243,7 +258,7 @@ fn recheck(alloc: Global, found: &ArgMatches<'_>) -> Result<Option<Command>, Mem
     Ok(Some(Command::Recheck(RecheckWords { document, report })))
 }
 
-// The command of this name, where it edits files or judges beyond failed links.
+// The command of this name, where it edits files or makes some, or judges beyond failed links.
 fn later(alloc: Global, name: &str, found: &ArgMatches<'_>) -> Result<Option<Command>, Memory>
     ensures { IfOk result (λ command. command ≡ matched_later name.now (rows_of (found_of found.now))) }
 {
@@ -252,6 +267,9 @@ fn later(alloc: Global, name: &str, found: &ArgMatches<'_>) -> Result<Option<Com
     }
     if name == "apply" {
         return apply(alloc, found);
+    }
+    if name == "generate" {
+        return generate(alloc, found);
     }
     if name == "nodes" {
         return nodes(alloc, found);

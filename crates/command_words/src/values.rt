@@ -3,16 +3,18 @@ ghost use Rattle.std.specs.Prelude.{◌≡◌, ◌≤◌, ◌<◌, ◌^◌, IfOk
 ghost use Rattle.command_words.specs.Values.{
   conflict_limit,
   failed_routers,
+  generate_of,
   link_number,
   link_numbers,
   nodes_of,
   number_within,
   price_bound,
   repair_of,
+  router_count,
   trace_of,
 };
 
-use crate::commands::{Command, NodesWords, RepairWords, TraceWords};
+use crate::commands::{Command, GenerateWords, NodesWords, RepairWords, TraceWords};
 use arc_base::{List, Memory, Name, cut_at, read_prefix};
 use cnf_types::natural;
 use std::alloc::Global;
@@ -132,6 +134,27 @@ pub fn repair_of(
         proof: Name::make(alloc, proof)?,
         bound,
         conflicts,
+    })))
+}
+
+// How many routers a network that is made has.
+fn router_count(word: &[u8]) -> Option<u32>
+    ensures { result ≡ router_count word.now }
+{
+    let number = number_within(word, 6, 40)?;
+    Some(number as u32)
+}
+
+/// The network to make with these words, if the count is one.
+pub fn generate_of(alloc: Global, count: &[u8], proof: &[u8]) -> Result<Option<Command>, Memory>
+    ensures { IfOk result (λ command. command ≡ generate_of count.now proof.now) }
+{
+    let Some(number) = router_count(count) else {
+        return Ok(None);
+    };
+    Ok(Some(Command::Generate(GenerateWords {
+        number,
+        proof: Name::make(alloc, proof)?,
     })))
 }
 

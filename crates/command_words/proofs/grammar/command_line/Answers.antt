@@ -1,4 +1,4 @@
-use Rattle.std.proofs.Common.{◌≡◌, ◌∙◌, true, ap, ap₂, refl}
+use Rattle.std.proofs.Common.{◌∙◌, ap, ap₂, refl}
 use Rattle.clap.specs.Simple.{App, with_subcommand}
 use Rattle.command_words.specs.Grammar.{nodes, prefers, recheck}
 use Rattle.command_words.proofs.PlainCommands.{local}

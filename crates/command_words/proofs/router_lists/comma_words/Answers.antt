@@ -1,4 +1,4 @@
-use Rattle.std.proofs.Common.{◌≡◌, ◌∙◌, ◌++◌, ◌∷◌, [], append_assoc, sym, ap, ap₂, List, ℕ}
+use Rattle.std.proofs.Common.{◌≡◌, ◌∙◌, ◌++◌, ◌∷◌, [], append_assoc, sym, ap, List, ℕ}
 use Rattle.command_words.specs.Values.{comma_words}
 use Rattle.command_words.proofs.LinkNumbers.{word_cut, whole_word, rest_shorter}
 use Rattle.command_words.proofs.router_lists.comma_words.Goals as goal
