@@ -1,21 +1,18 @@
 -- Lines put one after another at the end of others, with their commands.
-use Rattle.std.proofs.Common.{◌≡◌, ◌≢◌, ℕ, suc, ◌+◌, ◌<◌, ◌≤◌, inl, inr, true, false, None, Option, List, [], ◌∷◌, ◌++◌, length, take, drop, map, fold, refl, sym, ap, subst, ◌∙◌, arith, IsTrue, Contains, nat_le, append_assoc, ◌⊎◌}
+use Rattle.std.proofs.Common.{◌≡◌, ◌≢◌, ℕ, ◌+◌, ◌<◌, ◌≤◌, inl, inr, true, None, List, [], ◌∷◌, ◌++◌, length, take, drop, map, fold, refl, sym, ap, subst, ◌∙◌, arith, Contains, nat_le, ◌⊎◌}
 use Rattle.std.specs.List.{AllByRecursion}
 use Rattle.std.proofs.lemmas.Bool.{cond-true, le-leb}
 use Rattle.std.proofs.lemmas.List.{take_all, drop_all, length_push}
 use Rattle.arc_base.proofs.Items as items
 use Rattle.ios_lines.specs.Changes.{inserted, moved, MayStandAt}
-use Rattle.ios_lines.specs.Kinds.{after_line, kind, kind_at, closes, kind_within, opened, open_banner, IsInner, IsHead, IsSingle, IsClosing}
+use Rattle.ios_lines.specs.Kinds.{after_line, kind, kind_within, opened, open_banner, IsHead, IsSingle, IsClosing}
 use Rattle.ios_lines.specs.Reading.{block_after}
 use Rattle.ios_lines.specs.Views.{open_from, open_block}
-use Rattle.ios_lines.specs.Words.{words}
 use Rattle.ios_lines.proofs.ChangedTexts.{inner-may, top-may}
 use Rattle.ios_lines.proofs.Insertions.{moved-low}
 use Rattle.ios_words.specs.declared.commands.Command.{Command}
 use Rattle.ios_words.specs.declared.kinds.BlockKind.{BlockKind}
 use Rattle.ios_words.specs.declared.kinds.BlockKind.TheVariants as kinds
-use Rattle.ios_words.specs.Commands.{is_extended_block, ReadBy}
-use Rattle.ios_words.specs.Language.{rows}
 use Rattle.ios_config.specs.declared.commands.FileCommand.{FileCommand}
 use Rattle.ios_config.specs.Commands.{opened_by}
 use Rattle.ios_config.specs.Inserted.{Opened, command_at, command_moved, with_command}

@@ -1,6 +1,6 @@
 -- The policies of a generated network go between two of its host networks.
-use Rattle.std.proofs.Common.{◌≡◌, ◌≢◌, ℕ, zero, suc, ◌+◌, ◌-◌, ◌*◌, ◌/◌, ◌%◌, ◌^◌, ◌<◌, ◌≤◌, ◌==◌, ◌⊎◌, inl, inr, Bool, true, false, Option, Some, None, List, [], ◌∷◌, ◌++◌, length, take, map, refl, sym, ap, subst, ◌∙◌, arith, ⊎_elim, Contains, if◌then◌else◌, IsTrue}
-use Rattle.std.specs.Prelude.{slice_get, IsSomeAnd, option_map}
+use Rattle.std.proofs.Common.{◌≡◌, ◌≢◌, ℕ, ◌+◌, ◌-◌, ◌*◌, ◌/◌, ◌^◌, ◌<◌, ◌≤◌, ◌==◌, inl, inr, true, Option, Some, None, List, [], length, take, map, sym, ap, subst, ◌∙◌, arith, Contains}
+use Rattle.std.specs.Prelude.{slice_get, IsSomeAnd}
 use Rattle.std.specs.List.{AllZip}
 use Rattle.std.proofs.lemmas.Bool.{eqb-true, eq-eqb}
 use Rattle.std.proofs.lemmas.List.{take_all, length-map}
@@ -8,36 +8,33 @@ use Rattle.std.proofs.lemmas.List.FromFn.{length-range_with_len}
 use Rattle.std.proofs.lemmas.List.Elements.{Contains-append_cases}
 use Rattle.std.proofs.lemmas.Option.{same_Some}
 use Rattle.arc_base.specs.declared.prefix.Prefix.{Prefix}
-use Rattle.arc_base.specs.Addresses.{IsInside, Holds}
+use Rattle.arc_base.specs.Addresses.{IsInside}
 use Rattle.arc_base.proofs.Items as items
-use Rattle.net_doc.specs.declared.fault.Refusal.{Refusal}
 use Rattle.net_model.specs.declared.policies.Document.{Document}
 use Rattle.net_model.specs.declared.policies.LinkText.{LinkText}
-use Rattle.net_model.specs.declared.policies.Policy.{Policy}
 use Rattle.net_model.specs.declared.rows.FaceRow.{FaceRow}
 use Rattle.net_model.specs.declared.rows.Network.{Network}
 use Rattle.net_model.specs.declared.rows.Protocol.{Protocol}
 use Rattle.net_model.specs.declared.rows.Protocol.TheVariants.{Ospf}
 use Rattle.net_model.specs.Forwarding.{IsHostOf}
-use Rattle.ios_config.specs.declared.settings.FaceText.{FaceText}
-use Rattle.net_build.specs.Addressing.{HasEndpoints, RefusesEndpoint}
+use Rattle.net_build.specs.Addressing.{RefusesEndpoint}
 use Rattle.net_build.specs.Lists.{packet_list_key}
 use Rattle.net_build.specs.Reasons.{IsClear}
 use Rattle.net_build.specs.Rows.{IsFaceRow, AreRows, IsSubnet, host_address_of}
 use Rattle.net_build.specs.Settings.{IsPrefixAt}
 use Rattle.net_build.specs.Sites.{Site, sites, full_name, ends_of}
 use Rattle.net_build.proofs.Distinct.{at_Contains, Contains-at}
-use Rattle.net_gen.specs.Plans.{numbers, link_count, next, a_router, b_router, has_end, port}
+use Rattle.net_gen.specs.Plans.{numbers, link_count, a_router, b_router, port}
 use Rattle.net_gen.specs.RouterFiles.{host_name, face_name}
 use Rattle.net_gen.specs.Generated.{link_text, IsHostNetwork, Asked, asked, asked_around, Asks}
-use Rattle.generated_networks.proofs.Faces.{end_name, site_at, has-site}
+use Rattle.generated_networks.proofs.Faces.{site_at, has-site}
 use Rattle.generated_networks.proofs.FilesClear.{protocol-is}
 use Rattle.generated_networks.proofs.Items.{zip-left, zip-right}
 use Rattle.generated_networks.proofs.LineReads.{address}
 use Rattle.generated_networks.proofs.LinksClear.{all_links, block_of, prefix-facts, earlier-end}
 use Rattle.generated_networks.proofs.Once.{face-name-one}
 use Rattle.generated_networks.proofs.Plans.{in-range, port-some, port-few, a-has, b-has, next-is, count-few}
-use Rattle.generated_networks.proofs.Said.{links_of, settings_of, all_settings}
+use Rattle.generated_networks.proofs.Said.{links_of, all_settings}
 use Rattle.generated_networks.proofs.Settings.{host_face, link_faces}
 
 -- what is asked goes between two routers

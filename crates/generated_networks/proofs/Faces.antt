@@ -1,6 +1,6 @@
 -- The interfaces of a generated network, by their routers and links.
-use Rattle.std.proofs.Common.{◌≡◌, ◌≢◌, ℕ, zero, suc, ◌+◌, ◌-◌, ◌*◌, ◌^◌, ◌<◌, ◌≤◌, ◌⊎◌, inl, inr, Bool, true, false, Some, None, List, [], ◌∷◌, ◌++◌, length, get_or, filter, map, refl, sym, ap, subst, ◌∙◌, arith, ⊎_elim, Contains, IsTrue}
-use Rattle.std.specs.Prelude.{slice_get, All, AllPairs}
+use Rattle.std.proofs.Common.{◌≡◌, ℕ, zero, suc, ◌+◌, ◌-◌, ◌<◌, ◌≤◌, ◌⊎◌, inl, inr, true, Some, List, [], ◌∷◌, length, get_or, map, refl, sym, ap, subst, ◌∙◌, arith, Contains}
+use Rattle.std.specs.Prelude.{slice_get, AllPairs}
 use Rattle.std.specs.List.{AllByRecursion, range_with_len, enumerate_from}
 use Rattle.std.proofs.lemmas.List.Elements.{All-from_recursion, All-map}
 use Rattle.std.proofs.lemmas.List.FromFn.{get_or-range_with_len, length-range_with_len}
@@ -14,12 +14,12 @@ use Rattle.net_build.specs.Sites as build
 use Rattle.net_build.proofs.Distinct.{one_place}
 use Rattle.net_build.proofs.NamesDiffer.{full_names_distinct}
 use Rattle.net_build.proofs.SiteFacts.{site_of, name_at_site}
-use Rattle.net_gen.specs.Plans.{numbers, link_count, a_router, has_end, port}
+use Rattle.net_gen.specs.Plans.{numbers, link_count, has_end, port}
 use Rattle.net_gen.specs.RouterFiles.{host_name, face_name}
 use Rattle.generated_networks.proofs.Once.{PortsRise, IsAbove, all-above, face-name-one, host-name-one, ports-rise}
 use Rattle.generated_networks.proofs.Plans.{in-range, range-has, mapped-at, port-some, port-few, port-one, count-few}
 use Rattle.generated_networks.proofs.Said.{links_of, settings_of, all_settings}
-use Rattle.generated_networks.proofs.Settings.{face_at, host_face, link_face, link_faces, settings}
+use Rattle.generated_networks.proofs.Settings.{host_face, link_face, link_faces}
 
 -- the interface is the router's over a link that ends there
 pub record IsOverLink (n router : ℕ) (face : FaceText) : Type 0 where

@@ -1,11 +1,10 @@
 -- No file of a generated network is refused for what it says by itself.
-use Rattle.std.proofs.Common.{◌≡◌, ◌≢◌, ℕ, zero, suc, ◌+◌, ◌*◌, ◌<◌, ◌≤◌, ◌⊎◌, inl, inr, Bool, true, false, Option, Some, None, List, [], ◌∷◌, ◌++◌, length, take, map, refl, sym, ap, subst, ◌∙◌, arith, ⊎_elim, Contains}
+use Rattle.std.proofs.Common.{◌≡◌, ℕ, zero, suc, ◌+◌, ◌*◌, ◌<◌, ◌≤◌, inl, inr, true, false, Option, Some, None, List, [], ◌∷◌, length, take, map, refl, sym, ap, subst, ◌∙◌, arith, Contains}
 use Rattle.std.specs.Prelude.{slice_get, Any, IsSomeAnd}
-use Rattle.std.specs.List.{filter_map, range_with_len}
+use Rattle.std.specs.List.{filter_map}
 use Rattle.std.proofs.lemmas.List.FromFn.{take-map-range_with_len}
 use Rattle.std.proofs.lemmas.Option.{none-some}
 use Rattle.arc_base.proofs.Items as items
-use Rattle.net_doc.specs.declared.fault.Refusal.{Refusal}
 use Rattle.net_model.specs.declared.policies.Document.{Document}
 use Rattle.net_model.specs.declared.rows.Protocol.TheVariants.{Ospf}
 use Rattle.ios_words.specs.declared.commands.Command.{Command}
@@ -15,18 +14,17 @@ use Rattle.ios_config.specs.declared.settings.Config.{Config}
 use Rattle.ios_config.specs.declared.settings.FaceText.{FaceText}
 use Rattle.ios_config.specs.declared.settings.Given.{Given}
 use Rattle.net_build.specs.Limits.{RefusesInterfaces, RefusesEntries, long_list}
-use Rattle.net_build.specs.Linking.{RefusesDownLinks, TypesDiffer, HasTypeAt, RefusesTypes, RefusesAdjacencyForm}
-use Rattle.net_build.specs.Neighbors.{names_peer}
+use Rattle.net_build.specs.Linking.{RefusesDownLinks, HasTypeAt, RefusesAdjacencyForm}
 use Rattle.net_build.specs.Peers.{RefusesNeighbor, RefusesNetwork, NamesOther, IsKnown, TellsUnconnected}
 use Rattle.net_build.specs.Reasons.{IsClear}
-use Rattle.net_build.specs.Routers.{NamesRouter, HasNoOwnName, RefusesHostname, protocol_of, NamesOtherProcess, RunsOther, MixesProcesses, HasNoOwnProcess, RefusesProtocol, face_area, areas_of, IsFirstArea, IsOther, NamesOtherArea, RefusesTwoAreas, Repeats, as_of, RefusesSameAs}
+use Rattle.net_build.specs.Routers.{NamesRouter, HasNoOwnName, RefusesHostname, protocol_of, NamesOtherProcess, RunsOther, MixesProcesses, HasNoOwnProcess, RefusesProtocol, face_area, areas_of, IsOther, NamesOtherArea, RefusesTwoAreas, Repeats, as_of, RefusesSameAs}
 use Rattle.net_build.specs.Linking.{router_id_of}
 use Rattle.net_build.specs.Settings.{lines_of, is_point_to_point}
 use Rattle.net_build.specs.Sites.{Site, sites}
 use Rattle.net_build.specs.Stops.{RefusesListStopsSession}
 use Rattle.net_gen.specs.Plans.{numbers, link_count, has_end, port}
 use Rattle.net_gen.specs.RouterFiles.{host_name, face_name}
-use Rattle.generated_networks.proofs.Faces.{IsOverLink, HasSite, site-is}
+use Rattle.generated_networks.proofs.Faces.{HasSite, site-is}
 use Rattle.generated_networks.proofs.Files.{end_of}
 use Rattle.generated_networks.proofs.LineReads.{address}
 use Rattle.generated_networks.proofs.Items.{of-any, only}
@@ -158,7 +156,7 @@ network-clear n r refused =
     let clash : commands.Covers whole 0 ≡ commands.Tells tells.1.0 = tells.1.1 in
     absurd cc
 
-length-faces : (n router at : ℕ) (links : List ℕ) → length (link_faces n router at links) ≡ length links
+pub length-faces : (n router at : ℕ) (links : List ℕ) → length (link_faces n router at links) ≡ length links
 length-faces n router at [] = refl
 length-faces n router at (link ∷ links) = ap suc (length-faces n router (at + 3) links)
 

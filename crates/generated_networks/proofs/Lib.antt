@@ -14,3 +14,6 @@ pub mod SubnetsClear
 pub mod EndpointsClear
 pub mod Planned
 pub mod Networks
+pub mod Degrees
+pub mod FewClasses
+pub mod FewEdits

@@ -1,5 +1,5 @@
 -- The lines of a generated file, each read as its command.
-use Rattle.std.proofs.Common.{◌≡◌, ℕ, ◌+◌, ◌*◌, ◌^◌, ◌<◌, ◌≤◌, ◌-◌, zero, suc, nat_le, Bool, true, false, if◌then◌else◌, List, [], ◌∷◌, ◌++◌, length, get_or, codes, decimal, Some, Ok, Result, refl, sym, ap, subst, ◌∙◌, arith, append-nil, append_assoc}
+use Rattle.std.proofs.Common.{◌≡◌, ℕ, ◌+◌, ◌*◌, ◌^◌, ◌<◌, zero, suc, nat_le, Bool, true, false, if◌then◌else◌, List, [], ◌∷◌, ◌++◌, length, get_or, codes, decimal, Some, Ok, Result, refl, sym, ap, subst, ◌∙◌, arith, append-nil, append_assoc}
 use Rattle.std.proofs.lemmas.Bool.{and_parts}
 use Rattle.std.proofs.lemmas.List.FromFn.{get_or-range_with_len}
 use Rattle.std.specs.Fmt.{digits}
@@ -9,7 +9,7 @@ use Rattle.std.specs.Net.Grammar.{IsDotted}
 use Rattle.std.specs.Net.Text.{dotted_text}
 use Rattle.arc_base.specs.PrefixText.{address_of, address_text}
 use Rattle.arc_base.proofs.AddressTexts.{address_text-dotted, address_of-address_text, address_of-dotted}
-use Rattle.ios_lines.specs.Kinds.{IsInner, IsHead, IsSingle, IsClosing}
+use Rattle.ios_lines.specs.Kinds.{IsInner, IsHead, IsSingle}
 use Rattle.ios_lines.specs.Words.{words}
 use Rattle.ios_lines.specs.Written.{spaced, is_plain, ArePlain, IsWritten}
 use Rattle.ios_lines.proofs.WrittenLines.{indented-written, top-written, indented-inner, top-kinds}

@@ -1,22 +1,20 @@
 -- The links of a generated network join interfaces that are there and free, and their two ends have one subnet.
-use Rattle.std.proofs.Common.{◌≡◌, ◌≢◌, ℕ, zero, suc, ◌+◌, ◌-◌, ◌*◌, ◌/◌, ◌%◌, ◌^◌, ◌<◌, ◌≤◌, ◌==◌, ◌⊎◌, inl, inr, Bool, true, false, Option, Some, None, List, [], ◌∷◌, ◌++◌, length, take, map, refl, sym, ap, subst, ◌∙◌, arith, ⊎_elim, Contains, if◌then◌else◌, IsTrue}
-use Rattle.std.specs.Prelude.{slice_get, Any, IsSomeAnd, IfSome, option_map}
-use Rattle.std.specs.List.{AllZip, flat_map, range_with_len}
+use Rattle.std.proofs.Common.{◌≡◌, ◌≢◌, ℕ, ◌+◌, ◌-◌, ◌/◌, ◌%◌, ◌^◌, ◌<◌, ◌≤◌, ◌==◌, ◌⊎◌, inl, inr, true, Option, Some, None, List, [], ◌∷◌, take, map, refl, sym, ap, subst, ◌∙◌, arith, Contains}
+use Rattle.std.specs.Prelude.{slice_get, IsSomeAnd, IfSome, option_map}
+use Rattle.std.specs.List.{flat_map}
 use Rattle.std.proofs.lemmas.Bool.{cond-true, cond-false, eq-eqb, ne_eqb, eqb-true}
 use Rattle.std.proofs.lemmas.List.FromFn.{take-map-range_with_len}
-use Rattle.std.proofs.lemmas.Option.{none-some, same_Some}
+use Rattle.std.proofs.lemmas.Option.{same_Some}
 use Rattle.arc_base.specs.declared.prefix.Prefix.{Prefix}
-use Rattle.arc_base.specs.Addresses.{Holds, holds}
 use Rattle.arc_base.proofs.Items as items
 use Rattle.arc_base.proofs.SamePrefix.{same_prefix}
-use Rattle.net_doc.specs.declared.fault.Refusal.{Refusal}
 use Rattle.net_model.specs.declared.policies.Document.{Document}
 use Rattle.net_model.specs.declared.policies.LinkText.{LinkText}
 use Rattle.net_model.specs.declared.rows.FaceRow.{FaceRow}
 use Rattle.net_model.specs.declared.rows.LinkRow.{LinkRow}
 use Rattle.net_model.specs.declared.rows.Network.{Network}
 use Rattle.ios_config.specs.declared.settings.FaceText.{FaceText}
-use Rattle.net_build.specs.Linking.{JoinsFree, RefusesLinkFace, HaveOneSubnet, FitsSubnets, RefusesLinkSubnets}
+use Rattle.net_build.specs.Linking.{JoinsFree, RefusesLinkFace, FitsSubnets, RefusesLinkSubnets}
 use Rattle.net_build.specs.Lists.{packet_list_key}
 use Rattle.net_build.specs.Reasons.{IsClear}
 use Rattle.net_build.specs.Rows.{IsFaceRow, IsLinkRow, AreRows, IsSubnet}
@@ -24,16 +22,14 @@ use Rattle.net_build.specs.Settings.{address_of, IsPrefixAt}
 use Rattle.net_build.specs.Sites.{Site, sites, full_name, full_names, two_ends, ends_of}
 use Rattle.net_build.proofs.SiteFacts.{name_at_site}
 use Rattle.net_gen.specs.Plans.{numbers, link_count, a_router, b_router, has_end, port}
-use Rattle.net_gen.specs.RouterFiles.{host_name, face_name}
-use Rattle.net_gen.specs.Generated.{link_text, IsDocument}
-use Rattle.generated_networks.proofs.Faces.{HasSite, site-is, end_name, has-end-name, IsLinkSite, link-site}
+use Rattle.net_gen.specs.Generated.{link_text}
+use Rattle.generated_networks.proofs.Faces.{site-is, end_name, has-end-name, link-site}
 use Rattle.generated_networks.proofs.Files.{end_of}
 use Rattle.generated_networks.proofs.Items.{zip-left}
 use Rattle.generated_networks.proofs.LineReads.{address}
 use Rattle.generated_networks.proofs.Once.{face-name-one, host-name-one}
-use Rattle.generated_networks.proofs.Plans.{in-range, mapped-at, port-few, port-one, a-has, b-has, HasTwoEnds, two-ends, count-few}
+use Rattle.generated_networks.proofs.Plans.{in-range, mapped-at, port-few, port-one, a-has, b-has, two-ends, count-few}
 use Rattle.generated_networks.proofs.Said.{all_settings}
-use Rattle.generated_networks.proofs.Settings.{link_face}
 
 -- the document's links
 abbrev pub all_links : ℕ → List LinkText

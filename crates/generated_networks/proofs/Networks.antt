@@ -1,6 +1,5 @@
 -- The files of a generated network are refused for no reason, and their network has its plan.
-use Rattle.std.proofs.Common.{◌≡◌, ◌≢◌, ℕ, zero, suc, ◌+◌, ◌<◌, ◌≤◌, inl, inr, Bool, true, false, None, Some, List, [], ◌∷◌, ◌++◌, length, map, refl, sym, ap, subst, ◌∙◌, arith, ⊎_elim, Contains}
-use Rattle.std.specs.Prelude.{slice_get, Any}
+use Rattle.std.proofs.Common.{◌≡◌, ℕ, ◌≤◌, inl, inr, Some, List, [], ◌∷◌, length, map, refl, sym, ap, subst, ◌∙◌, arith, ⊎_elim, Contains}
 use Rattle.std.specs.List.{AllZip}
 use Rattle.std.proofs.lemmas.List.{length-map}
 use Rattle.std.proofs.lemmas.List.FromFn.{length-range_with_len}
@@ -10,16 +9,14 @@ use Rattle.net_doc.specs.declared.fault.Refusal.{Refusal}
 use Rattle.net_model.specs.declared.lists.PacketList.{PacketList}
 use Rattle.net_model.specs.declared.lists.RouteList.{RouteList}
 use Rattle.net_model.specs.declared.policies.Document.{Document}
-use Rattle.net_model.specs.declared.rows.Network.{Network}
 use Rattle.net_model.specs.declared.rows.RouterRow.{RouterRow}
 use Rattle.net_model.specs.declared.rows.Protocol.{Protocol}
 use Rattle.net_model.specs.declared.rows.Protocol.TheVariants.{Ospf}
 use Rattle.ios_config.specs.declared.settings.Config.{Config}
 use Rattle.net_build.specs.Lists.{IsPacketListRow, IsRouteListRow, packet_row_at, route_row_at, route_list_key}
-use Rattle.net_build.specs.Networks.{Says, IsFirstRefusalWithin, IsNetworkWithin}
+use Rattle.net_build.specs.Networks.{Says, IsFirstRefusalWithin}
 use Rattle.net_build.specs.Order.{Try, tries, RefusesWithin, IsFirstOf}
 use Rattle.net_build.specs.Order as order
-use Rattle.net_build.specs.Ordered.{AreInOrder}
 use Rattle.net_build.specs.Reasons.{IsClear, IsFirst}
 use Rattle.net_build.specs.Rows.{IsRouterRow, IsLinkRow, AreRows, AreSessions}
 use Rattle.net_build.specs.Sites.{full_names}

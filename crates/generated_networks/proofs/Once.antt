@@ -1,6 +1,6 @@
 -- Nothing stands twice in a generated file.
-use Rattle.std.proofs.Common.{◌≡◌, ◌≢◌, ℕ, zero, suc, ◌+◌, ◌*◌, ◌^◌, ◌<◌, ◌≤◌, ◌⊎◌, inl, inr, Bool, true, false, cond, Option, Some, None, List, [], ◌∷◌, ◌++◌, length, codes, decimal, filter, refl, sym, ap, subst, ◌∙◌, arith, ⊎_elim}
-use Rattle.std.specs.Prelude.{Any, AllPairs}
+use Rattle.std.proofs.Common.{◌≡◌, ◌≢◌, ℕ, zero, suc, ◌+◌, ◌*◌, ◌^◌, ◌<◌, ◌≤◌, true, false, Some, None, List, [], ◌∷◌, ◌++◌, length, codes, decimal, filter, refl, sym, subst, ◌∙◌, arith, ⊎_elim}
+use Rattle.std.specs.Prelude.{Any}
 use Rattle.std.specs.List.{AllByRecursion, range_with_len}
 use Rattle.std.proofs.lemmas.Bool.{cases_Bool, cond-true, cond-false}
 use Rattle.std.proofs.lemmas.Fmt.{decimal_injective}
@@ -16,7 +16,6 @@ use Rattle.ios_config.specs.Inserted.{command_at}
 use Rattle.ios_config.specs.Twice.{Stand, Interface, Ospf, stand_of, excluded, Clash, StandOnce}
 use Rattle.net_gen.specs.Plans.{numbers, link_count, has_end, port}
 use Rattle.net_gen.specs.RouterFiles.{host_name, face_name}
-use Rattle.generated_networks.proofs.AddedLines.{all-weaker}
 use Rattle.generated_networks.proofs.Files.{end_of, link_commands, last_commands, end_commands, name_command, host_commands, file_commands}
 use Rattle.generated_networks.proofs.Items.{only, none}
 use Rattle.generated_networks.proofs.LineReads.{address}
@@ -76,17 +75,19 @@ abbrev IsFree : ℕ → FileCommand → Type 0
 IsFree p d = ¬ Clash (commands.Interface (face_name p)) d.command
 
 last-free : (p end : ℕ) → AllByRecursion (IsFree p) (last_commands end)
-last-free p end =
-    (only-one (commands.Interface (face_name p)) (commands.RouterOspf 1) (Ospf 1) refl (λ (same : Some (Interface (face_name p)) ≡ Some (Ospf 1)). absurd cc),
-    (open-to (commands.Interface (face_name p)) (commands.Covers whole 0) refl, (open-to (commands.Interface (face_name p)) commands.Inert refl, tt)))
+last-free p end = (
+  only-one (commands.Interface (face_name p)) (commands.RouterOspf 1) (Ospf 1) refl (λ (same : Some (Interface (face_name p)) ≡ Some (Ospf 1)). absurd cc),
+  (open-to (commands.Interface (face_name p)) (commands.Covers whole 0) refl, (open-to (commands.Interface (face_name p)) commands.Inert refl, tt)),
+)
 
 links-free : (n router p at end : ℕ) (links : List ℕ) → p < 64 → AllByRecursion (IsAbove n router p) links → AllByRecursion (IsFree p) (link_commands n router at links ++ last_commands end)
 links-free n router p at end [] few above = last-free p end
 links-free n router p at end (link ∷ links) few above =
     let high = above.0.0 in
-    let small = above.0.1 in
-    (faces-apart (face_name p) (face_name (port n router link)) (λ same. let one = face-name-one p (port n router link) (omega arith) (omega arith) same in omega arith),
-    (open-to (commands.Interface (face_name p)) (commands.Address (address 0 link (end_of n router link)) 30) refl, links-free n router p (at + 3) end links few above.1))
+    let small = above.0.1 in (
+      faces-apart (face_name p) (face_name (port n router link)) (λ same. let one = face-name-one p (port n router link) (omega arith) (omega arith) same in omega arith),
+      (open-to (commands.Interface (face_name p)) (commands.Address (address 0 link (end_of n router link)) 30) refl, links-free n router p (at + 3) end links few above.1),
+    )
 
 abbrev Apart : FileCommand → FileCommand → Type 0
 Apart b c = ¬ Clash b.command c.command

@@ -1,6 +1,6 @@
 -- The links and the host networks of a generated network's files are those that its number describes.
-use Rattle.std.proofs.Common.{◌≡◌, ℕ, ◌+◌, ◌-◌, ◌*◌, ◌/◌, ◌%◌, ◌^◌, ◌<◌, ◌≤◌, ◌==◌, inl, inr, true, false, Option, Some, None, List, [], ◌∷◌, length, map, refl, sym, ap, subst, ◌∙◌, arith, Contains, IsTrue}
-use Rattle.std.specs.Prelude.{slice_get, Any, IsSomeAnd, option_map}
+use Rattle.std.proofs.Common.{◌≡◌, ℕ, ◌+◌, ◌-◌, ◌*◌, ◌/◌, ◌%◌, ◌^◌, ◌<◌, ◌≤◌, ◌==◌, inr, true, false, Option, Some, None, List, [], ◌∷◌, length, map, refl, sym, ap, subst, ◌∙◌, arith}
+use Rattle.std.specs.Prelude.{slice_get, IsSomeAnd, option_map}
 use Rattle.std.proofs.lemmas.Bool.{cond-true, cond-false, eq-eqb, ne_eqb}
 use Rattle.std.proofs.lemmas.Option.{none-some, same_Some, slice_get-map}
 use Rattle.arc_base.specs.declared.prefix.Prefix.{Prefix}
@@ -8,7 +8,6 @@ use Rattle.arc_base.specs.Addresses.{Holds}
 use Rattle.arc_base.proofs.Items as items
 use Rattle.net_model.specs.declared.policies.Document.{Document}
 use Rattle.net_model.specs.declared.policies.LinkText.{LinkText}
-use Rattle.net_model.specs.declared.rows.FaceRow.{FaceRow}
 use Rattle.net_model.specs.declared.rows.LinkRow.{LinkRow}
 use Rattle.net_model.specs.declared.rows.Network.{Network}
 use Rattle.net_model.specs.declared.rows.Protocol.{Protocol}
@@ -24,11 +23,10 @@ use Rattle.net_build.specs.Rows.{IsFaceRow, IsLinkRow, AreRows}
 use Rattle.net_build.specs.Settings.{address_of, CommandCovers, IsEnabled, IsPrefixAt, is_passive, is_up, lines_of}
 use Rattle.net_build.specs.Sites.{Site, sites, full_name, full_names, ends_of}
 use Rattle.net_gen.specs.Generated.{link_text, IsHostNetwork}
-use Rattle.net_gen.specs.Plans.{numbers, link_count, a_router, b_router, has_end, port}
-use Rattle.net_gen.specs.RouterFiles.{face_name}
+use Rattle.net_gen.specs.Plans.{link_count, a_router, b_router, has_end}
 use Rattle.generated_networks.specs.Plans.{IsEndAt, JoinsRouters, HasHostNetwork}
-use Rattle.generated_networks.proofs.EndpointsClear.{HostPlace, host-place}
-use Rattle.generated_networks.proofs.Faces.{HasSite, site-is, end_name, IsLinkSite, link-site, site_at}
+use Rattle.generated_networks.proofs.EndpointsClear.{host-place}
+use Rattle.generated_networks.proofs.Faces.{site-is, end_name, link-site, site_at}
 use Rattle.generated_networks.proofs.Files.{end_of}
 use Rattle.generated_networks.proofs.FilesClear.{protocol-is}
 use Rattle.generated_networks.proofs.Items.{any-of, zip-left, zip-right}

@@ -1,13 +1,13 @@
 -- Numbers of routers, links and interfaces: where links end, and how interfaces are numbered.
-use Rattle.std.proofs.Common.{◌≡◌, ◌≢◌, ℕ, zero, suc, ◌+◌, ◌-◌, ◌*◌, ◌/◌, ◌%◌, ◌<◌, ◌≤◌, ◌==◌, ◌||◌, ◌⊎◌, inl, inr, nat_le, Bool, true, false, cond, if◌then◌else◌, Some, List, [], ◌∷◌, ◌++◌, length, get_or, map, filter, refl, sym, ap, subst, ◌∙◌, arith, ⊎_elim, Contains, IsTrue}
+use Rattle.std.proofs.Common.{◌≡◌, ◌≢◌, ℕ, zero, suc, ◌+◌, ◌-◌, ◌*◌, ◌/◌, ◌%◌, ◌<◌, ◌≤◌, ◌==◌, ◌⊎◌, inl, inr, nat_le, Bool, true, false, Some, length, map, filter, refl, sym, ap, subst, ◌∙◌, arith, ⊎_elim, Contains}
 use Rattle.std.specs.Prelude.{slice_get}
-use Rattle.std.specs.List.{AllByRecursion, range_with_len}
-use Rattle.std.proofs.lemmas.Bool.{cases_lt, cases_eq, cases_Bool, cond-true, cond-false, eq-eqb, eqb-true, le-leb, lt-leb, or_cases, or_left, or_right, ne_eqb}
+use Rattle.std.specs.List.{range_with_len}
+use Rattle.std.proofs.lemmas.Bool.{cases_lt, cases_eq, cases_Bool, cond-true, cond-false, eq-eqb, eqb-true, le-leb, lt-leb, or_cases, or_left, or_right}
 use Rattle.std.proofs.lemmas.Option.{none-some, same_Some}
 use Rattle.std.proofs.Math.Nat.{mod-eq_of_lt, mul-mod_left}
 use Rattle.arc_base.proofs.Items as items
 use Rattle.net_gen.specs.Plans.{numbers, link_count, next, a_router, b_router, has_end, port}
-use Rattle.net_gen.proofs.Counted.{numbers_more, kept_more, left_more, length_kept, length_left}
+use Rattle.net_gen.proofs.Counted.{length_kept, length_left}
 
 -- the numbers of a list of numbers in order
 pub range-at : (a m k : ℕ) (x : ℕ) → slice_get (range_with_len a m) k ≡ Some x → (k < m) × (x ≡ a + k)

@@ -1,6 +1,5 @@
 -- The files of a generated network are router files, and this is what they set.
-use Rattle.std.proofs.Common.{◌≡◌, ℕ, zero, suc, ◌+◌, ◌*◌, ◌<◌, ◌≤◌, inl, inr, Bool, true, false, Some, None, List, [], ◌∷◌, ◌++◌, length, filter, map, refl, sym, ap, subst, ◌∙◌, arith, ⊎_elim, Contains}
-use Rattle.std.specs.Prelude.{slice_get}
+use Rattle.std.proofs.Common.{◌≡◌, ℕ, ◌+◌, ◌*◌, ◌<◌, ◌≤◌, inl, inr, List, [], ◌∷◌, length, filter, map, refl, sym, ap, subst, ◌∙◌, arith, Contains}
 use Rattle.std.specs.List.{AllByRecursion, AllZip}
 use Rattle.arc_base.specs.declared.refusal.Kind.{Kind}
 use Rattle.arc_base.proofs.Items as items
@@ -13,22 +12,21 @@ use Rattle.ios_lines.specs.Texts.{text_lines}
 use Rattle.ios_lines.proofs.Orphans.{no-first, no-banner-at}
 use Rattle.ios_config.specs.declared.commands.FileCommand.{FileCommand}
 use Rattle.ios_config.specs.declared.settings.Config.{Config}
-use Rattle.ios_config.specs.Configs.{IsConfigOf, IsRefused}
+use Rattle.ios_config.specs.Configs.{IsConfigOf}
 use Rattle.ios_config.specs.Inserted.{AreMarksRead}
 use Rattle.ios_config.specs.LineLists.{marks_in}
-use Rattle.ios_config.specs.Texts.{config_of}
-use Rattle.ios_config.specs.Rising.{NumbersRise, FallsAt}
+use Rattle.ios_config.specs.Rising.{FallsAt}
 use Rattle.ios_config.proofs.LineLists.{commands-of-lines}
 use Rattle.ios_config.proofs.OneAnswer.{refused_alone}
 use Rattle.ios_config.proofs.Unique.{config_one}
 use Rattle.net_build.specs.Networks.{Says, SaysWrong, IsFaulty, IsFirstFaulty}
-use Rattle.net_gen.specs.Plans.{numbers, link_count, has_end, port}
+use Rattle.net_gen.specs.Plans.{numbers, link_count, has_end}
 use Rattle.net_gen.specs.RouterFiles.{router_lines, text_of}
 use Rattle.net_gen.specs.Generated.{router_texts}
 use Rattle.generated_networks.proofs.AddedLines.{AreRead}
 use Rattle.generated_networks.proofs.Files.{IsSmall, file_commands, file-read}
 use Rattle.generated_networks.proofs.Items.{none}
-use Rattle.generated_networks.proofs.Once.{PortsRise, IsAbove, all-above, stands-once, ports-rise}
+use Rattle.generated_networks.proofs.Once.{stands-once, ports-rise}
 use Rattle.generated_networks.proofs.Plans.{in-range, mapped-at, port-few}
 use Rattle.generated_networks.proofs.Settings.{settings, sets}
 use Rattle.generated_networks.proofs.Texts.{lines-of}

@@ -1,10 +1,9 @@
 -- What the commands of a generated file set.
-use Rattle.std.proofs.Common.{◌≡◌, ℕ, ◌+◌, ◌*◌, ◌<◌, ◌≤◌, ◌==◌, not, Bool, true, false, cond, Option, Some, None, List, [], ◌∷◌, ◌++◌, length, map, filter, refl, sym, ap, subst, ◌∙◌, arith, append-nil, append_assoc}
+use Rattle.std.proofs.Common.{◌≡◌, ℕ, ◌+◌, ◌*◌, ◌<◌, ◌≤◌, not, Bool, true, false, cond, Some, None, List, [], ◌∷◌, ◌++◌, length, map, filter, refl, sym, ap, ◌∙◌, arith, append-nil, append_assoc}
 use Rattle.std.specs.Prelude.{option_map}
 use Rattle.std.specs.List.{AllByRecursion, flat_map}
 use Rattle.std.proofs.lemmas.Bool.{eq-eqb, ne_eqb, cond-true, cond-false, not_from_false}
 use Rattle.std.proofs.lemmas.List.Elements.{filter-append}
-use Rattle.ios_words.specs.declared.commands.Command.{Command}
 use Rattle.ios_words.specs.declared.commands.Command.TheVariants as commands
 use Rattle.ios_words.specs.Prefixes.{whole}
 use Rattle.ios_config.specs.declared.commands.FileCommand.{FileCommand}
@@ -22,9 +21,9 @@ use Rattle.ios_config.proofs.JoinedParts.{distinct-next}
 use Rattle.ios_config.proofs.Values.{last_setting-more}
 use Rattle.net_gen.specs.Plans.{port}
 use Rattle.net_gen.specs.RouterFiles.{host_name, face_name}
-use Rattle.generated_networks.proofs.Files.{face_commands, end_of, link_face_commands, link_commands, process_commands, end_commands, last_commands, name_command, host_commands, file_commands}
+use Rattle.generated_networks.proofs.Files.{end_of, link_face_commands, link_commands, process_commands, end_commands, last_commands, name_command, host_commands, file_commands}
 use Rattle.generated_networks.proofs.LineReads.{address}
-use Rattle.generated_networks.proofs.AddedLines.{all-append, all-weaker}
+use Rattle.generated_networks.proofs.AddedLines.{all-weaker}
 
 -- the part is the block of a later head than this
 abbrev pub IsLaterPart : ℕ → Part → Type 0

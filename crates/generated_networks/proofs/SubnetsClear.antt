@@ -1,46 +1,33 @@
 -- No two interfaces of a generated network overlap, and its policies go between host networks.
-use Rattle.std.proofs.Common.{◌≡◌, ◌≢◌, ℕ, zero, suc, ◌+◌, ◌-◌, ◌*◌, ◌/◌, ◌%◌, ◌^◌, ◌<◌, ◌≤◌, ◌==◌, ◌⊎◌, inl, inr, Bool, true, false, Option, Some, None, List, [], ◌∷◌, ◌++◌, length, take, map, refl, sym, ap, subst, ◌∙◌, arith, ⊎_elim, Contains, if◌then◌else◌, IsTrue}
-use Rattle.std.specs.Prelude.{slice_get, Any, IsSomeAnd, IfSome, option_map}
-use Rattle.std.specs.List.{AllZip, flat_map}
-use Rattle.std.proofs.lemmas.Bool.{cases_eq, eqb-true, eq-eqb}
-use Rattle.std.proofs.lemmas.List.Elements.{Contains-append_cases}
-use Rattle.std.proofs.lemmas.Option.{none-some, same_Some}
+use Rattle.std.proofs.Common.{◌≡◌, ◌≢◌, ℕ, ◌+◌, ◌-◌, ◌/◌, ◌<◌, ◌≤◌, ◌==◌, ◌⊎◌, inl, inr, Bool, true, false, Option, Some, None, List, sym, ap, subst, ◌∙◌, arith, ⊎_elim, if◌then◌else◌}
+use Rattle.std.specs.Prelude.{slice_get, IsSomeAnd, IfSome}
+use Rattle.std.proofs.lemmas.Bool.{cases_eq, eqb-true}
 use Rattle.arc_base.specs.declared.prefix.Prefix.{Prefix}
-use Rattle.arc_base.specs.Addresses.{IsInside, AreDisjoint, Holds}
-use Rattle.arc_base.proofs.Items as items
-use Rattle.net_doc.specs.declared.fault.Refusal.{Refusal}
+use Rattle.arc_base.specs.Addresses.{AreDisjoint}
 use Rattle.net_model.specs.declared.policies.Document.{Document}
 use Rattle.net_model.specs.declared.policies.LinkText.{LinkText}
-use Rattle.net_model.specs.declared.policies.Policy.{Policy}
 use Rattle.net_model.specs.declared.rows.FaceRow.{FaceRow}
 use Rattle.net_model.specs.declared.rows.LinkRow.{LinkRow}
 use Rattle.net_model.specs.declared.rows.Network.{Network}
-use Rattle.net_model.specs.declared.rows.Protocol.{Protocol}
-use Rattle.net_model.specs.declared.rows.Protocol.TheVariants.{Ospf}
-use Rattle.net_model.specs.Forwarding.{IsHostOf}
 use Rattle.net_model.specs.Validity.{EndsAt, AreLinked, AreApart}
 use Rattle.ios_config.specs.declared.settings.FaceText.{FaceText}
-use Rattle.net_build.specs.Addressing.{RefusesOverlap, HasEndpoints, RefusesEndpoint}
-use Rattle.net_build.specs.Lists.{packet_list_key}
+use Rattle.net_build.specs.Addressing.{RefusesOverlap}
 use Rattle.net_build.specs.Reasons.{IsClear}
-use Rattle.net_build.specs.Rows.{IsFaceRow, IsLinkRow, AreRows, IsSubnet, host_address_of}
+use Rattle.net_build.specs.Rows.{IsLinkRow, AreRows, IsSubnet}
 use Rattle.net_build.specs.Settings.{address_of, IsPrefixAt}
-use Rattle.net_build.specs.Sites.{Site, sites, full_name, full_names, ends_of}
-use Rattle.net_build.proofs.Distinct.{one_place, Contains-at, at_Contains}
+use Rattle.net_build.specs.Sites.{Site, sites, full_names}
+use Rattle.net_build.proofs.Distinct.{one_place, Contains-at}
 use Rattle.net_build.proofs.SiteFacts.{name_at_site}
-use Rattle.net_gen.specs.Plans.{numbers, link_count, next, a_router, b_router, has_end, port}
+use Rattle.net_gen.specs.Plans.{link_count, a_router, has_end}
 use Rattle.net_gen.specs.RouterFiles.{host_name, face_name}
-use Rattle.net_gen.specs.Generated.{link_text, IsHostNetwork, Asked, asked, asked_around, Asks, IsDocument}
-use Rattle.generated_networks.proofs.Faces.{IsOverLink, HasSite, site-is, end_name, name-of, names-apart, one-site, site_at, has-site}
+use Rattle.net_gen.specs.Generated.{link_text}
+use Rattle.generated_networks.proofs.Faces.{IsOverLink, HasSite, site-is, end_name, name-of, names-apart, one-site}
 use Rattle.generated_networks.proofs.Files.{end_of}
-use Rattle.generated_networks.proofs.FilesClear.{protocol-is}
 use Rattle.generated_networks.proofs.Items.{any-of, zip-right}
 use Rattle.generated_networks.proofs.LineReads.{address}
-use Rattle.generated_networks.proofs.LinksClear.{all_links, block_of, prefix-facts, earlier-end, site-of-row}
-use Rattle.generated_networks.proofs.Once.{face-name-one, host-name-one}
-use Rattle.generated_networks.proofs.Plans.{in-range, mapped-at, at-mapped, port-some, port-few, a-has, b-has, ends-are, two-ends, next-is, count-few}
-use Rattle.generated_networks.proofs.Said.{links_of, settings_of, all_settings}
-use Rattle.generated_networks.proofs.Settings.{host_face, link_face, link_faces}
+use Rattle.generated_networks.proofs.LinksClear.{all_links, block_of, prefix-facts, site-of-row}
+use Rattle.generated_networks.proofs.Plans.{at-mapped, ends-are, count-few}
+use Rattle.generated_networks.proofs.Said.{all_settings}
 
 -- prefixes at addresses that have no address in common
 disjoint : (x len y other : ℕ) (o q : Option Prefix) → ((a : ℕ) → block_of len a ≡ block_of len x → block_of other a ≡ block_of other y → ⊥) →

@@ -1,5 +1,5 @@
 -- Texts that are made of lines, each with a line feed after it.
-use Rattle.std.proofs.Common.{◌≡◌, ℕ, List, [], ◌∷◌, ◌++◌, map, codes, refl, sym, ap, ◌∙◌, inl}
+use Rattle.std.proofs.Common.{◌≡◌, ℕ, List, [], ◌∷◌, ◌++◌, map, refl, sym, ap, ◌∙◌, inl}
 use Rattle.std.specs.List.{AllByRecursion}
 use Rattle.ios_lines.specs.Ended.{Ended, AreEnded, IsEnded, IsFree, HasNoReturn}
 use Rattle.ios_lines.specs.Ended as ended_lines

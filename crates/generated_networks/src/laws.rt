@@ -1,5 +1,6 @@
 //! Laws over the definitions alone: each is the contract of a function that does nothing.
 ghost use Rattle.generated_networks.specs.Laws.{GeneratedFilesAreNotRefused, GeneratedNetworksHaveTheirPlan, GeneratedDocumentsHaveTheirPolicies};
+ghost use Rattle.generated_networks.specs.Limits.{GeneratedNetworksHaveFewEdits};
 
 /// The files of a generated network are refused for no reason: they have a network, unless memory is wanting.
 pub fn generated_files_are_not_refused()
@@ -11,4 +12,10 @@ pub fn generated_files_are_not_refused()
 pub fn generated_networks_have_their_plan()
     ensures network { GeneratedNetworksHaveTheirPlan }
     ensures policies { GeneratedDocumentsHaveTheirPolicies }
+{}
+
+/// The network of a generated network's files has one class for each policy, and few edits: no limit of `edit_space::edits`
+/// is passed.
+pub fn generated_networks_have_few_edits()
+    ensures { GeneratedNetworksHaveFewEdits }
 {}

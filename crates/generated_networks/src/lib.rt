@@ -1,5 +1,5 @@
-//! Laws of generated networks: their files are read and refused for no reason, whatever their number of routers, and the
-//! network that they stand for is the one that the number describes.
+//! Laws of generated networks: their files are read and refused for no reason, whatever their number of routers, the
+//! network that they stand for is the one that the number describes, and no limit on classes or edits is passed.
 #![tactic(auto)]
 
 pub mod laws;
