@@ -1,12 +1,11 @@
 -- A chain of hints, hint by hint.
 use lib.Signed.{lt_z}
-use Rattle.std.proofs.Common.{◌≡◌, ℕ, suc, zero, ◌+◌, ◌<◌, ℤ, pos, negsuc, unsigned_abs, true≢false, Bool, true, false, List, [], ◌∷◌, length, drop, get_or, refl, ap, sym, ◌∙◌, Option, Some, None}
+use Rattle.std.proofs.Common.{◌≡◌, ℕ, ◌+◌, ◌<◌, ℤ, pos, negsuc, unsigned_abs, true≢false, Bool, false, List, ◌∷◌, length, drop, get_or, ap, sym, ◌∙◌, Option, Some}
 use Rattle.std.proofs.lemmas.List.{drop_more}
 use Rattle.cnf_types.specs.declared.literal.Lit.{Lit}
 use Rattle.cnf_types.specs.Literals.{negated}
 use Rattle.proof_check.specs.declared.faults.StepFault.{StepFault}
-use Rattle.proof_check.specs.declared.left.Left.{Left}
-use Rattle.proof_check.specs.declared.left.Left.TheVariants.{Nothing, One, More}
+use Rattle.proof_check.specs.declared.left.Left.TheVariants.{One}
 use Rattle.proof_check.specs.Propagation.{chain_fault, hint_fault, left_fault, left_of, left, with_literal}
 
 -- two tests that agree are one set

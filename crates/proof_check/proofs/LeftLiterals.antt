@@ -1,5 +1,5 @@
 -- What is left of a clause, literal by literal.
-use Rattle.std.proofs.Common.{◌≡◌, ℕ, Bool, true, false, List, [], ◌∷◌, Option, Some, None}
+use Rattle.std.proofs.Common.{List, Option, Some, None}
 use Rattle.cnf_types.specs.declared.literal.Lit.{Lit}
 use Rattle.proof_check.specs.declared.left.Left.{Left}
 use Rattle.proof_check.specs.Propagation.{left_of, one_or_more}

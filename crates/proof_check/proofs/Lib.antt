@@ -1,6 +1,9 @@
 pub mod Chains
 pub mod Ids
 pub mod LeftLiterals
+pub mod Slots
 pub mod SoundLogs
 pub mod Soundness
+pub mod Stamps
+pub mod Unmarked
 pub mod Verdicts

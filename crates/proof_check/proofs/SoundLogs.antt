@@ -1,5 +1,5 @@
 -- A refuting log refutes the formula with the bounds.
-use Rattle.std.proofs.Common.{◌≡◌, ℕ, suc, zero, ◌<◌, Bool, true, false, cond, ◌||◌, ◌==◌, eqb, nat_lt, List, [], ◌∷◌, length, map, refl, ap, sym, ◌∙◌, arith, Option, Some, None, IsTrue, All, slice_get, get_or, option_map, IfSome, is_none, position, ⊎_elim, subst}
+use Rattle.std.proofs.Common.{◌≡◌, ℕ, suc, zero, ◌<◌, Bool, true, false, cond, ◌||◌, ◌==◌, nat_lt, List, [], ◌∷◌, length, map, refl, ap, sym, ◌∙◌, Option, Some, None, IsTrue, slice_get, get_or, option_map, IfSome, ⊎_elim, subst}
 use Rattle.std.specs.List.{list_any}
 use Rattle.std.specs.Option.{option_to_list}
 use Rattle.std.proofs.lemmas.Bool.{false≢true, or_cases, ltb-true}
@@ -14,7 +14,7 @@ use Rattle.proof_log.specs.declared.steps.Step.TheVariants.{Add, Drop, Bound}
 use Rattle.proof_check.specs.declared.faults.StepFault.{StepFault}
 use Rattle.proof_check.specs.declared.faults.StepFault.TheVariants.{IdNotRising, BoundTooLow, BoundTooHigh}
 use Rattle.proof_check.specs.Propagation.{chain_fault, is_among}
-use Rattle.proof_check.specs.Knowledge.{Knowledge, start, step_fault, after, is_empty, formula_clause, with_clause, without_clauses, bound_clause, bound_fault, is_too_low, rising}
+use Rattle.proof_check.specs.Knowledge.{Knowledge, start, step_fault, after, is_empty, formula_clause, with_clause, without_clauses, bound_clause, bound_fault, is_too_low}
 use Rattle.proof_check.specs.Logs.{IsAccepted, IsRefuting, KeepsBound, KeepsBounds, adds_empty}
 use Rattle.proof_check.proofs.Soundness.{LiveTrue, clause_sound}
 

@@ -1,15 +1,15 @@
 -- What the hints of an accepted clause show: it is true wherever the live clauses are.
-use Rattle.std.proofs.Common.{◌≡◌, ℕ, suc, zero, ◌+◌, ◌-◌, ◌*◌, ◌/◌, ◌%◌, ◌<◌, ◌≤◌, ◌⊎◌, ℤ, pos, negsuc, Bool, true, false, not, cond, ◌||◌, ◌==◌, List, [], ◌∷◌, length, filter, refl, ap, sym, ◌∙◌, subst, arith, Option, Some, None, ⊎_elim, inl, inr}
-use Rattle.std.specs.List.{list_any, list_all}
-use Rattle.std.proofs.lemmas.Bool.{cases_Bool, cases_eq, false≢true, or_parts, or_cases, and_parts, eqb-true, eq-eqb, ne_eqb, true_from_ne_false}
-use Rattle.std.proofs.lemmas.Option.{none-some, same_Some}
+use Rattle.std.proofs.Common.{◌≡◌, ℕ, ◌+◌, ◌-◌, ◌/◌, ◌%◌, ℤ, pos, negsuc, Bool, true, false, not, cond, ◌||◌, List, [], ◌∷◌, refl, ap, sym, ◌∙◌, arith, Option, Some, None, ⊎_elim}
+use Rattle.std.specs.List.{list_all}
+use Rattle.std.proofs.lemmas.Bool.{cases_eq, false≢true, or_parts, or_cases, and_parts, eqb-true, eq-eqb, ne_eqb, true_from_ne_false}
+use Rattle.std.proofs.lemmas.Option.{none-some}
 use Rattle.cnf_types.specs.declared.literal.Lit.{Lit}
-use Rattle.cnf_types.specs.Literals.{negated, variable, is_positive}
+use Rattle.cnf_types.specs.Literals.{negated}
 use Rattle.cnf_types.specs.Formulas.{value, clause_value}
 use Rattle.proof_check.specs.declared.faults.StepFault.{StepFault}
 use Rattle.proof_check.specs.declared.faults.StepFault.TheVariants.{NegativeHint, UnknownId, HintNotUnit, NoConflict}
 use Rattle.proof_check.specs.declared.left.Left.TheVariants.{One, More}
-use Rattle.proof_check.specs.Propagation.{same, is_among, with_literal, left, one_or_more, left_of, left_fault, hint_fault, chain_fault}
+use Rattle.proof_check.specs.Propagation.{same, is_among, with_literal, left, left_of, left_fault, hint_fault, chain_fault}
 
 -- the literal of a code
 abbrev of_code : ℕ → Lit

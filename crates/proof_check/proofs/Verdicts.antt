@@ -1,8 +1,7 @@
 -- A proof is accepted exactly where its lines are an accepted refuting log.
-use Rattle.std.proofs.Common.{◌≡◌, ℕ, ◌+◌, Bool, true, false, ◌||◌, cond, List, [], ◌∷◌, fold, refl, ap, sym, ◌∙◌, Option, Some, None, Result, Ok, Err, IsSomeAnd, IsTrue, option_map, ◌↔◌}
+use Rattle.std.proofs.Common.{◌≡◌, ℕ, ◌+◌, Bool, true, false, ◌||◌, cond, List, [], ◌∷◌, refl, ap, sym, ◌∙◌, Option, Some, None, Result, Ok, Err, IsSomeAnd, option_map, ◌↔◌}
 use Rattle.std.specs.List.{list_any}
 use Rattle.std.proofs.lemmas.Bool.{true≢false}
-use Rattle.cnf_types.specs.declared.literal.Lit.{Lit}
 use Rattle.cnf_types.specs.declared.clauses.Formula.{Formula}
 use Rattle.cnf_types.specs.Formulas.{Satisfies}
 use Rattle.cnf_types.specs.Words.{lines}
@@ -15,7 +14,7 @@ use Rattle.proof_check.specs.declared.rejections.Rejection.{Rejection}
 use Rattle.proof_check.specs.declared.rejections.Rejection.TheVariants.{Form, Fault, NotRefuted}
 use Rattle.proof_check.specs.declared.rejections.Outcome.{Outcome}
 use Rattle.proof_check.specs.declared.rejections.Outcome.TheVariants.{Accepted, Rejected}
-use Rattle.proof_check.specs.Knowledge.{Knowledge, start, step_fault, after, is_empty}
+use Rattle.proof_check.specs.Knowledge.{Knowledge, start, step_fault, after}
 use Rattle.proof_check.specs.Logs.{after_all, IsAccepted, IsRefuting, KeepsBounds, adds_empty}
 use Rattle.proof_check.specs.Outcomes.{with_line, steps_of, IsRefutation, line_rejection, line_after, rejected_or, log_outcome}
 use Rattle.proof_check.proofs.SoundLogs.{sound}

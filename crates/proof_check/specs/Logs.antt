@@ -1,10 +1,10 @@
 -- Accepted and refuting logs, and what they show.
-use Rattle.std.specs.Prelude.{◌≡◌, ℕ, Bool, true, false, ◌||◌, IsTrue, List, [], ◌∷◌, fold, Option, Some, None, slice_get, IfSome}
+use Rattle.std.specs.Prelude.{◌≡◌, ℕ, Bool, false, IsTrue, List, [], ◌∷◌, fold, Option, None, slice_get, IfSome}
 use Rattle.std.specs.List.{list_any}
 use Rattle.cnf_types.specs.declared.literal.Lit.{Lit}
 use Rattle.cnf_types.specs.declared.clauses.Formula.{Formula}
 use Rattle.cnf_types.specs.Literals.{negated}
-use Rattle.cnf_types.specs.Formulas.{value, clause_value, Satisfies}
+use Rattle.cnf_types.specs.Formulas.{value, Satisfies}
 use Rattle.proof_log.specs.declared.steps.Step.{Step}
 use Rattle.proof_log.specs.declared.steps.Step.TheVariants.{Add, Drop, Bound}
 use Rattle.proof_check.specs.Knowledge.{Knowledge, start, step_fault, after, is_empty}

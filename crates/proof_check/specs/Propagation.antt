@@ -1,5 +1,5 @@
 -- Unit propagation along hints. A set of literals is a test.
-use Rattle.std.specs.Prelude.{◌≡◌, ℕ, ◌+◌, ℤ, pos, negsuc, Bool, true, false, if◌then◌else◌, ◌==◌, ◌||◌, not, List, [], ◌∷◌, filter, Option, Some, None}
+use Rattle.std.specs.Prelude.{ℕ, ◌+◌, ℤ, pos, negsuc, Bool, if◌then◌else◌, ◌==◌, ◌||◌, not, List, [], ◌∷◌, filter, Option, Some, None}
 use Rattle.std.specs.List.{list_any, list_all}
 use Rattle.cnf_types.specs.declared.literal.Lit.{Lit}
 use Rattle.cnf_types.specs.Literals.{negated}

@@ -1,17 +1,21 @@
 -- What a checker knows, by its fields.
-use Rattle.std.specs.Prelude.{ℕ, nat_eq, List, Option, Vec}
+use Rattle.std.specs.Prelude.{ℕ, nat_eq, List, Option, Some, None, Vec, slice_get}
 use Rattle.std.specs.Option.{option_map}
-use Rattle.std.specs.declared.hash.FoldHasher.{FoldHasher}
-use Rattle.std.specs.declared.hash.BuildHasherDefault.{BuildHasherDefault}
 use Rattle.std.specs.Global.{Global}
-use Rattle.std.specs.HashMap.{HashMap, get}
+use Rattle.std.specs.HashMap.{get}
 use Rattle.cnf_types.specs.declared.literal.Lit.{Lit}
+use Rattle.proof_check.specs.declared.live.Live.{Live}
 use Rattle.proof_check.specs.declared.checker.Checker.{Checker}
 use Rattle.proof_check.specs.Knowledge.{Knowledge}
 
--- the clause that a map has under an id
-abbrev pub clause_in : HashMap ℕ (Vec Lit Global) (BuildHasherDefault FoldHasher) → ℕ → Option (List Lit)
-clause_in live id = option_map (λ v. v.items) (get nat_eq live id)
+-- what stands at a place of a vector, or else what a map has
+abbrev pub near_or : {X : Type 0} → Option (Option X) → Option X → Option X
+near_or (Some slot) far = slot
+near_or None far = far
+
+-- the live clause under an id: in the vector, or past its end in the map
+abbrev pub clause_in : Live → ℕ → Option (List Lit)
+clause_in live id = option_map (λ (v : Vec Lit Global). v.items) (near_or (slice_get live.near.items id) (get nat_eq live.far id))
 
 -- what the checker knows
 abbrev pub known : Checker → Knowledge

@@ -1,18 +1,19 @@
 //! The checker of proof logs.
 use crate::faults::StepFault;
-use crate::left::{Left, Marks};
-use crate::live::{first_unknown, live_clauses, put, remove_all};
+use crate::hints::follow;
+use crate::left::Marks;
+use crate::live::Live;
 use arc_base::{List, Memory};
 use cnf_types::{Formula, Lit};
 use proof_log::Step;
 use std::alloc::Global;
-use std::collections::HashMap;
 
 /// A checker of one proof log for one formula.
 #[derive(Drop)]
 pub struct Checker {
     alloc: Global,
-    live: HashMap<u64, Vec<Lit>>,
+    live: Live,
+    marks: Marks,
     last: u64,
     least: Option<u32>,
     tops: Vec<Lit>,
@@ -23,7 +24,6 @@ impl Checker {
     ghost use Rattle.std.specs.Prelude.{◌≡◌, ◌<◌, ◌^◌, length, None, IfOk, IfErr, OnOk, OnErr, ℕ, Bool, List as Items, IsTrue, ◌↔◌, nat_lt};
     ghost use Rattle.cnf_types.specs.Formulas.{Satisfies};
     ghost use Rattle.proof_check.specs.Logs.{after_all, IsAccepted, IsRefuting, KeepsBounds};
-    ghost use Rattle.proof_check.specs.Propagation.{chain_fault, is_among};
     ghost use Rattle.proof_check.specs.Knowledge.{start, step_fault, after, IsFirst};
     ghost use Rattle.proof_check.specs.View.{known};
 
@@ -37,37 +37,17 @@ impl Checker {
     ) -> Result<Checker, Memory>
         ensures { IfOk result (λ checker. known checker ≡ start f.now least tops.now) }
     {
+        // A few clauses do not pay for the flags of a great number of variables.
+        let vars = f.vars.min(1024 + 16 * u64::from(f.clauses.len()));
         Ok(Checker {
             alloc,
-            live: live_clauses(alloc, f.clauses.slice())?,
+            live: Live::of(alloc, f.clauses.slice())?,
+            marks: Marks::make(alloc, 2 * vars as usize + 2)?,
             last: u64::from(f.clauses.len()),
             least,
             tops: Vec::from_slice(alloc, tops.slice())?,
             refuted: false,
         })
-    }
-
-    /// Follows the hints of a clause that is to be added.
-    fn follow(&self, lits: &[Lit], hints: &[i64]) -> Result<(), StepFault>
-        requires { length hints.now < 2 ^ 32 }
-        ensures ok { OnOk result (chain_fault (known self.now).clause (is_among lits.now) 0 hints.now ≡ None) }
-        ensures fault { IfErr result (IsFirst (chain_fault (known self.now).clause (is_among lits.now) 0 hints.now)) }
-    {
-        let mut marks = Marks::of(self.alloc, lits)?;
-        for (place, hint) in hints.iter().enumerate() {
-            if *hint < 0 {
-                return Err(StepFault::NegativeHint(place as u32));
-            }
-            let Some(clause) = self.live.get(&(*hint as u64)) else {
-                return Err(StepFault::UnknownId(place as u32));
-            };
-            match marks.left(clause.as_slice()) {
-                Left::Nothing => return Ok(()),
-                Left::One(lit) => marks.mark(lit.negated())?,
-                Left::More => return Err(StepFault::HintNotUnit(place as u32)),
-            }
-        }
-        Err(StepFault::NoConflict)
     }
 
     /// Whether an id is above every id before it.
@@ -88,8 +68,8 @@ impl Checker {
         if !self.rises(id) {
             return Err(StepFault::IdNotRising);
         }
-        self.follow(lits, hints)?;
-        put(self.alloc, &mut self.live, id, lits)?;
+        follow(self.alloc, &self.live, &mut self.marks, lits, hints)?;
+        self.live.put(self.alloc, id, lits)?;
         self.last = id;
         self.refuted = self.refuted || lits.is_empty();
         Ok(())
@@ -103,10 +83,10 @@ impl Checker {
         ensures fault { IfErr result (IsFirst (step_fault (known self.old) (Step.Drop ids.now))) }
         ensures same { OnErr result (known self.new ≡ known self.old) }
     {
-        if let Some(place) = first_unknown(&self.live, ids) {
+        if let Some(place) = self.live.first_unknown(ids) {
             return Err(StepFault::UnknownId(place as u32));
         }
-        remove_all(&mut self.live, ids);
+        self.live.remove_all(ids);
         Ok(())
     }
 
@@ -127,7 +107,7 @@ impl Checker {
             return Err(StepFault::BoundTooHigh);
         };
         let lits = [top.negated()];
-        put(self.alloc, &mut self.live, id, &lits)?;
+        self.live.put(self.alloc, id, &lits)?;
         self.last = id;
         Ok(())
     }

@@ -1,8 +1,9 @@
 //! What of a clause is left when some literals are false.
-ghost use Rattle.std.specs.Prelude.{◌≡◌, IfOk, OnOk, OnErr};
+ghost use Rattle.std.specs.Prelude.{◌≡◌, [], OnOk, IfOk};
 ghost use Rattle.proof_check.specs.Propagation.{left, left_of, is_among, with_literal};
 ghost use Rattle.proof_check.specs.Marks.{is_marked};
 
+use crate::flags::Flags;
 use arc_base::Memory;
 use cnf_types::Lit;
 use std::alloc::Global;
@@ -17,39 +18,65 @@ pub(crate) enum Left {
     More,
 }
 
-/// The literals that are false, by their codes. A set holds what one step marks.
+/// The literals that are false, by their codes: a flag for each small code, and a set of the others.
 #[derive(Debug, Drop)]
 pub(crate) struct Marks {
-    codes: HashSet<u64>,
+    near: Flags,
+    far: HashSet<u64>,
 }
 
 impl Marks {
+    /// No marks, with flags for so many codes.
+    pub fn make(alloc: Global, codes: usize) -> Result<Marks, Memory>
+        ensures { IfOk result (λ marks. (m : Lit) → is_marked marks m ≡ is_among [] m) }
+    {
+        Ok(Marks {
+            near: Flags::make(alloc, codes)?,
+            far: HashSet::new(alloc),
+        })
+    }
+
+    /// Takes all marks away.
+    fn clear(&mut self, alloc: Global)
+        ensures { (m : Lit) → is_marked self.new m ≡ is_among [] m }
+    {
+        self.near.clear();
+        if !self.far.is_empty() {
+            self.far = HashSet::new(alloc);
+        }
+    }
+
     /// Marks one literal more.
     pub fn mark(&mut self, lit: Lit) -> Result<(), Memory>
         ensures { OnOk result ((m : Lit) → is_marked self.new m ≡ with_literal lit (is_marked self.old) m) }
     {
-        self.codes.insert(lit.code)?;
+        if lit.code < self.near.len() as u64 {
+            self.near.set(lit.code as usize);
+        } else {
+            self.far.insert(lit.code)?;
+        }
         Ok(())
     }
 
     /// Marks just these literals.
-    pub fn of(alloc: Global, lits: &[Lit]) -> Result<Marks, Memory>
-        ensures { IfOk result (λ marks. (m : Lit) → is_marked marks m ≡ is_among lits.now m) }
+    pub fn restart(&mut self, alloc: Global, lits: &[Lit]) -> Result<(), Memory>
+        ensures { OnOk result ((m : Lit) → is_marked self.new m ≡ is_among lits.now m) }
     {
-        let mut marks = Marks {
-            codes: HashSet::new(alloc),
-        };
+        self.clear(alloc);
         for lit in lits {
-            marks.mark(*lit)?;
+            self.mark(*lit)?;
         }
-        Ok(marks)
+        Ok(())
     }
 
     /// Whether a literal is marked.
     fn has(&self, lit: Lit) -> bool
         ensures { result ≡ is_marked self.now lit }
     {
-        self.codes.contains(&lit.code)
+        match self.near.get(lit.code as usize) {
+            Some(flag) => flag,
+            None => self.far.contains(&lit.code),
+        }
     }
 
     /// What is left of a clause without the marked literals.

@@ -5,6 +5,8 @@
 
 mod checker;
 mod faults;
+mod flags;
+mod hints;
 mod judging;
 pub mod laws;
 mod left;

@@ -1,5 +1,5 @@
 //! Live clauses under their ids.
-ghost use Rattle.std.specs.Prelude.{◌≡◌, ℕ, ◌<◌, ◌^◌, length, position, is_none, IfOk, OnOk, OnErr};
+ghost use Rattle.std.specs.Prelude.{◌≡◌, [], ◌∷◌, ℕ, ◌<◌, ◌^◌, length, position, is_none, option_map, IfOk, OnOk, OnErr};
 ghost use Rattle.proof_check.specs.Knowledge.{formula_clause, with_clause, without_clauses};
 ghost use Rattle.proof_check.specs.View.{clause_in};
 
@@ -8,48 +8,83 @@ use cnf_types::{Clause, Lit};
 use std::alloc::Global;
 use std::collections::HashMap;
 
-/// The clauses of a formula, under the ids from 1 on.
-pub(crate) fn live_clauses(
-    alloc: Global,
-    clauses: &[Clause],
-) -> Result<HashMap<u64, Vec<Lit>>, Memory>
-    requires { length clauses.now < 2 ^ 32 }
-    ensures { IfOk result (λ live. (id : ℕ) → clause_in live id ≡ formula_clause clauses.now id) }
-{
-    let mut live = HashMap::new(alloc);
-    for (place, clause) in clauses.iter().enumerate() {
-        let lits = Vec::from_slice(alloc, clause.lits.slice())?;
-        live.insert(place as u64 + 1, lits)?;
+/// The live clauses: each in a vector at the place of its id, as long as the ids follow one another from 0 on, and the
+/// others in a map.
+#[derive(Drop)]
+pub(crate) struct Live {
+    near: Vec<Option<Vec<Lit>>>,
+    far: HashMap<u64, Vec<Lit>>,
+}
+
+impl Live {
+    /// The clauses of a formula, under the ids from 1 on.
+    pub fn of(alloc: Global, clauses: &[Clause]) -> Result<Live, Memory>
+        requires { length clauses.now < 2 ^ 32 }
+        ensures { IfOk result (λ live. (id : ℕ) → clause_in live id ≡ formula_clause clauses.now id) }
+    {
+        let mut near = Vec::with_capacity(alloc, clauses.len() + 1)?;
+        near.push(None)?;
+        for clause in clauses {
+            near.push(Some(Vec::from_slice(alloc, clause.lits.slice())?))?;
+        }
+        Ok(Live {
+            near,
+            far: HashMap::new(alloc),
+        })
     }
-    Ok(live)
-}
 
-/// Takes out the clauses of these ids.
-pub(crate) fn remove_all(live: &mut HashMap<u64, Vec<Lit>>, ids: &[u64])
-    ensures { (j : ℕ) → clause_in live.new j ≡ without_clauses (clause_in live.old) ids.now j }
-{
-    for id in ids {
-        live.remove(id);
+    /// The clause of an id.
+    pub fn get(&self, id: u64) -> Option<&[Lit]>
+        ensures { option_map (λ lits. lits.now) result ≡ clause_in self.now id }
+    {
+        let clause = match self.near.get(id as usize) {
+            Some(slot) => slot.as_ref()?,
+            None => self.far.get(&id)?,
+        };
+        Some(clause.as_slice())
     }
-}
 
-/// The place of the first id that has no clause.
-pub(crate) fn first_unknown(live: &HashMap<u64, Vec<Lit>>, ids: &[u64]) -> Option<usize>
-    ensures { result ≡ position (λ id. is_none (clause_in live.now id)) ids.now }
-{
-    ids.iter().position(|id| !live.contains_key(id))
-}
+    /// Takes out the clause of an id.
+    fn remove(&mut self, id: u64)
+        ensures { (j : ℕ) → clause_in self.new j ≡ without_clauses (clause_in self.old) (id ∷ []) j }
+    {
+        if id < self.near.len() as u64 {
+            self.near[id as usize] = None;
+        } else {
+            self.far.remove(&id);
+        }
+    }
 
-/// Puts a clause under an id.
-pub(crate) fn put(
-    alloc: Global,
-    live: &mut HashMap<u64, Vec<Lit>>,
-    id: u64,
-    lits: &[Lit],
-) -> Result<(), Memory>
-    ensures ok { OnOk result ((j : ℕ) → clause_in live.new j ≡ with_clause (clause_in live.old) id lits.now j) }
-    ensures err { OnErr result ((j : ℕ) → clause_in live.new j ≡ clause_in live.old j) }
-{
-    live.insert(id, Vec::from_slice(alloc, lits)?)?;
-    Ok(())
+    /// Takes out the clauses of these ids.
+    pub fn remove_all(&mut self, ids: &[u64])
+        ensures { (j : ℕ) → clause_in self.new j ≡ without_clauses (clause_in self.old) ids.now j }
+    {
+        for id in ids {
+            self.remove(*id);
+        }
+    }
+
+    /// The place of the first id that has no clause.
+    pub fn first_unknown(&self, ids: &[u64]) -> Option<usize>
+        ensures { result ≡ position (λ id. is_none (clause_in self.now id)) ids.now }
+    {
+        ids.iter().position(|id| self.get(*id).is_none())
+    }
+
+    /// Puts a clause under an id.
+    pub fn put(&mut self, alloc: Global, id: u64, lits: &[Lit]) -> Result<(), Memory>
+        ensures ok { OnOk result ((j : ℕ) → clause_in self.new j ≡ with_clause (clause_in self.old) id lits.now j) }
+        ensures err { OnErr result ((j : ℕ) → clause_in self.new j ≡ clause_in self.old j) }
+    {
+        let clause = Vec::from_slice(alloc, lits)?;
+        let end = self.near.len() as u64;
+        if id < end {
+            self.near[id as usize] = Some(clause);
+        } else if id == end {
+            self.near.push(Some(clause))?;
+        } else {
+            self.far.insert(id, clause)?;
+        }
+        Ok(())
+    }
 }

@@ -1,8 +1,7 @@
 use Rattle.std.proofs.Common.{◌≡◌, ap, sym, ◌∙◌}
 use Rattle.std.specs.List.{list_any}
 use Rattle.proof_check.specs.Knowledge.{Knowledge, start}
-use Rattle.proof_check.specs.Logs.{after_all, adds_empty}
-use Rattle.proof_check.specs.View.{known}
+use Rattle.proof_check.specs.Logs.{adds_empty}
 use Rattle.proof_check.proofs.SoundLogs.{sound}
 use Rattle.proof_check.proofs.Verdicts.{refuted_all}
 use Rattle.proof_check.proofs.checker.Checker.refuted.Goals as goal

@@ -1,4 +1,3 @@
-use Rattle.std.proofs.Common.{sym}
 use Rattle.proof_check.proofs.checker.Checker.step.Goals as goal
 
 pub returns-in-Drop-clause-fault : goal.returns-in-Drop-clause-fault

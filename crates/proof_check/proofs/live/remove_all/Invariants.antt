@@ -1,7 +1,0 @@
-use Rattle.std.proofs.Common.{◌≡◌, ℕ, take}
-use Rattle.proof_check.specs.Knowledge.{without_clauses}
-use Rattle.proof_check.specs.View.{clause_in}
-use Rattle.proof_check.proofs.live.remove_all.Given as goal
-
-abbrev pub invariant-loop-id : goal.invariant-loop-id
-invariant-loop-id l = (j : ℕ) → clause_in l.live j ≡ without_clauses (clause_in l.fn.live) (take l.id-index l.ids) j
