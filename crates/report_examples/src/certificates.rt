@@ -1,6 +1,6 @@
-use crate::tests::{class, policies, router};
+use crate::tests::{class, policies, read, router};
 use arc_base::{CertKind, Face, List, Memory, Name, Router};
-use cnf_types::{Lit, first_line};
+use cnf_types::Lit;
 use edit_space::{Claim, Edit};
 use net_model::{ClassSide, Document, FaceRow, Network, PolicyKind, Protocol, Verdict};
 use policy_report::{CertFault, Got, Reader, budget, certificate, edit_line, edit_text};
@@ -12,8 +12,8 @@ use std::test::Fail;
 const CERTIFICATE: &[u8] =
     b"arc-repair 1\nanswer repaired 1 32\nedit packet r1 interface Ethernet0 10.1.0.0/24 10.2.0.0/24\n1 blocked yes 1\nclosed 10.1.0.0/24 10.2.0.0/24 r1\nlog\n16 -1 0 3 0\nend\n";
 
-/// What each of its lines tells, by its first letter.
-const TOLD: &[u8] = b"mhemvmse";
+/// What each of its lines tells, by a letter. No line may follow the last.
+const TOLD: &[u8] = b"mhemvmse?";
 
 /// A network of one router with one interface.
 fn one_face(alloc: Global) -> Result<Network, Memory> {
@@ -61,18 +61,6 @@ fn one_step(alloc: Global) -> Result<Log, Memory> {
     })
 }
 
-/// What a line tells, by a letter.
-fn letter(told: &Result<Got, CertFault>) -> u8 {
-    match told {
-        Ok(Got::More) => b'm',
-        Ok(Got::Head(_)) => b'h',
-        Ok(Got::Verdict(_, _)) => b'v',
-        Ok(Got::Edit(_) | Got::End) => b'e',
-        Ok(Got::Step(_)) => b's',
-        Err(_) => b'?',
-    }
-}
-
 #[test]
 fn an_edit_has_a_text(rt: HostRuntime) -> Result<(), Fail> {
     let alloc = rt.alloc();
@@ -90,25 +78,6 @@ fn an_edit_has_a_text(rt: HostRuntime) -> Result<(), Fail> {
         None
     );
     Ok(())
-}
-
-/// What each line of a text tells, by its first letter.
-fn told(
-    alloc: Global,
-    net: &Network,
-    doc: &Document,
-    edits: &List<Edit>,
-    text: &[u8],
-) -> Result<Vec<u8>, Memory> {
-    let mut told = Vec::new(alloc);
-    let mut reader = Reader::make(alloc);
-    let mut rest = text;
-    while !rest.is_empty() {
-        let (line, after) = first_line(rest);
-        told.push(letter(&reader.line(net, doc, edits, line)))?;
-        rest = after;
-    }
-    Ok(told)
 }
 
 #[test]
@@ -132,10 +101,8 @@ fn a_certificate_is_written_and_read_again(rt: HostRuntime) -> Result<(), Fail> 
     };
     let text = certificate(alloc, &net, &doc, &edits, &claim, &one_step(alloc)?)?;
     assert_eq!(rt; text.as_slice(), CERTIFICATE);
-    assert_eq!(rt;
-        told(alloc, &net, &doc, &edits, text.as_slice())?.as_slice(),
-        TOLD
-    );
+    let (told, _verdicts) = read(alloc, &net, &doc, &edits, text.as_slice())?;
+    assert_eq!(rt; told.as_slice(), TOLD);
     Ok(())
 }
 
@@ -150,10 +117,8 @@ fn a_budget_claims_nothing(rt: HostRuntime) -> Result<(), Fail> {
         text.as_slice(),
         b"arc-repair 1\nanswer budget 1 32\nlog\n16 -1 0 3 0\nend\n".as_slice()
     );
-    assert_eq!(rt;
-        told(alloc, &net, &doc, &edits, text.as_slice())?.as_slice(),
-        b"m????".as_slice()
-    );
+    let (told, _verdicts) = read(alloc, &net, &doc, &edits, text.as_slice())?;
+    assert_eq!(rt; told.as_slice(), b"m?????".as_slice());
     let mut reader = Reader::make(alloc);
     assert!(rt; reader.line(&net, &doc, &edits, b"arc-repair 1").is_ok());
     let fault = CertFault {
