@@ -9,3 +9,4 @@ pub mod VerdictDefects
 pub mod Repaired
 pub mod ClaimDefects
 pub mod Glue
+pub mod Few

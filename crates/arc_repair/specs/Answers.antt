@@ -5,6 +5,8 @@ use Rattle.cnf_types.specs.declared.clauses.Formula.{Formula}
 use Rattle.clean_logs.specs.CleanLogs.{IsSpent}
 use Rattle.net_model.specs.declared.policies.Document.{Document}
 use Rattle.net_model.specs.declared.rows.Network.{Network}
+use Rattle.net_model.specs.declared.verdicts.Verdict.{Verdict}
+use Rattle.net_model.specs.declared.verdicts.Verdict.TheVariants.{Closed, Paths}
 use Rattle.edit_space.specs.declared.claims.Claim.{Claim}
 use Rattle.edit_space.specs.declared.claims.Claim.TheVariants.{Repaired, NoRepair}
 use Rattle.edit_space.specs.declared.edit_kinds.Edit.{Edit}
@@ -59,6 +61,22 @@ abbrev pub IsUntouched : List Edit → Answer → Type 0
 IsUntouched list (Done (Repaired price bound flags verdicts) log) = (price ≡ 0) × (flags ≡ none_of list) × (log.steps ≡ [])
 IsUntouched list (Done (NoRepair bound) log) = ⊥
 IsUntouched list (Budget log) = ⊥
+
+-- a verdict shows at most 4,096 closed sides or paths
+abbrev pub ShowsFew : Verdict → Type 0
+ShowsFew (Closed sides) = length sides ≤ 4096
+ShowsFew (Paths paths) = length paths ≤ 4096
+ShowsFew other = Unit {0}
+
+-- each verdict of the claim does
+abbrev pub ClaimsFew : Claim → Type 0
+ClaimsFew (Repaired price bound flags verdicts) = All ShowsFew verdicts
+ClaimsFew (NoRepair bound) = Unit {0}
+
+-- each verdict of the answer does
+abbrev pub AnswersFew : Answer → Type 0
+AnswersFew (Done claim log) = ClaimsFew claim
+AnswersFew (Budget log) = Unit {0}
 
 -- there are few classes and few edits, and the formula is within its limits
 pub record KeepsLimits (net : Network) (doc : Document) (list : List Edit) (bound : ℕ) : Type 0 where

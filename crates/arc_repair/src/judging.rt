@@ -9,6 +9,7 @@ ghost use Rattle.net_model.specs.Witnesses.{is_yes};
 ghost use Rattle.edit_space.specs.Determined.{IsCountable};
 ghost use Rattle.edit_space.specs.EditLists.{AreEdits, HasFewClasses};
 ghost use Rattle.verdicts.specs.Judged.{HasFewFailures};
+ghost use Rattle.arc_repair.specs.Answers.{ShowsFew};
 ghost use Rattle.arc_repair.specs.Claims.{IsRightYes};
 ghost use Rattle.arc_repair.specs.Repairs.{Mends};
 ghost use Rattle.arc_repair.specs.Search.{HasFewClassesEach, AreYesAfter};
@@ -38,6 +39,7 @@ fn yeses(
     requires failures { All (λ policy. HasFewFailures policy.kind) policies.now }
     requires classes { HasFewClassesEach net.now policies.now }
     ensures some { IfOk result (λ verdicts. IfSome verdicts (AllZip (IsRightYes net.now) policies.now)) }
+    ensures few { IfOk result (λ verdicts. IfSome verdicts (All ShowsFew)) }
     ensures none { IfOk result (λ verdicts. IsNone verdicts → ¬ All (Meets net.now) policies.now) }
 {
     verdicts_are_right();
@@ -73,6 +75,7 @@ pub(crate) fn yeses_after(
     requires edits { AreEdits net.now doc.now list.now }
     requires flags { length chosen.now ≡ length list.now }
     ensures some { IfOk result (λ verdicts. IfSome verdicts (AreYesAfter net.now doc.now list.now chosen.now)) }
+    ensures few { IfOk result (λ verdicts. IfSome verdicts (All ShowsFew)) }
     ensures none { IfOk result (λ verdicts. IsNone verdicts → ¬ Mends net.now doc.now list.now chosen.now) }
 {
     let after = after(alloc, net, list, chosen)?;

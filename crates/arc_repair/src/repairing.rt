@@ -11,7 +11,7 @@ ghost use Rattle.price_descent.specs.Outcomes.{found_steps};
 ghost use Rattle.proof_log.specs.Texts.{HasLine};
 ghost use Rattle.verdicts.specs.Judged.{HasFewFailures};
 ghost use Rattle.arc_repair.specs.declared.answer.Answer.TheVariants.{Done};
-ghost use Rattle.arc_repair.specs.Answers.{IsAnswer, answer_steps, IsUntouched, KeepsLimits, IsRepairFault};
+ghost use Rattle.arc_repair.specs.Answers.{AnswersFew, IsAnswer, answer_steps, IsUntouched, KeepsLimits, IsRepairFault};
 ghost use Rattle.arc_repair.specs.Repairs.{Mends, none_of};
 ghost use Rattle.arc_repair.specs.Search.{IsSearched};
 
@@ -79,6 +79,7 @@ fn answer_of(
     requires searched { IsSearched net.now doc.now list.now bound limit found }
     ensures answer { IfOk result (IsAnswer net.now doc.now list.now bound limit) }
     ensures lines { IfOk result (λ answer. answer_steps answer ≡ found_steps found) }
+    ensures few { IfOk result AnswersFew }
 {
     match found {
         Found::Nothing(log) => Ok(Answer::Done(Claim::NoRepair { bound }, log)),
@@ -123,6 +124,7 @@ pub fn repair(
     ensures answer { IfOk result (λ answer. (list : Items AnyEdit) → AreEdits net.now doc.now list → IsAnswer net.now doc.now list bound limit answer) }
     ensures met { IfOk result (λ answer. (list : Items AnyEdit) → AreEdits net.now doc.now list → Mends net.now doc.now list (none_of list) → IsUntouched list answer) }
     ensures lines { IfOk result (λ answer. All HasLine (answer_steps answer)) }
+    ensures few { IfOk result AnswersFew }
     ensures limits { IfOk result (λ answer. (list : Items AnyEdit) → AreEdits net.now doc.now list → KeepsLimits net.now doc.now list bound) }
     ensures fault { IfErr result (IsRepairFault net.now doc.now bound) }
 {

@@ -6,3 +6,5 @@ pub mod Exactly
 pub mod Counted
 pub mod Leading
 pub mod Feeding
+pub mod Written
+pub mod Bounded

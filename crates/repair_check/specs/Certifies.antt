@@ -1,5 +1,5 @@
 -- Which texts are certificates of a repair, and when the formula of one is counted.
-use Rattle.std.specs.Prelude.{◌≡◌, ◌↔◌, ◌⊎◌, ℕ, ◌≤◌, List, ◌∷◌, length, Ok}
+use Rattle.std.specs.Prelude.{◌≡◌, ◌↔◌, ◌⊎◌, ℕ, ◌≤◌, List, ◌∷◌, length, All, Ok}
 use Rattle.std.specs.List.{filter_map}
 use Rattle.cnf_types.specs.Words.{lines}
 use Rattle.net_model.specs.declared.policies.Document.{Document}
@@ -12,9 +12,12 @@ use Rattle.edit_space.specs.declared.edit_kinds.EditFault.TheVariants.{Limit, Me
 use Rattle.edit_space.specs.Determined.{IsCountable}
 use Rattle.edit_space.specs.EditLists.{AreEdits}
 use Rattle.policy_encode.specs.Formulas.{IsFaultOf, IsWithin}
+use Rattle.proof_log.specs.declared.steps.Log.{Log}
+use Rattle.proof_log.specs.Texts.{HasLine}
 use Rattle.policy_report.specs.declared.got.Got.TheVariants.{Head, More}
 use Rattle.policy_report.specs.declared.got.CertForm.{CertForm}
 use Rattle.policy_report.specs.declared.got.CertForm.TheVariants.{Repaired, NoRepair}
+use Rattle.policy_report.specs.Certificates.{certificate_text}
 use Rattle.policy_report.specs.Edits.{HasAddresses}
 use Rattle.policy_report.specs.Recertifying.{Told}
 use Rattle.policy_report.specs.Recertifying as texts
@@ -22,7 +25,8 @@ use Rattle.policy_report.specs.Rereading.{answers}
 use Rattle.policy_report.specs.Steps.{start}
 use Rattle.report_check.specs.declared.outcome.Outcome.{Outcome}
 use Rattle.report_check.specs.declared.outcome.Outcome.TheVariants.{Accepted}
-use Rattle.arc_repair.specs.Claims.{IsCertificate, IsTrueClaim}
+use Rattle.arc_repair.specs.Answers.{ClaimsFew}
+use Rattle.arc_repair.specs.Claims.{IsCertificate, IsTrueClaim, claim_bound}
 use Rattle.repair_check.specs.Outcomes.{Answers, IsOutcome}
 
 -- the text is a certificate of this claim: its lines are those of the claim's text with a log between its two lines, and that log
@@ -46,6 +50,11 @@ abbrev pub CertifiedClaimsAreTrue : Type 0
 CertifiedClaimsAreTrue = (net : Network) (doc : Document) (list : List Edit) (text : List ℕ) (claim : Claim) → IsValid net → IsCountable net →
     AreEdits net doc list → Certifies net doc list claim text → IsTrueClaim net doc list claim
 
+-- what is written for a claim and a log that shows it is a certificate of the claim, where each verdict shows few sides or paths
+abbrev pub WrittenClaimsAreCertified : Type 0
+WrittenClaimsAreCertified = (net : Network) (doc : Document) (list : List Edit) (claim : Claim) (log : Log) → IsCertificate net doc list claim log.steps → ClaimsFew claim →
+    All HasLine log.steps → Certifies net doc list claim (certificate_text net doc list claim log)
+
 -- what is claimed names this bound
 abbrev pub HasBound : ℕ → CertForm → Type 0
 HasBound bound form = ((price : ℕ) × (form ≡ Repaired price bound)) ⊎ (form ≡ NoRepair bound)
@@ -65,6 +74,12 @@ text_answers net doc list text = answers net doc list start (lines text)
 -- where the formula is counted it is within its limits
 abbrev pub IsCounted : Network → Document → List Edit → Answers → Type 0
 IsCounted net doc list told = (bound : ℕ) → CountsBound told bound → IsWithin net doc list bound
+
+-- a certificate of a claim names the claim's bound, so that only for this the formula is counted
+abbrev pub CertificatesNameTheirBound : Type 0
+CertificatesNameTheirBound = (net : Network) (doc : Document) (list : List Edit) (claim : Claim) (text : List ℕ) → IsValid net → HasAddresses net → AreEdits net doc list →
+    length doc.policies ≤ 4294967295 → Certifies net doc list claim text → IsWithin net doc list (claim_bound claim) →
+    IsCounted net doc list (text_answers net doc list text)
 
 -- the formula is counted, and passes the limit that the fault names; or memory is wanting
 abbrev pub IsCountFault : Network → Document → List Edit → Answers → EditFault → Type 0

@@ -1,5 +1,5 @@
 //! Laws over the definitions alone: each is the contract of a function that does nothing.
-ghost use Rattle.repair_check.specs.Certifies.{CertificatesAreAccepted, CertifiedClaimsAreTrue};
+ghost use Rattle.repair_check.specs.Certifies.{CertificatesAreAccepted, CertificatesNameTheirBound, CertifiedClaimsAreTrue, WrittenClaimsAreCertified};
 
 use arc_repair::laws::certificates_are_true;
 use edit_space::laws::networks_after_edits_are_valid;
@@ -24,4 +24,13 @@ pub fn certified_claims_are_true()
     ensures { CertifiedClaimsAreTrue }
 {
     certificates_are_true();
+}
+
+/// What is written for a claim and a log that shows it is a certificate of the claim, and names the claim's bound.
+pub fn written_claims_are_certified()
+    ensures certified { WrittenClaimsAreCertified }
+    ensures bounded { CertificatesNameTheirBound }
+{
+    certificates_are_read_again();
+    edits_are_told_apart();
 }

@@ -19,7 +19,7 @@ use Rattle.policy_report.specs.Certificates.{budget_text, certificate_text}
 use Rattle.policy_report.specs.Edits.{edit_lines}
 use Rattle.arc_repair.specs.declared.answer.Answer.{Answer}
 use Rattle.arc_repair.specs.declared.answer.Answer.TheVariants.{Done as Claimed, Budget}
-use Rattle.arc_repair.specs.Answers.{IsAnswer, IsRepairFault, IsUntouched, KeepsLimits, answer_steps}
+use Rattle.arc_repair.specs.Answers.{AnswersFew, IsAnswer, IsRepairFault, IsUntouched, KeepsLimits, answer_steps}
 use Rattle.arc_repair.specs.Repairs.{Mends, none_of}
 use Rattle.output_files.specs.Outputs.{clashes, copy_names, wrote_lines}
 use Rattle.changed_files.specs.Changes.{Changes, IsEditable}
@@ -111,13 +111,14 @@ pub record WritesCertificate (words : RepairWords) (done : Done) : Type 0 where
   pub certificate : List ℕ
   pub writes : done.writes ≡ changed ++ (words.proof, certificate) ∷ []
 
--- what a repair of the network answers: over its edits, which are few, as is its formula. A network that meets the document is left
--- as it is.
+-- what a repair of the network answers: over its edits, which are few, as is its formula; each verdict shows few sides or paths. A
+-- network that meets the document is left as it is.
 pub record IsAnswered (words : RepairWords) (net : Network) (doc : Document) (list : List Edit) (answer : Answer) : Type 0 where
   pub edits : AreEdits net doc list
   pub limits : KeepsLimits net doc list words.bound
   pub is_answer : IsAnswer net doc list words.bound words.conflicts answer
   pub lines : All HasLine (answer_steps answer)
+  pub few : AnswersFew answer
   pub untouched : Mends net doc list (none_of list) → IsUntouched list answer
 
 -- The answer: of the network and its edits, with what it writes.

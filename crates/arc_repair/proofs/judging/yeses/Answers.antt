@@ -1,8 +1,11 @@
 use Rattle.std.proofs.Common.{arith, ◌≡◌, ◌∙◌, ◌++◌, ◌∷◌, [], ◌+◌, ap, subst, sym, length, length-append, take, List}
-use Rattle.std.specs.Prelude.{slice_get}
+use Rattle.std.specs.Prelude.{All, slice_get}
 use Rattle.std.specs.List.{AllZip}
+use Rattle.std.proofs.lemmas.List.Elements.{All-push}
 use Rattle.net_model.specs.declared.verdicts.Verdict.{Verdict}
+use Rattle.arc_repair.specs.Answers.{ShowsFew}
 use Rattle.arc_repair.specs.Claims.{IsRightYes}
+use Rattle.arc_repair.proofs.Few.{shows_few}
 use Rattle.arc_repair.proofs.Yeses.{at_place, zip_more, right_yes, never_many}
 use Rattle.arc_repair.proofs.judging.yeses.Goals as goal
 
@@ -23,5 +26,8 @@ loop-which-preserved c =
     record {
       judged = subst (λ (vs : List Verdict). AllZip (IsRightYes c.args.net.now) (take (c.loop-which.which + 1) c.args.policies.now) vs) (sym pushed)
           (zip_more (IsRightYes c.args.net.now) c.args.policies.now c.loop-which.verdicts c.loop-which.which c.in-Ok.verdict (omega arith) c.loop-which.invariant.judged on);
+      few = subst (λ (vs : List Verdict). All ShowsFew vs) (sym pushed)
+          (All-push ShowsFew c.loop-which.verdicts c.in-Ok.verdict c.loop-which.invariant.few
+          (shows_few c.args.net.now c.args.policies.now c.loop-which.which c.in-Ok.verdict (omega arith) c.requires.failures c.in-Ok.ensures.right c.in-Ok.ensures.fixed));
       count = omega (arith, ap length pushed, length-append c.loop-which.verdicts (c.in-Ok.verdict ∷ []), c.loop-which.invariant.count);
     }

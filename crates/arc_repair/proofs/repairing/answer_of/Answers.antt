@@ -1,8 +1,9 @@
 use Rattle.std.proofs.Common.{◌∙◌, Bool, Option, List, refl, sym, ap, subst, length, arith}
-use Rattle.std.specs.Prelude.{IfSome, IsNone}
+use Rattle.std.specs.Prelude.{All, IfSome, IsNone}
 use Rattle.net_model.specs.declared.verdicts.Verdict.{Verdict}
 use Rattle.price_descent.specs.declared.found.Found.{Found}
 use Rattle.price_descent.specs.Outcomes.{found_steps}
+use Rattle.arc_repair.specs.Answers.{ShowsFew}
 use Rattle.arc_repair.specs.Repairs.{Mends}
 use Rattle.arc_repair.specs.Search.{AreYesAfter, IsCheapestFound, IsSearched}
 use Rattle.arc_repair.proofs.Repaired.{found_done}
@@ -51,3 +52,7 @@ returns-in-Some-clause-answer c =
 
 pub returns-in-Some-clause-lines : goal.returns-in-Some-clause-lines
 returns-in-Some-clause-lines c = sym (ap found_steps c.in-Cheapest.is)
+
+pub returns-in-Some-clause-few : goal.returns-in-Some-clause-few
+returns-in-Some-clause-few c =
+    subst (λ (o : Option (List Verdict)). IfSome o (All ShowsFew)) c.in-Some.is c.in_ok-verdicts-in-Cheapest.ensures.few

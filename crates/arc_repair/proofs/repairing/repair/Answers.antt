@@ -9,7 +9,7 @@ use Rattle.proof_log.specs.declared.steps.Step.{Step}
 use Rattle.proof_log.specs.Texts.{HasLine}
 use Rattle.arc_repair.specs.declared.answer.Answer.{Answer}
 use Rattle.arc_repair.specs.declared.answer.Answer.TheVariants.{Done}
-use Rattle.arc_repair.specs.Answers.{answer_steps, IsAnswer, IsRepairFault, IsUntouched, KeepsLimits}
+use Rattle.arc_repair.specs.Answers.{answer_steps, AnswersFew, IsAnswer, IsRepairFault, IsUntouched, KeepsLimits, ShowsFew}
 use Rattle.arc_repair.specs.Repairs.{Mends}
 use Rattle.arc_repair.specs.Search.{AreYesAfter}
 use Rattle.arc_repair.proofs.Glue.{all_few_failures, formula_fault, never_mended, of_each, out_of_memory, untouched}
@@ -76,6 +76,11 @@ returns-in-Some-clause-met c =
 
 pub returns-in-Some-clause-lines : goal.returns-in-Some-clause-lines
 returns-in-Some-clause-lines c = subst (λ (steps : List Step). All HasLine steps) (sym (ap answer_steps c.untouched.ensures)) (All-nil HasLine)
+
+pub returns-in-Some-clause-few : goal.returns-in-Some-clause-few
+returns-in-Some-clause-few c =
+    let few : All ShowsFew c.in-Some.verdicts = subst (λ (o : Option (List Verdict)). IfSome o (All ShowsFew)) c.in-Some.is c.in_ok-verdicts.ensures.few in
+    subst (λ (answer : Answer). AnswersFew answer) (sym c.untouched.ensures) few
 
 pub returns-in-Some-clause-limits : goal.returns-in-Some-clause-limits
 returns-in-Some-clause-limits c =
