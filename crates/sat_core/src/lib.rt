@@ -7,6 +7,7 @@ mod assigned;
 mod engine;
 mod examining;
 pub mod laws;
+mod learning;
 mod levels;
 mod numbered;
 mod progress;

@@ -13,7 +13,7 @@ use Rattle.sat_core.specs.declared.numbered.Numbered.{Numbered}
 use Rattle.sat_core.specs.States.{State, at_level}
 use Rattle.clean_logs.specs.CleanLogs.{additions}
 use Rattle.sat_search.specs.Orders.{KeepsClauses}
-use Rattle.sat_search.specs.Searches.{appended, added_clauses, ends_empty, AreLearnt, IsLearnt, HasLearnt, Follows, Teaches, IsModelOf}
+use Rattle.sat_search.specs.Searches.{appended, added_clauses, ends_empty, AreLearnt, IsLearnt, HasLearnt, GoesOn, Follows, Teaches, IsModelOf}
 use Rattle.sat_search.proofs.Steps.{additions-append}
 
 -- the step of a lemma
@@ -60,12 +60,11 @@ ends-push (x ∷ []) s = refl
 ends-push (x ∷ y ∷ xs) s = ends-push (y ∷ xs) s
 
 -- nothing was learnt yet
-pub follows_start : (s : State) (old : List Step) → s.level ≡ 0 → Follows s old s old
-follows_start s old level =
+pub follows_start : (s : State) (old : List Step) → GoesOn s old s old
+follows_start s old =
     let none = appended_none old in
     record {
       log = record { grown = sym (append-nil old) ∙ ap (λ (xs : List Step). old ++ xs) (sym none); learnt = subst (λ (xs : List Step). AreLearnt s.vars s.clauses s.last_id xs) (sym none) tt };
-      level = level;
       vars = refl;
       clauses = sym (append-nil s.clauses) ∙ ap (λ (xs : List Step). s.clauses ++ added_clauses xs) (sym none);
       last = omega (arith, ap (λ (xs : List Step). length xs) none);
@@ -73,7 +72,7 @@ follows_start s old level =
     }
 
 -- propagation and decisions that are taken back change nothing
-pub follows_back : (s now dived back : State) (old new : List Step) → Follows s old now new → KeepsClauses now dived → back ≡ at_level dived 0 → Follows s old back new
+pub follows_back : (s now dived back : State) (old new : List Step) → GoesOn s old now new → KeepsClauses now dived → back ≡ at_level dived 0 → Follows s old back new
 follows_back s now dived back old new follows kept is = record {
   log = follows.log;
   level = ap (λ (x : State). x.level) is;
@@ -87,7 +86,7 @@ pub model_back : (dived back : State) (values : List Bool) → back ≡ at_level
 model_back dived back values is model = subst (λ (x : State). IsModelOf x values) (sym is) (record { size = model.size; satisfied = model.satisfied })
 
 -- a lemma is learnt
-module _ (s now dived next : State) (old new newer : List Step) (empty : Bool) (follows : Follows s old now new) (kept : KeepsClauses now dived) (taught : Teaches dived new next newer empty) where
+module _ (s now dived next : State) (old new newer : List Step) (empty : Bool) (follows : GoesOn s old now new) (kept : KeepsClauses now dived) (taught : Teaches dived new next newer empty) where
   more_is : appended old newer ≡ appended old new ++ lemma_step (dived.last_id + 1) taught.lits taught.hints
   more_is = appended_more old new newer (lemma_step (dived.last_id + 1) taught.lits taught.hints) follows.log.grown taught.log
 
@@ -115,10 +114,9 @@ module _ (s now dived next : State) (old new newer : List Step) (empty : Bool) (
   pub taught_empty : empty ≡ true → IsTrue (ends_empty (appended old newer))
   taught_empty e = ap ends_empty more_is ∙ ends-push (appended old new) (Add (dived.last_id + 1) taught.lits taught.hints) ∙ sym taught.tells ∙ e
 
-  pub follows_taught : empty ≡ false → Follows s old next newer
+  pub follows_taught : empty ≡ false → GoesOn s old next newer
   follows_taught e = record {
     log = taught_log;
-    level = taught.level;
     vars = taught.vars ∙ kept.vars ∙ follows.vars;
     clauses = taught.clauses ∙ ap (λ (cs : List Numbered). cs ++ lemma_clause (dived.last_id + 1) taught.lits) (kept.clauses ∙ follows.clauses) ∙ append_assoc s.clauses (added_clauses (appended old new)) (lemma_clause (dived.last_id + 1) taught.lits)
         ∙ ap (λ (cs : List Numbered). s.clauses ++ cs) (sym (added-append (appended old new) (lemma_step (dived.last_id + 1) taught.lits taught.hints))) ∙ ap (λ (xs : List Step). s.clauses ++ added_clauses xs) (sym more_is);
@@ -128,7 +126,7 @@ module _ (s now dived next : State) (old new newer : List Step) (empty : Bool) (
   }
 
 -- how long the log is
-pub follows_short : (s now : State) (old new : List Step) → Follows s old now new → length new ≡ length old + length (appended old new)
+pub follows_short : (s now : State) (old new : List Step) → GoesOn s old now new → length new ≡ length old + length (appended old new)
 follows_short s now old new follows = ap (λ (xs : List Step). length xs) follows.log.grown ∙ length-append old (appended old new)
 
 learnt-additions : (vars : ℕ) (clauses : List Numbered) (last : ℕ) (more : List Step) → AreLearnt vars clauses last more → additions more ≡ length more

@@ -1,5 +1,5 @@
 -- The pass that learns a lemma: an entry that is resolved away with its reason.
-use Rattle.std.proofs.Common.{◌≡◌, ◌≢◌, ℕ, ◌+◌, ◌≤◌, ℤ, pos, Bool, true, ◌&&◌, not, IsTrue, ◌⊎◌, inl, inr, List, ◌∷◌, length, take, slice_get, Contains, refl, ap, sym, ◌∙◌, subst, arith, Some}
+use Rattle.std.proofs.Common.{◌≡◌, ◌≢◌, ℕ, ◌+◌, ◌<◌, ◌≤◌, ℤ, pos, Bool, true, ◌&&◌, not, IsTrue, ◌⊎◌, inl, inr, List, ◌∷◌, length, take, slice_get, Contains, refl, ap, sym, ◌∙◌, subst, arith, Some}
 use Rattle.std.specs.Prelude.{◌==◌}
 use Rattle.std.proofs.lemmas.Bool.{or_cases, or_left, or_right, and_from, and_parts, both_ways, eq-eqb, eqb-true, not-true, not_from_false, ne_eqb}
 use Rattle.std.proofs.lemmas.List.Elements.{All-cons}
@@ -131,9 +131,9 @@ module _ (s : State) (sound : IsSound s) (first : ℕ) (flags : List Bool) (lits
   point_resolved rest next sum rises level_is many (inl before) = inl (before.0, omega (arith, sum, rises, many, ap once (eq-eqb a.level s.level level_is)))
   point_resolved rest next sum rises level_is many (inr after) = absurd (omega (arith, after.1, many))
 
-  -- an entry of level 0: none is opened
-  none_opened : (next : ℕ) → a.level ≡ 0 → 1 ≤ s.level → current ≡ 0 → next ≡ open_in s.level s.trail more → next ≡ 0
-  none_opened next bottom up none after = after ∙ count_none (is_open s.level more) s.trail (λ k e there open_one.
+  -- an entry below the current level: none is opened
+  none_opened : (next : ℕ) → a.level < s.level → current ≡ 0 → next ≡ open_in s.level s.trail more → next ≡ 0
+  none_opened next below none after = after ∙ count_none (is_open s.level more) s.trail (λ k e there open_one.
       let parts = and_parts (e.level == s.level) (is_marked more (negated e.lit)) open_one in
       let level_is : e.level ≡ s.level = eqb-true e.level s.level parts.0 in
       elim (pending_cases (negated e.lit) parts.1) [
@@ -142,17 +142,17 @@ module _ (s : State) (sound : IsSound s) (first : ℕ) (flags : List Bool) (lits
             let before = false_before (negated e.lit) new.0 new.1 in
             let place : before.place ≡ k = distinct s sound before.place k before.entry e before.at there (ap variable (before.literal ∙ negated-negated e.lit)) in
             let low : e.level ≤ a.level = levels_rise s.clauses s.vars s.trail s.level sound.trail k first e a there at (omega (arith, place, before.before)) in
-            absurd (omega (arith, low, bottom, up, level_is))
+            absurd (omega (arith, low, below, level_is))
       ])
 
-  point_at_bottom : (rest next : ℕ) → current ≡ rest + once (a.level == s.level) → rest ≤ next → a.level ≡ 0 → 1 ≤ s.level → next ≡ open_in s.level s.trail more → HasOneOfLevel s lits current → HasOneOfLevel s lits next
-  point_at_bottom rest next sum rises bottom up after (inl before) = inl (before.0, omega (arith, before.1, sum, rises, ap once (ne_eqb a.level s.level (λ e. absurd (omega (arith, e, bottom, up))))))
-  point_at_bottom rest next sum rises bottom up after (inr done) = inr (done.0, none_opened next bottom up done.1 after)
+  point_below : (rest next : ℕ) → current ≡ rest + once (a.level == s.level) → rest ≤ next → a.level < s.level → next ≡ open_in s.level s.trail more → HasOneOfLevel s lits current → HasOneOfLevel s lits next
+  point_below rest next sum rises below after (inl before) = inl (before.0, omega (arith, before.1, sum, rises, ap once (ne_eqb a.level s.level (λ e. absurd (omega (arith, e, below))))))
+  point_below rest next sum rises below after (inr done) = inr (done.0, none_opened next below done.1 after)
 
   cleared_count : (rest : ℕ) → current ≡ rest + once (a.level == s.level) → rest ≡ open_in s.level s.trail cleared
   cleared_count rest sum = counted_less s sound first flags lits hints current a at was pass cleared clears rest sum
 
-  pub pass_resolves : (rest next : ℕ) → length more ≡ length flags → current ≡ rest + once (a.level == s.level) → next ≡ open_in s.level s.trail more → (a.level ≡ 0) ⊎ ((a.level ≡ s.level) × (2 ≤ current)) → IsPass s first more lits (pos id ∷ hints) next
+  pub pass_resolves : (rest next : ℕ) → length more ≡ length flags → current ≡ rest + once (a.level == s.level) → next ≡ open_in s.level s.trail more → (1 ≤ s.level → a.level < s.level) ⊎ ((a.level ≡ s.level) × (2 ≤ current)) → IsPass s first more lits (pos id ∷ hints) next
   pass_resolves rest next size sum after why = record {
     size = size ∙ pass.size;
     pending = pending_before;
@@ -164,7 +164,7 @@ module _ (s : State) (sound : IsSound s) (first : ℕ) (flags : List Bool) (lits
     counted = after;
     risen = pass.risen;
     one = λ up. elim why [
-      | inl bottom ↦ point_at_bottom rest next sum (counted_more rest next (cleared_count rest sum) after) bottom up after (pass.one up)
+      | inl below ↦ point_below rest next sum (counted_more rest next (cleared_count rest sum) after) (below up) after (pass.one up)
       | inr on_level ↦ point_resolved rest next sum (counted_more rest next (cleared_count rest sum) after) on_level.0 on_level.1 (pass.one up)
     ];
   }

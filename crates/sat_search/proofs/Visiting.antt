@@ -1,8 +1,8 @@
 -- What a visit of the pass finds at an entry, and what it leaves.
-use Rattle.std.proofs.Common.{◌≡◌, ◌≢◌, ℕ, ◌+◌, ◌*◌, ◌<◌, ◌≤◌, ℤ, pos, Bool, true, false, ◌&&◌, ◌||◌, cond, ◌⊎◌, inl, inr, List, [], ◌∷◌, ◌++◌, length, take, reverse, slice_get, get_or, refl, ap, sym, ◌∙◌, subst, arith, Option, Some, None, IsSomeAnd, IfSome, option_map}
+use Rattle.std.proofs.Common.{◌≡◌, ◌≢◌, ℕ, ◌+◌, ◌*◌, ◌<◌, ◌≤◌, ℤ, pos, Bool, true, false, ◌||◌, cond, ◌⊎◌, inl, inr, List, [], ◌∷◌, ◌++◌, length, take, reverse, slice_get, get_or, refl, ap, sym, ◌∙◌, subst, arith, Option, Some, None, IsSomeAnd, IfSome, option_map}
 use Rattle.std.specs.Prelude.{◌==◌, nat_lt}
 use Rattle.std.specs.Option.{option_to_list}
-use Rattle.std.proofs.lemmas.Bool.{or_cases, or_parts, and_parts, and_cases, eq-eqb, eqb-true, eqb-false, ltb-true, ltb-false}
+use Rattle.std.proofs.lemmas.Bool.{cases_eq, or_cases, or_parts, and_parts, cond-true, eq-eqb, eqb-true, eqb-false, ltb-true, ltb-false}
 use Rattle.std.proofs.lemmas.Option.{none-some, slice_get_within, slice_get-get_or}
 use Rattle.std.proofs.lemmas.List.{reverse-append}
 use Rattle.cnf_types.specs.declared.literal.Lit.{Lit}
@@ -15,7 +15,7 @@ use Rattle.sat_core.specs.States.{State, IsSound}
 use Rattle.sat_search.specs.Live.{clause_in}
 use Rattle.sat_search.specs.Passes.{is_marked, is_open, open_in, IsPass, IsCleared, IsJoined, resolving_reason, hint_at}
 use Rattle.sat_search.proofs.Literals.{variable-negated}
-use Rattle.sat_search.proofs.Sound.{entry_follows, entry_reason, decision_rises, decision_first}
+use Rattle.sat_search.proofs.Sound.{entry_follows, entry_reason, decision_rises, decision_first, level_most}
 use Rattle.sat_search.proofs.Counts.{once, count_none}
 use Rattle.sat_search.proofs.Held.{held_at}
 use Rattle.sat_search.proofs.Passing.{distinct, open_some, counted_less, pending_below, pass_keeps}
@@ -24,35 +24,55 @@ use Rattle.sat_search.proofs.Clauses.{clause_found}
 
 -- why an entry is resolved away
 abbrev pub Resolved : ℕ → ℕ → Assigned → Type 0
-Resolved level current a = (a.level ≡ 0) ⊎ ((a.level ≡ level) × (2 ≤ current))
+Resolved level current a = (a.level ≡ 0) ⊎ ((a.level ≢ level) ⊎ ((a.level ≡ level) × (2 ≤ current)))
 
-test-true : (level current : ℕ) (a : Assigned) → ((a.level == 0) || ((a.level == level) && nat_lt 1 current)) ≡ true → Resolved level current a
-test-true level current a h = elim (or_cases (a.level == 0) ((a.level == level) && nat_lt 1 current) h) [
+-- what is asked of an entry above level 0
+abbrev goes : ℕ → ℕ → Bool → Assigned → Bool
+goes level current spared a = cond (a.level == level) (nat_lt 1 current) spared
+
+test-true : (level current : ℕ) (spared : Bool) (a : Assigned) → ((a.level == 0) || goes level current spared a) ≡ true → Resolved level current a
+test-true level current spared a h = elim (or_cases (a.level == 0) (goes level current spared a) h) [
   | inl bottom ↦ inl (eqb-true a.level 0 bottom)
-  | inr on_level ↦ let parts = and_parts (a.level == level) (nat_lt 1 current) on_level in inr (eqb-true a.level level parts.0, omega (arith, ltb-true 1 current parts.1))
+  | inr above ↦ elim (cases_eq a.level level) [
+    | inl is ↦ inr (inr (is, omega (arith, ltb-true 1 current (sym (cond-true (a.level == level) (nat_lt 1 current) spared (eq-eqb a.level level is)) ∙ above))))
+    | inr other ↦ inr (inl other)
+  ]
 ]
 
 with-test : (b : Bool) (o : Option Held) (h : Held) → cond b o None ≡ Some h → (b ≡ true) × (o ≡ Some h)
 with-test true o h e = (refl, e)
 with-test false o h e = absurd (none-some h e)
 
-pub resolved_why : (level current : ℕ) (a : Assigned) (h : Held) → resolving_reason level current a ≡ Some h → Resolved level current a × (a.reason ≡ Some h)
-resolved_why level current a h e =
-    let parts = with-test ((a.level == 0) || ((a.level == level) && nat_lt 1 current)) a.reason h e in
-    (test-true level current a parts.0, parts.1)
+pub resolved_why : (level current : ℕ) (spared : Bool) (a : Assigned) (h : Held) → resolving_reason level current spared a ≡ Some h → Resolved level current a × (a.reason ≡ Some h)
+resolved_why level current spared a h e =
+    let parts = with-test ((a.level == 0) || goes level current spared a) a.reason h e in
+    (test-true level current spared a parts.0, parts.1)
 
 without-test : (b : Bool) (o : Option Held) → cond b o None ≡ None → (b ≡ false) ⊎ (o ≡ None)
 without-test true o e = inr e
 without-test false o e = inl refl
 
-few-level : (level current : ℕ) (a : Assigned) → ((a.level == level) && nat_lt 1 current) ≡ false → a.level ≡ level → current ≤ 1
-few-level level current a off is = elim (and_cases (a.level == level) (nat_lt 1 current) off) [
-  | inl other ↦ absurd (eqb-false a.level level other is)
-  | inr few ↦ ltb-false 1 current few
-]
+few-level : (level current : ℕ) (spared : Bool) (a : Assigned) → goes level current spared a ≡ false → a.level ≡ level → current ≤ 1
+few-level level current spared a off is = ltb-false 1 current (sym (cond-true (a.level == level) (nat_lt 1 current) spared (eq-eqb a.level level is)) ∙ off)
 
 rises : (n : ℕ) → n ≢ 0 → 1 ≤ n
 rises n h = omega arith
+
+-- a reason is the place of a clause
+pub reason_below : (s : State) (sound : IsSound s) (first : ℕ) (a : Assigned) → slice_get s.trail first ≡ Some a → (h : Held) → a.reason ≡ Some h → h.0 < length s.clauses
+reason_below s sound first a at h some =
+    held-below (clause_at s.clauses h) refl (entry_reason s.clauses s.vars s.trail s.level sound.trail first a h at some)
+  where
+    held-below : (o : Option (List Lit)) → clause_at s.clauses h ≡ o → IsSomeAnd o (λ ls. Implies (take first s.trail) ls a.lit) → h.0 < length s.clauses
+    held-below None e p = absurd p
+    held-below (Some ls) e p = slice_get_within s.clauses h.0 (clause_found s.clauses h ls e).0 (clause_found s.clauses h ls e).1
+
+pub some-below : (s : State) (sound : IsSound s) (first : ℕ) (a : Assigned) → slice_get s.trail first ≡ Some a → IfSome a.reason (λ h. h.0 < length s.clauses)
+some-below s sound first a at = each a.reason (λ h is. reason_below s sound first a at h is)
+  where
+    each : (o : Option Held) → ((h : Held) → o ≡ Some h → h.0 < length s.clauses) → IfSome o (λ h. h.0 < length s.clauses)
+    each None f = tt
+    each (Some h) f = f h refl
 
 module _ (s : State) (sound : IsSound s) (first : ℕ) (flags : List Bool) (lits : List Lit) (hints : List ℤ) (current : ℕ) (a : Assigned) (at : slice_get s.trail first ≡ Some a) (was : is_marked flags (negated a.lit) ≡ true) (pass : IsPass s (first + 1) flags lits hints current) (more : List Bool) (clears : IsCleared flags more (negated a.lit)) where
   -- before a decision nothing of its level is open
@@ -68,44 +88,52 @@ module _ (s : State) (sound : IsSound s) (first : ℕ) (flags : List Bool) (lits
       omega (arith, counted, zero_rest, sum, ap once (eq-eqb a.level s.level level_is))
 
   -- why a literal stays
-  pub kept_why : (rest : ℕ) → current ≡ rest + once (a.level == s.level) → resolving_reason s.level current a ≡ None → (1 ≤ a.level) × (a.level ≡ s.level → current ≤ 1)
-  kept_why rest sum e = elim (without-test ((a.level == 0) || ((a.level == s.level) && nat_lt 1 current)) a.reason e) [
-    | inl off ↦ let parts = or_parts (a.level == 0) ((a.level == s.level) && nat_lt 1 current) off in (rises a.level (eqb-false a.level 0 parts.0), few-level s.level current a parts.1)
+  pub kept_why : (rest : ℕ) (spared : Bool) → current ≡ rest + once (a.level == s.level) → resolving_reason s.level current spared a ≡ None → (1 ≤ a.level) × (a.level ≡ s.level → current ≤ 1)
+  kept_why rest spared sum e = elim (without-test ((a.level == 0) || goes s.level current spared a) a.reason e) [
+    | inl off ↦ let parts = or_parts (a.level == 0) (goes s.level current spared a) off in (rises a.level (eqb-false a.level 0 parts.0), few-level s.level current spared a parts.1)
     | inr none ↦ (decision_rises s.clauses s.vars s.trail s.level sound.trail first a at none, λ is. alone rest none is sum)
   ]
 
-  pub visit_keeps : (rest : ℕ) → length more ≡ length flags → current ≡ rest + once (a.level == s.level) → resolving_reason s.level current a ≡ None → IsPass s first more (lits ++ negated a.lit ∷ []) hints rest
-  visit_keeps rest size sum e =
-      let why = kept_why rest sum e in
+  pub visit_keeps : (rest : ℕ) (spared : Bool) → length more ≡ length flags → current ≡ rest + once (a.level == s.level) → resolving_reason s.level current spared a ≡ None → IsPass s first more (lits ++ negated a.lit ∷ []) hints rest
+  visit_keeps rest spared size sum e =
+      let why = kept_why rest spared sum e in
       pass_keeps s sound first flags lits hints current a at was pass more clears rest size sum why.0 why.1
 
   some-clause : (o : Option (List Lit)) (reason : List Lit) {P Q : List Lit → Type 0} → IsSomeAnd o P → IfSome o Q → (ls : List Lit) × (o ≡ Some ls) × P ls × Q ls
   some-clause None reason p q = absurd p
   some-clause (Some ls) reason p q = (ls, refl, p, q)
 
+  -- below the current level, or not alone on it
+  below_or : Resolved s.level current a → (1 ≤ s.level → a.level < s.level) ⊎ ((a.level ≡ s.level) × (2 ≤ current))
+  below_or why = elim why [
+    | inl bottom ↦ inl (λ up. omega (arith, bottom, up))
+    | inr (inl other) ↦ inl (λ up. omega (arith, other, level_most s.clauses s.vars s.trail s.level sound.trail first a at))
+    | inr (inr on_level) ↦ inr on_level
+  ]
+
   -- the reason is joined
-  pub visit_resolves : (h : Held) (joined : List Bool) (rest next : ℕ) (all_hints : List ℤ) → length joined ≡ length flags → current ≡ rest + once (a.level == s.level) → resolving_reason s.level current a ≡ Some h →
+  pub visit_resolves : (h : Held) (spared : Bool) (joined : List Bool) (rest next : ℕ) (all_hints : List ℤ) → length joined ≡ length flags → current ≡ rest + once (a.level == s.level) → resolving_reason s.level current spared a ≡ Some h →
       IfSome (clause_at s.clauses h) (IsJoined s.trail more joined) → next ≡ open_in s.level s.trail joined → reverse all_hints ≡ hints → (taken : List ℤ) → taken ≡ all_hints ++ option_to_list (hint_at s.clauses h) → IsPass s first joined lits (reverse taken) next
-  visit_resolves h joined rest next all_hints size sum e joins after is taken taken_is =
-      let why = resolved_why s.level current a h e in
+  visit_resolves h spared joined rest next all_hints size sum e joins after is taken taken_is =
+      let why = resolved_why s.level current spared a h e in
       let reason = some-clause (clause_at s.clauses h) [] (entry_reason s.clauses s.vars s.trail s.level sound.trail first a h at why.1) joins in
       let c = clause_found s.clauses h reason.0 reason.1 in
       let live : clause_in s.clauses c.0.id ≡ Some reason.0 = held_at s.clauses h.0 c.0 sound.different c.1 ∙ ap Some c.2 in
       let hint_is : hint_at s.clauses h ≡ Some (pos c.0.id) = ap (λ (o : Option Numbered). option_map pos (option_map (λ (d : Numbered). d.id) o)) c.1 in
       let hints_are : reverse taken ≡ pos c.0.id ∷ hints = ap reverse (taken_is ∙ ap (λ (o : Option ℤ). all_hints ++ option_to_list o) hint_is) ∙ reverse-append all_hints (pos c.0.id ∷ []) ∙ ap (λ (hs : List ℤ). pos c.0.id ∷ hs) is in
       subst (λ (hs : List ℤ). IsPass s first joined lits hs next) (sym hints_are)
-      (pass_resolves s sound first flags lits hints current a at was pass more joined clears c.0.id reason.0 live reason.2 reason.3 rest next size sum after why.0)
+      (pass_resolves s sound first flags lits hints current a at was pass more joined clears c.0.id reason.0 live reason.2 reason.3 rest next size sum after (below_or why.0))
 
   -- the same, with the level as a core tells it
-  pub visited_keeps : (level other rest : ℕ) (new_lits : List Lit) (new_hints : List ℤ) → level ≡ s.level → other ≡ s.level → length more ≡ length flags → current ≡ rest + once (a.level == other) → resolving_reason level current a ≡ None → new_lits ≡ lits ++ negated a.lit ∷ [] → new_hints ≡ hints → IsPass s first more new_lits new_hints rest
-  visited_keeps level other rest new_lits new_hints level_is other_is size sum none lits_are hints_are =
-      let kept = visit_keeps rest size (sum ∙ ap (λ (n : ℕ). rest + once (a.level == n)) other_is) (ap (λ (n : ℕ). resolving_reason n current a) (sym level_is) ∙ none) in
+  pub visited_keeps : (level other rest : ℕ) (spared : Bool) (new_lits : List Lit) (new_hints : List ℤ) → level ≡ s.level → other ≡ s.level → length more ≡ length flags → current ≡ rest + once (a.level == other) → resolving_reason level current spared a ≡ None → new_lits ≡ lits ++ negated a.lit ∷ [] → new_hints ≡ hints → IsPass s first more new_lits new_hints rest
+  visited_keeps level other rest spared new_lits new_hints level_is other_is size sum none lits_are hints_are =
+      let kept = visit_keeps rest spared size (sum ∙ ap (λ (n : ℕ). rest + once (a.level == n)) other_is) (ap (λ (n : ℕ). resolving_reason n current spared a) (sym level_is) ∙ none) in
       subst (λ (hs : List ℤ). IsPass s first more new_lits hs rest) (sym hints_are) (subst (λ (ls : List Lit). IsPass s first more ls hints rest) (sym lits_are) kept)
 
-  pub visited_resolves : (level other : ℕ) (h : Held) (joined : List Bool) (rest next : ℕ) (new_lits : List Lit) (all_hints taken : List ℤ) → level ≡ s.level → other ≡ s.level → length joined ≡ length flags → current ≡ rest + once (a.level == other) → resolving_reason level current a ≡ Some h →
+  pub visited_resolves : (level other : ℕ) (spared : Bool) (h : Held) (joined : List Bool) (rest next : ℕ) (new_lits : List Lit) (all_hints taken : List ℤ) → level ≡ s.level → other ≡ s.level → length joined ≡ length flags → current ≡ rest + once (a.level == other) → resolving_reason level current spared a ≡ Some h →
       IfSome (clause_at s.clauses h) (IsJoined s.trail more joined) → next ≡ open_in s.level s.trail joined → reverse all_hints ≡ hints → taken ≡ all_hints ++ option_to_list (hint_at s.clauses h) → new_lits ≡ lits → IsPass s first joined new_lits (reverse taken) next
-  visited_resolves level other h joined rest next new_lits all_hints taken level_is other_is size sum some joins after is taken_is lits_are =
-      let resolved = visit_resolves h joined rest next all_hints size (sum ∙ ap (λ (n : ℕ). rest + once (a.level == n)) other_is) (ap (λ (n : ℕ). resolving_reason n current a) (sym level_is) ∙ some) joins after is taken taken_is in
+  visited_resolves level other spared h joined rest next new_lits all_hints taken level_is other_is size sum some joins after is taken_is lits_are =
+      let resolved = visit_resolves h spared joined rest next all_hints size (sum ∙ ap (λ (n : ℕ). rest + once (a.level == n)) other_is) (ap (λ (n : ℕ). resolving_reason n current spared a) (sym level_is) ∙ some) joins after is taken taken_is in
       subst (λ (ls : List Lit). IsPass s first joined ls (reverse taken) next) (sym lits_are) resolved
 
   -- what the next call needs
@@ -115,14 +143,8 @@ module _ (s : State) (sound : IsSound s) (first : ℕ) (flags : List Bool) (lits
   pub leave_some : (other : ℕ) → other ≡ s.level → a.level ≡ other → 1 ≤ current
   leave_some other other_is level_is = open_some s sound flags current first a at was (level_is ∙ other_is) pass.counted
 
-  pub reason_held : (level : ℕ) (h : Held) → resolving_reason level current a ≡ Some h → h.0 < length s.clauses
-  reason_held level h some =
-      let why = resolved_why level current a h some in
-      held-below (clause_at s.clauses h) refl (entry_reason s.clauses s.vars s.trail s.level sound.trail first a h at why.1)
-    where
-      held-below : (o : Option (List Lit)) → clause_at s.clauses h ≡ o → IsSomeAnd o (λ ls. Implies (take first s.trail) ls a.lit) → h.0 < length s.clauses
-      held-below None e p = absurd p
-      held-below (Some ls) e p = slice_get_within s.clauses h.0 (clause_found s.clauses h ls e).0 (clause_found s.clauses h ls e).1
+  pub reason_held : (level : ℕ) (spared : Bool) (h : Held) → resolving_reason level current spared a ≡ Some h → h.0 < length s.clauses
+  reason_held level spared h some = reason_below s sound first a at h (resolved_why level current spared a h some).1
 
 -- the entry at a place
 pub visited : (trail now : List Assigned) (place : ℕ) (d : Assigned) → now ≡ trail → place < length trail → slice_get trail place ≡ Some (get_or now place d)

@@ -1,15 +1,14 @@
 -- The order in which variables are decided.
-use Rattle.std.specs.Prelude.{◌≡◌, ℕ, ◌+◌, ◌||◌, Bool, true, false, IsTrue, List, All, length}
+use Rattle.std.specs.Prelude.{◌≡◌, ℕ, ◌+◌, ◌||◌, Bool, true, false, IsTrue, List, length}
 use Rattle.cnf_types.specs.declared.literal.Lit.{Lit}
 use Rattle.cnf_types.specs.Literals.{literal}
 use Rattle.sat_core.specs.declared.assigned.Assigned.{Assigned}
-use Rattle.sat_core.specs.Trails.{IsOf, is_on}
+use Rattle.sat_core.specs.Trails.{is_on}
 use Rattle.sat_core.specs.States.{State}
 use Rattle.sat_search.specs.declared.order.Order.{Order}
 
 -- the order is one of these variables
 pub record IsOrder (vars : ℕ) (order : Order) : Type 0 where
-  pub ranked : All (IsOf vars) order.ranked.items
   pub activity : length order.activity.items ≡ vars + 1
   pub saved : length order.saved.items ≡ vars + 1
 

@@ -1,5 +1,5 @@
 -- What a search leaves: the steps that it appends, and what its answers say.
-use Rattle.std.specs.Prelude.{◌≡◌, ℕ, ◌+◌, ◌-◌, ◌<◌, ◌≤◌, ◌^◌, ℤ, Bool, true, false, IsTrue, IsFalse, List, [], ◌∷◌, ◌++◌, length, drop, All, slice_index_or, None, Result, Ok, Err}
+use Rattle.std.specs.Prelude.{◌≡◌, ℕ, ◌+◌, ◌-◌, ◌<◌, ◌≤◌, ◌^◌, ℤ, Bool, true, false, IsTrue, IsFalse, List, [], ◌∷◌, ◌++◌, length, max, drop, All, slice_index_or, None, Result, Ok, Err}
 use Rattle.std.specs.List.{list_any}
 use Rattle.arc_base.specs.declared.memory.Memory.{Memory}
 use Rattle.cnf_types.specs.declared.literal.Lit.{Lit}
@@ -96,7 +96,15 @@ pub record HasLearnt (s : State) (old new : List Step) : Type 0 where
   pub grown : new ≡ old ++ appended old new
   pub learnt : AreLearnt s.vars s.clauses s.last_id (appended old new)
 
--- a state at level 0 with the clauses that were learnt since an earlier one, none of which is empty
+-- a state with the clauses that were learnt since an earlier one, none of which is empty
+pub record GoesOn (s : State) (old : List Step) (now : State) (new : List Step) : Type 0 where
+  pub log : HasLearnt s old new
+  pub vars : now.vars ≡ s.vars
+  pub clauses : now.clauses ≡ s.clauses ++ added_clauses (appended old new)
+  pub last : now.last_id ≡ s.last_id + length (appended old new)
+  pub filled : IsFalse (list_any adds_empty (appended old new))
+
+-- and such a state at level 0
 pub record Follows (s : State) (old : List Step) (now : State) (new : List Step) : Type 0 where
   pub log : HasLearnt s old new
   pub level : now.level ≡ 0
@@ -128,5 +136,10 @@ pub record Teaches (s : State) (old : List Step) (now : State) (new : List Step)
   pub clauses : now.clauses ≡ s.clauses ++ record { id = s.last_id + 1; lits = lits } ∷ []
   pub last : now.last_id ≡ s.last_id + 1
   pub vars : now.vars ≡ s.vars
-  pub level : now.level ≡ 0
   pub tells : empty ≡ is_empty lits
+
+-- the state gained the clause, and its trail may be another
+pub record Gains (s : State) (id : ℕ) (lits : List Lit) (now : State) : Type 0 where
+  pub clauses : now.clauses ≡ s.clauses ++ record { id = id; lits = lits } ∷ []
+  pub last : now.last_id ≡ max s.last_id id
+  pub vars : now.vars ≡ s.vars

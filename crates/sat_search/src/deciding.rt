@@ -11,8 +11,9 @@ use sat_core::{Core, Held};
 
 impl Order {
     /// Propagates and decides until a clause is falsified, which is then the answer, or all variables are set.
-    pub fn dive(&self, core: &mut Core) -> Option<Held>
-        requires { IsOrder core.old.vars self.now }
+    pub fn dive(&mut self, core: &mut Core) -> Option<Held>
+        requires { IsOrder core.old.vars self.old }
+        ensures order { IsOrder core.old.vars self.new }
         ensures sound { IsSound core.new }
         ensures kept { KeepsClauses core.old core.new }
         ensures conflict { IfSome result (λ held. IsSomeAnd (clause_at core.new.clauses held) (IsFalsified core.new.trail)) }
@@ -28,18 +29,23 @@ impl Order {
         self.scan(core)
     }
 
-    /// Sets the variables that conflicts met, the most active first.
-    fn walk(&self, core: &mut Core) -> Option<Held>
-        requires order { IsOrder core.old.vars self.now }
+    /// Sets the variables that may be unset, the most active first.
+    fn walk(&mut self, core: &mut Core) -> Option<Held>
+        requires order { IsOrder core.old.vars self.old }
         requires sound { IsSound core.old }
         requires rest { IsAtRest core.old.clauses (is_on core.old.trail) }
+        ensures order { IsOrder core.old.vars self.new }
         ensures sound { IsSound core.new }
         ensures kept { KeepsClauses core.old core.new }
         ensures conflict { IfSome result (λ held. IsSomeAnd (clause_at core.new.clauses held) (IsFalsified core.new.trail)) }
         ensures rest { IsNone result → IsAtRest core.new.clauses (is_on core.new.trail) }
     {
-        for lit in &self.ranked {
-            if let Some(held) = self.assume(core, lit.var()) {
+        let vars = core.vars();
+        while let Some(var) = self.heap.take_first(self.activity.as_slice()) {
+            if var == 0 || var > vars {
+                continue;
+            }
+            if let Some(held) = self.assume(core, var) {
                 return Some(held);
             }
         }

@@ -1,13 +1,15 @@
 //! What a search keeps between its conflicts, and what it does at one.
-ghost use Rattle.std.specs.Prelude.{◌≡◌, ◌+◌, ◌*◌, ◌≤◌, ◌<◌, ◌-◌, ◌^◌, All, length, IsSomeAnd, IfOk, OnErr};
+ghost use Rattle.std.specs.Prelude.{◌≡◌, ◌≢◌, ◌+◌, ◌*◌, ◌≤◌, ◌<◌, ◌-◌, ◌^◌, All, length, IsSomeAnd, IfOk, OnOk, OnErr};
 ghost use Rattle.proof_log.specs.declared.steps.Log.{Log};
 ghost use Rattle.sat_core.specs.Trails.{clause_at, IsOf, IsFalsified};
+ghost use Rattle.sat_core.specs.States.{IsSound};
 ghost use Rattle.sat_search.specs.Learners.{IsReady};
-ghost use Rattle.sat_search.specs.Searches.{IsLearnt, Teaches};
+ghost use Rattle.sat_search.specs.Searches.{Gains, IsLearnt, Teaches};
 
-use crate::lesson::Lesson;
+use crate::lesson::{Lesson, level_of_false};
 use crate::marks::Marks;
 use crate::order::Order;
+use crate::restarts::Restarts;
 use arc_base::{List, Memory};
 use cnf_types::Lit;
 use proof_log::{Log, Step};
@@ -20,6 +22,7 @@ pub(crate) struct Learner {
     pub alloc: Global,
     pub marks: Marks,
     pub order: Order,
+    pub restarts: Restarts,
 }
 
 impl Learner {
@@ -31,10 +34,12 @@ impl Learner {
             alloc,
             marks: Marks::make(alloc, vars)?,
             order: Order::make(alloc, vars)?,
+            restarts: Restarts::make(),
         })
     }
 
-    /// Learns from a conflict: the lemma joins the core, at level 0, and the log. It tells whether it is empty.
+    /// Learns from a conflict: the lemma joins the core, at the level on which it implies a literal or at level 0, and
+    /// the log. It tells whether it is empty.
     pub fn learn(&mut self, core: &mut Core, log: &mut Log, conflict: Held) -> Result<bool, Memory>
         requires ready { IsReady core.old.vars self.old }
         requires conflict { IsSomeAnd (clause_at core.old.clauses conflict) (IsFalsified core.old.trail) }
@@ -45,16 +50,47 @@ impl Learner {
         ensures err { OnErr result (log.new.steps ≡ log.old.steps) }
     {
         let lesson = Lesson::of(self.alloc, &mut self.marks, core, conflict)?;
-        self.order.remember(core, &lesson.met)?;
-        core.back_to(0);
+        self.order.remember(core.vars(), &lesson.met);
         let (lits, hints) = lesson.into_parts()?;
+        let level = if self.restarts.is_due() {
+            0
+        } else {
+            second_level(core, lits.slice())
+        };
+        self.order.take_back(core, level);
         enter(core, log, lits, hints)
     }
 }
 
+/// The level of the second literal of a lemma, which is the greatest but that of the first, and 0 where there is none.
+fn second_level(core: &Core, lits: &[Lit]) -> u32
+    requires sound { IsSound core.now }
+    requires range { All (IsOf core.now.vars) lits.now }
+    ensures { result ≤ core.now.level }
+{
+    if lits.len() < 2 {
+        return 0;
+    }
+    level_of_false(core, lits[1]).min(core.level())
+}
+
+/// Adds a lemma to the core, on the current level where it implies its first literal there, and on level 0 otherwise.
+fn join(core: &mut Core, id: u64, lits: &[Lit]) -> Result<(), Memory>
+    requires range { All (IsOf core.old.vars) lits.now }
+    requires few_literals { length lits.now < 2 ^ 32 }
+    requires few_clauses { length core.old.clauses < 2 ^ 32 - 1 }
+    requires fresh { All (λ c. c.id ≢ id) core.old.clauses }
+    ensures { OnOk result (Gains core.old id lits.now core.new) }
+{
+    if core.is_asserting(lits) {
+        return core.learn(id, lits);
+    }
+    core.back_to(0);
+    core.add(id, lits)
+}
+
 /// Adds a lemma to the core under the next id, and to the log. It tells whether it is empty.
 fn enter(core: &mut Core, log: &mut Log, lits: List<Lit>, hints: List<i64>) -> Result<bool, Memory>
-    requires level { core.old.level ≡ 0 }
     requires ids { core.old.last_id + 1 < 2 ^ 63 }
     requires known { All (λ c. c.id ≤ core.old.last_id) core.old.clauses }
     requires short { length log.old.steps < 2 ^ 32 - 1 }
@@ -67,7 +103,7 @@ fn enter(core: &mut Core, log: &mut Log, lits: List<Lit>, hints: List<i64>) -> R
     }
     let id = core.last_id() + 1;
     let empty = lits.is_empty();
-    core.add(id, lits.slice())?;
+    join(core, id, lits.slice())?;
     log.steps.push(Step::Add { id, lits, hints })?;
     Ok(empty)
 }

@@ -37,6 +37,35 @@ fn is_false(core: &Core, lit: Lit) -> bool
     }
 }
 
+/// The level on which a literal became false, and 0 where it is not false.
+pub(crate) fn level_of_false(core: &Core, lit: Lit) -> u32
+    requires sound { IsSound core.now }
+    requires range { IsOf core.now.vars lit }
+{
+    if is_false(core, lit) {
+        core.level_of(lit.var())
+    } else {
+        0
+    }
+}
+
+/// Whether the literals that an entry's reason brings in its place are in the clause so far, or false since level 0.
+fn is_spared(marks: &Marks, core: &Core, entry: Assigned) -> bool
+    requires sound { IsSound core.now }
+    requires room { HasRoom core.now marks.now }
+    requires held { IfSome entry.reason (λ h. h.0 < length core.now.clauses) }
+{
+    let Some(held) = entry.reason else {
+        return false;
+    };
+    for lit in core.clause(held) {
+        if lit.code != entry.lit.code && !marks.has(*lit) && level_of_false(core, *lit) > 0 {
+            return false;
+        }
+    }
+    true
+}
+
 /// The hint that names a clause.
 fn hint(core: &Core, held: Held) -> i64
     requires held { held.0 < length core.now.clauses }
@@ -48,12 +77,17 @@ fn hint(core: &Core, held: Held) -> i64
 }
 
 impl Lesson {
-    /// The reason with which an entry is resolved away, where it is: on level 0, and on the current level as long as
-    /// other literals of this level are marked.
-    fn resolving_reason(&self, entry: Assigned, level: u32) -> Option<Held>
-        ensures { result ≡ resolving_reason level self.now.current entry }
+    /// The reason with which an entry is resolved away, where it is: on level 0, on the current level as long as other
+    /// literals of this level are marked, and between them where its literal can be spared.
+    fn resolving_reason(&self, entry: Assigned, level: u32, spared: bool) -> Option<Held>
+        ensures { result ≡ resolving_reason level self.now.current spared entry }
     {
-        if entry.level == 0 || (entry.level == level && self.current > 1) {
+        let goes = if entry.level == level {
+            self.current > 1
+        } else {
+            spared
+        };
+        if entry.level == 0 || goes {
             entry.reason
         } else {
             None
@@ -143,7 +177,8 @@ impl Lesson {
         if !marks.has(negation) {
             return Ok(());
         }
-        let reason = self.resolving_reason(entry, core.level());
+        let spared = is_spared(marks, core, entry);
+        let reason = self.resolving_reason(entry, core.level(), spared);
         self.leave(marks, core.level(), entry);
         match reason {
             Some(held) => self.join(marks, core, held),

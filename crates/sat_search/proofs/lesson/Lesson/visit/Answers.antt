@@ -3,7 +3,7 @@ use Rattle.cnf_types.specs.declared.literal.Lit.{Lit}
 use Rattle.sat_core.specs.declared.assigned.Assigned.{Assigned}
 use Rattle.sat_search.specs.Passes.{is_marked}
 use Rattle.sat_search.proofs.Passing.{pass_skips}
-use Rattle.sat_search.proofs.Visiting.{visited_keeps, visited_resolves, leave_counted, reason_held, visited, in_range, negated_below}
+use Rattle.sat_search.proofs.Visiting.{some-below, visited_keeps, visited_resolves, leave_counted, reason_held, visited, in_range, negated_below}
 use Rattle.sat_search.proofs.lesson.Lesson.visit.Goals as goal
 
 abbrev unset : Assigned
@@ -30,7 +30,7 @@ join-requires-clause-held c =
     let a : Assigned = get_or c.trail.result.now c.args.place unset in
     let at = visited c.args.core.now.trail c.trail.result.now c.args.place unset c.trail.ensures.entries c.requires.place in
     reason_held c.args.core.now c.requires.sound c.args.place c.args.marks.now c.args.self.now.lits.items (reverse c.args.self.now.hints.items) c.args.self.now.current a at (ap (is_marked c.args.marks.now) (sym c.negated-negation.ensures) ∙ sym c.has.ensures ∙ c.if-not-has.false) c.requires.pass c.leave.new.marks c.leave.ensures.cleared
-    c.level.result c.in-Some.held (sym c.resolving_reason-reason.ensures ∙ c.in-Some.is)
+    c.level.result c.is_spared-spared.result c.in-Some.held (sym c.resolving_reason-reason.ensures ∙ c.in-Some.is)
 
 pub join-requires-clause-counted : goal.join-requires-clause-counted
 join-requires-clause-counted c =
@@ -45,7 +45,7 @@ returns-in-Some-clause-pass c =
     let at = visited c.args.core.now.trail c.trail.result.now c.args.place unset c.trail.ensures.entries c.requires.place in
     all_ok c.join.result _ _ _ _ c.join.ensures.joined c.join.ensures.hint c.join.ensures.counted (λ joined hint counted.
     visited_resolves c.args.core.now c.requires.sound c.args.place c.args.marks.now c.args.self.now.lits.items (reverse c.args.self.now.hints.items) c.args.self.now.current a at (ap (is_marked c.args.marks.now) (sym c.negated-negation.ensures) ∙ sym c.has.ensures ∙ c.if-not-has.false) c.requires.pass c.leave.new.marks c.leave.ensures.cleared
-    c.level.result c.level-2.result c.in-Some.held c.join.new.marks c.leave.new.self.current c.join.new.self.current c.join.new.self.lits.items c.leave.new.self.hints.items c.join.new.self.hints.items c.level.ensures c.level-2.ensures (c.join.ensures.size ∙ c.leave.ensures.size) c.leave.ensures.less (sym c.resolving_reason-reason.ensures ∙ c.in-Some.is)
+    c.level.result c.level-2.result c.is_spared-spared.result c.in-Some.held c.join.new.marks c.leave.new.self.current c.join.new.self.current c.join.new.self.lits.items c.leave.new.self.hints.items c.join.new.self.hints.items c.level.ensures c.level-2.ensures (c.join.ensures.size ∙ c.leave.ensures.size) c.leave.ensures.less (sym c.resolving_reason-reason.ensures ∙ c.in-Some.is)
     joined counted (ap reverse c.leave.ensures.hints) hint (c.join.ensures.lits ∙ c.leave.ensures.lits))
 
 pub returns-in_ok-push-in-None-clause-pass : goal.returns-in_ok-push-in-None-clause-pass
@@ -53,6 +53,12 @@ returns-in_ok-push-in-None-clause-pass c =
     let a : Assigned = get_or c.trail.result.now c.args.place unset in
     let at = visited c.args.core.now.trail c.trail.result.now c.args.place unset c.trail.ensures.entries c.requires.place in
     visited_keeps c.args.core.now c.requires.sound c.args.place c.args.marks.now c.args.self.now.lits.items (reverse c.args.self.now.hints.items) c.args.self.now.current a at (ap (is_marked c.args.marks.now) (sym c.negated-negation.ensures) ∙ sym c.has.ensures ∙ c.if-not-has.false) c.requires.pass c.leave.new.marks c.leave.ensures.cleared
-    c.level.result c.level-2.result c.leave.new.self.current c.push.new.self.items (reverse c.leave.new.self.hints.items) c.level.ensures c.level-2.ensures c.leave.ensures.size c.leave.ensures.less (sym c.resolving_reason-reason.ensures ∙ c.in-None.is)
+    c.level.result c.level-2.result c.leave.new.self.current c.is_spared-spared.result c.push.new.self.items (reverse c.leave.new.self.hints.items) c.level.ensures c.level-2.ensures c.leave.ensures.size c.leave.ensures.less (sym c.resolving_reason-reason.ensures ∙ c.in-None.is)
     (c.in_ok-push-in-None.ensures.items ∙ ap (λ (ls : List Lit). ls ++ c.negated-negation.result ∷ []) c.leave.ensures.lits ∙ ap (λ (l : Lit). c.args.self.now.lits.items ++ l ∷ []) c.negated-negation.ensures)
     (ap reverse c.leave.ensures.hints)
+
+pub is_spared-spared-requires-clause-held : goal.is_spared-spared-requires-clause-held
+is_spared-spared-requires-clause-held c =
+    let a : Assigned = get_or c.trail.result.now c.args.place unset in
+    let at = visited c.args.core.now.trail c.trail.result.now c.args.place unset c.trail.ensures.entries c.requires.place in
+    some-below c.args.core.now c.requires.sound c.args.place a at
