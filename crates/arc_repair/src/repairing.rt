@@ -1,5 +1,6 @@
 //! The cheapest repair.
 ghost use Rattle.std.specs.Prelude.{◌≡◌, ◌≤◌, [], List as Items, length, All, IfOk, IfErr};
+ghost use Rattle.clean_logs.specs.CleanLogs.{additions};
 ghost use Rattle.net_model.specs.Forwarding.{HasEnds};
 ghost use Rattle.net_model.specs.Packets.{subject};
 ghost use Rattle.net_model.specs.Validity.{IsValid};
@@ -125,6 +126,7 @@ pub fn repair(
     ensures met { IfOk result (λ answer. (list : Items AnyEdit) → AreEdits net.now doc.now list → Mends net.now doc.now list (none_of list) → IsUntouched list answer) }
     ensures lines { IfOk result (λ answer. All HasLine (answer_steps answer)) }
     ensures few { IfOk result AnswersFew }
+    ensures within { IfOk result (λ answer. additions (answer_steps answer) ≤ limit) }
     ensures limits { IfOk result (λ answer. (list : Items AnyEdit) → AreEdits net.now doc.now list → KeepsLimits net.now doc.now list bound) }
     ensures fault { IfErr result (IsRepairFault net.now doc.now bound) }
 {

@@ -1,5 +1,6 @@
 //! The search for the cheapest repair.
 ghost use Rattle.std.specs.Prelude.{◌≡◌, ◌≤◌, length, All, IfOk};
+ghost use Rattle.clean_logs.specs.CleanLogs.{additions};
 ghost use Rattle.net_model.specs.Validity.{IsValid};
 ghost use Rattle.edit_space.specs.Determined.{IsCountable};
 ghost use Rattle.edit_space.specs.EditLists.{AreEdits};
@@ -37,6 +38,7 @@ pub(crate) fn cheapest(
     requires limit { limit ≤ 200000 }
     ensures searched { IfOk result (IsSearched net.now doc.now list.now bound limit) }
     ensures lines { IfOk result (λ found. All HasLine (found_steps found)) }
+    ensures within { IfOk result (λ found. additions (found_steps found) ≤ limit) }
 {
     networks_after_edits_are_valid();
     models_are_repairs();

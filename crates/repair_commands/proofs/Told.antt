@@ -4,6 +4,7 @@ use Rattle.std.specs.Prelude.{All, Some}
 use Rattle.std.specs.List.{AllZip}
 use Rattle.std.proofs.lemmas.Bool.{false≢true}
 use Rattle.arc_outside.specs.Files.{Files, with_file, with_files}
+use Rattle.clean_logs.specs.CleanLogs.{additions}
 use Rattle.net_model.specs.declared.policies.Document.{Document}
 use Rattle.net_model.specs.declared.rows.Network.{Network}
 use Rattle.net_model.specs.declared.verdicts.Verdict.{Verdict}
@@ -89,6 +90,11 @@ module _ (words : RepairWords) (files : Files) where
         let P : Answer → Type 0 = λ a. All HasLine (answer_steps a) in
         subst P is done.answered.lines
 
+    within_as : (answer : Answer) → done.answer ≡ answer → additions (answer_steps answer) ≤ words.conflicts
+    within_as answer is =
+        let P : Answer → Type 0 = λ a. additions (answer_steps a) ≤ words.conflicts in
+        subst P is done.answered.within
+
     -- the files after one write more
     after_is : (told : List ℕ) (changed : List (List ℕ × List ℕ)) (certificate : List ℕ) (status : ℕ) → Writes words told changed certificate status d
         → with_files d.writes files ≡ with_file (with_files changed files) words.proof certificate
@@ -110,6 +116,7 @@ module _ (words : RepairWords) (files : Files) where
       log = log;
       certificate = (answered_as (Claimed claim log) is).certificate;
       lines = lines_as (Claimed claim log) is;
+      within = within_as (Claimed claim log) is;
       written = written_is;
     }
 

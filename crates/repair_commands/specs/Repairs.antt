@@ -7,6 +7,7 @@ use Rattle.net_model.specs.declared.policies.Document.{Document}
 use Rattle.net_model.specs.declared.rows.Network.{Network}
 use Rattle.net_model.specs.Validity.{IsValid}
 use Rattle.net_build.specs.declared.built.Built.{Built}
+use Rattle.clean_logs.specs.CleanLogs.{additions}
 use Rattle.edit_space.specs.declared.claims.Claim.{Claim}
 use Rattle.edit_space.specs.declared.claims.Claim.TheVariants.{Repaired, NoRepair}
 use Rattle.edit_space.specs.declared.edit_kinds.Edit.{Edit}
@@ -119,6 +120,7 @@ pub record IsAnswered (words : RepairWords) (net : Network) (doc : Document) (li
   pub is_answer : IsAnswer net doc list words.bound words.conflicts answer
   pub lines : All HasLine (answer_steps answer)
   pub few : AnswersFew answer
+  pub within : additions (answer_steps answer) ≤ words.conflicts
   pub untouched : Mends net doc list (none_of list) → IsUntouched list answer
 
 -- The answer: of the network and its edits, with what it writes.

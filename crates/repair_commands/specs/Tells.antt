@@ -6,6 +6,7 @@ use Rattle.net_model.specs.declared.rows.Network.{Network}
 use Rattle.net_model.specs.declared.verdicts.Verdict.{Verdict}
 use Rattle.net_model.specs.Policies.{MeetsDocument}
 use Rattle.net_build.specs.declared.built.Built.{Built}
+use Rattle.clean_logs.specs.CleanLogs.{additions}
 use Rattle.edit_space.specs.declared.claims.Claim.{Claim}
 use Rattle.edit_space.specs.declared.claims.Claim.TheVariants.{Repaired, NoRepair}
 use Rattle.edit_space.specs.declared.edit_kinds.Edit.{Edit}
@@ -30,12 +31,13 @@ pub record IsRepairable (words : RepairWords) (files : Files) (doc : Document) (
   pub edits : AreEdits net doc list
   pub limits : KeepsLimits net doc list words.bound
 
--- the certificate of this claim was written
+-- the certificate of this claim was written, whose log adds at most as many clauses as the words allow
 pub record HoldsCertificate (words : RepairWords) (net : Network) (doc : Document) (list : List Edit) (claim : Claim)
     (after : Files) : Type 0 where
   pub log : Log
   pub certificate : IsCertificate net doc list claim log.steps
   pub lines : All HasLine log.steps
+  pub within : additions log.steps ≤ words.conflicts
   pub written : after words.proof ≡ Some (certificate_text net doc list claim log)
 
 -- These are the edits of the network that are the cheapest after which it meets every policy, at a price within the bound. The

@@ -1,7 +1,8 @@
-use Rattle.std.proofs.Common.{◌∙◌, inl, Bool, Option, List, [], refl, sym, ap, subst, length}
+use Rattle.std.proofs.Common.{◌∙◌, ◌≤◌, inl, Bool, Option, List, [], refl, sym, ap, subst, length, arith}
 use Rattle.std.specs.Prelude.{All, IfSome}
 use Rattle.std.proofs.lemmas.List.Elements.{All-nil}
 use Rattle.std.proofs.lemmas.Result.{err_from_is_err_and}
+use Rattle.clean_logs.specs.CleanLogs.{additions}
 use Rattle.net_model.specs.declared.verdicts.Verdict.{Verdict}
 use Rattle.edit_space.specs.declared.claims.Claim.TheVariants.{Repaired}
 use Rattle.edit_space.specs.declared.edit_kinds.Edit.{Edit}
@@ -82,6 +83,11 @@ returns-in-Some-clause-few c =
     let few : All ShowsFew c.in-Some.verdicts = subst (λ (o : Option (List Verdict)). IfSome o (All ShowsFew)) c.in-Some.is c.in_ok-verdicts.ensures.few in
     subst (λ (answer : Answer). AnswersFew answer) (sym c.untouched.ensures) few
 
+pub returns-in-Some-clause-within : goal.returns-in-Some-clause-within
+returns-in-Some-clause-within c =
+    let none : additions [] ≤ c.args.limit = omega arith in
+    subst (λ (steps : List Step). additions steps ≤ c.args.limit) (sym (ap answer_steps c.untouched.ensures)) none
+
 pub returns-in-Some-clause-limits : goal.returns-in-Some-clause-limits
 returns-in-Some-clause-limits c =
     of_each c.edit_lists_are_one.ensures c.args.net.now c.args.doc.now c.in_ok-list.list c.requires.valid c.in_ok-list.ensures.edits (λ (l : List Edit). KeepsLimits c.args.net.now c.args.doc.now l c.args.bound)
@@ -99,6 +105,9 @@ returns-clause-met c =
 
 pub returns-clause-lines : goal.returns-clause-lines
 returns-clause-lines c = subst (λ (steps : List Step). All HasLine steps) (sym c.in_ok-answer.ensures.lines) c.in_ok-found.ensures.lines
+
+pub returns-clause-within : goal.returns-clause-within
+returns-clause-within c = subst (λ (steps : List Step). additions steps ≤ c.args.limit) (sym c.in_ok-answer.ensures.lines) c.in_ok-found.ensures.within
 
 pub returns-clause-limits : goal.returns-clause-limits
 returns-clause-limits c =
