@@ -4,12 +4,13 @@ use Rattle.std.specs.Prelude.{Option, Some, None, IfSome, IsSomeAnd, option_map}
 use Rattle.arc_outside.specs.Causes.{Rose}
 use Rattle.arc_outside.specs.Files.{Files, with_files}
 use Rattle.command_words.specs.declared.commands.Command.{Command}
-use Rattle.command_words.specs.declared.commands.Command.TheVariants.{Verify, Trace, Repair, Check, Apply, Solve, Lrat, Nodes, Prefers, Recheck}
+use Rattle.command_words.specs.declared.commands.Command.TheVariants.{Verify, Trace, Repair, Check, Apply, Solve, Lrat, Generate, Nodes, Prefers, Recheck}
 use Rattle.run_files.specs.Answers.{IsTold}
 use Rattle.apply_commands.proofs.Told.{apply_told}
 use Rattle.check_commands.proofs.Told.{any_check_told}
 use Rattle.cnf_commands.proofs.Refuting.{lrat_told}
 use Rattle.cnf_commands.proofs.SolveHeadline.{solve_told}
+use Rattle.generate_commands.proofs.Told.{generate_told}
 use Rattle.reach_commands.proofs.NodesTold.{nodes_told}
 use Rattle.reach_commands.proofs.PrefersTold.{prefers_told}
 use Rattle.reach_commands.proofs.RecheckTold.{recheck_told}
@@ -31,6 +32,7 @@ command_told (Check document certificate) = any_check_told document certificate
 command_told (Apply words) = apply_told words
 command_told (Solve words) = solve_told words
 command_told (Lrat cnf proof) = lrat_told cnf proof
+command_told (Generate words) = generate_told words
 command_told (Nodes words) = nodes_told words
 command_told (Prefers words) = prefers_told words
 command_told (Recheck words) = recheck_told words

@@ -3,7 +3,7 @@ use Rattle.std.proofs.Common.{◌≤◌, inl, inr, ◌≡◌, ◌∙◌, ◌⊎�
 use Rattle.std.specs.Prelude.{Option, Some, None}
 use Rattle.arc_outside.specs.Files.{Files}
 use Rattle.command_words.specs.declared.commands.Command.{Command}
-use Rattle.command_words.specs.declared.commands.Command.TheVariants.{Verify, Trace, Repair, Check, Apply, Solve, Lrat, Nodes, Prefers, Recheck}
+use Rattle.command_words.specs.declared.commands.Command.TheVariants.{Verify, Trace, Repair, Check, Apply, Solve, Lrat, Generate, Nodes, Prefers, Recheck}
 use Rattle.run_files.specs.declared.outcome.Done.{Done}
 use Rattle.arc_run.specs.declared.outcome.Outcome.{Outcome}
 use Rattle.arc_run.specs.declared.outcome.Outcome.TheVariants as outcomes
@@ -23,6 +23,7 @@ own_small (Check document certificate) d own = omega (arith, own.status)
 own_small (Apply words) d own = omega (arith, own.status)
 own_small (Solve words) d own = of_three d.status own.status
 own_small (Lrat cnf proof) d own = omega (arith, own.status)
+own_small (Generate words) d own = of_three d.status own.status
 own_small (Nodes words) d own = omega (arith, own.status)
 own_small (Prefers words) d own = omega (arith, own.status)
 own_small (Recheck words) d own = omega (arith, own.status)

@@ -2,11 +2,12 @@
 use Rattle.std.specs.Prelude.{ℕ}
 use Rattle.arc_outside.specs.Files.{Files}
 use Rattle.command_words.specs.declared.commands.Command.{Command}
-use Rattle.command_words.specs.declared.commands.Command.TheVariants.{Verify, Trace, Repair, Check, Apply, Solve, Lrat, Nodes, Prefers, Recheck}
+use Rattle.command_words.specs.declared.commands.Command.TheVariants.{Verify, Trace, Repair, Check, Apply, Solve, Lrat, Generate, Nodes, Prefers, Recheck}
 use Rattle.apply_commands.specs.Applies.{TellsApply}
 use Rattle.check_commands.specs.Tells.{TellsAnyCheck}
 use Rattle.cnf_commands.specs.Lrats.{TellsRefutation}
 use Rattle.cnf_commands.specs.Solves.{TellsSolution}
+use Rattle.generate_commands.specs.Tells.{TellsGenerate}
 use Rattle.reach_commands.specs.Nodes.{TellsNodes}
 use Rattle.reach_commands.specs.PreferRuns.{TellsPrefers}
 use Rattle.reach_commands.specs.RecheckRuns.{TellsRecheck}
@@ -46,6 +47,12 @@ Tells (Solve words) status before after = TellsSolution words status before afte
 -- `lrat`: 0 exactly where the proof is an accepted log for the formula that adds the empty clause, and then no assignment
 -- satisfies the formula; 1 exactly where it is none, and 5 exactly where the formula or the proof is refused.
 Tells (Lrat cnf proof) status before after = TellsRefutation cnf proof status before
+-- `generate`: after 0 the certificate was written of the cheapest edits within the bound after which the network of the document and the
+-- router files that are made of the number meets every policy; the patches of these files by them, read, have exactly the network after
+-- these edits. After 2 no edits within the bound make it meet every policy, and the certificate of this was written; and after 3 a log
+-- that is spent was written in place of either. It is 5 exactly where what is made is too large to be repaired, and then nothing is
+-- written.
+Tells (Generate words) status before after = TellsGenerate words status before after
 -- `nodes`: 0 exactly where the document and its router files have a network with the prefixes in which stable forwarding carries the
 -- packets from the one to the other whichever so many routers fail beside those of the two host networks, 1 exactly where they have
 -- such a network and it does not, or the policy is not clear, and 5 exactly where they are refused.

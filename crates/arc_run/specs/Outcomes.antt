@@ -2,7 +2,7 @@
 use Rattle.std.specs.Prelude.{ℕ, List, [], Option, Some, None, IfSome}
 use Rattle.arc_outside.specs.Files.{Files}
 use Rattle.command_words.specs.declared.commands.Command.{Command}
-use Rattle.command_words.specs.declared.commands.Command.TheVariants.{Verify, Trace, Repair, Check, Apply, Solve, Lrat, Nodes, Prefers, Recheck}
+use Rattle.command_words.specs.declared.commands.Command.TheVariants.{Verify, Trace, Repair, Check, Apply, Solve, Lrat, Generate, Nodes, Prefers, Recheck}
 use Rattle.run_files.specs.declared.limits.Limits.TheVariants.{Judging}
 use Rattle.run_files.specs.declared.outcome.Done.{Done}
 use Rattle.run_files.specs.declared.outcome.FileRefusal.{FileRefusal}
@@ -13,6 +13,7 @@ use Rattle.apply_commands.specs.Applies.{IsApplied, IsApplyRefusal, WritesCopies
 use Rattle.check_commands.specs.RepairChecks.{IsAnyChecked, IsAnyRefusal}
 use Rattle.cnf_commands.specs.Lrats.{IsJudged, IsLratRefusal}
 use Rattle.cnf_commands.specs.Solves.{IsSolved, IsSolveRefusal, WritesProof}
+use Rattle.generate_commands.specs.Generates.{IsGenerateRefusal, IsSummary, WritesOne}
 use Rattle.repair_commands.specs.Repairs.{IsRepaired, IsRepairRefusal, WritesCertificate}
 use Rattle.verify_commands.specs.Traces.{IsTraced, IsTraceRefusal}
 use Rattle.verify_commands.specs.Verifies.{IsVerified}
@@ -32,6 +33,7 @@ IsRefusal (Check document certificate) = IsAnyRefusal document certificate
 IsRefusal (Apply words) = IsApplyRefusal words
 IsRefusal (Solve words) = IsSolveRefusal words
 IsRefusal (Lrat cnf proof) = IsLratRefusal cnf proof
+IsRefusal (Generate words) = λ files. IsGenerateRefusal words
 IsRefusal (Nodes words) = IsNodesRefusal words
 IsRefusal (Prefers words) = IsPrefersRefusal words
 IsRefusal (Recheck words) = IsRecheckRefusal words
@@ -45,6 +47,7 @@ IsAnswer (Check document certificate) = IsAnyChecked document certificate
 IsAnswer (Apply words) = IsApplied words
 IsAnswer (Solve words) = IsSolved words
 IsAnswer (Lrat cnf proof) = IsJudged cnf proof
+IsAnswer (Generate words) = λ files. IsSummary words
 IsAnswer (Nodes words) = IsNodesAnswer words
 IsAnswer (Prefers words) = IsPrefersAnswer words
 IsAnswer (Recheck words) = IsRecheckAnswer words
@@ -58,6 +61,7 @@ IsOwn (Check document certificate) = IsJudging
 IsOwn (Apply words) = WritesCopies words
 IsOwn (Solve words) = WritesProof words
 IsOwn (Lrat cnf proof) = IsJudging
+IsOwn (Generate words) = WritesOne words
 IsOwn (Nodes words) = IsJudging
 IsOwn (Prefers words) = IsJudging
 IsOwn (Recheck words) = IsJudging

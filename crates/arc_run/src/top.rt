@@ -15,6 +15,7 @@ use arc_outside::{Sink, Store};
 use check_commands::check;
 use cnf_commands::{lrat, solve};
 use command_words::{Command, read_words};
+use generate_commands::generate;
 use reach_commands::{nodes, prefers, recheck};
 use repair_commands::repair;
 use run_files::{Done, Stop};
@@ -42,6 +43,7 @@ fn answer<S: Store>(alloc: Global, command: &Command, store: &mut S) -> Result<D
         Command::Apply(words) => apply(alloc, words, store),
         Command::Solve(words) => solve(alloc, words, store),
         Command::Lrat(cnf, proof) => lrat(alloc, cnf, proof, store),
+        Command::Generate(words) => generate(alloc, words),
         Command::Nodes(words) => nodes(alloc, words, store),
         Command::Prefers(words) => prefers(alloc, words, store),
         Command::Recheck(words) => recheck(alloc, words, store),

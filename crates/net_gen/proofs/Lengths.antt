@@ -94,8 +94,8 @@ names_length router few =
     let name : List ℕ = name_line router in
     omega (arith, three_digits router few, length-append (codes "hostname r") (decimal router), length-append name (codes "\n"), length-append (ended name) (codes "!\n"))
 
-pub text_length : (n router : ℕ) → n ≤ 40 → router < 1000 → length (text_of (router_lines n router)) < 2 ^ 32
-text_length n router few few_router =
+text_short : (n router : ℕ) → n ≤ 40 → router < 1000 → length (text_of (router_lines n router)) ≤ 8192
+text_short n router few few_router =
     let names : List ℕ = text_of (name_lines router) in
     let host : List ℕ = text_of (host_lines router) in
     let links : List ℕ = text_of (links_lines n router (numbers (link_count n))) in
@@ -114,15 +114,19 @@ text_length n router few few_router =
       length-append names (host ++ (links ++ process)),
     )
 
-texts_from : (n a k : ℕ) → n ≤ 40 → a + k ≤ 1000 → All (λ (text : List ℕ). length text < 2 ^ 32) (map (λ (router : ℕ). text_of (router_lines n router)) (range_with_len a k))
+texts_from : (n a k : ℕ) → n ≤ 40 → a + k ≤ 1000 → All (λ (text : List ℕ). length text ≤ 8192) (map (λ (router : ℕ). text_of (router_lines n router)) (range_with_len a k))
 texts_from n a zero few within = λ i d l. absurd (omega (arith, l))
 texts_from n a (suc k) few within =
-    All-cons (λ (text : List ℕ). length text < 2 ^ 32) (text_of (router_lines n a)) (map (λ (router : ℕ). text_of (router_lines n router)) (range_with_len (a + 1) k))
-    (text_length n a few (omega (arith, within))) (texts_from n (a + 1) k few (omega (arith, within)))
+    All-cons (λ (text : List ℕ). length text ≤ 8192) (text_of (router_lines n a)) (map (λ (router : ℕ). text_of (router_lines n router)) (range_with_len (a + 1) k))
+    (text_short n a few (omega (arith, within))) (texts_from n (a + 1) k few (omega (arith, within)))
 
--- each file has fewer than 2^32 bytes
+-- each file has at most 8,192 bytes
+pub texts_short : (n : ℕ) → n ≤ 40 → All (λ (text : List ℕ). length text ≤ 8192) (router_texts n)
+texts_short n few = texts_from n 1 n few (omega (arith, few))
+
+-- so it has fewer than 2^32
 pub texts_length : (n : ℕ) → n ≤ 40 → All (λ (text : List ℕ). length text < 2 ^ 32) (router_texts n)
-texts_length n few = texts_from n 1 n few (omega (arith, few))
+texts_length n few = λ i d l. omega (arith, texts_short n few i d l)
 
 pub AllZip-length : {X Y : Type 0} (R : X → Y → Type 0) (xs : List X) (ys : List Y) → AllZip R xs ys → length xs ≡ length ys
 AllZip-length R [] [] h = refl

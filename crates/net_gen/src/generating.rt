@@ -35,6 +35,7 @@ pub fn generate(alloc: Global, number: u32) -> Result<Generated, Memory>
     ensures generated { IfOk result (IsGenerated number) }
     ensures files { IfOk result (λ made. length made.files ≡ length made.doc.routers) }
     ensures bytes { IfOk result (λ made. All (λ text. length text < 2 ^ 32) made.files) }
+    ensures short { IfOk result (λ made. All (λ text. length text ≤ 8192) made.files) }
     ensures routers { IfOk result (λ made. length made.doc.routers ≡ number) }
     ensures links { IfOk result (λ made. length made.doc.links ≡ link_count number) }
     ensures policies { IfOk result (λ made. length made.doc.policies ≡ number + 1) }

@@ -1,3 +1,5 @@
+use Rattle.std.proofs.Common.{arith, refl}
+use Rattle.generate_commands.proofs.Answered.{answers, any_cause}
 use Rattle.arc_run.proofs.top.answer.Goals as goal
 
 pub returns-in-Verify-clause-answer : goal.returns-in-Verify-clause-answer
@@ -29,3 +31,14 @@ returns-in-Prefers-clause-answer g c = rw c.in-Prefers.is c.prefers.ensures.answ
 
 pub returns-in-Recheck-clause-answer : goal.returns-in-Recheck-clause-answer
 returns-in-Recheck-clause-answer g c = rw c.in-Recheck.is c.recheck.ensures.answer
+
+pub returns-in-Generate-clause-answer : goal.returns-in-Generate-clause-answer
+returns-in-Generate-clause-answer g c = rw c.in-Generate.is (answers c.in-Generate.words (g.S.Store.held c.args.store.now) c.generate.result c.generate.ensures.answer)
+
+pub returns-in-Generate-clause-reads : goal.returns-in-Generate-clause-reads
+returns-in-Generate-clause-reads g c = record {
+  same = refl;
+  cause = any_cause _ _ c.generate.result c.generate.ensures.cause;
+  faults_rise = omega arith;
+  absences_rise = omega arith;
+}

@@ -1,10 +1,10 @@
-use Rattle.std.proofs.Common.{List, ℕ, ◌<◌, ◌^◌, length, sym, ◌∙◌, ap, subst}
+use Rattle.std.proofs.Common.{List, ℕ, ◌<◌, ◌≤◌, ◌^◌, length, sym, ◌∙◌, ap, subst}
 use Rattle.std.specs.Prelude.{All}
 use Rattle.std.proofs.lemmas.List.FromFn.{length-map-range_with_len}
 use Rattle.net_gen.specs.Plans.{link_count}
 use Rattle.net_gen.specs.RouterFiles.{file_name, router_lines, text_of}
 use Rattle.net_gen.specs.Generated.{Asks, asked, link_text}
-use Rattle.net_gen.proofs.Lengths.{texts_length, AllZip-length, asked_length}
+use Rattle.net_gen.proofs.Lengths.{texts_length, texts_short, AllZip-length, asked_length}
 use Rattle.net_gen.proofs.generating.generate.Goals as goal
 
 pub returns-clause-files : goal.returns-clause-files
@@ -14,6 +14,9 @@ returns-clause-files c =
 
 pub returns-clause-bytes : goal.returns-clause-bytes
 returns-clause-bytes c = subst (All (λ (text : List ℕ). length text < 2 ^ 32)) (sym c.in_ok-files.ensures) (texts_length c.args.number c.requires.few)
+
+pub returns-clause-short : goal.returns-clause-short
+returns-clause-short c = subst (All (λ (text : List ℕ). length text ≤ 8192)) (sym c.in_ok-files.ensures) (texts_short c.args.number c.requires.few)
 
 pub returns-clause-routers : goal.returns-clause-routers
 returns-clause-routers c = ap length c.in_ok-doc.ensures.routers ∙ length-map-range_with_len file_name 1 c.args.number

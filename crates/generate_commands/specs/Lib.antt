@@ -1,0 +1,5 @@
+pub mod Tallies
+pub mod Summaries
+pub mod Generates
+pub mod Steps
+pub mod Tells

@@ -1,0 +1,20 @@
+-- What the steps of the command answer.
+use Rattle.std.specs.Prelude.{ℕ, ◌≤◌, List, length}
+use Rattle.net_model.specs.declared.policies.Document.{Document}
+use Rattle.net_model.specs.declared.rows.Network.{Network}
+use Rattle.net_gen.specs.declared.generating.Generated.{Generated}
+use Rattle.generated_networks.specs.Laws.{IsGeneratedWithin}
+use Rattle.edit_space.specs.declared.edit_kinds.Edit.{Edit}
+use Rattle.edit_space.specs.Determined.{IsCountable}
+use Rattle.arc_repair.specs.declared.answer.Answer.{Answer}
+use Rattle.generate_commands.specs.Generates.{IsAnswered}
+
+-- it was made of some number of routers
+abbrev pub IsSomeGenerated : Generated → Type 0
+IsSomeGenerated made = (n : ℕ) × IsGeneratedWithin n made
+
+-- the edits of the network, and what its repair answers
+pub record IsFound (net : Network) (doc : Document) (list : List Edit) (answer : Answer) : Type 0 where
+  pub answered : IsAnswered net doc list answer
+  pub few : length list ≤ 8192
+  pub countable : IsCountable net

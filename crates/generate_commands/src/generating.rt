@@ -1,0 +1,107 @@
+//! The command `generate N --proof NAME`.
+ghost use Rattle.std.specs.Prelude.{◌≡◌, ◌≤◌, ◌<◌, ◌^◌, [], length, All, IfOk, IfErr};
+ghost use Rattle.net_model.specs.Forwarding.{HasEnds};
+ghost use Rattle.net_model.specs.Packets.{subject};
+ghost use Rattle.net_model.specs.Validity.{IsValid};
+ghost use Rattle.net_build.specs.Networks.{IsBuiltWithin};
+ghost use Rattle.verdicts.specs.Judged.{HasFewFailures};
+ghost use Rattle.arc_repair.specs.Answers.{IsRepairFault};
+ghost use Rattle.run_files.specs.Answers.{Gives, HasStopCause};
+ghost use Rattle.repair_commands.specs.Steps.{StopsFor};
+ghost use Rattle.generate_commands.specs.Generates.{default_bound, document_name, IsGenerateRefusal, IsSummary};
+ghost use Rattle.generate_commands.specs.Steps.{IsFound, IsSomeGenerated};
+
+use crate::answers::{BOUND, CONFLICTS, answer_done};
+use crate::tallies::judge_all;
+use arc_base::{Kind, List, Memory, Name};
+use arc_repair::Answer;
+use command_words::GenerateWords;
+use edit_space::laws::networks_after_edits_are_valid;
+use edit_space::{Edit, EditFault, edits};
+use generated_networks::laws::generated_files_are_not_refused;
+use net_build::{Built, network_within};
+use net_doc::NetFault;
+use net_gen::Generated;
+use net_laws::verdicts_are_right;
+use net_model::{Document, Network};
+use run_files::{Done, Limits, Stop, refused};
+use std::alloc::Global;
+
+// What a refusal calls the document, which is no file.
+const DOCUMENT: &[u8] = b"net.json";
+
+// The network of what was made, as a command that edits files builds it: nothing of it is refused.
+fn build(alloc: Global, made: &Generated) -> Result<Built, Memory>
+    requires generated { IsSomeGenerated made.now }
+    requires count { length made.now.files ≡ length made.now.doc.routers }
+    requires bytes { All (λ text. length text < 2 ^ 32) made.now.files }
+    requires routers { length made.now.doc.routers ≤ 256 }
+    requires links { length made.now.doc.links ≤ 1024 }
+    requires policies { length made.now.doc.policies ≤ 256 }
+    ensures built { IfOk result (IsBuiltWithin [] 2048 made.now.doc made.now.files) }
+    ensures valid { IfOk result (λ built. IsValid built.net) }
+    ensures ends { IfOk result (λ built. All (λ policy. HasEnds built.net (subject policy)) made.now.doc.policies) }
+{
+    generated_files_are_not_refused();
+    let entries = Limits::Editing.entries();
+    match network_within(alloc, &made.doc, &made.files, &[], entries) {
+        Ok(built) => Ok(built),
+        Err(NetFault::Refused(_)) => unreachable!(),
+        Err(NetFault::Memory) => Err(Memory),
+    }
+}
+
+// The edits of the network, and its cheapest repair.
+fn find_repair(
+    alloc: Global,
+    net: &Network,
+    doc: &Document,
+) -> Result<(List<Edit>, Answer), EditFault>
+    requires valid { IsValid net.now }
+    requires policies { length doc.now.policies ≤ 256 }
+    requires ends { All (λ policy. HasEnds net.now (subject policy)) doc.now.policies }
+    requires failures { All (λ policy. HasFewFailures policy.kind) doc.now.policies }
+    ensures found { IfOk result (λ found. IsFound net.now doc.now found.0 found.1) }
+    ensures fault { IfErr result (IsRepairFault net.now doc.now default_bound) }
+{
+    let list = edits(alloc, net, doc)?;
+    let answer = arc_repair::repair(alloc, net, doc, BOUND, CONFLICTS)?;
+    Ok((list, answer))
+}
+
+// A count that passes its limit refuses the document.
+fn fault_stop(alloc: Global, fault: EditFault) -> Stop
+    ensures { StopsFor document_name fault result }
+{
+    match fault {
+        EditFault::Limit(what, count) => match Name::make(alloc, DOCUMENT) {
+            Ok(name) => refused(alloc, &name, 0, Kind::Limit(what, count)),
+            Err(_) => Stop::Memory,
+        },
+        EditFault::Memory => Stop::Memory,
+    }
+}
+
+/// Makes the network of so many routers, judges its policies, and repairs it with the highest price and the most conflicts that
+/// `repair` has where none are named. It reads nothing, and the certificate is all that is to be written. The time is that of the
+/// search.
+pub fn generate(alloc: Global, words: &GenerateWords) -> Result<Done, Stop>
+    requires some { 6 ≤ words.now.number }
+    requires few { words.now.number ≤ 40 }
+    ensures answer { Gives (IsGenerateRefusal words.now) (IsSummary words.now) result }
+    ensures cause { IfErr result (HasStopCause ⊥ ⊥) }
+{
+    verdicts_are_right();
+    networks_after_edits_are_valid();
+    let made = net_gen::generate(alloc, words.number)?;
+    let built = build(alloc, &made)?;
+    let (list, answer) = match find_repair(alloc, &built.net, &made.doc) {
+        Ok(found) => found,
+        Err(fault) => return Err(fault_stop(alloc, fault)),
+    };
+    let verdicts = judge_all(alloc, &built.net, &made.doc)?;
+    let done = answer_done(
+        alloc, words, &built.net, &made.doc, &verdicts, &list, &answer,
+    )?;
+    Ok(done)
+}
