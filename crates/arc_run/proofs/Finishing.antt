@@ -75,3 +75,18 @@ finished command outcome held now held' put put' code defined later cause same e
       ];
       known = known;
     }
+
+some : (command : Option Command) → (command ≡ None → ⊥) → IsSome command
+some None named = absurd (named refl)
+some (Some command) named = refl
+
+-- the store failed before there was an outcome
+pub failed_before : {absent failed broken : Type 0} (command : Option Command) (held held' : Option Files) (put : Option (List ℕ)) → failed → (command ≡ None → ⊥) → held' ≡ held
+    → Runs command absent failed broken held held' put put 6
+failed_before command held held' put rose named same = record {
+  ended = λ h. absurd (omega (arith, h));
+  store_failed = λ e. (rose, some command named, record { files = unwritten command held held' same; sink = refl });
+  sink_failed = λ e. absurd (omega (arith, e));
+  memory = λ e. absurd (omega (arith, e));
+  known = omega arith;
+}

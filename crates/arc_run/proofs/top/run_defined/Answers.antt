@@ -1,6 +1,7 @@
-use Rattle.std.proofs.Common.{arith}
+use Rattle.std.proofs.Common.{◌∙◌, ap, arith}
+use Rattle.std.specs.Prelude.{Err}
 use Rattle.command_words.specs.Commands.{command_of}
-use Rattle.arc_run.proofs.Finishing.{finished}
+use Rattle.arc_run.proofs.Finishing.{failed_before, finished}
 use Rattle.arc_run.proofs.top.run_defined.Goals as goal
 
 pub returns-in-Ok : goal.returns-in-Ok
@@ -9,3 +10,9 @@ returns-in-Ok g c =
     finished (command_of c.args.words.now) c.in-Ok.outcome (g.S.Store.held c.args.store.now) (g.S.Store.held c.perform.new.store) (g.S.Store.held c.finish.new.store) (g.K.Sink.written c.args.out.now) (g.K.Sink.written c.finish.new.out) c.finish.result.code
     c.in-Ok.ensures.defined (λ rose. omega (arith, rose, e.absences)) c.in-Ok.ensures.cause c.in-Ok.ensures.same
     e.ended (λ h. let f = e.store_failed h in (omega (arith, f.0, c.in-Ok.ensures.faults), f.1, f.2, f.3)) e.sink_failed e.memory e.code
+
+pub returns-in-Err-Failed : goal.returns-in-Err-Failed
+returns-in-Err-Failed g c =
+    let is = c.in-Err-Failed.is ∙ ap Err c.in-Err-Failed.field-0-is in
+    failed_before (command_of c.args.words.now) (g.S.Store.held c.args.store.now) (g.S.Store.held c.perform.new.store) (g.K.Sink.written c.args.out.now)
+    (c.perform.ensures.failed is) (c.perform.ensures.failed_in_command is) c.perform.ensures.same
