@@ -1,5 +1,5 @@
 //! Commands over small files: what each puts, and how many calls of the store it needs. A file is read by two calls, of which the
-//! second finds its end, and written by one.
+//! second finds its end, and written by one; the proof of `lrat` is gone through twice.
 
 use super::Case;
 
@@ -149,7 +149,7 @@ pub const CASES: [Case; 10] = [
         words: &[b"lrat", b"f.cnf", b"proof"],
         text: b"accepted\n",
         code: 0,
-        calls: 4,
+        calls: 6,
         outputs: &[],
     },
 ];
