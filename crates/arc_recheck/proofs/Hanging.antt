@@ -1,5 +1,6 @@
 -- The links that are needed are those that a reach policy hangs on.
-use Rattle.std.proofs.Common.{◌≡◌, ℕ, ◌≤◌, true, false, Option, Some, None, List, length, refl, sym, ap, ◌∙◌, subst}
+use Rattle.std.proofs.Common.{◌≡◌, ℕ, ◌-◌, ◌^◌, ◌≤◌, true, false, Option, Some, None, List, length, refl, sym, ap, ◌∙◌, subst, arith}
+use Rattle.std.proofs.Math.Nat.{min-le_left}
 use Rattle.std.proofs.lemmas.Bool.{false≢true}
 use Rattle.arc_base.specs.declared.place.Link.{Link}
 use Rattle.net_model.specs.declared.policies.Class.{Class}
@@ -20,7 +21,7 @@ use Rattle.net_laws.proofs.RightCuts.{right_denials_break_reach}
 use Rattle.class_graph.specs.Hosts.{IsHostPair, IsHostPairOf}
 use Rattle.class_graph.specs.declared.hosts.HostPair.{HostPair}
 use Rattle.verdicts.specs.Fixed.{Passes, IsFixed, IsFixedFor, IsFixedReach}
-use Rattle.traffic_classes.specs.Classes.{AreClasses}
+use Rattle.traffic_classes.specs.Classes.{AreClasses, told}
 use Rattle.verdicts.proofs.Lists.{rising_numbers}
 use Rattle.net_laws.specs.Breaking.{no_link}
 use Rattle.net_laws.specs.Routes.{just, HasRoute}
@@ -127,14 +128,15 @@ alone_of_needed net valid policies policy kind v right fixed shows class whole p
     answered net valid policy right.ends right.are_ends both.0 both.1 reach.0 reach.1 found
     (subst (λ (e : Ends). IsNeededAnswer net e found) from_pair (needed of_policy.ends of_policy.is_pair))
 
--- the verdict was given of few classes
-pub few_of_fixed : (net : Network) (policies : List Policy) (policy : Policy) (v : Verdict) → IsFixed net policies policy v → HasFewClasses net policies policy
-few_of_fixed net policies policy v fixed = record {
-  count = length fixed.classes;
-  classes = record { classes = fixed.classes; are = fixed.are_classes; counted = refl };
-  few = fixed.few;
-}
-
+-- few classes are few as they are told, too
 pub few_of_parts : (net : Network) (policies : List Policy) (policy : Policy) (parts : List Class) → AreClasses net policies policy parts → length parts ≤ 4096 →
     HasFewClasses net policies policy
-few_of_parts net policies policy parts are few = record { count = length parts; classes = record { classes = parts; are = are; counted = refl }; few = few }
+few_of_parts net policies policy parts are few = record {
+  count = told (length parts);
+  classes = record { classes = parts; are = are; counted = refl };
+  few = let less : told (length parts) ≤ length parts = min-le_left (length parts) (2 ^ 64 - 1) in omega (arith, less, few);
+}
+
+-- the verdict was given of few classes
+pub few_of_fixed : (net : Network) (policies : List Policy) (policy : Policy) (v : Verdict) → IsFixed net policies policy v → HasFewClasses net policies policy
+few_of_fixed net policies policy v fixed = few_of_parts net policies policy fixed.classes fixed.are_classes fixed.few

@@ -7,12 +7,22 @@ use Rattle.net_model.specs.declared.policies.PolicyKind.TheVariants.{Blocked, Re
 use Rattle.net_model.specs.declared.rows.Network.{Network}
 use Rattle.net_model.specs.Forwarding.{HasEnds}
 use Rattle.net_model.specs.Packets.{subject}
-use Rattle.net_laws.specs.Examples.{between_users}
-use Rattle.net_examples.specs.TwoRouters.{across}
+use Rattle.net_model.specs.declared.services.Service.{Service}
+use Rattle.net_model.specs.Services.{whole_service}
+use Rattle.net_examples.specs.TwoRouters.{across, between_users}
 
-pub asked_have_ends : (net : Network) (policies : List Policy) → HasEnds net across →
-    policies ≡ between_users Blocked ∷ between_users (Reach 0) ∷ between_users (Reach 1) ∷ [] → All (λ policy. HasEnds net (subject policy)) policies
+abbrev Goes : Network → Policy → Type 0
+Goes net policy = HasEnds net (subject policy)
+
+pub asked_have_ends : (net : Network) (policies : List Policy) → ((service : Service) → HasEnds net (across service)) →
+    policies ≡ between_users Blocked whole_service ∷ between_users (Reach 0) whole_service ∷ between_users (Reach 1) whole_service ∷ [] → All (λ policy. HasEnds net (subject policy)) policies
 asked_have_ends net policies ends asked =
-    subst (All (λ policy. HasEnds net (subject policy))) (sym asked)
-    (All-from_recursion (λ (policy : Policy). HasEnds net (subject policy)) (between_users Blocked ∷ between_users (Reach 0) ∷ between_users (Reach 1) ∷ [])
-    (ends, (ends, (ends, tt))))
+    subst (All (Goes net)) (sym asked)
+    (All-from_recursion (Goes net) (between_users Blocked whole_service ∷ between_users (Reach 0) whole_service ∷ between_users (Reach 1) whole_service ∷ [])
+    (ends whole_service, (ends whole_service, (ends whole_service, tt))))
+
+pub services_have_ends : (net : Network) (policies : List Policy) (open_to closed_to : Service) → ((service : Service) → HasEnds net (across service)) →
+    policies ≡ between_users (Reach 0) open_to ∷ between_users Blocked closed_to ∷ [] → All (λ policy. HasEnds net (subject policy)) policies
+services_have_ends net policies open_to closed_to ends asked =
+    subst (All (Goes net)) (sym asked)
+    (All-from_recursion (Goes net) (between_users (Reach 0) open_to ∷ between_users Blocked closed_to ∷ []) (ends open_to, (ends closed_to, tt)))

@@ -7,6 +7,7 @@ use Rattle.arc_base.specs.Addresses.{AreDisjoint}
 use Rattle.arc_base.specs.declared.prefix.Prefix.{Prefix}
 use Rattle.net_model.specs.declared.lists.PacketList.{PacketList}
 use Rattle.net_model.specs.declared.policies.Class.{Class}
+use Rattle.net_model.specs.declared.services.Service.{Service}
 use Rattle.net_model.specs.declared.rows.FaceRow.{FaceRow}
 use Rattle.net_model.specs.declared.rows.LinkRow.{LinkRow}
 use Rattle.net_model.specs.Validity.{IsValid, IsValidSession, IsValidPacketList, IsValidRouteList, IsValidFace, IsValidLink, AreSessionsApart, AreLinked, AreApart}
@@ -110,8 +111,8 @@ two_routers_valid valid e = record {
   protocol = refl;
 }
 
-pub across_has_ends : (e : Bool) → HasEnds (two_routers e) across
-across_has_ends e = record {
+pub across_has_ends : (e : Bool) (service : Service) → HasEnds (two_routers e) (across service)
+across_has_ends e service = record {
   ends = record { source = owner_1; target = owner_2; to = users_2 };
   are_ends = record { source = (0, omega arith, refl); from = λ a h. h; target = (2, omega arith, refl); host = refl; to = λ a h. h };
   apart = λ same. omega (arith, ap (λ (p : Prefix). p.addr) (same_Some users_1 users_2 same));

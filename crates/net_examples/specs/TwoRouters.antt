@@ -1,6 +1,9 @@
 -- The two routers of the laws, where the second one's end of the link takes part in OSPF or not.
 use Rattle.std.specs.Prelude.{Bool, true, false, None, Some, [], ◌∷◌, codes}
 use Rattle.net_model.specs.declared.policies.Class.{Class}
+use Rattle.net_model.specs.declared.policies.Policy.{Policy}
+use Rattle.net_model.specs.declared.policies.PolicyKind.{PolicyKind}
+use Rattle.net_model.specs.declared.services.Service.{Service}
 use Rattle.net_model.specs.declared.rows.Protocol.TheVariants.{Ospf}
 use Rattle.net_model.specs.declared.rows.FaceRow.{FaceRow}
 use Rattle.net_model.specs.declared.rows.Network.{Network}
@@ -36,6 +39,10 @@ two_routers able = record {
   route_lists = [];
 }
 
--- the packets from the first router's users to the second's
-abbrev pub across : Class
-across = record { from = users_1; to = users_2 }
+-- the packets of these services from the first router's users to the second's
+abbrev pub across : Service → Class
+across service = record { from = users_1; to = users_2; service = service }
+
+-- a policy on them
+abbrev pub between_users : PolicyKind → Service → Policy
+between_users kind service = record { kind = kind; from = users_1; to = users_2; service = service }

@@ -10,7 +10,7 @@ use crate::rows::{
     users_3, users_4,
 };
 use arc_base::{List, ListId, Memory, Name, Prefix, Router};
-use net_model::{FaceRow, LinkRow, Network, PacketEntry, PacketList, Protocol, RouterRow};
+use net_model::{FaceRow, LinkRow, Network, PacketEntry, PacketList, Protocol, RouterRow, Service};
 use std::alloc::Global;
 
 /// A router's end of a link: its address and subnet, its cost, and the list that it has inbound.
@@ -135,11 +135,13 @@ fn list_101(alloc: Global) -> Result<PacketList, Memory>
         permit: false,
         from: users_1(),
         to: users_4(),
+        service: Service::whole(),
     })?;
     entries.push(PacketEntry {
         permit: true,
         from: everyone(),
         to: everyone(),
+        service: Service::whole(),
     })?;
     Ok(PacketList {
         router: Router(3),

@@ -1,14 +1,16 @@
 //! Router r1 with 10.1.0.0/24 and router r2 with 10.2.0.0/24, joined by a link whose ends have cost 1.
 ghost use Rattle.std.specs.Prelude.{◌≡◌, true, IfOk};
-ghost use Rattle.net_laws.specs.Examples.{between_users};
 ghost use Rattle.net_model.specs.Validity.{IsValid};
 ghost use Rattle.net_model.specs.Forwarding.{HasEnds};
-ghost use Rattle.net_examples.specs.TwoRouters.{two_routers, across, far_end};
+ghost use Rattle.net_model.specs.declared.services.Service.{Service};
+ghost use Rattle.net_examples.specs.TwoRouters.{two_routers, across, between_users, far_end};
 
 use crate::rows::{face, link, router, subnet_1, users_1, users_2};
 use arc_base::{List, Memory};
 use net_laws::two_routers as laws_on_two_routers;
-use net_model::{Class, FaceRow, LinkRow, Network, Policy, PolicyKind, Protocol, RouterRow};
+use net_model::{
+    Class, FaceRow, LinkRow, Network, Policy, PolicyKind, Protocol, RouterRow, Service,
+};
 use std::alloc::Global;
 
 fn routers(alloc: Global) -> Result<List<RouterRow>, Memory>
@@ -76,30 +78,32 @@ fn network(alloc: Global, able: bool) -> Result<Network, Memory>
 pub fn two_routers(alloc: Global, able: bool) -> Result<Network, Memory>
     ensures network { IfOk result (λ net. net ≡ two_routers able) }
     ensures valid { IfOk result (λ net. IsValid net) }
-    ensures ends { IfOk result (λ net. HasEnds net across) }
+    ensures ends { IfOk result (λ net. (service : Service) → HasEnds net (across service)) }
 {
     laws_on_two_routers();
     let net = network(alloc, able)?;
     Ok(net)
 }
 
-/// The packets from r1's users to r2's.
-pub fn across() -> Class
-    ensures { result ≡ across }
+/// The packets of these services from r1's users to r2's.
+pub fn across(service: Service) -> Class
+    ensures { result ≡ across service }
 {
     Class {
         from: users_1(),
         to: users_2(),
+        service,
     }
 }
 
 /// A policy on them.
-pub fn between_users(kind: PolicyKind) -> Policy
-    ensures { result ≡ between_users kind }
+pub fn between_users(kind: PolicyKind, service: Service) -> Policy
+    ensures { result ≡ between_users kind service }
 {
     Policy {
         kind,
         from: users_1(),
         to: users_2(),
+        service,
     }
 }

@@ -1,7 +1,7 @@
 -- Classes that share no packet, and have as many packets as the whole that they lie in, have them all.
-use Rattle.std.proofs.Common.{◌≡◌, ℕ, suc, ◌+◌, ◌-◌, ◌*◌, ◌^◌, ◌<◌, ◌≤◌, ◌⊎◌, inl, inr, Bool, true, false, List, [], ◌∷◌, ap, refl, sym, ◌∙◌, subst, arith}
+use Rattle.std.proofs.Common.{◌≡◌, ℕ, suc, ◌+◌, ◌-◌, ◌*◌, ◌^◌, ◌<◌, ◌≤◌, ◌⊎◌, inl, inr, List, [], ◌∷◌, ap, refl, sym, ◌∙◌, subst, arith}
 use Rattle.std.specs.Prelude.{AllPairs, All, sum_by}
-use Rattle.std.proofs.Math.Nat.{mul_comm, div-lt_iff_lt-mul}
+use Rattle.std.proofs.Math.Nat.{div-lt_iff_lt-mul}
 use Rattle.std.proofs.Math.Pow.{pow_pos}
 use Rattle.std.proofs.lemmas.Nat.{pow-add}
 use Rattle.std.proofs.lemmas.List.Sums.{sum_by-cons}
@@ -11,62 +11,68 @@ use Rattle.arc_base.specs.declared.prefix.Prefix.{Prefix}
 use Rattle.net_model.specs.declared.lists.Packet.{Packet}
 use Rattle.net_model.specs.declared.policies.Class.{Class}
 use Rattle.net_model.specs.declared.verdicts.ClassSide.{ClassSide}
+use Rattle.net_model.specs.declared.services.Service.{Service}
+use Rattle.net_model.specs.Services.{serves, Serves, services}
 use Rattle.net_model.specs.Packets.{IsOf, LiesIn, ShareNoPacket, packets}
-use Rattle.net_laws.proofs.Counting.{total, total-cong, total-const, total-scale, total-sum, total-mono, total-tight, ind, addresses}
+use Rattle.net_model.proofs.ServiceRanges.{bounds}
+use Rattle.net_laws.proofs.Counting.{total, ind, addresses}
+use Rattle.net_laws.proofs.Triples.{true_or_false, triples, triples-none, triples-sum, triples-product, triples-tight, counted_services}
 
--- whether the class has the packet from a to b, as a number
-abbrev pub count_in : Class → ℕ → ℕ → ℕ
-count_in c a b = ind (holds c.from a) * ind (holds c.to b)
-
-pub true_or_false : (b : Bool) → (b ≡ true) ⊎ (b ≡ false)
-true_or_false true = inl refl
-true_or_false false = inr refl
+-- whether the class has the packet from a to b of the service s, as a number
+abbrev pub count_in : Class → ℕ → ℕ → ℕ → ℕ
+count_in c a b s = ind (holds c.from a) * ind (holds c.to b) * ind (serves c.service s)
 
 -- the class has the packet, or counts it as 0
-in_or_zero : (c : Class) (p : Packet) → IsOf c p ⊎ (count_in c p.from p.to ≡ 0)
+in_or_zero : (c : Class) (p : Packet) → IsOf c p ⊎ (count_in c p.from p.to p.service ≡ 0)
 in_or_zero c p =
     elim (true_or_false (holds c.from p.from)) [
       | inl from ↦ elim (true_or_false (holds c.to p.to)) [
-        | inl to ↦ inl (from, to)
-        | inr off ↦ inr (let z : ind (holds c.to p.to) ≡ 0 = ap ind off in omega (arith, ap (λ (x : ℕ). ind (holds c.from p.from) * x) z))
+        | inl to ↦ elim (true_or_false (serves c.service p.service)) [
+          | inl served ↦ inl (from, to, served)
+          | inr off ↦
+              let z : ind (serves c.service p.service) ≡ 0 = ap ind off in
+              inr (omega (arith, ap (λ (x : ℕ). ind (holds c.from p.from) * ind (holds c.to p.to) * x) z))
+        ]
+        | inr off ↦
+            let z : ind (holds c.to p.to) ≡ 0 = ap ind off in
+            inr (omega (arith, ap (λ (x : ℕ). ind (holds c.from p.from) * x * ind (serves c.service p.service)) z))
       ]
-      | inr off ↦ inr (let z : ind (holds c.from p.from) ≡ 0 = ap ind off in omega (arith, ap (λ (x : ℕ). x * ind (holds c.to p.to)) z))
+      | inr off ↦
+          let z : ind (holds c.from p.from) ≡ 0 = ap ind off in
+          inr (omega (arith, ap (λ (x : ℕ). x * ind (holds c.to p.to) * ind (serves c.service p.service)) z))
     ]
 
-in_is_one : (c : Class) (p : Packet) → IsOf c p → count_in c p.from p.to ≡ 1
+in_is_one : (c : Class) (p : Packet) → IsOf c p → count_in c p.from p.to p.service ≡ 1
 in_is_one c p of =
     let x : ind (holds c.from p.from) ≡ 1 = ap ind of.0 in
     let y : ind (holds c.to p.to) ≡ 1 = ap ind of.1 in
-    ap (λ (k : ℕ). k * ind (holds c.to p.to)) x ∙ ap (λ (k : ℕ). 1 * k) y
+    let z : ind (serves c.service p.service) ≡ 1 = ap ind of.2 in
+    ap (λ (k : ℕ). k * ind (holds c.to p.to) * ind (serves c.service p.service)) x
+    ∙ ap (λ (k : ℕ). 1 * k * ind (serves c.service p.service)) y ∙ ap (λ (k : ℕ). 1 * 1 * k) z
 
 -- a class has as many packets as it counts
-packets_counted : (n : ℕ) → n ≡ 2 ^ 32 → (c : Class) → total n (λ a. total n (λ b. count_in c a b)) ≡ packets c
-packets_counted n whole c =
-    let to : total n (λ b. ind (holds c.to b)) ≡ size c.to = addresses n c.to whole in
-    let from : total n (λ a. ind (holds c.from a)) ≡ size c.from = addresses n c.from whole in
-    let inner : (a : ℕ) → a < n → total n (λ b. count_in c a b) ≡ size c.to * ind (holds c.from a) =
-    λ a l. total-scale n (ind (holds c.from a)) (λ b. ind (holds c.to b)) ∙ ap (λ (x : ℕ). ind (holds c.from a) * x) to ∙ mul_comm (ind (holds c.from a)) (size c.to) in
-    total-cong n (λ a. total n (λ b. count_in c a b)) (λ a. size c.to * ind (holds c.from a)) inner
-    ∙ total-scale n (size c.to) (λ a. ind (holds c.from a)) ∙ ap (λ (x : ℕ). size c.to * x) from ∙ mul_comm (size c.to) (size c.from)
+packets_counted : (n m : ℕ) → n ≡ 2 ^ 32 → m ≡ 2 ^ 24 → (c : Class) → triples n m (count_in c) ≡ packets c
+packets_counted n m addresses_all services_all c =
+    let from : total n (λ a. ind (holds c.from a)) ≡ size c.from = addresses n c.from addresses_all in
+    let to : total n (λ b. ind (holds c.to b)) ≡ size c.to = addresses n c.to addresses_all in
+    let served : total m (λ s. ind (serves c.service s)) ≡ services c.service = counted_services m c.service services_all in
+    triples-product n m (λ a. ind (holds c.from a)) (λ b. ind (holds c.to b)) (λ s. ind (serves c.service s))
+    ∙ ap (λ (x : ℕ). x * total n (λ b. ind (holds c.to b)) * total m (λ s. ind (serves c.service s))) from
+    ∙ ap (λ (x : ℕ). size c.from * x * total m (λ s. ind (serves c.service s))) to
+    ∙ ap (λ (x : ℕ). size c.from * size c.to * x) served
 
--- how many of the classes have the packet from a to b
-abbrev pub count_all : List ClassSide → ℕ → ℕ → ℕ
-count_all [] a b = 0
-count_all (c ∷ cs) a b = count_in c.class a b + count_all cs a b
+-- how many of the classes have the packet from a to b of the service s
+abbrev pub count_all : List ClassSide → ℕ → ℕ → ℕ → ℕ
+count_all [] a b s = 0
+count_all (c ∷ cs) a b s = count_in c.class a b s + count_all cs a b s
 
-all_counted : (n : ℕ) → n ≡ 2 ^ 32 → (cs : List ClassSide) → total n (λ a. total n (λ b. count_all cs a b)) ≡ sum_by (λ c. packets c.class) cs
-all_counted n whole [] =
-    let inner : (a : ℕ) → a < n → total n (λ b. 0) ≡ 0 = λ a l. total-const n 0 (λ b. 0) (λ k m. refl) ∙ (omega arith) in
-    total-const n 0 (λ a. total n (λ b. 0)) inner ∙ (omega arith)
-all_counted n whole (c ∷ cs) =
-    let inner : (a : ℕ) → a < n → total n (λ b. count_in c.class a b + count_all cs a b) ≡ total n (λ b. count_in c.class a b) + total n (λ b. count_all cs a b) =
-    λ a l. total-sum n (λ b. count_in c.class a b) (λ b. count_all cs a b) in
-    let outer : total n (λ a. total n (λ b. count_in c.class a b) + total n (λ b. count_all cs a b)) ≡ total n (λ a. total n (λ b. count_in c.class a b)) + total n (λ a. total n (λ b. count_all cs a b)) =
-    total-sum n (λ a. total n (λ b. count_in c.class a b)) (λ a. total n (λ b. count_all cs a b)) in
-    let first : total n (λ a. total n (λ b. count_in c.class a b)) ≡ packets c.class = packets_counted n whole c.class in
-    let rest : total n (λ a. total n (λ b. count_all cs a b)) ≡ sum_by (λ c. packets c.class) cs = all_counted n whole cs in
-    total-cong n (λ a. total n (λ b. count_in c.class a b + count_all cs a b)) (λ a. total n (λ b. count_in c.class a b) + total n (λ b. count_all cs a b)) inner
-    ∙ outer ∙ ap (λ (x : ℕ). x + total n (λ a. total n (λ b. count_all cs a b))) first ∙ ap (λ (x : ℕ). packets c.class + x) rest
+all_counted : (n m : ℕ) → n ≡ 2 ^ 32 → m ≡ 2 ^ 24 → (cs : List ClassSide) → triples n m (count_all cs) ≡ sum_by (λ c. packets c.class) cs
+all_counted n m addresses_all services_all [] = triples-none n m
+all_counted n m addresses_all services_all (c ∷ cs) =
+    let first : triples n m (count_in c.class) ≡ packets c.class = packets_counted n m addresses_all services_all c.class in
+    let rest : triples n m (count_all cs) ≡ sum_by (λ c. packets c.class) cs = all_counted n m addresses_all services_all cs in
+    triples-sum n m (count_in c.class) (count_all cs)
+    ∙ ap (λ (x : ℕ). x + triples n m (count_all cs)) first ∙ ap (λ (x : ℕ). packets c.class + x) rest
     ∙ sym (sum_by-cons (λ (c : ClassSide). packets c.class) c cs)
 
 abbrev pub Apart : ClassSide → ClassSide → Type 0
@@ -85,10 +91,10 @@ pub All-rest : {X : Type 0} (P : X → Type 0) (x : X) (xs : List X) → All P (
 All-rest P x xs h = λ k d l. h (suc k) d (omega arith)
 
 -- where one class has the packet, those apart from it do not
-none_else : (c : ClassSide) (cs : List ClassSide) → All (Apart c) cs → (p : Packet) → IsOf c.class p → count_all cs p.from p.to ≡ 0
+none_else : (c : ClassSide) (cs : List ClassSide) → All (Apart c) cs → (p : Packet) → IsOf c.class p → count_all cs p.from p.to p.service ≡ 0
 none_else c [] apart p of = refl
 none_else c (d ∷ cs) apart p of =
-    let rest : count_all cs p.from p.to ≡ 0 = none_else c cs (All-rest (Apart c) d cs apart) p of in
+    let rest : count_all cs p.from p.to p.service ≡ 0 = none_else c cs (All-rest (Apart c) d cs apart) p of in
     elim (in_or_zero d.class p) [
       | inl other ↦ absurd (All-first (Apart c) d cs apart p of other)
       | inr off ↦ omega (arith, off, rest)
@@ -96,17 +102,17 @@ none_else c (d ∷ cs) apart p of =
 
 -- no packet is counted more often than by the whole
 no_more_than_whole : (whole : Class) (cs : List ClassSide) → AllPairs Apart cs → All (λ c. LiesIn c.class whole) cs → (p : Packet) →
-    count_all cs p.from p.to ≤ count_in whole p.from p.to
+    count_all cs p.from p.to p.service ≤ count_in whole p.from p.to p.service
 no_more_than_whole whole [] apart part p = omega arith
 no_more_than_whole whole (c ∷ cs) apart part p =
-    let rest : count_all cs p.from p.to ≤ count_in whole p.from p.to =
+    let rest : count_all cs p.from p.to p.service ≤ count_in whole p.from p.to p.service =
     no_more_than_whole whole cs (AllPairs-rest Apart c cs apart) (All-rest (λ (x : ClassSide). LiesIn x.class whole) c cs part) p in
     elim (in_or_zero c.class p) [
       | inl of ↦
           let lies : LiesIn c.class whole = All-first (λ (x : ClassSide). LiesIn x.class whole) c cs part in
-          let one : count_in c.class p.from p.to ≡ 1 = in_is_one c.class p of in
-          let top : count_in whole p.from p.to ≡ 1 = in_is_one whole p (lies.0 p.from of.0, lies.1 p.to of.1) in
-          let none : count_all cs p.from p.to ≡ 0 = none_else c cs (AllPairs-first Apart c cs apart) p of in
+          let one : count_in c.class p.from p.to p.service ≡ 1 = in_is_one c.class p of in
+          let top : count_in whole p.from p.to p.service ≡ 1 = in_is_one whole p (lies.0 p.from of.0, lies.1 p.to of.1, lies.2 p.service of.2) in
+          let none : count_all cs p.from p.to p.service ≡ 0 = none_else c cs (AllPairs-first Apart c cs apart) p of in
           omega (arith, one, top, none)
       | inr off ↦ omega (arith, off, rest)
     ]
@@ -125,8 +131,12 @@ Holds-below p a h =
     let within : a < 2 ^ p.len * 2 ^ (32 - p.len) = (div-lt_iff_lt-mul (pow_pos (32 - p.len))).0 other in
     subst (λ (x : ℕ). a < x) (sym split) within
 
+-- a service of a range is below 2 ^ 24
+Serves-below : (s : Service) (n : ℕ) → Serves s n → n < 2 ^ 24
+Serves-below s n h = let top : s.high < 2 ^ 24 = s.in_range in omega (arith, top, (bounds s n h).1)
+
 -- a class that is counted has the packet
-found : (Q : ClassSide → Type 0) (cs : List ClassSide) → All Q cs → (p : Packet) → 1 ≤ count_all cs p.from p.to → (c : ClassSide) × Q c × IsOf c.class p
+found : (Q : ClassSide → Type 0) (cs : List ClassSide) → All Q cs → (p : Packet) → 1 ≤ count_all cs p.from p.to p.service → (c : ClassSide) × Q c × IsOf c.class p
 found Q [] all p some = absurd (omega arith)
 found Q (c ∷ cs) all p some =
     elim (in_or_zero c.class p) [
@@ -134,29 +144,23 @@ found Q (c ∷ cs) all p some =
       | inr off ↦ found Q cs (All-rest Q c cs all) p (omega (arith, off, some))
     ]
 
-module _ (n : ℕ) (range : n ≡ 2 ^ 32) (whole : Class) (cs : List ClassSide) (apart : AllPairs Apart cs) (part : All (λ c. LiesIn c.class whole) cs)
-    (same : sum_by (λ c. packets c.class) cs ≡ packets whole) where
-  bounded : (a b : ℕ) → count_all cs a b ≤ count_in whole a b
-  bounded a b = no_more_than_whole whole cs apart part (record { from = a; to = b })
+module _ (n m : ℕ) (addresses_all : n ≡ 2 ^ 32) (services_all : m ≡ 2 ^ 24) (whole : Class) (cs : List ClassSide) (apart : AllPairs Apart cs)
+    (part : All (λ c. LiesIn c.class whole) cs) (same : sum_by (λ c. packets c.class) cs ≡ packets whole) where
+  bounded : (a b s : ℕ) → count_all cs a b s ≤ count_in whole a b s
+  bounded a b s = no_more_than_whole whole cs apart part (record { from = a; to = b; service = s })
 
-  row : (a : ℕ) → a < n → total n (λ b. count_all cs a b) ≤ total n (λ b. count_in whole a b)
-  row a l = total-mono n (λ b. count_in whole a b) (λ b. count_all cs a b) (λ b m. bounded a b)
+  all_there : triples n m (count_in whole) ≤ triples n m (count_all cs)
+  all_there = omega (arith, all_counted n m addresses_all services_all cs, packets_counted n m addresses_all services_all whole, same)
 
-  all_rows : total n (λ a. total n (λ b. count_in whole a b)) ≤ total n (λ a. total n (λ b. count_all cs a b))
-  all_rows = omega (arith, all_counted n range cs, packets_counted n range whole, same)
-
-  tight : (a b : ℕ) → a < n → b < n → count_in whole a b ≤ count_all cs a b
-  tight a b l m =
-      let rows : total n (λ y. count_in whole a y) ≤ total n (λ y. count_all cs a y) =
-      total-tight n (λ x. total n (λ y. count_in whole x y)) (λ x. total n (λ y. count_all cs x y)) row all_rows a l in
-      total-tight n (λ y. count_in whole a y) (λ y. count_all cs a y) (λ y k. bounded a y) rows b m
+  tight : (a b s : ℕ) → a < n → b < n → s < m → count_in whole a b s ≤ count_all cs a b s
+  tight = triples-tight n m (count_in whole) (count_all cs) bounded all_there
 
 -- each packet of the whole is of one of the classes
 pub covered : (whole : Class) (cs : List ClassSide) (Q : ClassSide → Type 0) → AllPairs Apart cs → All (λ c. LiesIn c.class whole) cs → All Q cs →
     sum_by (λ c. packets c.class) cs ≡ packets whole → (p : Packet) → IsOf whole p → (c : ClassSide) × Q c × IsOf c.class p
 covered whole cs Q apart part all same p of =
-    let n : ℕ = 2 ^ 32 in
-    let one : count_in whole p.from p.to ≡ 1 = in_is_one whole p of in
-    let enough : count_in whole p.from p.to ≤ count_all cs p.from p.to =
-    tight (2 ^ 32) refl whole cs apart part same p.from p.to (Holds-below whole.from p.from of.0) (Holds-below whole.to p.to of.1) in
+    let one : count_in whole p.from p.to p.service ≡ 1 = in_is_one whole p of in
+    let enough : count_in whole p.from p.to p.service ≤ count_all cs p.from p.to p.service =
+    tight (2 ^ 32) (2 ^ 24) refl refl whole cs apart part same p.from p.to p.service
+    (Holds-below whole.from p.from of.0) (Holds-below whole.to p.to of.1) (Serves-below whole.service p.service of.2) in
     found Q cs all p (omega (arith, one, enough))

@@ -20,7 +20,7 @@ use Rattle.net_model.specs.declared.rows.Network.{Network}
 use Rattle.net_model.specs.Lists.{route_permits}
 use Rattle.net_model.specs.Routing.{Arc, IsArc, IsRouted, IsUsable, Tells, Names, TakesPart, IsAbleEnd, IsOpen, RouteListPermits, FilterPermits, Carries, session_at, tail_face, head_face, tail_end, head_end}
 use Rattle.net_model.proofs.Arcs.{one_item, IsArc-unique}
-use Rattle.net_laws.proofs.Cover.{true_or_false}
+use Rattle.net_laws.proofs.Triples.{true_or_false}
 
 -- it holds, or it does not
 abbrev pub Decided : Type 0 → Type 0

@@ -14,7 +14,8 @@ use Rattle.net_model.specs.Routing.{Arc, head_router}
 use Rattle.net_model.specs.Forwarding.{Ends, failures}
 use Rattle.net_model.specs.Witnesses.{Path, IsPath, links_of}
 use Rattle.net_laws.proofs.Counting.{total, total-add, total-cong, total-const, total-mono, total-sum, ind}
-use Rattle.net_laws.proofs.Cover.{true_or_false, AllPairs-first, AllPairs-rest, All-first, All-rest}
+use Rattle.net_laws.proofs.Triples.{true_or_false}
+use Rattle.net_laws.proofs.Cover.{AllPairs-first, AllPairs-rest, All-first, All-rest}
 
 -- how many of the links have failed
 abbrev pub hits : (ℕ → Bool) → List Link → ℕ

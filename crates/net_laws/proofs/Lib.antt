@@ -1,6 +1,7 @@
 pub mod StableMaps
 pub mod ClosedSides
 pub mod Counting
+pub mod Triples
 pub mod Cover
 pub mod PathDistances
 pub mod RightWalks

@@ -65,7 +65,7 @@ pub right_walks_are_delivered : RightWalksAreDelivered
 right_walks_are_delivered net ends kind whole class shown right = delivers net ends kind whole class shown right
 
 pub part_of : (class whole : Class) (p : Packet) → LiesIn class whole → IsOf class p → IsOf whole p
-part_of class whole p lies of = (lies.0 p.from of.0, lies.1 p.to of.1)
+part_of class whole p lies of = (lies.0 p.from of.0, lies.1 p.to of.1, lies.2 p.service of.2)
 
 -- with every link failed but those of a right walk the class is not blocked
 pub walk_breaks_blocked : (net : Network) (ends : Ends) (whole class : Class) (shown : LinkPath) → IsRightWalk net ends Blocked whole class shown →

@@ -10,6 +10,7 @@ use Rattle.net_model.specs.declared.lists.Packet.{Packet}
 use Rattle.net_model.specs.declared.lists.PacketEntry.{PacketEntry}
 use Rattle.net_model.specs.declared.rows.FaceRow.{FaceRow}
 use Rattle.net_model.specs.Lists.{matches, permits}
+use Rattle.net_model.specs.Services.{serves, whole_service}
 use Rattle.net_model.specs.Packets.{IsOf}
 use Rattle.net_model.specs.declared.policies.PolicyKind.TheVariants.{Blocked}
 use Rattle.net_model.specs.Witnesses.{IsRightWalk}
@@ -134,7 +135,7 @@ pair R x y r (suc i) j d m l = absurd (omega (arith, m, l))
 
 right_walk : IsRightWalk square ends Blocked across across over_3_and_4
 right_walk = record {
-  part = (λ a h. h, λ a h. h);
+  part = (λ a h. h, λ a h. h, λ s h. h);
   path = record {
     arcs = arc 2 true ∷ arc 3 true ∷ [];
     links = refl;
@@ -157,7 +158,7 @@ square_refusal_is_right = record {
   are_ends = are_ends;
   right = record {
     apart = λ e. omega (arith, e);
-    packet = (refl, refl);
+    packet = (refl, refl, refl);
     arc = arc 1 true;
     of_link = refl;
     is_arc = is_arc 1 true;
@@ -180,9 +181,11 @@ next b a = taken b a (at GoesTo goes_to b.link b.from_a b a.usable.is_arc refl r
 -- the list denies them
 denied : (p : Packet) → IsOf across p → permits list_101.entries p ≡ false
 denied p of =
-    let both : (holds users_1 p.from && holds users_4 p.to) ≡ true = ap (λ (b : Bool). b && holds users_4 p.to) of.0 ∙ of.1 in
+    let both : (holds users_1 p.from && holds users_4 p.to && serves whole_service p.service) ≡ true =
+    ap (λ (b : Bool). b && holds users_4 p.to && serves whole_service p.service) of.0
+    ∙ ap (λ (b : Bool). b && serves whole_service p.service) of.1 ∙ of.2 in
     ap (λ (b : Bool). option_map_or (λ (e : PacketEntry). e.permit)
-    (if b then Some (record { permit = false; from = users_1; to = users_4 }) else find (matches p) (record { permit = true; from = everyone; to = everyone } ∷ [])) false) both
+    (if b then Some (record { permit = false; from = users_1; to = users_4; service = whole_service }) else find (matches p) (record { permit = true; from = everyone; to = everyone; service = whole_service } ∷ [])) false) both
 
 walks_nowhere : (p : Packet) → IsOf across p → (arcs : List Arc) → Walk square users_4 (λ link. false) distances p 0 arcs 3 → ⊥
 walks_nowhere p of [] w = omega (arith, w)

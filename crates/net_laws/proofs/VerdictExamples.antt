@@ -8,6 +8,7 @@ use Rattle.net_model.specs.declared.lists.Packet.{Packet}
 use Rattle.net_model.specs.declared.policies.Class.{Class}
 use Rattle.net_model.specs.declared.rows.FaceRow.{FaceRow}
 use Rattle.net_model.specs.declared.rows.LinkRow.{LinkRow}
+use Rattle.net_model.specs.Services.{whole_service}
 use Rattle.net_model.specs.Routing.{Arc, IsArc}
 use Rattle.net_model.specs.Forwarding.{Ends, AreEnds, ArcPermits, ListPermits}
 use Rattle.net_model.specs.Policies.{IsClear}
@@ -19,7 +20,7 @@ abbrev pub ends : Ends
 ends = record { source = owner_1; target = owner_2; to = users_2 }
 
 abbrev pub users : Class
-users = record { from = users_1; to = users_2 }
+users = record { from = users_1; to = users_2; service = whole_service }
 
 are_ends : AreEnds two_routers users ends
 are_ends = record { source = (0, omega arith, refl); from = λ a h. h; target = (2, omega arith, refl); host = refl; to = λ a h. h }
@@ -71,7 +72,7 @@ one_walk_is_right = record {
   ends = ends;
   are_ends = are_ends;
   right = record {
-    part = (λ a h. h, λ a h. h);
+    part = (λ a h. h, λ a h. h, λ s h. h);
     path = record { arcs = forth ∷ []; links = refl; leads = (is_forth, forth_routed, refl, refl) };
     once = AllPairs-cons (λ (u : ℕ) (v : ℕ). u ≢ v) 0 (1 ∷ []) (only (λ (v : ℕ). 0 ≢ v) 1 (λ e. omega (arith, e))) (one (λ (u : ℕ) (v : ℕ). u ≢ v) 1);
     enters = λ p of. (refl, tt);

@@ -13,6 +13,7 @@ use Rattle.net_model.specs.declared.policies.PolicyKind.{PolicyKind}
 use Rattle.net_model.specs.declared.policies.PolicyKind.TheVariants.{Blocked, Reach}
 use Rattle.net_model.specs.declared.verdicts.LinkPath.{LinkPath}
 use Rattle.net_model.specs.declared.verdicts.Verdict.TheVariants.{Paths, Walk, Cut}
+use Rattle.net_model.specs.Services.{whole_service}
 use Rattle.net_model.specs.Witnesses.{IsRight}
 use Rattle.net_model.specs.Validity.{IsValid}
 use Rattle.net_model.specs.Routing.{IsRoutedLink, IsStable}
@@ -97,7 +98,7 @@ ExampleIsValid = IsValid two_routers
 
 -- a policy from the first router's users to the second's
 abbrev pub between_users : PolicyKind → Policy
-between_users kind = record { kind = kind; from = users_1; to = users_2 }
+between_users kind = record { kind = kind; from = users_1; to = users_2; service = whole_service }
 
 -- the place of the link
 abbrev pub link_1 : Link
@@ -117,4 +118,4 @@ OneCutIsRight = IsRight two_routers (between_users (Reach 1)) (Cut (link_1 ∷ [
 
 -- and they are not blocked: the link is a walk
 abbrev pub OneWalkIsRight : Type 0
-OneWalkIsRight = IsRight two_routers (between_users Blocked) (Walk (record { from = users_1; to = users_2 }) over_link_1)
+OneWalkIsRight = IsRight two_routers (between_users Blocked) (Walk (record { from = users_1; to = users_2; service = whole_service }) over_link_1)

@@ -17,6 +17,7 @@ use Rattle.net_model.specs.declared.policies.PolicyKind.{PolicyKind}
 use Rattle.net_model.specs.declared.policies.PolicyKind.TheVariants.{Blocked, Reach}
 use Rattle.net_model.specs.declared.verdicts.LinkPath.{LinkPath}
 use Rattle.net_model.specs.declared.verdicts.Verdict.TheVariants.{Walk, Refused}
+use Rattle.net_model.specs.Services.{whole_service}
 use Rattle.net_model.specs.Packets.{IsOf}
 use Rattle.net_model.specs.Routing.{Arc, DistanceMap, IsStable}
 use Rattle.net_model.specs.Forwarding.{Ends, IsDelivered}
@@ -128,7 +129,7 @@ list_101 = record {
   router = record { 0 = 3 };
   name = codes "101";
   extended = true;
-  entries = record { permit = false; from = users_1; to = users_4 } ∷ record { permit = true; from = everyone; to = everyone } ∷ [];
+  entries = record { permit = false; from = users_1; to = users_4; service = whole_service } ∷ record { permit = true; from = everyone; to = everyone; service = whole_service } ∷ [];
 }
 
 -- the square
@@ -159,11 +160,11 @@ SquareDistancesAreStable = IsStable square users_4 3 (λ link. false) distances
 
 -- the packets from the first router's users to the fourth's
 abbrev pub across : Class
-across = record { from = users_1; to = users_4 }
+across = record { from = users_1; to = users_4; service = whole_service }
 
 -- a policy on them
 abbrev pub policy : PolicyKind → Policy
-policy kind = record { kind = kind; from = users_1; to = users_4 }
+policy kind = record { kind = kind; from = users_1; to = users_4; service = whole_service }
 
 -- the links 3 and 4, in order
 abbrev pub over_3_and_4 : LinkPath
@@ -187,4 +188,4 @@ SquareWalkIsRight = IsRight square (policy Blocked) (Walk across over_3_and_4)
 
 -- nor is reach answered: the arc of link 2 denies the packet from 10.1.0.0 to 10.4.0.0
 abbrev pub SquareRefusalIsRight : Type 0
-SquareRefusalIsRight = IsRight square (policy (Reach 0)) (Refused (record { from = 167837696; to = 168034304 }) (record { 0 = 1 }))
+SquareRefusalIsRight = IsRight square (policy (Reach 0)) (Refused (record { from = 167837696; to = 168034304; service = 0 }) (record { 0 = 1 }))

@@ -8,11 +8,13 @@ mod lists;
 mod policies;
 mod routing;
 mod rows;
+mod services;
 mod tables;
 mod verdicts;
 
 pub use lists::{Packet, PacketEntry, PacketList, RouteEntry, RouteList};
 pub use policies::{Class, Document, LinkText, Policy, PolicyKind, Weights};
 pub use rows::{FaceRow, LinkRow, Network, Protocol, RouterRow, SessionRow};
+pub use services::Service;
 pub use tables::RoutedLink;
 pub use verdicts::{ClassSide, LinkPath, Verdict};

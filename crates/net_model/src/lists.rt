@@ -1,6 +1,7 @@
 ghost use Rattle.std.specs.Prelude.{◌≡◌, find};
 ghost use Rattle.std.specs.Option.{option_copied};
 
+use crate::services::Service;
 use arc_base::{List, Name, Prefix, Router};
 
 /// A packet, as far as routers look at it.
@@ -10,9 +11,11 @@ pub struct Packet {
     pub from: u32,
     /// The destination address.
     pub to: u32,
+    /// The protocol and the destination port, as `Service` counts them.
+    pub service: u32,
 }
 
-/// An entry of a packet list, for the packets whose addresses lie in its prefixes.
+/// An entry of a packet list, for the packets whose addresses lie in its prefixes and whose service lies in its range.
 #[derive(Clone, Copy, Debug, PartialEq, Eq)]
 pub struct PacketEntry {
     pub permit: bool,
@@ -20,6 +23,8 @@ pub struct PacketEntry {
     pub from: Prefix,
     /// The prefix of the destination address; of length 0 in an entry that speaks of sources alone.
     pub to: Prefix,
+    /// The services; the whole range in an entry that speaks of addresses alone.
+    pub service: Service,
 }
 
 /// A packet list (an access list) of a router, which filters packets at the interfaces that it is bound to.
@@ -52,11 +57,13 @@ pub struct RouteList {
 impl PacketEntry {
     ghost use Rattle.net_model.specs.Lists.{matches};
 
-    /// Whether both addresses of the packet lie in the entry's prefixes.
+    /// Whether both addresses of the packet lie in the entry's prefixes, and its service in the entry's range.
     pub fn matches(&self, packet: Packet) -> bool
         ensures { result ≡ matches packet self.now }
     {
-        self.from.covers(packet.from) && self.to.covers(packet.to)
+        self.from.covers(packet.from)
+            && self.to.covers(packet.to)
+            && self.service.covers(packet.service)
     }
 }
 

@@ -2,25 +2,28 @@ ghost use Rattle.std.specs.Prelude.{◌≡◌};
 ghost use Rattle.net_model.specs.Packets.{first_packet};
 
 use crate::lists::Packet;
+use crate::services::Service;
 use arc_base::{List, Name, Prefix};
 
-/// A traffic class: the packets from one prefix to another.
+/// A traffic class: the packets from one prefix to another of a range of services.
 #[derive(Clone, Copy, Debug, PartialEq, Eq)]
 pub struct Class {
     /// The prefix of the source addresses.
     pub from: Prefix,
     /// The prefix of the destination addresses.
     pub to: Prefix,
+    pub service: Service,
 }
 
 impl Class {
-    /// The packet of its first addresses.
+    /// The packet of its first addresses and its first service.
     pub fn first_packet(self) -> Packet
         ensures { result ≡ first_packet self }
     {
         Packet {
             from: self.from.addr,
             to: self.to.addr,
+            service: self.service.low,
         }
     }
 }
@@ -36,12 +39,13 @@ pub enum PolicyKind {
     Reach(u32),
 }
 
-/// A policy on every packet from one prefix to another. The two lie in different host networks.
+/// A policy on every packet from one prefix to another of a range of services. The prefixes lie in different host networks.
 #[derive(Clone, Copy, Debug, PartialEq, Eq)]
 pub struct Policy {
     pub kind: PolicyKind,
     pub from: Prefix,
     pub to: Prefix,
+    pub service: Service,
 }
 
 /// What an edit of each kind costs, from 1 to 16.

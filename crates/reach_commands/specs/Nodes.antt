@@ -5,6 +5,7 @@ use Rattle.net_model.specs.declared.policies.Document.{Document}
 use Rattle.net_model.specs.declared.policies.Policy.{Policy}
 use Rattle.net_model.specs.declared.policies.PolicyKind.TheVariants.{Reach}
 use Rattle.net_model.specs.declared.rows.Network.{Network}
+use Rattle.net_model.specs.Services.{whole_service}
 use Rattle.net_model.specs.Validity.{IsValid}
 use Rattle.net_build.specs.Addressing.{HasEndpoints}
 use Rattle.arc_nodecut.specs.declared.verdict.NodeVerdict.{NodeVerdict}
@@ -20,9 +21,9 @@ use Rattle.run_inputs.specs.Counts.{HasFewClasses}
 use Rattle.run_inputs.specs.Inputs.{HoldsInput, IsInputRefusal}
 use Rattle.reach_commands.specs.Added.{judged, RefusesEnds, RefusesClassesWith}
 
--- the policy that the words make: reach under at most so many failed routers
+-- the policy that the words make, of all services: reach under at most so many failed routers
 abbrev pub nodes_policy : NodesWords → Policy
-nodes_policy words = record { kind = Reach words.failures; from = words.from; to = words.to }
+nodes_policy words = record { kind = Reach words.failures; from = words.from; to = words.to; service = whole_service }
 
 -- The first refusal: of the input; that the prefixes do not lie in two different host networks; or that there are too many classes.
 abbrev pub IsNodesRefusal : NodesWords → Files → FileRefusal → Type 0

@@ -8,6 +8,7 @@ use Rattle.net_model.specs.declared.policies.Document.{Document}
 use Rattle.net_model.specs.declared.policies.Policy.{Policy}
 use Rattle.net_model.specs.declared.policies.PolicyKind.TheVariants.{Reach}
 use Rattle.net_model.specs.declared.rows.Network.{Network}
+use Rattle.net_model.specs.Services.{whole_service}
 use Rattle.net_model.specs.Validity.{IsValid}
 use Rattle.net_build.specs.Addressing.{HasEndpoints}
 use Rattle.arc_prefer.specs.declared.answers.Preferred.{Preferred}
@@ -29,7 +30,7 @@ use Rattle.reach_commands.specs.Added.{judged, RefusesEnds, RefusesClassesWith}
 
 -- the policy that the words make, of which only the prefixes count
 abbrev pub prefers_policy : PrefersWords → Policy
-prefers_policy words = record { kind = Reach 0; from = words.from; to = words.to }
+prefers_policy words = record { kind = Reach 0; from = words.from; to = words.to; service = whole_service }
 
 -- the router of the network has this name
 abbrev pub IsNamed : Network → List ℕ → Router → Type 0

@@ -16,7 +16,7 @@ use arc_base::{List, Memory, Name, Router};
 use arc_outside::Store;
 use arc_prefer::{Preferred, prefers_text};
 use command_words::PrefersWords;
-use net_model::{Network, Policy, PolicyKind};
+use net_model::{Network, Policy, PolicyKind, Service};
 use run_files::{Done, Limits, Stop};
 use run_inputs::{Input, count_classes, read_input};
 use std::alloc::Global;
@@ -30,6 +30,7 @@ fn policy_of(words: &PrefersWords) -> Policy
         kind: PolicyKind::Reach(0),
         from: words.from,
         to: words.to,
+        service: Service::whole(),
     }
 }
 

@@ -16,7 +16,7 @@ use arc_base::{List, Memory, Name};
 use arc_nodecut::{NodeVerdict, judge_nodes, nodes_text};
 use arc_outside::Store;
 use command_words::NodesWords;
-use net_model::{Network, Policy, PolicyKind};
+use net_model::{Network, Policy, PolicyKind, Service};
 use run_files::{Done, Limits, Stop};
 use run_inputs::{Input, count_classes, read_input};
 use std::alloc::Global;
@@ -30,6 +30,7 @@ fn policy_of(words: &NodesWords) -> Policy
         kind: PolicyKind::Reach(words.failures),
         from: words.from,
         to: words.to,
+        service: Service::whole(),
     }
 }
 

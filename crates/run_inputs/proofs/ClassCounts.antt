@@ -1,5 +1,6 @@
 -- Counts of classes: more policies have no fewer, and none has more than all.
-use Rattle.std.proofs.Common.{◌≡◌, ℕ, ◌+◌, ◌≤◌, ◌<◌, inl, inr, Bool, true, false, List, [], ◌∷◌, ◌++◌, length, get_or, take, drop, refl, sym, ap, subst, ◌∙◌, arith}
+use Rattle.std.proofs.Common.{◌≡◌, ℕ, ◌+◌, ◌-◌, ◌^◌, ◌≤◌, ◌<◌, inl, inr, Bool, true, false, List, [], ◌∷◌, ◌++◌, length, get_or, take, drop, refl, sym, ap, subst, ◌∙◌, arith}
+use Rattle.std.proofs.Math.Nat.{min-le_left}
 use Rattle.std.proofs.lemmas.Bool.{cases_lt}
 use Rattle.std.proofs.lemmas.List.{take-append-drop, take-take, take_all, length-append, get_or_default}
 use Rattle.std.proofs.lemmas.List.Concat.{flat_map-append}
@@ -10,7 +11,7 @@ use Rattle.std.specs.List.{AllZip, flat_map, list_any}
 use Rattle.net_model.specs.declared.policies.Class.{Class}
 use Rattle.net_model.specs.declared.policies.Policy.{Policy}
 use Rattle.net_model.specs.declared.rows.Network.{Network}
-use Rattle.traffic_classes.specs.Classes.{AreClasses, HasClasses}
+use Rattle.traffic_classes.specs.Classes.{AreClasses, HasClasses, told}
 use Rattle.traffic_classes.specs.AllClasses.{with_class, is_same, each_once, HaveClasses}
 use Rattle.traffic_classes.proofs.EachPolicy.{no_more}
 use Rattle.traffic_classes.proofs.MakingUp.{one_list}
@@ -67,10 +68,11 @@ no_fewer net policies m n c d below fewer many =
 -- few classes are not many
 pub few_or_many : (net : Network) (policies : List Policy) (count : ℕ) → HasFewClasses net policies → HasManyClasses net policies count → ⊥
 few_or_many net policies count few many =
-    let P : List Policy → Type 0 = λ ps. HaveClasses net policies ps (length few.classes) in
-    let all : HaveClasses net policies (take (length policies) policies) (length few.classes) =
+    let P : List Policy → Type 0 = λ ps. HaveClasses net policies ps (told (length few.classes)) in
+    let all : HaveClasses net policies (take (length policies) policies) (told (length few.classes)) =
     subst P (sym (take_all (length policies) policies (omega arith))) (record { classes = few.classes; are = few.are; counted = refl }) in
-    omega (arith, no_fewer net policies (many.first.place + 1) (length policies) count (length few.classes) (omega (arith, many.first.within)) many.first.with_it all, few.few, many.many)
+    let less : told (length few.classes) ≤ length few.classes = min-le_left (length few.classes) (2 ^ 64 - 1) in
+    omega (arith, less, no_fewer net policies (many.first.place + 1) (length policies) count (told (length few.classes)) (omega (arith, many.first.within)) many.first.with_it all, few.few, many.many)
 
 -- the first policies that have many have one number of them
 pub one_count : (net : Network) (policies : List Policy) (c d : ℕ) → HasManyClasses net policies c → HasManyClasses net policies d → c ≡ d

@@ -1,9 +1,15 @@
 pub mod Ranges
 pub mod Splits
 pub mod HalvesLeaves
+pub mod Rising
 pub mod OneList
 pub mod Growing
-pub mod Pairs
+pub mod ServiceCuts
+pub mod ServiceJoins
+pub mod ServiceTiles
+pub mod ServiceWalk
+pub mod Triples
+pub mod ServiceApart
 pub mod Uniform
 pub mod MakingUp
 pub mod Sameness

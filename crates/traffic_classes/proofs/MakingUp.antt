@@ -12,16 +12,21 @@ use Rattle.net_model.specs.declared.lists.PacketList.{PacketList}
 use Rattle.net_model.specs.declared.policies.Class.{Class}
 use Rattle.net_model.specs.declared.policies.Policy.{Policy}
 use Rattle.net_model.specs.declared.rows.Network.{Network}
+use Rattle.net_model.specs.declared.services.Service.{Service}
 use Rattle.net_model.specs.Packets.{LiesIn, ShareNoPacket, packets, subject}
+use Rattle.net_model.specs.Services.{services}
 use Rattle.traffic_classes.specs.Leaves.{IsStrictlyInside, IsLeaf, AreLeaves}
-use Rattle.traffic_classes.specs.Classes.{source_marks, destination_marks, all_pairs, AreClasses}
+use Rattle.traffic_classes.specs.ServiceLeaves.{IsServiceLeaf}
+use Rattle.traffic_classes.specs.Classes.{source_marks, destination_marks, service_marks, marks_of, all_triples, AreClasses}
 use Rattle.traffic_classes.specs.Parts.{IsUniformFor, MakeUp}
 use Rattle.traffic_classes.specs.Laws.{HasOneListOfClasses, ClassesMakeUp, ClassesAreEqualOrDisjoint}
-use Rattle.arc_base.proofs.Items.{Contains-map, AllPairs-among, All-from}
+use Rattle.arc_base.proofs.Items.{Contains-map, Contains-piece, AllPairs-among, All-from}
 use Rattle.traffic_classes.proofs.Ranges.{nested, same_or_strict}
 use Rattle.traffic_classes.proofs.OneList.{HasAddress, tiles, same_leaves, leaf_holds, leaf_sizes}
-use Rattle.traffic_classes.proofs.Pairs.{pair, of_pairs, in_pairs, sum_pairs, disjoint_pairs}
-use Rattle.traffic_classes.proofs.Uniform.{uniform_on}
+use Rattle.traffic_classes.proofs.ServiceTiles.{HasService, same_service_leaves, some_tiles, leaf_tiles}
+use Rattle.traffic_classes.proofs.Triples.{AreApart, triple, of_triples, in_triples, sum_triples, disjoint_triples}
+use Rattle.traffic_classes.proofs.ServiceApart as services_of
+use Rattle.traffic_classes.proofs.Uniform.{uniform_on, entry_services, own_mark}
 
 abbrev Below : Prefix → Prefix → Type 0
 Below p q = p.addr < q.addr
@@ -84,39 +89,46 @@ leaves_apart marks whole leaves are =
     AllPairs-among Below AreDisjoint leaves (λ p q in_p in_q below. leaf_apart marks whole p q ((are.each p).0 in_p) ((are.each q).0 in_q) below) are.rising
 
 module _ (net : Network) (policies : List Policy) (policy : Policy) (classes : List Class) (are : AreClasses net policies policy classes) where
-  in_pair : (c : Class) → Contains classes c → Contains are.sources c.from × Contains are.destinations c.to
-  in_pair c h = of_pairs are.sources are.destinations c (subst (λ (l : List Class). Contains l c) are.pairs h)
+  in_triple : (c : Class) → Contains classes c → Contains are.sources c.from × Contains are.destinations c.to × Contains are.services c.service
+  in_triple c h = of_triples are.sources are.destinations are.services c (subst (λ (l : List Class). Contains l c) are.triples h)
 
   pub from_leaf : (c : Class) → Contains classes c → IsLeaf (source_marks net policies) policy.from c.from
-  from_leaf c h = (are.sources_are.each c.from).0 ((in_pair c h).0)
+  from_leaf c h = (are.sources_are.each c.from).0 ((in_triple c h).0)
 
   pub to_leaf : (c : Class) → Contains classes c → IsLeaf (destination_marks net policies) policy.to c.to
-  to_leaf c h = (are.destinations_are.each c.to).0 ((in_pair c h).1)
+  to_leaf c h = (are.destinations_are.each c.to).0 ((in_triple c h).1)
+
+  pub service_leaf : (c : Class) → Contains classes c → IsServiceLeaf (service_marks net policies) policy.service c.service
+  service_leaf c h = (are.services_are.each c.service).0 ((in_triple c h).2)
 
   pub disjoint_classes : AllPairs ShareNoPacket classes
   disjoint_classes =
-      subst (λ (l : List Class). AllPairs ShareNoPacket l) (sym are.pairs)
-      (disjoint_pairs are.sources are.destinations
+      subst (λ (l : List Class). AllPairs ShareNoPacket l) (sym are.triples)
+      (disjoint_triples are.sources are.destinations are.services
       (leaves_apart (source_marks net policies) policy.from are.sources are.sources_are)
-      (leaves_apart (destination_marks net policies) policy.to are.destinations are.destinations_are))
+      (leaves_apart (destination_marks net policies) policy.to are.destinations are.destinations_are)
+      (services_of.service_leaves_apart (service_marks net policies) policy.service are.services are.services_are))
 
   sizes_sum : sum_by packets classes ≡ packets (subject policy)
   sizes_sum =
-      ap (λ (l : List Class). sum_by packets l) are.pairs ∙ sum_pairs are.sources are.destinations ∙
-      ap (λ (x : ℕ). x * sum_by size are.destinations) (leaf_sizes (source_marks net policies) policy.from are.sources are.sources_are) ∙
-      ap (λ (x : ℕ). size policy.from * x) (leaf_sizes (destination_marks net policies) policy.to are.destinations are.destinations_are)
+      ap (λ (l : List Class). sum_by packets l) are.triples ∙ sum_triples are.sources are.destinations are.services ∙
+      ap (λ (x : ℕ). x * sum_by size are.destinations * sum_by services are.services) (leaf_sizes (source_marks net policies) policy.from are.sources are.sources_are) ∙
+      ap (λ (x : ℕ). size policy.from * x * sum_by services are.services) (leaf_sizes (destination_marks net policies) policy.to are.destinations are.destinations_are) ∙
+      ap (λ (x : ℕ). size policy.from * size policy.to * x) (leaf_tiles (service_marks net policies) policy.service are.services are.services_are).sizes_sum
 
   pub make_up : MakeUp net (subject policy) classes
   make_up = record {
-    parts = All-from (λ (c : Class). LiesIn c (subject policy)) classes (λ c h. ((from_leaf c h).part, (to_leaf c h).part));
-    uniform = All-from (IsUniformFor net) classes (λ c h. uniform_on net policies c (from_leaf c h).unsplit (to_leaf c h).unsplit);
+    parts = All-from (λ (c : Class). LiesIn c (subject policy)) classes (λ c h. ((from_leaf c h).part, (to_leaf c h).part, (service_leaf c h).part));
+    uniform = All-from (IsUniformFor net) classes (λ c h. uniform_on net policies c (from_leaf c h).unsplit (to_leaf c h).unsplit (service_leaf c h).uncut);
     disjoint = disjoint_classes;
-    cover = λ p of. let s : HasAddress are.sources p.from = leaf_holds (source_marks net policies) policy.from are.sources are.sources_are p.from (of.0) in
-        let d : HasAddress are.destinations p.to = leaf_holds (destination_marks net policies) policy.to are.destinations are.destinations_are p.to (of.1) in
+    cover = λ p of. let s : HasAddress are.sources p.from = leaf_holds (source_marks net policies) policy.from are.sources are.sources_are p.from of.0 in
+        let d : HasAddress are.destinations p.to = leaf_holds (destination_marks net policies) policy.to are.destinations are.destinations_are p.to of.1 in
+        let v : HasService are.services p.service = (leaf_tiles (service_marks net policies) policy.service are.services are.services_are).cover p.service of.2 in
         record {
-          class = pair s.leaf d.leaf;
-          one = subst (λ (l : List Class). Contains l (pair s.leaf d.leaf)) (sym are.pairs) (in_pairs are.sources are.destinations s.leaf d.leaf s.one d.one);
-          is_of = (s.holds, d.holds);
+          class = triple s.leaf d.leaf v.leaf;
+          one = subst (λ (l : List Class). Contains l (triple s.leaf d.leaf v.leaf)) (sym are.triples)
+              (in_triples are.sources are.destinations are.services s.leaf d.leaf v.leaf s.one d.one v.one);
+          is_of = (s.holds, d.holds, v.serves);
         };
     sizes = sizes_sum;
   }
@@ -126,18 +138,29 @@ classes_make_up net policies policy classes are = make_up net policies policy cl
 
 pub one_list : (net : Network) (policies : List Policy) (policy : Policy) (xs ys : List Class) → AreClasses net policies policy xs → AreClasses net policies policy ys → xs ≡ ys
 one_list net policies policy xs ys one two =
-    one.pairs ∙ ap (λ (l : List Prefix). all_pairs l one.destinations)
+    one.triples ∙ ap (λ (l : List Prefix). all_triples l one.destinations one.services)
     (same_leaves (source_marks net policies) policy.from one.sources two.sources one.sources_are two.sources_are) ∙
-    ap (λ (l : List Prefix). all_pairs two.sources l)
-    (same_leaves (destination_marks net policies) policy.to one.destinations two.destinations one.destinations_are two.destinations_are) ∙ sym two.pairs
+    ap (λ (l : List Prefix). all_triples two.sources l one.services)
+    (same_leaves (destination_marks net policies) policy.to one.destinations two.destinations one.destinations_are two.destinations_are) ∙
+    ap (λ (l : List Service). all_triples two.sources two.destinations l)
+    (same_service_leaves (service_marks net policies) policy.service one.services two.services one.services_are two.services_are) ∙ sym two.triples
 
--- the leaves of its two prefixes give a policy its classes
+-- the leaves of its two prefixes and of its services give a policy its classes
 pub some_list : (net : Network) (policies : List Policy) (policy : Policy) → (classes : List Class) × AreClasses net policies policy classes
 some_list net policies policy =
     let sources = tiles (source_marks net policies) policy.from in
-    let destinations = tiles (destination_marks net policies) policy.to in (
-      all_pairs sources.leaves destinations.leaves,
-      record { sources = sources.leaves; destinations = destinations.leaves; sources_are = sources.are; destinations_are = destinations.are; pairs = refl },
+    let destinations = tiles (destination_marks net policies) policy.to in
+    let of_services = some_tiles (service_marks net policies) policy.service in (
+      all_triples sources.leaves destinations.leaves of_services.0,
+      record {
+        sources = sources.leaves;
+        destinations = destinations.leaves;
+        services = of_services.0;
+        sources_are = sources.are;
+        destinations_are = destinations.are;
+        services_are = of_services.1.are;
+        triples = refl;
+      },
     )
 
 pub has_one_list : HasOneListOfClasses
@@ -153,10 +176,17 @@ policy_destination net policies policy h =
     Contains-append_right (flat_map (λ (l : PacketList). map (λ (e : PacketEntry). e.to) l.entries) net.packet_lists) (map (λ (p : Policy). p.to) policies) policy.to
     (Contains-map (λ (p : Policy). p.to) policies policy h)
 
-by_parts : (c d : Class) → (c.from ≡ d.from) ⊎ AreDisjoint c.from d.from → (c.to ≡ d.to) ⊎ AreDisjoint c.to d.to → (c ≡ d) ⊎ ShareNoPacket c d
-by_parts c d (inl e) (inl f) = inl (λ i. record { from = e i; to = f i })
-by_parts c d (inr off) g = inr (λ p h k. off p.from (h.0) (k.0))
-by_parts c d (inl e) (inr off) = inr (λ p h k. off p.to (h.1) (k.1))
+pub policy_service : (net : Network) (policies : List Policy) (policy : Policy) → Contains policies policy → Contains (service_marks net policies) policy.service
+policy_service net policies policy h =
+    Contains-append_right (flat_map entry_services net.packet_lists) (flat_map (λ (p : Policy). marks_of p.service) policies) policy.service
+    (Contains-piece (λ (p : Policy). marks_of p.service) policies policy policy.service h (own_mark policy.service))
+
+by_parts : (c d : Class) → (c.from ≡ d.from) ⊎ AreDisjoint c.from d.from → (c.to ≡ d.to) ⊎ AreDisjoint c.to d.to → (c.service ≡ d.service) ⊎ AreApart c.service d.service →
+    (c ≡ d) ⊎ ShareNoPacket c d
+by_parts c d (inl e) (inl f) (inl g) = inl (λ i. record { from = e i; to = f i; service = g i })
+by_parts c d (inr off) f g = inr (λ p h k. off p.from h.0 k.0)
+by_parts c d (inl e) (inr off) g = inr (λ p h k. off p.to h.1 k.1)
+by_parts c d (inl e) (inl f) (inr off) = inr (λ p h k. off p.service h.2 k.2)
 
 pub equal_or_disjoint : ClassesAreEqualOrDisjoint
 equal_or_disjoint net policies policy other xs ys in_policies in_too one two c d in_c in_d =
@@ -165,3 +195,6 @@ equal_or_disjoint net policies policy other xs ys in_policies in_too one two c d
     (from_leaf net policies policy xs one c in_c) (from_leaf net policies other ys two d in_d))
     (same_or_apart (destination_marks net policies) policy.to other.to c.to d.to (policy_destination net policies policy in_policies) (policy_destination net policies other in_too)
     (to_leaf net policies policy xs one c in_c) (to_leaf net policies other ys two d in_d))
+    (services_of.same_or_apart (service_marks net policies) policy.service other.service c.service d.service
+    (policy_service net policies policy in_policies) (policy_service net policies other in_too)
+    (service_leaf net policies policy xs one c in_c) (service_leaf net policies other ys two d in_d))

@@ -1,53 +1,21 @@
 -- A prefix has one list of leaves. Its addresses are those of the leaves, and so is their number.
-use Rattle.std.proofs.Common.{◌≡◌, ℕ, zero, suc, ◌+◌, ◌<◌, ◌≤◌, ◌⊎◌, inl, inr, List, [], ◌∷◌, ◌++◌, refl, sym, ◌∙◌, ap, subst, arith}
-use Rattle.std.specs.Prelude.{Contains, AllPairs, sum_by}
+use Rattle.std.proofs.Common.{◌≡◌, ℕ, zero, suc, ◌+◌, ◌<◌, ◌≤◌, inl, inr, List, [], ◌∷◌, ◌++◌, refl, ◌∙◌, subst, arith}
+use Rattle.std.specs.Prelude.{Contains, sum_by}
 use Rattle.std.proofs.lemmas.List.Sums.{sum_by-append, sum_by-cons}
 use Rattle.std.proofs.lemmas.List.Elements.{Contains-append_left, Contains-append_right}
 use Rattle.arc_base.specs.Addresses.{Holds, size}
 use Rattle.arc_base.specs.declared.prefix.Prefix.{Prefix}
 use Rattle.traffic_classes.specs.Leaves.{IsSplit, AreLeaves, inner_marks}
 use Rattle.traffic_classes.specs.Halves.{IsLowerHalf, IsUpperHalf}
-use Rattle.arc_base.proofs.Items.{Contains-head, Contains-tail, Contains-none, Contains-cases, AllPairs-rest, AllPairs-first}
+use Rattle.arc_base.proofs.Items.{Contains-head}
+use Rattle.traffic_classes.proofs.Rising.{same_rising}
 use Rattle.traffic_classes.proofs.Ranges.{lower, upper, lower_half, upper_half}
 use Rattle.traffic_classes.proofs.Splits.{split_short, split_inner, unsplit_inner, some_inner, sizes, in_one}
 use Rattle.traffic_classes.proofs.HalvesLeaves.{single, joined}
 
-abbrev Below : Prefix → Prefix → Type 0
-Below p q = p.addr < q.addr
-
--- what one list has besides its first item, the other has too
-rest_in : (x y : Prefix) (xs ys : List Prefix) → x ≡ y → AllPairs Below (x ∷ xs) → ((p : Prefix) → Contains (x ∷ xs) p → Contains (y ∷ ys) p) →
-    (p : Prefix) → Contains xs p → Contains ys p
-rest_in x y xs ys e rising has p there =
-    elim (Contains-cases y p ys (has p (Contains-tail x p xs there))) [
-      | inl f ↦ let l : x.addr < p.addr = AllPairs-first Below x p xs rising there in
-          let g : x.addr ≡ p.addr = ap (λ (q : Prefix). q.addr) (e ∙ f) in absurd (omega (arith, l, g))
-      | inr later ↦ later
-    ]
-
-first_same : (x y : Prefix) (xs ys : List Prefix) → AllPairs Below (x ∷ xs) → AllPairs Below (y ∷ ys) →
-    (x ≡ y) ⊎ Contains xs y → (y ≡ x) ⊎ Contains ys x → x ≡ y
-first_same x y xs ys one two (inl e) other = e
-first_same x y xs ys one two (inr there) (inl e) = sym e
-first_same x y xs ys one two (inr there) (inr back) =
-    let l : x.addr < y.addr = AllPairs-first Below x y xs one there in
-    let m : y.addr < x.addr = AllPairs-first Below y x ys two back in absurd (omega (arith, l, m))
-
--- rising lists with the same items are the same
-pub same_rising : (xs ys : List Prefix) → AllPairs Below xs → AllPairs Below ys → ((p : Prefix) → Contains xs p → Contains ys p) →
-    ((p : Prefix) → Contains ys p → Contains xs p) → xs ≡ ys
-same_rising [] [] one two to from = refl
-same_rising [] (y ∷ ys) one two to from = absurd (Contains-none y (from y (Contains-head y ys)))
-same_rising (x ∷ xs) [] one two to from = absurd (Contains-none x (to x (Contains-head x xs)))
-same_rising (x ∷ xs) (y ∷ ys) one two to from =
-    let e : x ≡ y = first_same x y xs ys one two (Contains-cases x y xs (from y (Contains-head y ys))) (Contains-cases y x ys (to x (Contains-head x xs))) in
-    let rest : xs ≡ ys = same_rising xs ys (AllPairs-rest Below x xs one) (AllPairs-rest Below y ys two)
-    (rest_in x y xs ys e one to) (rest_in y x ys xs (sym e) two from) in
-    ap (λ (p : Prefix). p ∷ xs) e ∙ ap (λ (l : List Prefix). y ∷ l) rest
-
 pub same_leaves : (marks : List Prefix) (whole : Prefix) (xs ys : List Prefix) → AreLeaves marks whole xs → AreLeaves marks whole ys → xs ≡ ys
 same_leaves marks whole xs ys one two =
-    same_rising xs ys one.rising two.rising (λ p h. (two.each p).1 ((one.each p).0 h)) (λ p h. (one.each p).1 ((two.each p).0 h))
+    same_rising (λ (p : Prefix). p.addr) xs ys one.rising two.rising (λ p h. (two.each p).1 ((one.each p).0 h)) (λ p h. (one.each p).1 ((two.each p).0 h))
 
 -- one of the prefixes holds the address
 pub record HasAddress (leaves : List Prefix) (a : ℕ) : Type 0 where

@@ -6,30 +6,49 @@ use Rattle.std.proofs.lemmas.Bool.{false≢true}
 use Rattle.std.proofs.lemmas.Bool.Decides.{Decides-and, Decides-eqb}
 use Rattle.arc_base.proofs.SamePrefix.{same_prefix}
 use Rattle.net_model.specs.declared.policies.Class.{Class}
+use Rattle.traffic_classes.proofs.ServiceCuts.{same_service}
 use Rattle.traffic_classes.specs.AllClasses.{Key, key_of, same_key, is_same, with_class}
 
 abbrev Numbers : Class → Class → Type 0
-Numbers c d = (((c.from.addr ≡ d.from.addr) × (c.from.len ≡ d.from.len)) × (c.to.addr ≡ d.to.addr)) × (c.to.len ≡ d.to.len)
+Numbers c d = (((((c.from.addr ≡ d.from.addr) × (c.from.len ≡ d.from.len)) × (c.to.addr ≡ d.to.addr)) × (c.to.len ≡ d.to.len)) ×
+    (c.service.low ≡ d.service.low)) × (c.service.high ≡ d.service.high)
 
-numbers-Decides : (c d : Class) → Decides (is_same c d) (Numbers c d)
-numbers-Decides c d =
+ends-Decides : (c d : Class) → Decides (((nat_eq c.from.addr d.from.addr && nat_eq c.from.len d.from.len) && nat_eq c.to.addr d.to.addr) && nat_eq c.to.len d.to.len)
+    ((((c.from.addr ≡ d.from.addr) × (c.from.len ≡ d.from.len)) × (c.to.addr ≡ d.to.addr)) × (c.to.len ≡ d.to.len))
+ends-Decides c d =
     Decides-and ((nat_eq c.from.addr d.from.addr && nat_eq c.from.len d.from.len) && nat_eq c.to.addr d.to.addr) (nat_eq c.to.len d.to.len)
     (Decides-and (nat_eq c.from.addr d.from.addr && nat_eq c.from.len d.from.len) (nat_eq c.to.addr d.to.addr)
     (Decides-and (nat_eq c.from.addr d.from.addr) (nat_eq c.from.len d.from.len) (Decides-eqb c.from.addr d.from.addr) (Decides-eqb c.from.len d.from.len))
     (Decides-eqb c.to.addr d.to.addr))
     (Decides-eqb c.to.len d.to.len)
 
+numbers-Decides : (c d : Class) → Decides (is_same c d) (Numbers c d)
+numbers-Decides c d =
+    Decides-and ((((nat_eq c.from.addr d.from.addr && nat_eq c.from.len d.from.len) && nat_eq c.to.addr d.to.addr) && nat_eq c.to.len d.to.len) &&
+    nat_eq c.service.low d.service.low) (nat_eq c.service.high d.service.high)
+    (Decides-and (((nat_eq c.from.addr d.from.addr && nat_eq c.from.len d.from.len) && nat_eq c.to.addr d.to.addr) && nat_eq c.to.len d.to.len)
+    (nat_eq c.service.low d.service.low) (ends-Decides c d) (Decides-eqb c.service.low d.service.low))
+    (Decides-eqb c.service.high d.service.high)
+
 same_class : (c d : Class) → Numbers c d → c ≡ d
 same_class c d n =
-    let from : c.from ≡ d.from = same_prefix c.from d.from (((n.0).0).0) (((n.0).0).1) in
-    let to : c.to ≡ d.to = same_prefix c.to d.to ((n.0).1) (n.1) in
-    λ i. record { from = from i; to = to i }
+    let ends = n.0.0 in
+    let from : c.from ≡ d.from = same_prefix c.from d.from ends.0.0.0 ends.0.0.1 in
+    let to : c.to ≡ d.to = same_prefix c.to d.to ends.0.1 ends.1 in
+    let service : c.service ≡ d.service = same_service c.service d.service n.0.1 n.1 in
+    λ i. record { from = from i; to = to i; service = service i }
 
 -- the test is right
 pub is_same-Decides : (c d : Class) → Decides (is_same c d) (c ≡ d)
 is_same-Decides c d = (
   λ t. same_class c d ((numbers-Decides c d).0 t),
-  λ e. (numbers-Decides c d).1 (((ap (λ (x : Class). x.from.addr) e, ap (λ (x : Class). x.from.len) e), ap (λ (x : Class). x.to.addr) e), ap (λ (x : Class). x.to.len) e),
+  λ e. (numbers-Decides c d).1 (
+    (
+      (((ap (λ (x : Class). x.from.addr) e, ap (λ (x : Class). x.from.len) e), ap (λ (x : Class). x.to.addr) e), ap (λ (x : Class). x.to.len) e),
+      ap (λ (x : Class). x.service.low) e,
+    ),
+    ap (λ (x : Class). x.service.high) e,
+  ),
 )
 
 -- two tests that are true alike are the same

@@ -1,5 +1,5 @@
 -- A list gives one answer to all packets of a class that none of its entries splits.
-use Rattle.std.proofs.Common.{◌≡◌, ℕ, ◌&&◌, inl, inr, Bool, true, false, cond, Option, Some, List, [], ◌∷◌, IsTrue, refl, sym, ◌∙◌, ap}
+use Rattle.std.proofs.Common.{◌≡◌, ℕ, ◌&&◌, inl, inr, Bool, true, false, cond, Option, Some, List, [], ◌∷◌, IsTrue, nat_eq, if◌then◌else◌, refl, sym, ◌∙◌, ap}
 use Rattle.std.specs.Prelude.{Contains, map}
 use Rattle.std.specs.List.{find, flat_map}
 use Rattle.std.specs.Option.{option_map_or}
@@ -13,14 +13,18 @@ use Rattle.net_model.specs.declared.lists.PacketList.{PacketList}
 use Rattle.net_model.specs.declared.policies.Class.{Class}
 use Rattle.net_model.specs.declared.policies.Policy.{Policy}
 use Rattle.net_model.specs.declared.rows.Network.{Network}
+use Rattle.net_model.specs.declared.services.Service.{Service}
+use Rattle.net_model.specs.Services.{serves}
 use Rattle.net_model.specs.Lists.{matches, permits}
 use Rattle.net_model.specs.Packets.{IsOf}
 use Rattle.net_model.specs.Witnesses.{IsUniform}
 use Rattle.traffic_classes.specs.Leaves.{IsSplit}
-use Rattle.traffic_classes.specs.Classes.{source_marks, destination_marks}
+use Rattle.traffic_classes.specs.ServiceLeaves.{IsCut}
+use Rattle.traffic_classes.specs.Classes.{source_marks, destination_marks, service_marks, marks_of, protocol, whole_protocol}
 use Rattle.traffic_classes.specs.Parts.{IsUniformFor}
 use Rattle.arc_base.proofs.Items.{Contains-head, Contains-tail, Contains-map, Contains-piece, All-from}
 use Rattle.traffic_classes.proofs.Ranges.{nested}
+use Rattle.traffic_classes.proofs.ServiceCuts.{serves_alike}
 
 same_test : (b c : Bool) → (IsTrue b → IsTrue c) → (IsTrue c → IsTrue b) → b ≡ c
 same_test true true f g = refl
@@ -53,28 +57,40 @@ froms l = map (λ (e : PacketEntry). e.from) l.entries
 abbrev tos : PacketList → List Prefix
 tos l = map (λ (e : PacketEntry). e.to) l.entries
 
-module _ (sources destinations : List Prefix) (class : Class) (from : ¬ IsSplit sources class.from) (to : ¬ IsSplit destinations class.to) (p q : Packet) (of_p : IsOf class p) (of_q : IsOf class q) where
-  match_alike : (e : PacketEntry) → Contains sources e.from → Contains destinations e.to → matches p e ≡ matches q e
-  match_alike e in_from in_to =
-      ap (λ (b : Bool). b && holds e.to p.to) (holds_alike sources e.from class.from in_from from p.from q.from (of_p.0) (of_q.0)) ∙
-      ap (λ (b : Bool). holds e.from q.from && b) (holds_alike destinations e.to class.to in_to to p.to q.to (of_p.1) (of_q.1))
+abbrev pub entry_services : PacketList → List Service
+entry_services l = flat_map (λ (e : PacketEntry). marks_of e.service) l.entries
 
-  pub found_alike : (es : List PacketEntry) → ((e : PacketEntry) → Contains es e → Contains sources e.from × Contains destinations e.to) → permits es p ≡ permits es q
+-- a range is the first of the marks that it gives
+pub own_mark : (s : Service) → Contains (marks_of s) s
+own_mark s = Contains-head s _
+
+module _ (sources destinations : List Prefix) (services : List Service) (class : Class) (from : ¬ IsSplit sources class.from) (to : ¬ IsSplit destinations class.to)
+    (of_services : ¬ IsCut services class.service) (p q : Packet) (of_p : IsOf class p) (of_q : IsOf class q) where
+  match_alike : (e : PacketEntry) → Contains sources e.from → Contains destinations e.to → Contains services e.service → matches p e ≡ matches q e
+  match_alike e in_from in_to in_services =
+      ap (λ (b : Bool). (b && holds e.to p.to) && serves e.service p.service) (holds_alike sources e.from class.from in_from from p.from q.from (of_p.0) (of_q.0)) ∙
+      ap (λ (b : Bool). (holds e.from q.from && b) && serves e.service p.service) (holds_alike destinations e.to class.to in_to to p.to q.to (of_p.1) (of_q.1)) ∙
+      ap (λ (b : Bool). (holds e.from q.from && holds e.to q.to) && b) (serves_alike services e.service class.service in_services of_services p.service q.service (of_p.2) (of_q.2))
+
+  pub found_alike : (es : List PacketEntry) → ((e : PacketEntry) → Contains es e → Contains sources e.from × Contains destinations e.to × Contains services e.service) → permits es p ≡ permits es q
   found_alike [] h = refl
   found_alike (e ∷ es) h =
       let here = h e (Contains-head e es) in
-      one_more e (matches p e) (matches q e) (match_alike e (here.0) (here.1)) (find (matches p) es) (find (matches q) es)
+      one_more e (matches p e) (matches q e) (match_alike e here.0 here.1 here.2) (find (matches p) es) (find (matches q) es)
       (found_alike es (λ x k. h x (Contains-tail e x es k)))
 
 -- each packet list is uniform on a class that no mark splits
 pub uniform_on : (net : Network) (policies : List Policy) (class : Class) → ¬ IsSplit (source_marks net policies) class.from → ¬ IsSplit (destination_marks net policies) class.to →
-    IsUniformFor net class
-uniform_on net policies class from to =
+    ¬ IsCut (service_marks net policies) class.service → IsUniformFor net class
+uniform_on net policies class from to of_services =
     All-from (λ (l : PacketList). IsUniform l.entries class) net.packet_lists
-    (λ l in_lists p q of_p of_q. found_alike (source_marks net policies) (destination_marks net policies) class from to p q of_p of_q l.entries
+    (λ l in_lists p q of_p of_q. found_alike (source_marks net policies) (destination_marks net policies) (service_marks net policies) class from to of_services p q of_p of_q l.entries
     (λ e in_entries. (
       Contains-append_left (flat_map froms net.packet_lists) (map (λ (y : Policy). y.from) policies) e.from
           (Contains-piece froms net.packet_lists l e.from in_lists (Contains-map (λ (x : PacketEntry). x.from) l.entries e in_entries)),
       Contains-append_left (flat_map tos net.packet_lists) (map (λ (y : Policy). y.to) policies) e.to
           (Contains-piece tos net.packet_lists l e.to in_lists (Contains-map (λ (x : PacketEntry). x.to) l.entries e in_entries)),
+      Contains-append_left (flat_map entry_services net.packet_lists) (flat_map (λ (y : Policy). marks_of y.service) policies) e.service
+          (Contains-piece entry_services net.packet_lists l e.service in_lists
+          (Contains-piece (λ (x : PacketEntry). marks_of x.service) l.entries e e.service in_entries (own_mark e.service))),
     )))

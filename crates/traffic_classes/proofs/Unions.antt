@@ -1,9 +1,9 @@
 -- The classes of several policies together, and how many they are.
 use Rattle.std.proofs.Common.{◌≡◌, ℕ, ◌+◌, ◌<◌, ◌≤◌, ◌⊎◌, ◌&&◌, inl, inr, not, Bool, true, false, List, [], ◌∷◌, ◌++◌, length, get_or, take, drop, if◌then◌else◌, refl, sym, ◌∙◌, ap, subst, arith}
-use Rattle.std.specs.Prelude.{Contains, AllPairs, fold, count_by, filter}
+use Rattle.std.specs.Prelude.{Contains, AllPairs, fold, count_by, filter, nat_le}
 use Rattle.std.specs.List.{flat_map, list_any, AllZip}
 use Rattle.std.specs.Set.{is_member}
-use Rattle.std.proofs.lemmas.Bool.{false≢true, and_parts, and_from}
+use Rattle.std.proofs.lemmas.Bool.{false≢true, and_parts, and_from, leb-true, le-leb}
 use Rattle.std.proofs.lemmas.List.{append-nil, length-append, take_more, take-append-drop, get_or_default}
 use Rattle.std.proofs.lemmas.List.Concat.{flat_map-append}
 use Rattle.std.proofs.lemmas.List.Elements.{Contains-append_left, Contains-append_right, Contains-append_cases, Contains-push, All-contains}
@@ -17,14 +17,18 @@ use Rattle.arc_base.proofs.Agreement.{Holds-first, inside-IsInside}
 use Rattle.net_model.specs.declared.policies.Class.{Class}
 use Rattle.net_model.specs.declared.policies.Policy.{Policy}
 use Rattle.net_model.specs.declared.rows.Network.{Network}
-use Rattle.net_model.specs.Packets.{IsOf, LiesIn, ShareNoPacket, subject}
+use Rattle.net_model.specs.Packets.{IsOf, LiesIn, ShareNoPacket, first_packet, subject}
+use Rattle.net_model.specs.Services.{is_service_inside}
+use Rattle.net_model.proofs.Packets.{first_is_of}
+use Rattle.net_model.proofs.ServiceRanges.{first-serves}
 use Rattle.traffic_classes.specs.declared.fault.ClassFault.{ClassFault}
 use Rattle.traffic_classes.specs.declared.fault.ClassFault.TheVariants.{TooMany, Memory}
-use Rattle.traffic_classes.specs.Classes.{AreClasses, CountsMore}
+use Rattle.traffic_classes.specs.Classes.{AreClasses, CountsMore, told}
 use Rattle.traffic_classes.specs.Parts.{MakeUp, HasPacket, IsUniformFor, IsClassOf}
 use Rattle.traffic_classes.specs.AllClasses.{is_same, with_class, each_once, AreAllClasses, FirstHaveMore, lies_off}
 use Rattle.traffic_classes.specs.Laws.{HaveOneListOfClasses, AllClassesTellApart}
 use Rattle.arc_base.proofs.Items.{Contains-head, Contains-tail, Contains-none, Contains-cases, Contains-filter, from_filter, Contains-piece, from_piece, All-from, AllPairs-append, AllPairs-among, AllPairs-none}
+use Rattle.traffic_classes.proofs.ServiceCuts.{inside_ends, ends_inside}
 use Rattle.traffic_classes.proofs.Sameness.{is_same-Decides, is_same-IsEquivalence, alike}
 use Rattle.traffic_classes.proofs.MakingUp.{make_up, disjoint_classes, equal_or_disjoint, one_list, some_list}
 
@@ -50,8 +54,7 @@ zip_push R (a ∷ xs) (b ∷ ys) x y z r = (z.0, zip_push R xs ys x y (z.1) r)
 
 -- classes that share no packet differ
 pub apart_differ : (c d : Class) → ShareNoPacket c d → Differ c d
-apart_differ c d none = differ c d (λ e. none (record { from = c.from.addr; to = c.to.addr }) (Holds-first c.from, Holds-first c.to)
-    (subst (λ (x : Class). IsOf x (record { from = c.from.addr; to = c.to.addr })) e (Holds-first c.from, Holds-first c.to)))
+apart_differ c d none = differ c d (λ e. none (first_packet c) (first_is_of c) (subst (λ (x : Class). IsOf x (first_packet c)) e (first_is_of c)))
 
 any_there : (c : Class) (ds : List Class) → list_any (is_same c) ds ≡ true → Contains ds c
 any_there c ds t = (is_member-Decides is_same-Decides ds c).0 t
@@ -210,21 +213,30 @@ module _ (net : Network) (policies some : List Policy) (policy : Policy) (ds cs 
   in_policy : (d : Class) → Contains ds d → lies_off policy d ≡ false → Contains cs d
   in_policy d h off =
       let from : IsClassOf net policies some d = comes_from net policies some ds all d h in
-      let both = and_parts (inside d.from policy.from) (inside d.to policy.to) (not_off (inside d.from policy.from && inside d.to policy.to) off) in
-      let of_d : IsOf d (record { from = d.from.addr; to = d.to.addr }) = (Holds-first d.from, Holds-first d.to) in
+      let all_three = not_off (inside d.from policy.from && inside d.to policy.to && is_service_inside d.service policy.service) off in
+      let both = and_parts (inside d.from policy.from && inside d.to policy.to) (is_service_inside d.service policy.service) all_three in
+      let prefixes = and_parts (inside d.from policy.from) (inside d.to policy.to) both.0 in
+      let ends = and_parts (nat_le policy.service.low d.service.low) (nat_le d.service.high policy.service.high) both.1 in
+      let of_d : IsOf d (first_packet d) = first_is_of d in
       let whole : MakeUp net (subject policy) cs = make_up net policies policy cs are in
-      let has : HasPacket cs (record { from = d.from.addr; to = d.to.addr }) = whole.cover (record { from = d.from.addr; to = d.to.addr })
-      ((inside-IsInside d.from policy.from).0 (both.0) d.from.addr (Holds-first d.from), (inside-IsInside d.to policy.to).0 (both.1) d.to.addr (Holds-first d.to)) in
+      let has : HasPacket cs (first_packet d) = whole.cover (first_packet d) (
+        (inside-IsInside d.from policy.from).0 prefixes.0 d.from.addr (Holds-first d.from),
+        (inside-IsInside d.to policy.to).0 prefixes.1 d.to.addr (Holds-first d.to),
+        ends_inside d.service policy.service (leb-true _ _ ends.0) (leb-true _ _ ends.1) d.service.low (first-serves d.service),
+      ) in
       elim (equal_or_disjoint net policies policy from.policy cs from.classes marked (known from.policy from.one) are from.are has.class d has.one from.there) [
         | inl e ↦ subst (λ (x : Class). Contains cs x) e has.one
-        | inr none ↦ absurd (none (record { from = d.from.addr; to = d.to.addr }) has.is_of of_d)
+        | inr none ↦ absurd (none (first_packet d) has.is_of of_d)
       ]
 
   -- and the policy's classes lie in it
   lies_in : (c : Class) → Contains cs c → lies_off policy c ≡ false
   lies_in c h =
       let part : LiesIn c (subject policy) = All-contains (λ (x : Class). LiesIn x (subject policy)) cs c (make_up net policies policy cs are).parts h in
-      ap not (and_from (inside c.from policy.from) (inside c.to policy.to) ((inside-IsInside c.from policy.from).1 (part.0)) ((inside-IsInside c.to policy.to).1 (part.1)))
+      let ends = inside_ends c.service policy.service part.2 in
+      ap not (and_from (inside c.from policy.from && inside c.to policy.to) (is_service_inside c.service policy.service)
+      (and_from (inside c.from policy.from) (inside c.to policy.to) ((inside-IsInside c.from policy.from).1 part.0) ((inside-IsInside c.to policy.to).1 part.1))
+      (and_from (nat_le policy.service.low c.service.low) (nat_le c.service.high policy.service.high) (le-leb _ _ ends.0) (le-leb _ _ ends.1)))
 
   tests : (d : Class) (b : Bool) → lies_off policy d ≡ b → Contains ds d → Contains (cs ++ filter (lies_off policy) ds) d
   tests d true e h = Contains-append_right cs (filter (lies_off policy) ds) d (Contains-filter (lies_off policy) ds d h e)
@@ -284,14 +296,14 @@ module _ (net : Network) (policies items : List Policy) (i : ℕ) (policy : Poli
   pub next_count : length (fold with_class ds cs) ≡ length cs + count_by (lies_off policy) ds
   next_count = counted net policies (take i policies) policy ds cs (taken_there policies i) (item_there policies items i policy e h is) all are
 
-  pub next_have : (count : ℕ) → length ds ≤ 4096 → count ≡ length cs + count_by (lies_off policy) ds → FirstHaveMore net policies count
+  pub next_have : (count : ℕ) → length ds ≤ 4096 → told (length cs + count_by (lies_off policy) ds) ≡ count → FirstHaveMore net policies count
   next_have count few said = record {
     place = i;
     within = omega (arith, ap (λ (l : List Policy). length l) e, h);
     few = length ds;
-    before = record { classes = ds; are = all; counted = refl };
+    before = record { classes = ds; are = all; counted = omega (arith, few) };
     before_few = few;
-    with_it = record { classes = fold with_class ds cs; are = next_classes; counted = next_count ∙ sym said };
+    with_it = record { classes = fold with_class ds cs; are = next_classes; counted = ap told next_count ∙ said };
   }
 
 -- a fault that counts what one fact says counts what a weaker one says

@@ -2,23 +2,24 @@
 use Rattle.std.specs.Prelude.{◌≡◌, ℕ, ◌+◌, ◌<◌, ◌≤◌, ◌&&◌, ◌++◌, nat_eq, not, Bool, List, [], ◌∷◌, fold, length, map, take, if◌then◌else◌}
 use Rattle.std.specs.List.{flat_map, list_any, AllZip}
 use Rattle.arc_base.specs.Addresses.{inside}
+use Rattle.net_model.specs.Services.{is_service_inside}
 use Rattle.net_model.specs.declared.policies.Class.{Class}
 use Rattle.net_model.specs.declared.policies.Policy.{Policy}
 use Rattle.net_model.specs.declared.rows.Network.{Network}
 use Rattle.traffic_classes.specs.declared.found.Found.{Found}
-use Rattle.traffic_classes.specs.Classes.{AreClasses}
+use Rattle.traffic_classes.specs.Classes.{AreClasses, told}
 
--- the four numbers that make a class
+-- the six numbers that make a class
 abbrev pub Key : Type 0
-Key = ℕ × ℕ × ℕ × ℕ
+Key = ℕ × ℕ × ℕ × ℕ × ℕ × ℕ
 
 -- the numbers of the class
 abbrev pub key_of : Class → Key
-key_of class = (class.from.addr, class.from.len, class.to.addr, class.to.len)
+key_of class = (class.from.addr, class.from.len, class.to.addr, class.to.len, class.service.low, class.service.high)
 
 -- whether the two have the same numbers
 abbrev pub same_key : Key → Key → Bool
-same_key k l = ((nat_eq k.0 l.0 && nat_eq k.1 l.1) && nat_eq k.2 l.2) && nat_eq k.3 l.3
+same_key k l = ((((nat_eq k.0 l.0 && nat_eq k.1 l.1) && nat_eq k.2 l.2) && nat_eq k.3 l.3) && nat_eq k.4 l.4) && nat_eq k.5 l.5
 
 -- whether the two classes are the same
 abbrev pub is_same : Class → Class → Bool
@@ -38,11 +39,11 @@ pub record AreAllClasses (net : Network) (policies some : List Policy) (classes 
   pub are : AllZip (AreClasses net policies) some lists
   pub once : classes ≡ each_once (flat_map (λ l. l) lists)
 
--- some of the policies have so many different classes
+-- some of the policies have so many different classes, as a fault tells it
 pub record HaveClasses (net : Network) (policies some : List Policy) (count : ℕ) : Type 0 where
   pub classes : List Class
   pub are : AreAllClasses net policies some classes
-  pub counted : length classes ≡ count
+  pub counted : told (length classes) ≡ count
 
 -- up to the first policy with which there are more than 4,096 different classes there are so many
 pub record FirstHaveMore (net : Network) (policies : List Policy) (count : ℕ) : Type 0 where
@@ -55,7 +56,7 @@ pub record FirstHaveMore (net : Network) (policies : List Policy) (count : ℕ) 
 
 -- whether the class does not lie in the policy
 abbrev pub lies_off : Policy → Class → Bool
-lies_off policy class = not (inside class.from policy.from && inside class.to policy.to)
+lies_off policy class = not (inside class.from policy.from && inside class.to policy.to && is_service_inside class.service policy.service)
 
 -- the set has the numbers of the classes found, in the same order
 abbrev pub IsIndexed : Found → Type 0

@@ -13,8 +13,10 @@ use arc_base::List;
 use net_model::{Class, Network, Policy};
 use std::alloc::Global;
 
-/// The traffic classes of the policy at a place, counted from 0: all pairs of a leaf of its source prefix and a leaf of its
-/// destination prefix, for each source in rising order of addresses.
+/// The traffic classes of the policy at a place, counted from 0: all triples of a leaf of its source prefix, a leaf of its
+/// destination prefix and a leaf of its services, for each source in rising order of addresses, and for each destination.
+///
+/// The count of a fault stands still at the end of 64 bits.
 pub fn classes(
     alloc: Global,
     net: &Network,
@@ -31,13 +33,15 @@ pub fn classes(
         Some(policy) => {
             let marks = Marks::of(alloc, net, policies)?;
             let leaves = Leaves::of(alloc, &marks, policy)?;
-            Ok(leaves.few_pairs(alloc)?)
+            Ok(leaves.few_triples(alloc)?)
         }
         None => unreachable!(),
     }
 }
 
 /// The traffic classes of all policies, each once, in the order in which they first stand in the policies' lists.
+///
+/// The count of a fault is that up to the first policy with which there are too many, and stands still at the end of 64 bits.
 pub fn all_classes(
     alloc: Global,
     net: &Network,

@@ -1,30 +1,40 @@
 //! Gathering the classes of several policies, each once.
 ghost use Rattle.std.specs.Prelude.{◌≡◌, ◌+◌, ◌*◌, ◌<◌, ◌≤◌, [], fold, length, IfOk, OnOk, IfErr, count_by};
-ghost use Rattle.traffic_classes.specs.Classes.{classes_from, all_pairs, CountsMore};
+ghost use Rattle.traffic_classes.specs.Classes.{classes_between, classes_from, all_triples, told, CountsMore};
 ghost use Rattle.traffic_classes.specs.AllClasses.{key_of, with_class, lies_off, IsIndexed};
 
 use crate::fault::{ClassFault, LIMIT};
 use crate::policy_leaves::Leaves;
 use arc_base::{Memory, Prefix};
 use indexmap::IndexSet;
-use net_model::{Class, Policy};
+use net_model::{Class, Policy, Service};
 use std::alloc::Global;
 
-/// The four numbers that make a class: first address and length of its sources, and of its destinations.
-pub type ClassKey = (u32, u8, u32, u8);
+/// The six numbers that make a class: first address and length of its sources, and of its destinations, and its first and
+/// last service.
+pub type ClassKey = (u32, u8, u32, u8, u32, u32);
 
 /// The numbers of a class.
 fn key_of(class: &Class) -> ClassKey
     ensures { result ≡ key_of class.now }
 {
-    (class.from.addr, class.from.len, class.to.addr, class.to.len)
+    (
+        class.from.addr,
+        class.from.len,
+        class.to.addr,
+        class.to.len,
+        class.service.low,
+        class.service.high,
+    )
 }
 
 /// Whether a class does not lie in a policy.
 fn lies_off(class: &Class, policy: &Policy) -> bool
     ensures { result ≡ lies_off policy.now class.now }
 {
-    !(class.from.inside(&policy.from) && class.to.inside(&policy.to))
+    !(class.from.inside(&policy.from)
+        && class.to.inside(&policy.to)
+        && class.service.inside(&policy.service))
 }
 
 /// The classes found so far, each once.
@@ -52,16 +62,16 @@ impl Found {
         requires indexed { IsIndexed self.old }
         requires few { length self.old.classes.items ≤ 4096 }
         ensures indexed { OnOk result (IsIndexed self.new) }
-        ensures added { OnOk result (self.new.classes.items ≡ fold with_class self.old.classes.items (all_pairs leaves.now.sources leaves.now.destinations)) }
-        ensures few { OnOk result (length leaves.now.sources * length leaves.now.destinations + count_by (lies_off policy.now) self.old.classes.items ≤ 4096) }
-        ensures many { IfErr result (CountsMore (λ count. count ≡ length leaves.now.sources * length leaves.now.destinations + count_by (lies_off policy.now) self.old.classes.items)) }
+        ensures added { OnOk result (self.new.classes.items ≡ fold with_class self.old.classes.items (all_triples leaves.now.sources leaves.now.destinations leaves.now.services)) }
+        ensures few { OnOk result (length leaves.now.sources * length leaves.now.destinations * length leaves.now.services + count_by (lies_off policy.now) self.old.classes.items ≤ 4096) }
+        ensures many { IfErr result (CountsMore (λ count. told (length leaves.now.sources * length leaves.now.destinations * length leaves.now.services + count_by (lies_off policy.now) self.old.classes.items) ≡ count)) }
     {
-        let count = leaves.count() + self.count_off(policy);
+        let count = leaves.count().saturating_add(self.count_off(policy));
         if count > LIMIT {
             return Err(ClassFault::TooMany(count));
         }
         for source in leaves.sources.slice() {
-            self.add_from(*source, leaves.destinations.slice())?;
+            self.add_from(*source, leaves)?;
         }
         Ok(())
     }
@@ -80,15 +90,33 @@ impl Found {
     }
 
     /// Adds the classes from one source.
-    fn add_from(&mut self, source: Prefix, destinations: &[Prefix]) -> Result<(), Memory>
+    fn add_from(&mut self, source: Prefix, leaves: &Leaves) -> Result<(), Memory>
         requires { IsIndexed self.old }
         ensures indexed { OnOk result (IsIndexed self.new) }
-        ensures added { OnOk result (self.new.classes.items ≡ fold with_class self.old.classes.items (classes_from destinations.now source)) }
+        ensures added { OnOk result (self.new.classes.items ≡ fold with_class self.old.classes.items (classes_from leaves.now.destinations leaves.now.services source)) }
     {
-        for destination in destinations {
+        for destination in leaves.destinations.slice() {
+            self.add_between(source, *destination, leaves.services.slice())?;
+        }
+        Ok(())
+    }
+
+    /// Adds the classes from one source to one destination.
+    fn add_between(
+        &mut self,
+        source: Prefix,
+        destination: Prefix,
+        services: &[Service],
+    ) -> Result<(), Memory>
+        requires { IsIndexed self.old }
+        ensures indexed { OnOk result (IsIndexed self.new) }
+        ensures added { OnOk result (self.new.classes.items ≡ fold with_class self.old.classes.items (classes_between services.now source destination)) }
+    {
+        for service in services {
             self.add_class(Class {
                 from: source,
-                to: *destination,
+                to: destination,
+                service: *service,
             })?;
         }
         Ok(())

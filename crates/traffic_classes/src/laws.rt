@@ -1,5 +1,6 @@
 //! Laws over the definitions alone: each is the contract of a function that does nothing.
 ghost use Rattle.traffic_classes.specs.Halves.{UnsplitIsLeaf, HalvesHaveLeaves};
+ghost use Rattle.traffic_classes.specs.ServiceLeaves.{UncutIsLeaf, PartsHaveLeaves, HasOneListOfServiceLeaves};
 ghost use Rattle.traffic_classes.specs.Laws.{HasOneListOfLeaves, HasOneListOfClasses, ClassesMakeUp, ClassesAreEqualOrDisjoint, HaveOneListOfClasses, AllClassesTellApart, EachHasNoMoreClasses};
 
 /// Halving gives the leaves: a prefix that is split has those of its halves, and any other is its own one leaf.
@@ -7,6 +8,13 @@ pub fn halving_gives_leaves()
     ensures unsplit { UnsplitIsLeaf }
     ensures halves { HalvesHaveLeaves }
     ensures one { HasOneListOfLeaves }
+{}
+
+/// Cutting gives the leaves of services: a range that is cut has those of its two parts, and any other is its own one leaf.
+pub fn cutting_gives_leaves()
+    ensures uncut { UncutIsLeaf }
+    ensures parts { PartsHaveLeaves }
+    ensures one { HasOneListOfServiceLeaves }
 {}
 
 /// A policy has one list of classes. They make up its packets, and those of two policies are equal or disjoint.

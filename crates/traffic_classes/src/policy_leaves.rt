@@ -1,20 +1,23 @@
-//! The leaves of a policy's two prefixes, and their pairs.
+//! The leaves of a policy's two prefixes and of its services, and their triples.
 ghost use Rattle.std.specs.Prelude.{◌≡◌, ◌+◌, ◌*◌, ◌^◌, ◌≤◌, ◌++◌, length, IfOk, OnOk, IfErr};
 ghost use Rattle.traffic_classes.specs.Leaves.{AreLeaves};
-ghost use Rattle.traffic_classes.specs.Classes.{classes_from, all_pairs, CountsMore};
+ghost use Rattle.traffic_classes.specs.ServiceLeaves.{AreServiceLeaves};
+ghost use Rattle.traffic_classes.specs.Classes.{classes_between, classes_from, all_triples, told, CountsMore};
 
 use crate::fault::{ClassFault, LIMIT};
 use crate::halving::leaves_of;
 use crate::marks::Marks;
+use crate::service_leaves::service_leaves_of;
 use arc_base::{List, Memory, Prefix};
-use net_model::{Class, Policy};
+use net_model::{Class, Policy, Service};
 use std::alloc::Global;
 
-/// The leaves of a policy's two prefixes.
+/// The leaves of a policy's two prefixes and of its services.
 #[derive(Debug, Drop)]
 pub struct Leaves {
     pub sources: List<Prefix>,
     pub destinations: List<Prefix>,
+    pub services: List<Service>,
 }
 
 impl Leaves {
@@ -22,55 +25,74 @@ impl Leaves {
     pub fn of(alloc: Global, marks: &Marks, policy: &Policy) -> Result<Leaves, Memory>
         ensures sources { IfOk result (λ l. AreLeaves marks.now.sources.items policy.now.from l.sources) }
         ensures destinations { IfOk result (λ l. AreLeaves marks.now.destinations.items policy.now.to l.destinations) }
+        ensures services { IfOk result (λ l. AreServiceLeaves marks.now.services.items policy.now.service l.services) }
     {
         let sources = leaves_of(alloc, policy.from, &marks.sources)?;
         let destinations = leaves_of(alloc, policy.to, &marks.destinations)?;
+        let services = service_leaves_of(alloc, policy.service, &marks.services)?;
         Ok(Leaves {
             sources,
             destinations,
+            services,
         })
     }
 
-    /// The number of pairs of a source and a destination.
+    /// The number of triples of a source, a destination and a service. It stands still at the end of 64 bits.
     pub fn count(&self) -> u64
-        ensures product { result ≡ length self.now.sources * length self.now.destinations }
-        ensures bound { result + 2 ^ 33 ≤ 2 ^ 64 + 1 }
+        ensures { result ≡ told (length self.now.sources * length self.now.destinations * length self.now.services) }
     {
-        u64::from(self.sources.len()) * u64::from(self.destinations.len())
+        let pairs = u64::from(self.sources.len()) * u64::from(self.destinations.len());
+        pairs.saturating_mul(u64::from(self.services.len()))
     }
 
-    /// All pairs of a source and a destination, for each source in order.
-    fn pairs(&self, alloc: Global) -> Result<Vec<Class>, Memory>
-        ensures { IfOk result (λ classes. classes.items ≡ all_pairs self.now.sources self.now.destinations) }
+    /// All triples of a source, a destination and a service, for each source in order.
+    fn triples(&self, alloc: Global) -> Result<Vec<Class>, Memory>
+        ensures { IfOk result (λ classes. classes.items ≡ all_triples self.now.sources self.now.destinations self.now.services) }
     {
         let mut classes = Vec::new(alloc);
         for source in self.sources.slice() {
-            self.add_pairs(&mut classes, *source)?;
+            self.add_from(&mut classes, *source)?;
         }
         Ok(classes)
     }
 
-    /// All pairs of a source and a destination, unless there are too many.
-    pub fn few_pairs(&self, alloc: Global) -> Result<List<Class>, ClassFault>
-        ensures pairs { IfOk result (λ classes. classes ≡ all_pairs self.now.sources self.now.destinations) }
+    /// All triples of a source, a destination and a service, unless there are too many.
+    pub fn few_triples(&self, alloc: Global) -> Result<List<Class>, ClassFault>
+        ensures triples { IfOk result (λ classes. classes ≡ all_triples self.now.sources self.now.destinations self.now.services) }
         ensures few { IfOk result (λ classes. length classes ≤ 4096) }
-        ensures many { IfErr result (CountsMore (λ count. count ≡ length (all_pairs self.now.sources self.now.destinations))) }
+        ensures many { IfErr result (CountsMore (λ count. told (length (all_triples self.now.sources self.now.destinations self.now.services)) ≡ count)) }
     {
         let count = self.count();
         if count > LIMIT {
             return Err(ClassFault::TooMany(count));
         }
-        Ok(List::of(self.pairs(alloc)?)?)
+        Ok(List::of(self.triples(alloc)?)?)
     }
 
-    /// Adds the pairs of one source.
-    fn add_pairs(&self, classes: &mut Vec<Class>, source: Prefix) -> Result<(), Memory>
-        ensures { OnOk result (classes.new.items ≡ classes.old.items ++ classes_from self.now.destinations source) }
+    /// Adds the triples of one source.
+    fn add_from(&self, classes: &mut Vec<Class>, source: Prefix) -> Result<(), Memory>
+        ensures { OnOk result (classes.new.items ≡ classes.old.items ++ classes_from self.now.destinations self.now.services source) }
     {
         for destination in self.destinations.slice() {
+            self.add_between(classes, source, *destination)?;
+        }
+        Ok(())
+    }
+
+    /// Adds the triples of one source and one destination.
+    fn add_between(
+        &self,
+        classes: &mut Vec<Class>,
+        source: Prefix,
+        destination: Prefix,
+    ) -> Result<(), Memory>
+        ensures { OnOk result (classes.new.items ≡ classes.old.items ++ classes_between self.now.services source destination) }
+    {
+        for service in self.services.slice() {
             classes.push(Class {
                 from: source,
-                to: *destination,
+                to: destination,
+                service: *service,
             })?;
         }
         Ok(())

@@ -1,6 +1,6 @@
 use crate::{ClassFault, all_classes, classes};
 use arc_base::{List, Memory, Name, Prefix, Router};
-use net_model::{Class, Network, PacketEntry, PacketList, Policy, PolicyKind, Protocol};
+use net_model::{Class, Network, PacketEntry, PacketList, Policy, PolicyKind, Protocol, Service};
 use std::alloc::Global;
 use std::process::Abort;
 use std::test::Fail;
@@ -20,6 +20,7 @@ fn entry(rt: &impl Abort, from: (u32, u8), to: (u32, u8)) -> PacketEntry {
         permit: false,
         from: prefix(rt, from.0, from.1),
         to: prefix(rt, to.0, to.1),
+        service: Service::whole(),
     }
 }
 
@@ -66,6 +67,7 @@ fn policies(
             kind: PolicyKind::Blocked,
             from: prefix(rt, from.0, from.1),
             to: prefix(rt, to.0, to.1),
+            service: Service::whole(),
         })?;
     }
     List::of(policies)
@@ -75,7 +77,26 @@ fn class(rt: &impl Abort, from: (u32, u8), to: (u32, u8)) -> Class {
     Class {
         from: prefix(rt, from.0, from.1),
         to: prefix(rt, to.0, to.1),
+        service: Service::whole(),
     }
+}
+
+/// Two ports of TCP, as a range of services.
+fn tcp(rt: &impl Abort, low: u16, high: u16) -> Service {
+    let first = 0x6_0000 + u32::from(low);
+    let last = 0x6_0000 + u32::from(high);
+    Service::new(first, last).expect(rt, "the ports rise")
+}
+
+/// Entries for the even ports of TCP below a number, between the host networks.
+fn ports(rt: &impl Abort, alloc: Global, end: u16) -> Result<List<PacketEntry>, Memory> {
+    let mut entries = Vec::new(alloc);
+    for port in (0..end).step_by(2) {
+        let mut one = entry(rt, (HERE, 24), (THERE, 24));
+        one.service = tcp(rt, port, port);
+        entries.push(one)?;
+    }
+    List::of(entries)
 }
 
 // No clause says that memory is had: with enough of it there is an answer.
@@ -138,5 +159,55 @@ fn classes_of_all_policies_stand_once(rt: HostRuntime) -> Result<(), Fail> {
         class(&rt, (HERE + 128, 25), (THERE, 24)),
     ];
     assert!(rt; found.slice() == expected.as_slice());
+    Ok(())
+}
+
+#[test]
+fn services_make_classes_up_to_the_limit(rt: HostRuntime) -> Result<(), Fail> {
+    let alloc = rt.alloc();
+    let one = policies(&rt, alloc, &[((HERE, 24), (THERE, 24))])?;
+    assert!(rt; one.len() == 1);
+    let few = network(alloc, ports(&rt, alloc, 4092)?)?;
+    let found = classes(alloc, &few, &one, 0)?;
+    assert!(rt; found.len() == 4094);
+    let between = Class {
+        service: tcp(&rt, 1, 1),
+        ..class(&rt, (HERE, 24), (THERE, 24))
+    };
+    assert!(rt; found.get(2).copied() == Some(between));
+    let many = network(alloc, ports(&rt, alloc, 4096)?)?;
+    assert!(rt;
+        matches!(
+            classes(alloc, &many, &one, 0),
+            Err(ClassFault::TooMany(4098))
+        )
+    );
+    Ok(())
+}
+
+#[test]
+fn a_port_splits_its_protocol_and_the_protocol_the_others(rt: HostRuntime) -> Result<(), Fail> {
+    let alloc = rt.alloc();
+    let one = policies(&rt, alloc, &[((HERE, 24), (THERE, 24))])?;
+    assert!(rt; one.len() == 1);
+    let mut www = entry(&rt, (HERE, 24), (THERE, 24));
+    www.service = tcp(&rt, 80, 80);
+    let mut entries = List::make(alloc);
+    entries.push(www)?;
+    let net = network(alloc, entries)?;
+    let found = classes(alloc, &net, &one, 0)?;
+    let below = Service::new(0, 0x5_ffff).expect(&rt, "protocols 0 to 5");
+    let above = Service::new(0x7_0000, 0xff_ffff).expect(&rt, "protocols 7 to 255");
+    let expected = [
+        below,
+        tcp(&rt, 0, 79),
+        tcp(&rt, 80, 80),
+        tcp(&rt, 81, 65535),
+        above,
+    ];
+    assert!(rt; found.len() == 5);
+    for (class, service) in found.slice().iter().zip(&expected) {
+        assert!(rt; class.service == *service);
+    }
     Ok(())
 }

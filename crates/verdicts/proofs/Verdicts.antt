@@ -153,7 +153,7 @@ refused_verdict net ends k whole classes parts apart d denial p packet =
     record {
       right = record {
         apart = apart;
-        packet = (part.0 p.from (of_class.0), part.1 p.to (of_class.1));
+        packet = (part.0 p.from of_class.0, part.1 p.to of_class.1, part.2 p.service of_class.2);
         arc = denial.denied.arc;
         of_link = denial.denied.of_link;
         is_arc = denial.denied.is_arc;

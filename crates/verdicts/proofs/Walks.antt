@@ -20,7 +20,7 @@ use Rattle.verdicts.specs.Judged.{mode_of}
 use Rattle.verdicts.proofs.Ways.{Arcs, arcs_of, all_as}
 
 pub lies_in_itself : (class : Class) → LiesIn class class
-lies_in_itself class = (λ address h. h, λ address h. h)
+lies_in_itself class = (λ address h. h, λ address h. h, λ service h. h)
 
 pub fits_permits : (kind : PolicyKind) (net : Network) (class : Class) (arc : Arc) → Fits (mode_of kind) net class arc → PermitsClass net class arc
 fits_permits Blocked net class arc h = h

@@ -73,6 +73,7 @@ fn class_of(policy: &Policy) -> Class
     Class {
         from: policy.from,
         to: policy.to,
+        service: policy.service,
     }
 }
 

@@ -1,4 +1,5 @@
 pub mod Halves
+pub mod ServiceHalves
 pub mod Nesting
 pub mod Matches
 pub mod Readings

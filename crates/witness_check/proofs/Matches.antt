@@ -1,7 +1,7 @@
 -- Which entries of a list count for the packets of a class.
 use Rattle.std.proofs.Common.{◌≡◌, ℕ, zero, suc, ◌+◌, ◌<◌, ◌≤◌, inl, inr, Bool, true, false, Option, Some, None, List, [], ◌∷◌, length, get_or, drop, refl, sym, ◌∙◌, ap, arith}
 use mathlib.Core.Bool.{beq, not}
-use Rattle.std.specs.Prelude.{◌↔◌, IsTrue, cond, position, nat_lt, find}
+use Rattle.std.specs.Prelude.{◌↔◌, ◌&&◌, IsTrue, cond, position, nat_lt, find}
 use Rattle.std.specs.List.{position_or_len}
 use Rattle.std.specs.Option.{option_map_or}
 use Rattle.std.proofs.lemmas.Bool.{false≢true, and_parts, and_from, cases_Bool, ltb-false, false_from_ne_true}
@@ -14,7 +14,8 @@ use Rattle.net_model.specs.declared.lists.Packet.{Packet}
 use Rattle.net_model.specs.declared.lists.PacketEntry.{PacketEntry}
 use Rattle.net_model.specs.declared.policies.Class.{Class}
 use Rattle.net_model.specs.Lists.{matches, permits}
-use Rattle.net_model.specs.Packets.{IsOf, first_packet}
+use Rattle.net_model.specs.Packets.{IsOf, LiesIn, first_packet}
+use Rattle.net_model.specs.Services.{serves}
 use Rattle.witness_check.specs.Boxes.{classes_meet, entry_class, splits, MakeUp}
 use Rattle.witness_check.specs.Answers.{EachGets, NoneGets}
 use Rattle.net_model.proofs.Packets.{first_is_of}
@@ -26,15 +27,26 @@ hit p e es h = ap (λ (b : Bool). option_map_or (λ (x : PacketEntry). x.permit)
 pub miss : (p : Packet) (e : PacketEntry) (es : List PacketEntry) → matches p e ≡ false → permits (e ∷ es) p ≡ permits es p
 miss p e es h = ap (λ (b : Bool). option_map_or (λ (x : PacketEntry). x.permit) (cond b (Some e) (find (matches p) es)) false) h
 
+match_parts : (p : Packet) (e : PacketEntry) → matches p e ≡ true → IsOf (entry_class e) p
+match_parts p e h =
+    let outer = and_parts (holds e.from p.from && holds e.to p.to) (serves e.service p.service) h in
+    let inner = and_parts (holds e.from p.from) (holds e.to p.to) outer.0 in
+    (inner.0, inner.1, outer.1)
+
+match_from : (p : Packet) (e : PacketEntry) → IsOf (entry_class e) p → matches p e ≡ true
+match_from p e at =
+    and_from (holds e.from p.from && holds e.to p.to) (serves e.service p.service) (and_from (holds e.from p.from) (holds e.to p.to) at.0 at.1) at.2
+
 -- an entry that shares no packet with the class matches none of it
 pub apart_misses : (class : Class) (e : PacketEntry) → classes_meet class (entry_class e) ≡ false → (p : Packet) → IsOf class p → matches p e ≡ false
 apart_misses class e off p at =
-    false_from_ne_true (matches p e) (λ h. classes_apart class (entry_class e) off p at (and_parts (holds e.from p.from) (holds e.to p.to) h))
+    false_from_ne_true (matches p e) (λ h. classes_apart class (entry_class e) off p at (match_parts p e h))
 
 -- an entry in which the class lies matches all of it
 pub whole_hits : (class : Class) (e : PacketEntry) → classes_meet class (entry_class e) ≡ true → splits class (entry_class e) ≡ false → (p : Packet) → IsOf class p → matches p e ≡ true
 whole_hits class e meet short p at =
-    and_from (holds e.from p.from) (holds e.to p.to) ((class_within class (entry_class e) meet short).0 p.from at.0) ((class_within class (entry_class e) meet short).1 p.to at.1)
+    let inside : LiesIn class (entry_class e) = class_within class (entry_class e) meet short in
+    match_from p e (inside.0 p.from at.0, inside.1 p.to at.1, inside.2 p.service at.2)
 
 -- entries that match nothing can be left out at the front
 skip : (p : Packet) (xs : List PacketEntry) (i : ℕ) → i ≤ length xs → ((k : ℕ) (d : PacketEntry) → k < i → matches p (get_or xs k d) ≡ false) → permits xs p ≡ permits (drop i xs) p
@@ -46,7 +58,7 @@ some_none : (k : ℕ) → ◌≡◌ {A = Option ℕ} (Some k) None → ⊥
 some_none k e = none-some k (sym e)
 
 default_entry : Class → PacketEntry
-default_entry class = record { permit = false; from = class.from; to = class.to }
+default_entry class = record { permit = false; from = class.from; to = class.to; service = class.service }
 
 abbrev Met : Class → PacketEntry → Bool
 Met class e = classes_meet class (entry_class e)

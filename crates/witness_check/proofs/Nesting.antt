@@ -1,14 +1,17 @@
 -- Two prefixes share no address, or the shorter one holds the other; so with classes.
 use Rattle.std.proofs.Common.{◌≡◌, ℕ, ◌≤◌, inl, inr, true, false, sym, ◌∙◌, subst, arith}
-use Rattle.std.specs.Prelude.{nat_lt, nat_le}
+use Rattle.std.specs.Prelude.{nat_lt, nat_le, ◌&&◌, ◌||◌}
 use Rattle.std.proofs.lemmas.Bool.{false≢true, and_parts, and_from, and_cases, or_parts, or_cases, leb-true, le-leb, ltb-false, eqb-true, eq-eqb, cases_lt}
 use Rattle.arc_base.specs.Addresses.{first_bits, holds, inside, Holds, IsInside, AreDisjoint}
 use Rattle.arc_base.specs.declared.prefix.Prefix.{Prefix}
 use Rattle.arc_base.proofs.Agreement.{common_address, IsInside-shorter, Holds-first}
 use Rattle.net_model.specs.declared.lists.Packet.{Packet}
 use Rattle.net_model.specs.declared.policies.Class.{Class}
-use Rattle.net_model.specs.Packets.{IsOf, LiesIn, ShareNoPacket}
-use Rattle.witness_check.specs.Boxes.{prefixes_meet, classes_meet, splits, AreHalves, MakeUp}
+use Rattle.net_model.specs.Packets.{LiesIn, ShareNoPacket}
+use Rattle.net_model.specs.declared.services.Service.{Service}
+use Rattle.net_model.specs.Services.{Serves, ShareService, services_meet}
+use Rattle.witness_check.specs.Boxes.{prefixes_meet, classes_meet, splits_services, splits, AreHalves, AreServiceHalves, MakeUp}
+use Rattle.witness_check.proofs.ServiceHalves.{services_apart, common_service, services_within}
 
 inside_from : (p q : Prefix) → q.len ≤ p.len → Holds q p.addr → inside p q ≡ true
 inside_from p q short first = and_from _ _ (le-leb q.len p.len short) first
@@ -45,40 +48,71 @@ within p q meet short =
 
 pub classes_apart : (c d : Class) → classes_meet c d ≡ false → ShareNoPacket c d
 classes_apart c d off p in_c in_d =
-    elim (and_cases (prefixes_meet c.from d.from) (prefixes_meet c.to d.to) off) [
-      | inl h ↦ prefixes_apart c.from d.from h p.from in_c.0 in_d.0
-      | inr h ↦ prefixes_apart c.to d.to h p.to in_c.1 in_d.1
+    elim (and_cases (prefixes_meet c.from d.from && prefixes_meet c.to d.to) (services_meet c.service d.service) off) [
+      | inl h ↦ elim (and_cases (prefixes_meet c.from d.from) (prefixes_meet c.to d.to) h) [
+        | inl from ↦ prefixes_apart c.from d.from from p.from in_c.0 in_d.0
+        | inr to ↦ prefixes_apart c.to d.to to p.to in_c.1 in_d.1
+      ]
+      | inr h ↦ services_apart c.service d.service h p.service in_c.2 in_d.2
     ]
+
+-- of two classes that meet, each part meets the other's
+meet_parts : (c d : Class) → classes_meet c d ≡ true → (prefixes_meet c.from d.from ≡ true) × (prefixes_meet c.to d.to ≡ true) × (services_meet c.service d.service ≡ true)
+meet_parts c d meet =
+    let outer = and_parts (prefixes_meet c.from d.from && prefixes_meet c.to d.to) (services_meet c.service d.service) meet in
+    let inner = and_parts (prefixes_meet c.from d.from) (prefixes_meet c.to d.to) outer.0 in
+    (inner.0, inner.1, outer.1)
 
 pub classes_overlap : (c d : Class) → classes_meet c d ≡ true → ShareNoPacket c d → ⊥
 classes_overlap c d meet apart =
-    let both : (prefixes_meet c.from d.from ≡ true) × (prefixes_meet c.to d.to ≡ true) = and_parts _ _ meet in
-    let a : (a : ℕ) × Holds c.from a × Holds d.from a = common c.from d.from both.0 in
-    let b : (b : ℕ) × Holds c.to b × Holds d.to b = common c.to d.to both.1 in
-    apart (record { from = a.0; to = b.0 }) (a.1, b.1) (a.2, b.2)
+    let each = meet_parts c d meet in
+    let a : (a : ℕ) × Holds c.from a × Holds d.from a = common c.from d.from each.0 in
+    let b : (b : ℕ) × Holds c.to b × Holds d.to b = common c.to d.to each.1 in
+    let s : ShareService c.service d.service = common_service c.service d.service each.2 in
+    apart (record { from = a.0; to = b.0; service = s.0 }) (a.1, b.1, s.1) (a.2, b.2, s.2)
 
 pub class_within : (c d : Class) → classes_meet c d ≡ true → splits c d ≡ false → LiesIn c d
 class_within c d meet short =
-    let both : (prefixes_meet c.from d.from ≡ true) × (prefixes_meet c.to d.to ≡ true) = and_parts _ _ meet in
-    let lens : (nat_lt c.from.len d.from.len ≡ false) × (nat_lt c.to.len d.to.len ≡ false) = or_parts _ _ short in
-    (within c.from d.from both.0 lens.0, within c.to d.to both.1 lens.1)
+    let each = meet_parts c d meet in
+    let outer = or_parts (nat_lt c.from.len d.from.len || nat_lt c.to.len d.to.len) (splits_services c.service d.service) short in
+    let lens = or_parts (nat_lt c.from.len d.from.len) (nat_lt c.to.len d.to.len) outer.0 in
+    (within c.from d.from each.0 lens.0, within c.to d.to each.1 lens.1, services_within c.service d.service each.2 outer.1)
 
-pub from_halves : (c d e : Class) → AreHalves c.from d.from e.from → d.to ≡ c.to → e.to ≡ c.to → MakeUp c d e
-from_halves c d e halves same_d same_e = (
+abbrev Source : Packet → Prefix → Type 0
+Source p q = Holds q p.from
+
+abbrev Goal : Packet → Prefix → Type 0
+Goal p q = Holds q p.to
+
+abbrev Use : Packet → Service → Type 0
+Use p s = Serves s p.service
+
+pub from_halves : (c d e : Class) → AreHalves c.from d.from e.from → d.to ≡ c.to → e.to ≡ c.to → d.service ≡ c.service → e.service ≡ c.service → MakeUp c d e
+from_halves c d e halves to_d to_e service_d service_e = (
   λ p at. elim (halves.0 p.from at.0) [
-    | inl h ↦ inl (h, subst (λ (q : Prefix). Holds q p.to) (sym same_d) at.1)
-    | inr h ↦ inr (h, subst (λ (q : Prefix). Holds q p.to) (sym same_e) at.1)
+    | inl h ↦ inl (h, subst (Goal p) (sym to_d) at.1, subst (Use p) (sym service_d) at.2)
+    | inr h ↦ inr (h, subst (Goal p) (sym to_e) at.1, subst (Use p) (sym service_e) at.2)
   ],
-  λ p at. (halves.1 p.from at.0, subst (λ (q : Prefix). Holds q p.to) same_d at.1),
-  λ p at. (halves.2 p.from at.0, subst (λ (q : Prefix). Holds q p.to) same_e at.1),
+  λ p at. (halves.1 p.from at.0, subst (Goal p) to_d at.1, subst (Use p) service_d at.2),
+  λ p at. (halves.2 p.from at.0, subst (Goal p) to_e at.1, subst (Use p) service_e at.2),
 )
 
-pub to_halves : (c d e : Class) → AreHalves c.to d.to e.to → d.from ≡ c.from → e.from ≡ c.from → MakeUp c d e
-to_halves c d e halves same_d same_e = (
+pub to_halves : (c d e : Class) → AreHalves c.to d.to e.to → d.from ≡ c.from → e.from ≡ c.from → d.service ≡ c.service → e.service ≡ c.service → MakeUp c d e
+to_halves c d e halves from_d from_e service_d service_e = (
   λ p at. elim (halves.0 p.to at.1) [
-    | inl h ↦ inl (subst (λ (q : Prefix). Holds q p.from) (sym same_d) at.0, h)
-    | inr h ↦ inr (subst (λ (q : Prefix). Holds q p.from) (sym same_e) at.0, h)
+    | inl h ↦ inl (subst (Source p) (sym from_d) at.0, h, subst (Use p) (sym service_d) at.2)
+    | inr h ↦ inr (subst (Source p) (sym from_e) at.0, h, subst (Use p) (sym service_e) at.2)
   ],
-  λ p at. (subst (λ (q : Prefix). Holds q p.from) same_d at.0, halves.1 p.to at.1),
-  λ p at. (subst (λ (q : Prefix). Holds q p.from) same_e at.0, halves.2 p.to at.1),
+  λ p at. (subst (Source p) from_d at.0, halves.1 p.to at.1, subst (Use p) service_d at.2),
+  λ p at. (subst (Source p) from_e at.0, halves.2 p.to at.1, subst (Use p) service_e at.2),
+)
+
+pub service_halves : (c d e : Class) → AreServiceHalves c.service d.service e.service → d.from ≡ c.from → e.from ≡ c.from → d.to ≡ c.to → e.to ≡ c.to → MakeUp c d e
+service_halves c d e halves from_d from_e to_d to_e = (
+  λ p at. elim (halves.0 p.service at.2) [
+    | inl h ↦ inl (subst (Source p) (sym from_d) at.0, subst (Goal p) (sym to_d) at.1, h)
+    | inr h ↦ inr (subst (Source p) (sym from_e) at.0, subst (Goal p) (sym to_e) at.1, h)
+  ],
+  λ p at. (subst (Source p) from_d at.0, subst (Goal p) to_d at.1, halves.1 p.service at.2),
+  λ p at. (subst (Source p) from_e at.0, subst (Goal p) to_e at.1, halves.2 p.service at.2),
 )

@@ -128,8 +128,9 @@ pub fn none_gets_both(one: &Asked<'_>, other: &Asked<'_>, class: Class) -> bool
 
 /// The answer that the list gives to each packet of the class, or `None` where it does not give them all the same.
 ///
-/// Entries that decide the whole class, or all give one answer, settle it at once. Else the class is halved along an entry
-/// that splits it, so the work is polynomial in the number of entries, whatever the sizes of the prefixes.
+/// Entries that decide the whole class, or all give one answer, settle it at once. Else the class is
+/// halved along an entry that splits it, so the work is polynomial in the number of entries, whatever
+/// the sizes of the prefixes and of the ranges of services.
 pub fn answer(list: &PacketList, class: Class) -> Option<bool>
     ensures answer { IfSome result (λ a. EachGets list.now.entries a class) }
     ensures none { IsNone result ↔ (¬ IsUniform list.now.entries class) }

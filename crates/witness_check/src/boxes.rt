@@ -1,9 +1,9 @@
 ghost use Rattle.std.specs.Prelude.{◌≡◌, ◌↔◌, ◌<◌, ◌+◌, IsTrue};
 ghost use Rattle.net_model.specs.Packets.{ShareNoPacket};
-ghost use Rattle.witness_check.specs.Boxes.{prefixes_meet, classes_meet, entry_class, splits, AreHalves, MakeUp, open_bits};
+ghost use Rattle.witness_check.specs.Boxes.{prefixes_meet, classes_meet, entry_class, splits_services, splits, AreHalves, AreServiceHalves, MakeUp, service_bits, open_bits};
 
 use arc_base::Prefix;
-use net_model::{Class, PacketEntry};
+use net_model::{Class, PacketEntry, Service};
 
 /// Whether the two prefixes share an address.
 fn prefixes_meet(p: Prefix, q: Prefix) -> bool
@@ -16,7 +16,9 @@ fn prefixes_meet(p: Prefix, q: Prefix) -> bool
 pub(crate) fn classes_meet(one: Class, other: Class) -> bool
     ensures { result ≡ classes_meet one other }
 {
-    prefixes_meet(one.from, other.from) && prefixes_meet(one.to, other.to)
+    prefixes_meet(one.from, other.from)
+        && prefixes_meet(one.to, other.to)
+        && one.service.meets(&other.service)
 }
 
 /// Whether no packet is of both classes.
@@ -33,14 +35,26 @@ pub fn entry_class(entry: &PacketEntry) -> Class
     Class {
         from: entry.from,
         to: entry.to,
+        service: entry.service,
     }
 }
 
-/// Whether one of the other class's prefixes is the longer one. If not, and they share a packet, the class lies in the other.
+/// Whether the other range begins or ends between two services of this one.
+fn splits_services(range: Service, other: Service) -> bool
+    ensures { result ≡ splits_services range other }
+{
+    range.low < other.low && other.low <= range.high
+        || range.low <= other.high && other.high < range.high
+}
+
+/// Whether one of the other class's prefixes is the longer one, or its range of services begins or
+/// ends inside the class's. If not, and they share a packet, the class lies in the other.
 pub fn splits(class: Class, other: Class) -> bool
     ensures { result ≡ splits class other }
 {
-    class.from.len < other.from.len || class.to.len < other.to.len
+    class.from.len < other.from.len
+        || class.to.len < other.to.len
+        || splits_services(class.service, other.service)
 }
 
 /// The two halves of the prefix, the lower one first.
@@ -77,35 +91,83 @@ fn halves_towards(whole: Prefix, address: u32) -> (Prefix, Prefix)
     }
 }
 
-/// The two halves of the class, cut where the other class splits it. The first packet of the other class comes first.
+/// The lower and the upper half of the range of services. Where their number is odd the lower one has one more.
+fn service_halves(whole: Service) -> (Service, Service)
+    requires { whole.low < whole.high }
+    ensures halves { AreServiceHalves whole result.0 result.1 }
+    ensures first { service_bits result.0 < service_bits whole }
+    ensures second { service_bits result.1 < service_bits whole }
+{
+    let last = whole.low + (whole.high - whole.low) / 2;
+    let low = Service {
+        low: whole.low,
+        high: last,
+    };
+    let high = Service {
+        low: last + 1,
+        high: whole.high,
+    };
+    (low, high)
+}
+
+/// The two halves of the range of services. Where it has the service, the half that has it comes first.
+fn service_halves_towards(whole: Service, service: u32) -> (Service, Service)
+    requires { whole.low < whole.high }
+    ensures halves { AreServiceHalves whole result.0 result.1 }
+    ensures first { service_bits result.0 < service_bits whole }
+    ensures second { service_bits result.1 < service_bits whole }
+{
+    let (low, high) = service_halves(whole);
+    if low.covers(service) {
+        (low, high)
+    } else {
+        (high, low)
+    }
+}
+
+/// The two halves of the class, cut where the other class splits it. The first packet of the other
+/// class comes first.
+///
+/// A range of services is cut in the middle, as prefixes are, and not at an end of the other range: so
+/// no class is halved more than 88 times over, and calls that halve stand no deeper than that.
 pub fn halve_towards(class: Class, other: Class) -> (Class, Class)
     requires { IsTrue (splits class other) }
     ensures whole { MakeUp class result.0 result.1 }
-    ensures first { open_bits result.0 + 1 ≡ open_bits class }
-    ensures second { open_bits result.1 + 1 ≡ open_bits class }
+    ensures first { open_bits result.0 < open_bits class }
+    ensures second { open_bits result.1 < open_bits class }
 {
     if class.from.len < other.from.len {
         let (first, second) = halves_towards(class.from, other.from.addr);
         return (
             Class {
                 from: first,
-                to: class.to,
+                ..class
             },
             Class {
                 from: second,
-                to: class.to,
+                ..class
             },
         );
     }
-    let (first, second) = halves_towards(class.to, other.to.addr);
+    if class.to.len < other.to.len {
+        let (first, second) = halves_towards(class.to, other.to.addr);
+        return (
+            Class { to: first, ..class },
+            Class {
+                to: second,
+                ..class
+            },
+        );
+    }
+    let (first, second) = service_halves_towards(class.service, other.service.low);
     (
         Class {
-            from: class.from,
-            to: first,
+            service: first,
+            ..class
         },
         Class {
-            from: class.from,
-            to: second,
+            service: second,
+            ..class
         },
     )
 }

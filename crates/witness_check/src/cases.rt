@@ -46,6 +46,7 @@ impl Case<'_> {
             whole: Class {
                 from: policy.from,
                 to: policy.to,
+                service: policy.service,
             },
         }
     }

@@ -13,14 +13,16 @@ use net_model::{Class, Packet};
 pub fn lies_in(class: Class, whole: Class) -> bool
     ensures { IsTrue result ↔ LiesIn class whole }
 {
-    class.from.inside(&whole.from) && class.to.inside(&whole.to)
+    class.from.inside(&whole.from)
+        && class.to.inside(&whole.to)
+        && class.service.inside(&whole.service)
 }
 
 /// Whether the packet is of the class.
 pub fn is_of(class: Class, p: Packet) -> bool
     ensures { IsTrue result ↔ IsOf class p }
 {
-    class.from.covers(p.from) && class.to.covers(p.to)
+    class.from.covers(p.from) && class.to.covers(p.to) && class.service.covers(p.service)
 }
 
 impl Case<'_> {

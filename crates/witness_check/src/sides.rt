@@ -26,9 +26,9 @@ fn size(p: Prefix) -> u64
 /// The number of the class's packets.
 fn packets(class: Class) -> u128
     ensures packets { result ≡ packets class }
-    ensures fits { result ≤ 2 ^ 64 }
+    ensures fits { result ≤ 2 ^ 88 }
 {
-    u128::from(size(class.from)) * u128::from(size(class.to))
+    u128::from(size(class.from)) * u128::from(size(class.to)) * u128::from(class.service.size())
 }
 
 /// The number of packets of all the classes.

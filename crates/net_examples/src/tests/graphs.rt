@@ -6,7 +6,7 @@ use crate::rows::{users_1, users_2};
 use crate::two_routers::{across, two_routers};
 use arc_base::Memory;
 use class_graph::{Mode, build, build_between, denied_link, host_pair, list_answers, routed_graph};
-use net_model::{Class, Network};
+use net_model::{Class, Network, Service};
 use std::alloc::Global;
 use std::test::Fail;
 
@@ -33,7 +33,7 @@ fn facts_of(alloc: Global, net: &Network, class: Class) -> Result<[bool; 4], Mem
 /// The same for the class from the one host network to the other.
 fn facts(alloc: Global) -> Result<[bool; 4], Memory> {
     let net = two_routers(alloc, true)?;
-    let class = across();
+    let class = across(Service::whole());
     facts_of(alloc, &net, class)
 }
 

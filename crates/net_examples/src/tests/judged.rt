@@ -1,19 +1,20 @@
 ghost use Rattle.std.specs.Prelude.{◌≡◌, ◌∷◌, [], IfOk};
-ghost use Rattle.net_laws.specs.Examples.{between_users};
+ghost use Rattle.net_model.specs.Services.{whole_service};
+ghost use Rattle.net_examples.specs.TwoRouters.{between_users};
 ghost use Rattle.verdicts.specs.Judged.{HasFewFailures};
 
 use crate::two_routers::{between_users, two_routers};
 use arc_base::{Link, List, Memory};
-use net_model::{Policy, PolicyKind, Verdict};
+use net_model::{Policy, PolicyKind, Service, Verdict};
 use std::alloc::Global;
 use std::test::Fail;
 use verdicts::{JudgeFault, judge};
 
 fn policies(alloc: Global, kind: PolicyKind) -> Result<List<Policy>, Memory>
-    ensures { IfOk result (λ policies. policies ≡ between_users kind ∷ []) }
+    ensures { IfOk result (λ policies. policies ≡ between_users kind whole_service ∷ []) }
 {
     let mut policies = List::make(alloc);
-    policies.push(between_users(kind))?;
+    policies.push(between_users(kind, Service::whole()))?;
     Ok(policies)
 }
 

@@ -1,19 +1,23 @@
 use crate::pair::pair;
-use crate::rows::{users_1, users_2, users_4};
+use crate::rows::{everyone, users_1, users_2, users_4};
 use crate::square::square;
 use arc_base::{Face, Link, List, ListId, Name, Prefix, Router};
-use net_model::{Packet, RouteEntry, RouteList};
+use net_model::{Class, Packet, PacketEntry, PacketList, RouteEntry, RouteList, Service};
 use std::alloc::Global;
 use std::test::Fail;
 
+/// A packet from r1 to r4's users, by TCP for port 22.
 const FROM_R1: Packet = Packet {
     from: 0x0a01_0007,
     to: 0x0a04_0009,
+    service: 0x06_0016,
 };
 
+/// The same from r2.
 const FROM_R2: Packet = Packet {
     from: 0x0a02_0007,
     to: 0x0a04_0009,
+    service: 0x06_0016,
 };
 
 /// A route list of one entry.
@@ -114,5 +118,49 @@ fn route_lists_ask_for_the_length(rt: HostRuntime) -> Result<(), Fail> {
         let list = route_list(rt.alloc(), entry)?;
         assert_eq!(rt; list.permits(route), want, "from {low} to {high}");
     }
+    Ok(())
+}
+
+/// The list `permit tcp any any range 22 80`, asked for packets of each service that is near.
+#[test]
+fn packet_lists_ask_for_the_service(rt: HostRuntime) -> Result<(), Fail> {
+    let range = Service::new(0x06_0016, 0x06_0050).ok_or("ports 22 to 80")?;
+    let mut entries = List::make(rt.alloc());
+    entries.push(PacketEntry {
+        permit: true,
+        from: everyone(),
+        to: everyone(),
+        service: range,
+    })?;
+    let list = PacketList {
+        router: Router(0),
+        name: Name::make(rt.alloc(), b"101")?,
+        extended: true,
+        entries,
+    };
+    let table = [
+        (0, false),
+        (0x06_0015, false),
+        (0x06_0016, true),
+        (0x06_0050, true),
+        (0x06_0051, false),
+        (0x11_0016, false),
+        (0xff_ffff, false),
+    ];
+    for (service, want) in table {
+        let packet = Packet { service, ..FROM_R1 };
+        assert_eq!(rt; list.permits(packet), want, "service {service}");
+    }
+    let class = Class {
+        from: users_1(),
+        to: users_2(),
+        service: range,
+    };
+    let first = Packet {
+        from: 0x0a01_0000,
+        to: 0x0a02_0000,
+        service: 0x06_0016,
+    };
+    assert!(rt; class.first_packet() == first);
     Ok(())
 }

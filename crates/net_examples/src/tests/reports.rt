@@ -1,9 +1,10 @@
 ghost use Rattle.std.specs.Prelude.{◌≡◌, ◌∷◌, [], IfOk};
-ghost use Rattle.net_laws.specs.Examples.{between_users};
+ghost use Rattle.net_model.specs.Services.{whole_service};
+ghost use Rattle.net_examples.specs.TwoRouters.{between_users};
 
 use crate::two_routers::{between_users, two_routers};
 use arc_base::{CertKind, List, Memory};
-use net_model::{Document, PolicyKind, Weights};
+use net_model::{Document, Policy, PolicyKind, Service, Weights};
 use policy_report::CertFault;
 use report_check::{Outcome, check_report};
 use std::alloc::Global;
@@ -14,15 +15,11 @@ const REPORT: &[u8] =
     b"arc-report 1\n1 blocked no 1\nwalk 10.1.0.0/24 10.2.0.0/24 1\n2 reach yes 1\npath 1\n\
 3 reach no 2\ncut 1\nside r1\nend\n";
 
-/// That no packet passes; that packets pass while no link fails; and that they do while one does.
-fn document(alloc: Global) -> Result<Document, Memory>
-    ensures { IfOk result (λ doc. doc.policies ≡ between_users PolicyKind.Blocked ∷ between_users (PolicyKind.Reach 0) ∷ between_users (PolicyKind.Reach 1) ∷ []) }
+/// A document that asks these policies of no files.
+fn asking(alloc: Global, policies: List<Policy>) -> Document
+    ensures { result.policies ≡ policies }
 {
-    let mut policies = List::make(alloc);
-    policies.push(between_users(PolicyKind::Blocked))?;
-    policies.push(between_users(PolicyKind::Reach(0)))?;
-    policies.push(between_users(PolicyKind::Reach(1)))?;
-    Ok(Document {
+    Document {
         routers: List::make(alloc),
         links: List::make(alloc),
         policies,
@@ -31,7 +28,33 @@ fn document(alloc: Global) -> Result<Document, Memory>
             filter: 1,
             session: 1,
         },
-    })
+    }
+}
+
+/// That no packet passes; that packets pass while no link fails; and that they do while one does.
+fn document(alloc: Global) -> Result<Document, Memory>
+    ensures { IfOk result (λ doc. doc.policies ≡ between_users PolicyKind.Blocked whole_service ∷ between_users (PolicyKind.Reach 0) whole_service ∷ between_users (PolicyKind.Reach 1) whole_service ∷ []) }
+{
+    let all = Service::whole();
+    let mut policies = List::make(alloc);
+    policies.push(between_users(PolicyKind::Blocked, all))?;
+    policies.push(between_users(PolicyKind::Reach(0), all))?;
+    policies.push(between_users(PolicyKind::Reach(1), all))?;
+    Ok(asking(alloc, policies))
+}
+
+/// That packets of the one range of services pass while no link fails, and that none of the other does.
+fn document_of_services(
+    alloc: Global,
+    allowed: Service,
+    blocked: Service,
+) -> Result<Document, Memory>
+    ensures { IfOk result (λ doc. doc.policies ≡ between_users (PolicyKind.Reach 0) allowed ∷ between_users PolicyKind.Blocked blocked ∷ []) }
+{
+    let mut policies = List::make(alloc);
+    policies.push(between_users(PolicyKind::Reach(0), allowed))?;
+    policies.push(between_users(PolicyKind::Blocked, blocked))?;
+    Ok(asking(alloc, policies))
 }
 
 /// What a text is judged to.
@@ -129,6 +152,72 @@ fn changed_reports_are_rejected(rt: HostRuntime) -> Result<(), Fail> {
     for (text, line, kind) in CHANGED {
         let want = Outcome::Rejected(CertFault { line, kind });
         assert_eq!(rt; judged(rt.alloc(), text)?, want, "{text:?}");
+    }
+    Ok(())
+}
+
+/// What a text is judged to, where the policies are on these services.
+fn judged_on_services(
+    alloc: Global,
+    allowed: Service,
+    blocked: Service,
+    text: &[u8],
+) -> Result<Outcome, Memory> {
+    let net = two_routers(alloc, true)?;
+    let doc = document_of_services(alloc, allowed, blocked)?;
+    check_report(alloc, &net, &doc, text)
+}
+
+/// A report on TCP's port 22 and on UDP, up to its walk.
+const BEFORE_WALK: &[u8] = b"arc-report 1\n1 reach yes 1\npath 1\n2 blocked no 1\n";
+
+/// The walk of such a report, and what is wrong with it: the class is no part of the policy, or it is
+/// written in another form.
+const WALKS: [(&[u8], Option<(u64, CertKind)>); 6] = [
+    (
+        b"walk 10.1.0.0/24 10.2.0.0/24 service:17.0-17.65535 1\n",
+        None,
+    ),
+    (
+        b"walk 10.1.0.0/24 10.2.0.0/24 service:17.53-17.53 1\n",
+        None,
+    ),
+    (
+        b"walk 10.1.0.0/24 10.2.0.0/24 1\n",
+        Some((4, CertKind::Witness)),
+    ),
+    (
+        b"walk 10.1.0.0/24 10.2.0.0/24 service:6.22-17.53 1\n",
+        Some((4, CertKind::Witness)),
+    ),
+    (
+        b"walk 10.1.0.0/24 10.2.0.0/24 service:0.0-255.65535 1\n",
+        Some((5, CertKind::Form)),
+    ),
+    (
+        b"walk 10.1.0.0/24 10.2.0.0/24 service:17.0-17.65536 1\n",
+        Some((5, CertKind::Form)),
+    ),
+];
+
+#[test]
+fn reports_on_services_are_judged(rt: HostRuntime) -> Result<(), Fail> {
+    let alloc = rt.alloc();
+    let ssh = Service::new(0x06_0016, 0x06_0016).ok_or("port 22 of TCP")?;
+    let udp = Service::new(0x11_0000, 0x11_ffff).ok_or("UDP")?;
+    for (walk, fault) in WALKS {
+        let mut text = BEFORE_WALK.to_vec(alloc)?;
+        text.extend_from_slice(walk)?;
+        text.extend_from_slice(b"end\n")?;
+        let want = match fault {
+            Some((line, kind)) => Outcome::Rejected(CertFault { line, kind }),
+            None => Outcome::Accepted,
+        };
+        assert_eq!(rt;
+            judged_on_services(alloc, ssh, udp, &text)?,
+            want,
+            "{walk:?}"
+        );
     }
     Ok(())
 }

@@ -6,7 +6,7 @@ use Rattle.net_examples.proofs.TwoRouters.{no_lists}
 use Rattle.net_examples.proofs.tests.graphs.facts.Goals as goal
 
 pub facts_of-requires-clause-ends : goal.facts_of-requires-clause-ends
-facts_of-requires-clause-ends c = subst (HasEnds c.in_ok-net.net) (sym c.across-class.ensures) c.in_ok-net.ensures.ends
+facts_of-requires-clause-ends c = subst (HasEnds c.in_ok-net.net) (sym c.across-class.ensures) (c.in_ok-net.ensures.ends c.whole.result)
 
 pub facts_of-requires-clause-uniform : goal.facts_of-requires-clause-uniform
 facts_of-requires-clause-uniform c =

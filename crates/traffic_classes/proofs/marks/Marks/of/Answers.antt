@@ -4,6 +4,8 @@ use Rattle.arc_base.specs.declared.prefix.Prefix.{Prefix}
 use Rattle.net_model.specs.declared.lists.PacketEntry.{PacketEntry}
 use Rattle.net_model.specs.declared.lists.PacketList.{PacketList}
 use Rattle.net_model.specs.declared.policies.Policy.{Policy}
+use Rattle.net_model.specs.declared.services.Service.{Service}
+use Rattle.traffic_classes.specs.Classes.{marks_of}
 use Rattle.arc_base.proofs.Items.{pieces_more, pieces_all}
 use Rattle.traffic_classes.proofs.marks.Marks.of.Goals as goal
 
@@ -13,6 +15,9 @@ froms l = map (λ (e : PacketEntry). e.from) l.entries
 abbrev tos : PacketList → List Prefix
 tos l = map (λ (e : PacketEntry). e.to) l.entries
 
+abbrev of_services : PacketList → List Service
+of_services l = flat_map (λ (e : PacketEntry). marks_of e.service) l.entries
+
 pub loop-list-preserved : goal.loop-list-preserved
 loop-list-preserved c = record {
   sources = pieces_more froms c.loop-list.marks.sources.items c.add_entries.new.self.sources.items c.slice-list-items.result.now c.loop-list.list-index c.list-item.result
@@ -21,6 +26,9 @@ loop-list-preserved c = record {
   destinations = pieces_more tos c.loop-list.marks.destinations.items c.add_entries.new.self.destinations.items c.slice-list-items.result.now c.loop-list.list-index c.list-item.result
       c.loop-list-test.true c.list-item.is c.loop-list.invariant.destinations
       (c.in_ok-add_entries.ensures.destinations ∙ ap (λ (es : List PacketEntry). c.loop-list.marks.destinations.items ++ map (λ (e : PacketEntry). e.to) es) c.slice.ensures.items);
+  services = pieces_more of_services c.loop-list.marks.services.items c.add_entries.new.self.services.items c.slice-list-items.result.now c.loop-list.list-index c.list-item.result
+      c.loop-list-test.true c.list-item.is c.loop-list.invariant.services
+      (c.in_ok-add_entries.ensures.services ∙ ap (λ (es : List PacketEntry). c.loop-list.marks.services.items ++ flat_map (λ (e : PacketEntry). marks_of e.service) es) c.slice.ensures.items);
 }
 
 pub returns-clause-sources : goal.returns-clause-sources
@@ -40,3 +48,12 @@ returns-clause-destinations c =
     c.in_ok-add_policies.ensures.destinations
     ∙ ap (λ (ps : List Policy). c.loop-list.marks.destinations.items ++ map (λ (p : Policy). p.to) ps) c.slice-2.ensures.items
     ∙ ap (λ (xs : List Prefix). xs ++ map (λ (p : Policy). p.to) c.args.policies.now) all
+
+pub returns-clause-services : goal.returns-clause-services
+returns-clause-services c =
+    let all : c.loop-list.marks.services.items ≡ flat_map of_services c.args.net.now.packet_lists =
+    pieces_all of_services c.loop-list.marks.services.items c.slice-list-items.result.now c.loop-list.list-index c.loop-list-test.false c.loop-list.invariant.services
+    ∙ ap (flat_map of_services) c.slice-list-items.ensures.items in
+    c.in_ok-add_policies.ensures.services
+    ∙ ap (λ (ps : List Policy). c.loop-list.marks.services.items ++ flat_map (λ (p : Policy). marks_of p.service) ps) c.slice-2.ensures.items
+    ∙ ap (λ (xs : List Service). xs ++ flat_map (λ (p : Policy). marks_of p.service) c.args.policies.now) all
