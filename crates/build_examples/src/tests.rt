@@ -148,6 +148,45 @@ fn a_list_stops_a_session(rt: HostRuntime) -> Result<(), Fail> {
     Ok(())
 }
 
+// Whether a list of these entries at the second router's end stops the session, under OSPF and under eBGP. Either end may
+// open a session of BGP, from a port of 1024 or more.
+const ENTRIES: [(&str, bool, bool); 8] = [
+    ("permit ip any any", false, false),
+    ("permit tcp any any", true, false),
+    ("permit ospf any any", false, true),
+    ("deny tcp any any eq telnet", false, false),
+    ("deny tcp any any eq bgp", false, true),
+    ("deny tcp any any range 1023 1024", false, true),
+    ("deny tcp any any eq 65535", false, true),
+    ("deny 89 any host 10.0.1.2", true, false),
+];
+
+fn with_entry(alloc: Global, entry: &str, process: [&str; 2]) -> Result<Option<NetFault>, Memory> {
+    let list = format!(in alloc; "!\naccess-list 101 {entry}\n")?;
+    let rest = if entry.starts_with("deny") {
+        "access-list 101 permit ip any any\n"
+    } else {
+        ""
+    };
+    let first = &[NAME_1, HOST_1, "!\n", END_1, process[0]];
+    let bound = " ip access-group 101 in\n";
+    let second = &[NAME_2, HOST_2, END_2, bound, &list, rest, process[1]];
+    Ok(built(alloc, DOC, first, second).err())
+}
+
+#[test]
+fn entries_that_stop_a_session(rt: HostRuntime) -> Result<(), Fail> {
+    let alloc = rt.alloc();
+    let stopped = refused(2, 8, Kind::ListStopsSession);
+    for (entry, ospf, bgp) in ENTRIES {
+        let under_ospf = with_entry(alloc, entry, [OSPF, OSPF])?;
+        assert_eq!(rt; under_ospf, if ospf { stopped } else { None });
+        let under_bgp = with_entry(alloc, entry, [BGP_1, BGP_2])?;
+        assert_eq!(rt; under_bgp, if bgp { stopped } else { None });
+    }
+    Ok(())
+}
+
 #[test]
 fn refusals_under_bgp(rt: HostRuntime) -> Result<(), Fail> {
     let alloc = rt.alloc();

@@ -7,6 +7,7 @@ use Rattle.std.specs.Str.{bytes_eq}
 use Rattle.arc_base.specs.declared.prefix.Prefix.{Prefix}
 use Rattle.arc_base.specs.PrefixText.{number_of, prefix_text}
 use Rattle.ios_words.specs.declared.commands.Command.TheVariants.{Entry, ListLine, PrefixLine}
+use Rattle.ios_words.specs.declared.commands.PacketText.{PacketText}
 use Rattle.ios_words.specs.declared.commands.RouteText.{RouteText}
 use Rattle.ios_words.specs.declared.kinds.BlockKind.TheVariants as blocks
 use Rattle.ios_words.specs.Commands.{ReadBy, completes}
@@ -15,9 +16,11 @@ use Rattle.ios_words.specs.Language.{inert, rows}
 use Rattle.ios_words.specs.Names.{is_name}
 use Rattle.ios_words.specs.Numbers.{list_kind}
 use Rattle.ios_words.specs.Prefixes.{whole}
-use Rattle.ios_words.specs.Printed.{order_words, packet_text, sequence_words, side_words, verdict_word}
-use Rattle.ios_words.specs.Readings.{after, as_source, begins_entry, finish, match_words, matches, read_parts, side, step, then_do}
-use Rattle.ios_words.specs.Rows.{Anything, Destination, EntryNumber, Flag, Piece, Protocol, Rule, Source, Verdict, Word}
+use Rattle.ios_words.specs.Printed.{order_words, sequence_words, side_words, verdict_word}
+use Rattle.ios_words.specs.Readings.{after, as_source, begins_entry, finish, match_words, matches, ports, read_parts, side, step, then_do}
+use Rattle.ios_words.specs.Rows.{Anything, Destination, EntryNumber, Flag, Piece, Ports, Protocol, Rule, Source, Verdict, Word}
+use Rattle.ios_words.specs.ServiceRanges.{all}
+use Rattle.ios_words.specs.Services.{has_ports, protocol}
 use Rattle.ios_words.specs.Values.{Values, no_values}
 use Rattle.ios_words.proofs.Printed.{fails-by, reads-at}
 use Rattle.ios_words.proofs.PrintedSteps.{at, chain, name-step, number-begins, order-step, route-step, verdict-step}
@@ -28,6 +31,18 @@ use Rattle.command_texts.proofs.PlainSteps.{go, if-no, kind-step, least-step, mo
 -- permit or deny, and where packets come from
 abbrev standard_words : Bool → Prefix → List (List ℕ)
 standard_words permit from = verdict_word permit ∷ side_words from
+
+-- the entry that they say
+abbrev pub standard_text : Bool → Prefix → PacketText
+standard_text permit from = record { permit = permit; from = from; to = whole; low = all.low; high = all.high; ordered = all.ordered; in_range = all.in_range }
+
+-- no words of ports stand at the end
+no-ports : (taken : ℕ) (v : Values) → step Ports (at taken [] v) ≡ Ok (at taken [] v)
+no-ports taken v = by (has_ports (protocol v.services.low))
+  where
+    by : (b : Bool) → cond b (ports (at taken [] v)) (Ok (at taken [] v)) ≡ Ok (at taken [] v)
+    by true = refl
+    by false = refl
 
 -- what follows them: what they say is known, and nothing else that counts
 record StandardRead (permit : Bool) (from : Prefix) (taken : ℕ) (v : Values) : Type 0 where
@@ -56,13 +71,13 @@ abbrev sequence_number : Rule
 sequence_number = inert (codes "ip prefix-list sequence-number")
 
 -- an entry of a standard list's block
-pub standard-read : (order : Option ℕ) (permit : Bool) (from : Prefix) → IsOrder 2147483647 order → ReadBy false (order_words order ++ standard_words permit from) (rows blocks.Standard) (Entry order (packet_text permit from whole))
+pub standard-read : (order : Option ℕ) (permit : Bool) (from : Prefix) → IsOrder 2147483647 order → ReadBy false (order_words order ++ standard_words permit from) (rows blocks.Standard) (Entry order (standard_text permit from))
 standard-read None true from ranged =
     let said = source-read true from 0 (no_values false) in
-    reads-at false (standard_words true from) (rows blocks.Standard) 1 _ _ _ (Entry None (packet_text true from whole)) refl refl refl said.read refl
+    reads-at false (standard_words true from) (rows blocks.Standard) 1 _ _ _ (Entry None (standard_text true from)) refl refl refl said.read refl
 standard-read None false from ranged =
     let said = source-read false from 0 (no_values false) in
-    reads-at false (standard_words false from) (rows blocks.Standard) 1 _ _ _ (Entry None (packet_text false from whole)) refl refl refl said.read refl
+    reads-at false (standard_words false from) (rows blocks.Standard) 1 _ _ _ (Entry None (standard_text false from)) refl refl refl said.read refl
 standard-read (Some n) permit from ranged =
     let small : n < 2 ^ 64 = let most = ranged.1 in omega arith in
     let v = record (no_values false) { order = Some n } in
@@ -72,7 +87,7 @@ standard-read (Some n) permit from ranged =
     let number : step EntryNumber (at 0 words (no_values false)) ≡ Ok (at 1 tail v) =
     if-no (begins_entry words) (Ok (at 0 words (no_values false))) _ _ (number-begins n tail small) (order-step 2147483647 0 n tail (no_values false) ranged.0 ranged.1 small) in
     let skip : after EntryNumber words ≡ Some tail = ap Some (cond-false (begins_entry words) words tail (number-begins n tail small)) in
-    reads-at false words (rows blocks.Standard) 1 _ _ _ (Entry (Some n) (packet_text permit from whole)) refl
+    reads-at false words (rows blocks.Standard) 1 _ _ _ (Entry (Some n) (standard_text permit from)) refl
     (none-split (completes false words) [] remark [] refl (fails-by false words remark (ap (λ o. option_map_or (match_words (Word (codes "remark") ∷ Anything ∷ [])) o false) skip ∙ no-remark permit (side_words from))) refl)
     (ap (λ o. option_map_or (match_words (Verdict ∷ Source ∷ Flag (codes "log") ∷ [])) o false) skip ∙ verdict-there permit (side_words from))
     (ap finish (chain EntryNumber (Verdict ∷ Source ∷ Flag (codes "log") ∷ []) (at 0 words (no_values false)) (at 1 tail v) number) ∙ said.read) refl
@@ -87,7 +102,7 @@ standard-read (Some n) permit from ranged =
 
 -- an entry of a standard list, as a line
 abbrev list_parts : List Piece
-list_parts = Verdict ∷ Protocol ∷ Source ∷ Destination ∷ Flag (codes "log") ∷ []
+list_parts = Verdict ∷ Protocol ∷ Source ∷ Destination ∷ Ports ∷ Flag (codes "log") ∷ []
 
 line-parts : (name : List ℕ) (permit : Bool) (from : Prefix) → list_kind (number_of name) ≡ Some false →
     (addr : ℕ) × (len : ℕ) × (finish (read_parts (parts_after blocks.Top 80 1) (at 1 (name ∷ standard_words permit from) (no_values false))) ≡ Ok (record (no_values false) { text = name; permit = permit; address = addr; length = len; from = from; to = whole }))
@@ -95,23 +110,25 @@ line-parts name permit from is =
     let v = record (no_values false) { text = name } in
     let w = record v { permit = permit } in
     let first = side-read from [] 3 w in
-    let source : step Source (at 3 (side_words from) w) ≡ Ok (at first.after [] (record w { address = first.addr; length = first.len; from = from; to = whole })) =
+    let last = at first.after [] (record w { address = first.addr; length = first.len; from = from; to = whole }) in
+    let source : step Source (at 3 (side_words from) w) ≡ Ok last =
     ap (λ ws. then_do as_source (side false (at 3 ws w))) (sym (append-nil (side_words from))) ∙ ap (then_do as_source) first.read in (
       first.addr,
       first.len,
       ap finish (go list_parts (kind-step 1 name false (standard_words permit from) (no_values false) is)
-          ∙ chain Verdict (Protocol ∷ Source ∷ Destination ∷ Flag (codes "log") ∷ []) (at 2 (standard_words permit from) v) (at 3 (side_words from) w) (verdict-step permit 2 (side_words from) v)
-          ∙ chain Source (Destination ∷ Flag (codes "log") ∷ []) (at 3 (side_words from) w) _ source),
+          ∙ chain Verdict (Protocol ∷ Source ∷ Destination ∷ Ports ∷ Flag (codes "log") ∷ []) (at 2 (standard_words permit from) v) (at 3 (side_words from) w) (verdict-step permit 2 (side_words from) v)
+          ∙ chain Source (Destination ∷ Ports ∷ Flag (codes "log") ∷ []) (at 3 (side_words from) w) last source
+          ∙ chain Ports (Flag (codes "log") ∷ []) last last (no-ports first.after last.values)),
     )
 
 pub list-line-read : (name : List ℕ) (permit : Bool) (from : Prefix) → list_kind (number_of name) ≡ Some false →
-    ReadBy false (codes "access-list" ∷ name ∷ standard_words permit from) (rows blocks.Top) (ListLine name (packet_text permit from whole))
+    ReadBy false (codes "access-list" ∷ name ∷ standard_words permit from) (rows blocks.Top) (ListLine name (standard_text permit from))
 list-line-read name true from is =
     let (addr, len, read) = line-parts name true from is in
-    reads-at false (codes "access-list" ∷ name ∷ standard_words true from) (rows blocks.Top) 80 _ _ _ (ListLine name (packet_text true from whole)) refl refl refl read refl
+    reads-at false (codes "access-list" ∷ name ∷ standard_words true from) (rows blocks.Top) 80 _ _ _ (ListLine name (standard_text true from)) refl refl refl read refl
 list-line-read name false from is =
     let (addr, len, read) = line-parts name false from is in
-    reads-at false (codes "access-list" ∷ name ∷ standard_words false from) (rows blocks.Top) 80 _ _ _ (ListLine name (packet_text false from whole)) refl refl refl read refl
+    reads-at false (codes "access-list" ∷ name ∷ standard_words false from) (rows blocks.Top) 80 _ _ _ (ListLine name (standard_text false from)) refl refl refl read refl
 
 -- the words of a prefix list's line are not those of the inert one
 no-sequence : (name : List ℕ) (rest : List (List ℕ)) → bytes_eq name (codes "sequence-number") ≡ false → matches (codes "ip" ∷ codes "prefix-list" ∷ name ∷ rest) sequence_number ≡ false

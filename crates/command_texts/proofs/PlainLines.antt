@@ -1,6 +1,6 @@
 -- The plain line of each command has the command's words and kind, and is read as the command.
 use Rattle.std.proofs.Common.{◌≡◌, ◌≢◌, ℕ, ◌^◌, ◌<◌, Bool, true, false, cond, ◌==◌, ◌-◌, ◌||◌, ◌⊎◌, inl, inr, List, [], ◌∷◌, ◌++◌, Option, Some, None, refl, sym, ap, subst, ◌∙◌, arith, codes, decimal}
-use Rattle.std.proofs.lemmas.Bool.{and_from, le-leb, ne_eqb}
+use Rattle.std.proofs.lemmas.Bool.{and_from, and_parts, eqb-true, le-leb, ne_eqb}
 use Rattle.std.proofs.lemmas.Fmt.{decimal_is_IsNumeral}
 use Rattle.std.proofs.lemmas.Slice.Eq.{bytes_eq-Decides}
 use Rattle.std.proofs.lemmas.Str.Parse.{digit_from_value}
@@ -9,7 +9,7 @@ use Rattle.std.specs.Str.Parse.{AllDigits}
 use Rattle.arc_base.specs.declared.prefix.Prefix.{Prefix}
 use Rattle.arc_base.specs.PrefixText.{address_text, number_of}
 use Rattle.arc_base.proofs.NumberTexts.{number_of-decimal}
-use Rattle.ios_lines.specs.Kinds.{IsInner, is_mark}
+use Rattle.ios_lines.specs.Kinds.{IsInner, IsSingle, is_mark}
 use Rattle.ios_lines.specs.Written.{ArePlain, IsWritten, is_plain, spaced}
 use Rattle.ios_lines.proofs.WrittenLines.{indented-inner, indented-written, top-kinds, top-written}
 use Rattle.ios_words.specs.declared.commands.Command.TheVariants as commands
@@ -21,12 +21,15 @@ use Rattle.ios_words.specs.Commands.{ReadBy}
 use Rattle.ios_words.specs.Language.{rows}
 use Rattle.ios_words.specs.Names.{is_name}
 use Rattle.ios_words.specs.Numbers.{is_extended, is_from, is_standard, list_kind, mask}
-use Rattle.ios_words.specs.Printed.{packet_text, sequence_words, side_words, verdict_word}
+use Rattle.ios_words.specs.Printed.{sequence_words, side_words, top_line, verdict_word}
+use Rattle.ios_words.specs.Prefixes.{whole}
+use Rattle.ios_words.specs.ServiceRanges.{all}
 use Rattle.ios_words.proofs.PlainWords.{address-plain, decimal-plain, face-plain, name-plain, prefix-plain}
-use Rattle.ios_words.proofs.Printed.{list_line-read}
-use Rattle.ios_words.proofs.PrintedLines.{entry-line, neighbor-line, neighbor_list-line, passive-line}
-use Rattle.command_texts.specs.Plain.{IsReadAs, PlainLinesAreRead, entry_words, route_words}
-use Rattle.command_texts.proofs.ListReads.{list-line-read, prefix-line-read, standard-read}
+use Rattle.ios_words.proofs.PrintedServices.{services_in}
+use Rattle.ios_words.proofs.ServicesBetween.{is-between}
+use Rattle.ios_words.proofs.PrintedLines.{entry-line, list_line-line, neighbor-line, neighbor_list-line, passive-line}
+use Rattle.command_texts.specs.Plain.{FitsIn, IsReadAs, PlainLinesAreRead, entry_words, route_words}
+use Rattle.command_texts.proofs.ListReads.{list-line-read, prefix-line-read, standard-read, standard_text}
 use Rattle.command_texts.proofs.PlainReads.{address, area, bandwidth, bgp-id, cost, covers, group, hostname, interface, list-head, no-address, ospf-id, passive-default, point, reference, remote-as, router-bgp, router-ospf, shutdown, tells}
 use Rattle.command_texts.proofs.PlainSteps.{mask-small, wildcard-small}
 use Rattle.command_texts.proofs.StandardSides.{whole-prefix}
@@ -117,29 +120,34 @@ listed-kind text h none =
     let here : number_of text ≡ Some h.number = ap number_of h.written ∙ number_of-decimal h.number (list-small h.number h.ranged) in
     has-kind h.number h.ranged (ap list_kind (sym here) ∙ none)
 
+-- what an entry of a standard list says is all that it is
+standard-is : (e : PacketText) → FitsIn (Some false) e → standard_text e.permit e.from ≡ e
+standard-is e fits =
+    let ends = and_parts _ _ fits.1 in
+    let to : whole ≡ e.to = whole-prefix e.to fits.0 in
+    let services : all ≡ services_in e = sym (is-between (services_in e) 0 16777215 (eqb-true _ _ ends.0) (eqb-true _ _ ends.1)) in
+    λ i. record { permit = e.permit; from = e.from; to = to i; low = (services i).low; high = (services i).high; ordered = (services i).ordered; in_range = (services i).in_range }
+
 -- an entry of a numbered list, as a line
-entry-plain : (o : Option Bool) (e : PacketText) → ArePlain (entry_words o e)
-entry-plain (Some true) e = (verdict-plain e.permit, (refl, plain-append (side_words e.from) (side_words e.to) (side-plain e.from) (side-plain e.to)))
-entry-plain (Some false) e = standard-plain e.permit e.from
-entry-plain None e = standard-plain e.permit e.from
+record ListRead (text : List ℕ) (e : PacketText) (words : List (List ℕ)) : Type 0 where
+  written : IsWritten (top_line (codes "access-list" ∷ text ∷ words)) (codes "access-list" ∷ text ∷ words)
+  kind : IsSingle (top_line (codes "access-list" ∷ text ∷ words))
+  reads : ReadBy false (codes "access-list" ∷ text ∷ words) (rows blocks.Top) (commands.ListLine text e)
 
-list-reads : (text : List ℕ) (e : PacketText) (o : Option Bool) → list_kind (number_of text) ≡ o → (o ≡ Some false → e.to.len ≡ 0) → IsListNumber text →
-    ReadBy false (codes "access-list" ∷ text ∷ entry_words o e) (rows blocks.Top) (commands.ListLine text e)
-list-reads text e (Some true) is stands h = list_line-read text e.permit e.from e.to is
-list-reads text e (Some false) is stands h =
-    subst (λ to. ReadBy false (codes "access-list" ∷ text ∷ entry_words (Some false) e) (rows blocks.Top) (commands.ListLine text (packet_text e.permit e.from to)))
-    (whole-prefix e.to (stands refl)) (list-line-read text e.permit e.from is)
-list-reads text e None is stands h = absurd (listed-kind text h is)
-
-list-line : (text : List ℕ) (e : PacketText) → (list_kind (number_of text) ≡ Some false → e.to.len ≡ 0) → IsListNumber text → IsReadAs blocks.Top (commands.ListLine text e)
-list-line text e stands h =
-    let words = text ∷ entry_words (list_kind (number_of text)) e in
-    let rest : ArePlain words = (ap is_plain h.written ∙ decimal-plain h.number (list-small h.number h.ranged), entry-plain (list_kind (number_of text)) e) in
+list-reads : (text : List ℕ) (e : PacketText) (o : Option Bool) → list_kind (number_of text) ≡ o → FitsIn o e → IsListNumber text → ListRead text e (entry_words o e)
+list-reads text e (Some true) is fits h = let line = list_line-line text e fits is in record { written = line.written; kind = line.kind; reads = line.reads }
+list-reads text e (Some false) is fits h =
+    let words = text ∷ entry_words (Some false) e in
+    let rest : ArePlain words = (ap is_plain h.written ∙ decimal-plain h.number (list-small h.number h.ranged), standard-plain e.permit e.from) in
     record {
       written = top-written (codes "access-list") words refl rest;
       kind = top-kinds (codes "access-list") words refl rest;
-      reads = list-reads text e (list_kind (number_of text)) refl stands h;
+      reads = subst (λ x. ReadBy false (codes "access-list" ∷ words) (rows blocks.Top) (commands.ListLine text x)) (standard-is e fits) (list-line-read text e.permit e.from is);
     }
+list-reads text e None is fits h = absurd (listed-kind text h is)
+
+list-line : (text : List ℕ) (e : PacketText) → FitsIn (list_kind (number_of text)) e → IsListNumber text → IsReadAs blocks.Top (commands.ListLine text e)
+list-line text e fits h = let line = list-reads text e (list_kind (number_of text)) refl fits h in record { written = line.written; kind = line.kind; reads = line.reads }
 
 -- an entry of a prefix list
 sequence-plain : (order : Option ℕ) → IsOrder 4294967294 order → ArePlain (sequence_words order)
@@ -162,21 +170,21 @@ prefix-line name order e other is ranged lengths =
     }
 
 -- an entry of a standard list's block
-standard-line : (order : Option ℕ) (e : PacketText) → e.to.len ≡ 0 → IsOrder 2147483647 order → IsReadAs blocks.Standard (commands.Entry order e)
-standard-line None e none ranged =
+standard-line : (order : Option ℕ) (e : PacketText) → FitsIn (Some false) e → IsOrder 2147483647 order → IsReadAs blocks.Standard (commands.Entry order e)
+standard-line None e fits ranged =
     let line = inner (verdict_word e.permit) (side_words e.from) (standard-plain e.permit e.from) (verdict-mark e.permit) in
     record {
       written = line.0;
       kind = line.1;
-      reads = subst (λ to. ReadBy false (verdict_word e.permit ∷ side_words e.from) (rows blocks.Standard) (commands.Entry None (packet_text e.permit e.from to))) (whole-prefix e.to none) (standard-read None e.permit e.from ranged);
+      reads = subst (λ x. ReadBy false (verdict_word e.permit ∷ side_words e.from) (rows blocks.Standard) (commands.Entry None x)) (standard-is e fits) (standard-read None e.permit e.from ranged);
     }
-standard-line (Some n) e none ranged =
-    let small : n < 2 ^ 64 = let most = ranged.1 in omega arith in
+standard-line (Some n) e fits ranged =
+    let small : n < 2 ^ 64 = let most = ranged.1 in omega (arith, most) in
     let line = inner (decimal n) (verdict_word e.permit ∷ side_words e.from) (decimal-plain n small, standard-plain e.permit e.from) (digits-mark (decimal n) (decimal_is_IsNumeral n small).0.1) in
     record {
       written = line.0;
       kind = line.1;
-      reads = subst (λ to. ReadBy false (decimal n ∷ verdict_word e.permit ∷ side_words e.from) (rows blocks.Standard) (commands.Entry (Some n) (packet_text e.permit e.from to))) (whole-prefix e.to none) (standard-read (Some n) e.permit e.from ranged);
+      reads = subst (λ x. ReadBy false (decimal n ∷ verdict_word e.permit ∷ side_words e.from) (rows blocks.Standard) (commands.Entry (Some n) x)) (standard-is e fits) (standard-read (Some n) e.permit e.from ranged);
     }
 
 pub read-plain : PlainLinesAreRead
@@ -267,7 +275,7 @@ read-plain blocks.Bgp (commands.RouterId addr) stands form fit =
     let line = inner (codes "bgp") (codes "router-id" ∷ address_text addr ∷ []) (refl, (refl, (address-plain addr fit, tt))) refl in
     record { written = line.0; kind = line.1; reads = bgp-id addr fit }
 read-plain blocks.Extended (commands.Entry order e) stands form fit =
-    let line = entry-line order e.permit e.from e.to form in
+    let line = entry-line order e stands form in
     record { written = line.written; kind = line.kind; reads = line.reads }
 read-plain blocks.Standard (commands.Entry order e) stands form fit = standard-line order e stands form
 read-plain _ _ stands form fit = absurd stands

@@ -1,5 +1,5 @@
 -- The plain line of each command of a router file, and in which blocks it may stand.
-use Rattle.std.specs.Prelude.{◌≡◌, ◌≢◌, ℕ, ◌-◌, ◌^◌, Bool, true, false, if◌then◌else◌, List, [], ◌∷◌, ◌++◌, codes, decimal, Option, Some, None}
+use Rattle.std.specs.Prelude.{◌≡◌, ◌≢◌, ℕ, ◌-◌, ◌^◌, Bool, true, false, if◌then◌else◌, List, [], ◌∷◌, ◌++◌, codes, decimal, Option, Some, None, IsTrue}
 use Rattle.arc_base.specs.declared.prefix.Prefix.{Prefix}
 use Rattle.arc_base.specs.PrefixText.{address_text, number_of, prefix_text}
 use Rattle.ios_lines.specs.Kinds.{IsHead, IsInner, IsSingle}
@@ -16,6 +16,7 @@ use Rattle.ios_words.specs.Language.{rows}
 use Rattle.ios_words.specs.Laws.{heads_block}
 use Rattle.ios_words.specs.Numbers.{list_kind, mask}
 use Rattle.ios_words.specs.Printed.{neighbor_list_words, neighbor_words, order_words, packet_words, sequence_words, side_words, top_line, unless, verdict_word}
+use Rattle.ios_words.specs.Services.{IsWritable, are_all}
 
 -- whether a list is extended, as it is written
 abbrev pub kind_word : Bool → List ℕ
@@ -34,9 +35,9 @@ abbrev pub interface_word : Option (List ℕ) → List ℕ
 interface_word None = codes "default"
 interface_word (Some name) = name
 
--- an entry of a list of this kind: an extended list tells where packets go to
+-- an entry of a list of this kind: an extended list tells the protocol, where packets go to and which ports they are for
 abbrev pub entry_words : Option Bool → PacketText → List (List ℕ)
-entry_words (Some true) e = packet_words e.permit e.from e.to
+entry_words (Some true) e = packet_words e
 entry_words _ e = verdict_word e.permit ∷ side_words e.from
 
 -- an entry of a prefix list, with both lengths
@@ -77,15 +78,20 @@ plain_words blocks.Extended (Entry order e) = order_words order ++ entry_words (
 plain_words blocks.Standard (Entry order e) = order_words order ++ entry_words (Some false) e
 plain_words _ _ = []
 
--- the command may stand in a block of this kind. A standard list does not tell where packets go to, and no prefix list has
--- the name of a line that says nothing.
+-- the entry may stand in a list of this kind. One entry of an extended list says services that are writable; a standard
+-- list tells neither where packets go to nor which services they have.
+abbrev pub FitsIn : Option Bool → PacketText → Type 0
+FitsIn (Some true) e = IsWritable e
+FitsIn _ e = (e.to.len ≡ 0) × IsTrue (are_all e.low e.high)
+
+-- the command may stand in a block of this kind. No prefix list has the name of a line that says nothing.
 abbrev pub StandsIn : BlockKind → Command → Type 0
 StandsIn blocks.Top (Hostname name) = Unit {0}
 StandsIn blocks.Top (Interface name) = Unit {0}
 StandsIn blocks.Top (RouterOspf number) = Unit {0}
 StandsIn blocks.Top (RouterBgp number) = Unit {0}
 StandsIn blocks.Top (ListBlock extended name) = Unit {0}
-StandsIn blocks.Top (ListLine number e) = list_kind (number_of number) ≡ Some false → e.to.len ≡ 0
+StandsIn blocks.Top (ListLine number e) = FitsIn (list_kind (number_of number)) e
 StandsIn blocks.Top (PrefixLine name order e) = name ≢ codes "sequence-number"
 StandsIn blocks.Interface (Address address length) = Unit {0}
 StandsIn blocks.Interface NoAddress = Unit {0}
@@ -104,8 +110,8 @@ StandsIn blocks.Bgp (NeighborDown address down) = Unit {0}
 StandsIn blocks.Bgp (NeighborList address name) = Unit {0}
 StandsIn blocks.Bgp (Tells p) = Unit {0}
 StandsIn blocks.Bgp (RouterId address) = Unit {0}
-StandsIn blocks.Extended (Entry order e) = Unit {0}
-StandsIn blocks.Standard (Entry order e) = e.to.len ≡ 0
+StandsIn blocks.Extended (Entry order e) = FitsIn (Some true) e
+StandsIn blocks.Standard (Entry order e) = FitsIn (Some false) e
 StandsIn _ _ = ⊥
 
 -- a top line of these words, and a line of them in a block, which one space indents

@@ -8,7 +8,7 @@ use Rattle.ios_words.specs.declared.kinds.BlockKind.{BlockKind}
 use Rattle.ios_words.specs.Commands.{completes}
 use Rattle.ios_words.specs.Language.{rows}
 use Rattle.ios_words.specs.Readings.{match_words, matches}
-use Rattle.ios_words.specs.Rows.{Piece, Word, Verdict, Place, Bracket, Flag, EntryNumber, Protocol, Source, Destination, Anything, Rule}
+use Rattle.ios_words.specs.Rows.{Piece, Word, Verdict, Place, Bracket, Flag, EntryNumber, Protocol, Source, Destination, Ports, Anything, Rule}
 use Rattle.ios_words.specs.Trials.{SaysTheSame}
 
 -- what is left out of a list is not found where it is not sought
@@ -48,6 +48,7 @@ keeps_letter w words other (EntryNumber ∷ pieces) e = refl
 keeps_letter w words other (Protocol ∷ pieces) e = refl
 keeps_letter w words other (Source ∷ pieces) e = refl
 keeps_letter w words other (Destination ∷ pieces) e = refl
+keeps_letter w words other (Ports ∷ pieces) e = refl
 keeps_letter w words other (Anything ∷ pieces) e = refl
 
 begins_letter : (words : List (List ℕ)) (pieces : List Piece) → match_words pieces words ≡ true → parts_begin (letter words) pieces ≡ true
@@ -64,6 +65,7 @@ begins_letter words (EntryNumber ∷ pieces) e = refl
 begins_letter words (Protocol ∷ pieces) e = refl
 begins_letter words (Source ∷ pieces) e = refl
 begins_letter words (Destination ∷ pieces) e = refl
+begins_letter words (Ports ∷ pieces) e = refl
 begins_letter words (Anything ∷ pieces) e = refl
 
 keeps_ip : (words : List (List ℕ)) (pieces : List Piece) → match_words pieces (codes "ip" ∷ words) ≡ true → parts_follow_ip (letter words) pieces ≡ true
@@ -80,6 +82,7 @@ keeps_ip words (EntryNumber ∷ pieces) e = refl
 keeps_ip words (Protocol ∷ pieces) e = refl
 keeps_ip words (Source ∷ pieces) e = refl
 keeps_ip words (Destination ∷ pieces) e = refl
+keeps_ip words (Ports ∷ pieces) e = refl
 keeps_ip words (Anything ∷ pieces) e = refl
 
 -- a row that matches with every word matches

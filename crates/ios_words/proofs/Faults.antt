@@ -5,9 +5,10 @@ use Rattle.ios_words.specs.declared.kinds.Flaw.TheVariants.{Amiss, Scattered}
 use Rattle.ios_words.specs.declared.kinds.WordFault.{WordFault}
 use Rattle.ios_words.specs.declared.kinds.WordFault.TheVariants.{Unknown, BadWord, WildcardNotPrefix, Memory}
 use Rattle.ios_words.specs.declared.rows.Form.{Form}
-use Rattle.ios_words.specs.declared.rows.Form.TheVariants.{Host, Address, Wildcard, Order}
-use Rattle.ios_words.specs.Readings.{State, begins, begins_entry, after_word, next_word, place, passed, then_do, stands_alone, width, side, as_source, step, read_parts, finish_words, finish, start, read}
-use Rattle.ios_words.specs.Rows.{Piece, Word, Verdict, Place, Bracket, Flag, EntryNumber, Protocol, Source, Destination, Anything, Rule}
+use Rattle.ios_words.specs.declared.rows.Form.TheVariants.{Host, Address, Wildcard, Order, Port, FirstPort, LastPort}
+use Rattle.ios_words.specs.Readings.{State, begins, begins_entry, after_word, next_word, place, passed, then_do, stands_alone, width, side, as_source, ports, step, read_parts, finish_words, finish, start, read}
+use Rattle.ios_words.specs.Rows.{Piece, Word, Verdict, Place, Bracket, Flag, EntryNumber, Protocol, Source, Destination, Ports, Anything, Rule}
+use Rattle.ios_words.specs.Services.{protocol, has_ports}
 use Rattle.ios_words.specs.Values.{Values}
 
 -- whether a fault is a word's
@@ -48,6 +49,9 @@ width-only extended s = if-only (not extended && stands_alone s.words) _ _ tt (p
 side-only : (extended : Bool) (s : State) → OnlyWords (side extended s)
 side-only extended s = if-only (begins (codes "any") s.words) _ _ tt (if-only (begins (codes "host") s.words) _ _ (place-only Host (passed s)) (then-only (width extended) (place Address s) (width-only extended) (place-only Address s)))
 
+ports-only : (s : State) → OnlyWords (ports s)
+ports-only s = if-only (begins (codes "eq") s.words) _ _ (place-only Port (passed s)) (if-only (begins (codes "range") s.words) _ _ (then-only (place LastPort) (place FirstPort (passed s)) (place-only LastPort) (place-only FirstPort (passed s))) tt)
+
 step-only : (piece : Piece) (s : State) → OnlyWords (step piece s)
 step-only (Word word) s = next_word-only _ s.taken s.words
 step-only Verdict s = next_word-only _ s.taken s.words
@@ -58,6 +62,7 @@ step-only EntryNumber s = if-only (begins_entry s.words) _ _ tt (place-only (Ord
 step-only Protocol s = if-only s.values.extended _ _ (next_word-only _ s.taken s.words) tt
 step-only Source s = then-only as_source (side s.values.extended s) (λ s'. tt) (side-only s.values.extended s)
 step-only Destination s = if-only s.values.extended _ _ (side-only true s) tt
+step-only Ports s = if-only (has_ports (protocol s.values.services.low)) _ _ (ports-only s) tt
 step-only Anything s = tt
 
 parts-only : (pieces : List Piece) (s : State) → OnlyWords (read_parts pieces s)

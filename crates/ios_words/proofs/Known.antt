@@ -12,14 +12,17 @@ use Rattle.ios_words.specs.declared.kinds.Flaw.{Flaw}
 use Rattle.ios_words.specs.declared.kinds.Flaw.TheVariants.{Amiss}
 use Rattle.ios_words.specs.declared.kinds.WordFault.{WordFault}
 use Rattle.ios_words.specs.declared.rows.Form.{Form}
-use Rattle.ios_words.specs.declared.rows.Form.TheVariants.{Name, FaceName, Number, Address, Host, Network, Mask, Wildcard, Area, ListNumber, Order, Route, AtLeast, AtMost}
+use Rattle.ios_words.specs.declared.rows.Form.TheVariants.{Name, FaceName, Number, Address, Host, Network, Mask, Wildcard, Area, ListNumber, Order, Route, AtLeast, AtMost, Port, FirstPort, LastPort}
+use Rattle.ios_words.specs.declared.rows.Form.TheVariants as forms
 use Rattle.ios_words.specs.Forms.{IsFrom, IsStandard, IsExtended, IsListNumber, AreLengths, IsOrder}
 use Rattle.ios_words.specs.Names.{is_name, is_face_name}
 use Rattle.ios_words.specs.Prefixes.{holding, whole}
 use Rattle.ios_words.specs.Numbers.{is_from, ranged, number_in, length_from, mask_of_address, mask_length, mask_ones, masks, wildcard_length, or_else, area_of, is_standard, is_extended, list_kind}
-use Rattle.ios_words.specs.Readings.{State, begins, begins_entry, after_word, next_word, place, this_word, permits, verdict, passed, then_do, stands_alone, alone, any, width, side, as_source, step, read_parts, finish_words, finish, start, read}
-use Rattle.ios_words.specs.Rows.{Piece, Word, Verdict, Place, Bracket, Flag, EntryNumber, Protocol, Source, Destination, Anything, Rule}
-use Rattle.ios_words.specs.Values.{Values, with_value, with_result, tested, both, route_parts, route_of, class_prefix, values_with, no_values}
+use Rattle.ios_words.specs.Readings.{State, begins, begins_entry, after_word, next_word, place, this_word, permits, verdict, passed, then_do, stands_alone, alone, any, width, side, as_source, ports, step, read_parts, finish_words, finish, start, read}
+use Rattle.ios_words.specs.Rows.{Piece, Word, Verdict, Place, Bracket, Flag, EntryNumber, Protocol, Source, Destination, Ports, Anything, Rule}
+use Rattle.ios_words.specs.ServiceRanges.{services_of}
+use Rattle.ios_words.specs.Services.{protocol, port, has_ports}
+use Rattle.ios_words.specs.Values.{Values, with_value, with_result, port_in, with_ports, tested, both, route_parts, route_of, class_prefix, values_with, no_values}
 
 -- what is known: that the text is a name, an interface's or the number of a list; the range of the number; the least length of a mask;
 -- that the lengths of a route are in order; the greatest number of an entry
@@ -63,6 +66,10 @@ learn_form (Order high) k = record k { order = high }
 learn_form Route k = record k { routed = true }
 learn_form AtLeast k = k
 learn_form AtMost k = k
+learn_form forms.Protocol k = k
+learn_form Port k = k
+learn_form FirstPort k = k
+learn_form LastPort k = k
 
 -- what is known whether a word of the form stands or not
 abbrev pub learn_either : Form → Known → Known
@@ -82,6 +89,7 @@ learn EntryNumber k = learn_either (Order 2147483647) k
 learn Protocol k = k
 learn Source k = loose k
 learn Destination k = loose k
+learn Ports k = k
 learn Anything k = k
 
 -- what is known after these parts
@@ -290,6 +298,10 @@ form-holds AtLeast k v u w h e = with-value (Holds k) (λ n. record v { low = n;
     (λ n is. let range = ranged-some v.to.len 32 (number_of w) n is in kept k v _ h refl refl refl refl (λ _. record { least = range.0; ordered = range.1; most = omega arith }) h.address h.area) e
 form-holds AtMost k v u w h e = with-value (Holds k) (λ n. record v { high = n }) (number_in v.low 32 w) u
     (λ n is. let range = ranged-some v.low 32 (number_of w) n is in kept k v _ h refl refl refl refl (λ was. record { least = (h.routed was).least; ordered = range.0; most = range.1 }) h.address h.area) e
+form-holds forms.Protocol k v u w h e = with-value (Holds k) (λ s. record v { services = s }) (services_of w) u (λ s is. kept k v _ h refl refl refl refl h.routed h.address h.area) e
+form-holds Port k v u w h e = with-value (Holds k) (λ n. with_ports v n n) (port_in v w) u (λ n is. kept k v _ h refl refl refl refl h.routed h.address h.area) e
+form-holds FirstPort k v u w h e = with-value (Holds k) (λ n. with_ports v n 65535) (port_in v w) u (λ n is. kept k v _ h refl refl refl refl h.routed h.address h.area) e
+form-holds LastPort k v u w h e = with-value (Holds k) (λ n. with_ports v (port v.services.low) n) (ranged (port v.services.low) 65535 (port_in v w)) u (λ n is. kept k v _ h refl refl refl refl h.routed h.address h.area) e
 
 -- what holds after the next word
 after-holds : (P : Values → Type 0) (place : ℕ) (words : List (List ℕ)) (r : Result Values Flaw) (s : State) → ((v : Values) → r ≡ Ok v → P v) → after_word place words r ≡ Ok s → P s.values
@@ -356,6 +368,14 @@ either-not AtLeast k v h = h
 either-not AtMost k v h = h
 either-not _ k v h = ordered_only k v h.order h.address h.area
 
+ports-hold : (k : Known) (s t : State) → Holds k s.values → ports s ≡ Ok t → Holds k t.values
+ports-hold k s t h e =
+    let P : State → Type 0 = λ x. Holds k x.values in
+    if-state P (begins (codes "eq") s.words) _ _ t (λ e'. place-holds Port k (passed s) t h e')
+    (if-state P (begins (codes "range") s.words) _ _ t
+    (then-holds P (place LastPort) (place FirstPort (passed s)) t (λ m at. place-holds LastPort k m t (place-holds FirstPort k (passed s) m h at)))
+    (ok-state P s t _ refl h)) e
+
 step-holds : (piece : Piece) (k : Known) (s t : State) → Holds k s.values → step piece s ≡ Ok t → Holds (learn piece k) t.values
 step-holds (Word word) k s t h e = this-holds word k s t h e
 step-holds Verdict k s t h e = verdict-holds k s t h e
@@ -367,11 +387,12 @@ step-holds (Flag word) k s t h e = if-state (λ x. Holds k x.values) (begins wor
 step-holds EntryNumber k s t h e = if-state (λ x. Holds (learn_either (Order 2147483647) k) x.values) (begins_entry s.words) _ _ t
     (ok-state (λ x. Holds (learn_either (Order 2147483647) k) x.values) s t _ refl (either-not (Order 2147483647) k s.values h))
     (λ e'. either-there (Order 2147483647) k t.values (place-holds (Order 2147483647) k s t h e')) e
-step-holds Protocol k s t h e = if-state (λ x. Holds k x.values) s.values.extended _ _ t (this-holds (codes "ip") k s t h) (ok-state (λ x. Holds k x.values) s t _ refl h) e
+step-holds Protocol k s t h e = if-state (λ x. Holds k x.values) s.values.extended _ _ t (place-holds forms.Protocol k s t h) (ok-state (λ x. Holds k x.values) s t _ refl h) e
 step-holds Source k s t h e = then-holds (λ x. Holds (loose k) x.values) as_source (side s.values.extended s) t
     (λ m at. ok-state (λ x. Holds (loose k) x.values) (record m { values = record m.values { from = m.values.to; to = whole } }) t _ refl
     (let held = side-holds s.values.extended k s m h at in kept (loose k) m.values _ held refl refl refl refl (λ no'. never no') held.address held.area)) e
 step-holds Destination k s t h e = if-state (λ x. Holds (loose k) x.values) s.values.extended _ _ t (side-holds true k s t h) (ok-state (λ x. Holds (loose k) x.values) s t _ refl (weaker k s.values h)) e
+step-holds Ports k s t h e = if-state (λ x. Holds k x.values) (has_ports (protocol s.values.services.low)) _ _ t (ports-hold k s t h) (ok-state (λ x. Holds k x.values) s t _ refl h) e
 step-holds Anything k s t h e = ok-state (λ x. Holds k x.values) (record s { words = [] }) t _ refl h e
 
 parts-hold : (pieces : List Piece) (k : Known) (s t : State) → Holds k s.values → read_parts pieces s ≡ Ok t → Holds (learn_parts pieces k) t.values

@@ -12,9 +12,11 @@ pub mod Printed
 pub mod PrintedLines
 pub mod PrintedSides
 pub mod PrintedSteps
+pub mod PrintedServices
 pub mod Pushes
 pub mod RenumberedLines
 pub mod Sequences
+pub mod ServicesBetween
 pub mod Trials
 pub mod Units
 pub mod WordLists

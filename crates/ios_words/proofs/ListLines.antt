@@ -1,25 +1,23 @@
 -- The lines of lists that stand as lines are top lines that open no block.
-use Rattle.std.proofs.Common.{◌≡◌, ◌≢◌, ℕ, ◌||◌, ◌&&◌, ◌⊎◌, inl, inr, not, Bool, true, false, if◌then◌else◌, cond, Option, Some, None, List, [], ◌∷◌, ◌++◌, refl, sym, ap, subst, ◌∙◌, ⊎_elim, codes, find}
+use Rattle.std.proofs.Common.{◌≡◌, ℕ, ◌||◌, ◌&&◌, not, Bool, true, false, if◌then◌else◌, cond, Some, None, List, [], ◌∷◌, ◌++◌, refl, sym, ap, subst, ◌∙◌, ⊎_elim, codes, find}
 use Rattle.std.specs.Prelude.{bytes_eq, is_ok}
 use Rattle.std.specs.Option.{option_map_or}
 use Rattle.std.specs.List.{list_any, list_all, starts_with}
-use Rattle.std.proofs.lemmas.Bool.{cases_Bool, false≢true, true≢false, and_parts, cond-true, cond-false}
+use Rattle.std.proofs.lemmas.Bool.{cases_Bool, false≢true, true≢false, cond-true, cond-false}
 use Rattle.std.proofs.lemmas.Option.{none-some, same_Some}
 use Rattle.std.proofs.lemmas.Slice.Eq.{bytes_eq-Decides}
 use Rattle.ios_lines.specs.Kinds.{opens_block, single_heads}
 use Rattle.ios_words.specs.declared.commands.Command.{Command}
-use Rattle.ios_words.specs.declared.commands.Command.TheVariants as commands
-use Rattle.ios_words.specs.declared.kinds.BlockKind.{BlockKind}
 use Rattle.ios_words.specs.declared.kinds.BlockKind.TheVariants as kinds
 use Rattle.ios_words.specs.declared.rows.Meaning.{Meaning}
 use Rattle.ios_words.specs.declared.rows.Meaning.TheVariants as means
-use Rattle.ios_words.specs.Commands.{completes, is_extended_block, ReadBy}
+use Rattle.ios_words.specs.Commands.{completes, ReadBy}
 use Rattle.ios_words.specs.declared.rows.Form.TheVariants.{ListNumber, Name, Order}
 use Rattle.ios_words.specs.Language.{rows, fixed}
 use Rattle.ios_words.specs.ListLines.{is_list_line, ListLinesAreTopLines}
 use Rattle.ios_words.specs.Meanings.{give}
 use Rattle.ios_words.specs.Readings.{match_words, matches, read}
-use Rattle.ios_words.specs.Rows.{Rule, row, Word, Verdict, Place, Bracket, Flag, Protocol, Source, Destination}
+use Rattle.ios_words.specs.Rows.{Rule, row, Word, Verdict, Place, Bracket, Flag, Protocol, Source, Destination, Ports}
 use Rattle.ios_words.specs.Values.{Values}
 use Rattle.ios_words.proofs.Heads.{find-passes}
 use Rattle.ios_words.proofs.RenumberedLines.{prefix_row, route_parts}
@@ -75,7 +73,7 @@ flipped a b other = ⊎_elim
 
 -- the rows of such lines
 abbrev list_row : Rule
-list_row = row (fixed (codes "access-list") ++ Place ListNumber ∷ Verdict ∷ Protocol ∷ Source ∷ Destination ∷ Flag (codes "log") ∷ []) means.ListLine
+list_row = row (fixed (codes "access-list") ++ Place ListNumber ∷ Verdict ∷ Protocol ∷ Source ∷ Destination ∷ Ports ∷ Flag (codes "log") ∷ []) means.ListLine
 
 no-row : (ws : List (List ℕ)) → matches ws list_row ≡ false → matches ws prefix_row ≡ false → list_all (no_list ws) (rows kinds.Top) ≡ true
 no-row ws one two = λ i. not (one i) && (not (two i) && true)
@@ -103,7 +101,7 @@ heads-no-list (w ∷ []) command opens reads is =
     none-lists (w ∷ []) command (no-row (w ∷ []) (list-not w [] one) (prefix-alone w)) reads is
   where
     list-not : (w : List ℕ) (r : List (List ℕ)) → bytes_eq w (codes "access-list") ≡ false → matches (w ∷ r) list_row ≡ false
-    list-not w r one = ap (λ b. option_map_or (match_words (Place ListNumber ∷ Verdict ∷ Protocol ∷ Source ∷ Destination ∷ Flag (codes "log") ∷ [])) (cond b (Some r) None) false) one
+    list-not w r one = ap (λ b. option_map_or (match_words (Place ListNumber ∷ Verdict ∷ Protocol ∷ Source ∷ Destination ∷ Ports ∷ Flag (codes "log") ∷ [])) (cond b (Some r) None) false) one
 
     prefix-alone : (w : List ℕ) → matches (w ∷ []) prefix_row ≡ false
     prefix-alone w = by (bytes_eq w (codes "ip"))
@@ -120,7 +118,7 @@ heads-no-list (w ∷ v ∷ r) command opens reads is =
     none-lists (w ∷ v ∷ r) command (no-row (w ∷ v ∷ r) (list-not one) (prefix-not prefix.0)) reads is
   where
     list-not : bytes_eq w (codes "access-list") ≡ false → matches (w ∷ v ∷ r) list_row ≡ false
-    list-not one = ap (λ b. option_map_or (match_words (Place ListNumber ∷ Verdict ∷ Protocol ∷ Source ∷ Destination ∷ Flag (codes "log") ∷ [])) (cond b (Some (v ∷ r)) None) false) one
+    list-not one = ap (λ b. option_map_or (match_words (Place ListNumber ∷ Verdict ∷ Protocol ∷ Source ∷ Destination ∷ Ports ∷ Flag (codes "log") ∷ [])) (cond b (Some (v ∷ r)) None) false) one
 
     prefix-not : (bytes_eq (codes "ip") w && (bytes_eq (codes "prefix-list") v && true)) ≡ false → matches (w ∷ v ∷ r) prefix_row ≡ false
     prefix-not none = by (bytes_eq w (codes "ip")) refl

@@ -7,13 +7,16 @@ use Rattle.ios_words.specs.declared.kinds.Flaw.{Flaw}
 use Rattle.ios_words.specs.declared.kinds.Flaw.TheVariants.{Amiss}
 use Rattle.ios_words.specs.declared.kinds.WordFault.{WordFault}
 use Rattle.ios_words.specs.declared.rows.Form.{Form}
-use Rattle.ios_words.specs.declared.rows.Form.TheVariants.{Address, Host, Wildcard, Route, AtLeast, AtMost}
+use Rattle.ios_words.specs.declared.rows.Form.TheVariants.{Address, Host, Wildcard, Route, AtLeast, AtMost, Port, FirstPort, LastPort}
+use Rattle.ios_words.specs.declared.rows.Form.TheVariants as forms
 use Rattle.arc_base.specs.PrefixText.{address_of}
-use Rattle.ios_words.specs.Numbers.{number_in, wildcard_length}
+use Rattle.ios_words.specs.Numbers.{ranged, number_in, wildcard_length}
 use Rattle.ios_words.specs.Prefixes.{holding}
-use Rattle.ios_words.specs.Readings.{State, begins, after_word, next_word, place, this_word, permits, verdict, passed, then_do, stands_alone, alone, any, width, side, as_source, step, read_parts, finish_words, finish}
-use Rattle.ios_words.specs.Rows.{Piece, Word, Verdict, Place, Bracket, Flag, Source, Destination}
-use Rattle.ios_words.specs.Values.{Values, with_value, with_result, route_of, values_with}
+use Rattle.ios_words.specs.Readings.{State, begins, after_word, next_word, place, this_word, permits, verdict, passed, then_do, stands_alone, alone, any, width, side, as_source, ports, step, read_parts, finish_words, finish}
+use Rattle.ios_words.specs.Rows.{Piece, Word, Verdict, Place, Bracket, Flag, Protocol, Source, Destination, Ports}
+use Rattle.ios_words.specs.ServiceRanges.{services_of}
+use Rattle.ios_words.specs.Services.{protocol, port, has_ports}
+use Rattle.ios_words.specs.Values.{Values, with_value, with_result, port_in, with_ports, route_of, values_with}
 
 -- values and states with another number of an entry
 abbrev pub reordered : Option ℕ → Values → Values
@@ -90,6 +93,27 @@ most-kept : (o : Option ℕ) (s : State) → place AtMost (reorder o s) ≡ map_
 most-kept o s = next-kept o (values_with AtMost s.values) (values_with AtMost (reordered o s.values)) s.taken s.words
     (λ w. value-kept o (λ n. record s.values { high = n }) (λ n. record (reordered o s.values) { high = n }) (number_in s.values.low 32 w) (λ n. refl))
 
+protocol-kept : (o : Option ℕ) (s : State) → place forms.Protocol (reorder o s) ≡ map_state o (place forms.Protocol s)
+protocol-kept o s = next-kept o (values_with forms.Protocol s.values) (values_with forms.Protocol (reordered o s.values)) s.taken s.words
+    (λ w. value-kept o (λ r. record s.values { services = r }) (λ r. record (reordered o s.values) { services = r }) (services_of w) (λ r. refl))
+
+port-kept : (o : Option ℕ) (s : State) → place Port (reorder o s) ≡ map_state o (place Port s)
+port-kept o s = next-kept o (values_with Port s.values) (values_with Port (reordered o s.values)) s.taken s.words
+    (λ w. value-kept o (λ n. with_ports s.values n n) (λ n. with_ports (reordered o s.values) n n) (port_in s.values w) (λ n. refl))
+
+first_port-kept : (o : Option ℕ) (s : State) → place FirstPort (reorder o s) ≡ map_state o (place FirstPort s)
+first_port-kept o s = next-kept o (values_with FirstPort s.values) (values_with FirstPort (reordered o s.values)) s.taken s.words
+    (λ w. value-kept o (λ n. with_ports s.values n 65535) (λ n. with_ports (reordered o s.values) n 65535) (port_in s.values w) (λ n. refl))
+
+last_port-kept : (o : Option ℕ) (s : State) → place LastPort (reorder o s) ≡ map_state o (place LastPort s)
+last_port-kept o s = next-kept o (values_with LastPort s.values) (values_with LastPort (reordered o s.values)) s.taken s.words
+    (λ w. value-kept o (λ n. with_ports s.values (port s.values.services.low) n) (λ n. with_ports (reordered o s.values) (port s.values.services.low) n) (ranged (port s.values.services.low) 65535 (port_in s.values w)) (λ n. refl))
+
+ports-kept : (o : Option ℕ) (s : State) → ports (reorder o s) ≡ map_state o (ports s)
+ports-kept o s = cond-state o (begins (codes "eq") s.words) (place Port (passed s)) _ _ _ (port-kept o (passed s))
+    (cond-state o (begins (codes "range") s.words) (then_do (place LastPort) (place FirstPort (passed s))) (Ok s) _ _
+    (then-kept o (place LastPort) (place FirstPort (passed s)) (place FirstPort (passed (reorder o s))) (first_port-kept o (passed s)) (last_port-kept o)) refl)
+
 word-kept : (o : Option ℕ) (word : List ℕ) (s : State) → this_word word (reorder o s) ≡ map_state o (this_word word s)
 word-kept o word s = next-kept o (λ w. cond (bytes_eq w word) (Ok s.values) (Err Amiss)) (λ w. cond (bytes_eq w word) (Ok (reordered o s.values)) (Err Amiss)) s.taken s.words (λ w. cond-values o (bytes_eq w word) (Ok s.values) (Err Amiss) _ _ refl refl)
 
@@ -114,8 +138,10 @@ keeps (Place Route) = true
 keeps (Bracket word AtLeast) = true
 keeps (Bracket word AtMost) = true
 keeps (Flag word) = true
+keeps Protocol = true
 keeps Source = true
 keeps Destination = true
+keeps Ports = true
 keeps _ = false
 
 step-kept : (o : Option ℕ) (piece : Piece) (s : State) → keeps piece ≡ true → step piece (reorder o s) ≡ map_state o (step piece s)
@@ -125,8 +151,10 @@ step-kept o (Place Route) s is = route-kept o s
 step-kept o (Bracket word AtLeast) s is = cond-state o (begins word s.words) (place AtLeast (passed s)) (Ok s) _ _ (least-kept o (passed s)) refl
 step-kept o (Bracket word AtMost) s is = cond-state o (begins word s.words) (place AtMost (passed s)) (Ok s) _ _ (most-kept o (passed s)) refl
 step-kept o (Flag word) s is = cond-state o (begins word s.words) (Ok (passed s)) (Ok s) _ _ refl refl
+step-kept o Protocol s is = cond-state o s.values.extended (place forms.Protocol s) (Ok s) _ _ (protocol-kept o s) refl
 step-kept o Source s is = then-kept o as_source (side s.values.extended s) (side s.values.extended (reorder o s)) (side-kept o s.values.extended s) (λ t. refl)
 step-kept o Destination s is = cond-state o s.values.extended (side true s) (Ok s) _ _ (side-kept o true s) refl
+step-kept o Ports s is = cond-state o (has_ports (protocol s.values.services.low)) (ports s) (Ok s) _ _ (ports-kept o s) refl
 step-kept o _ s is = absurd cc
 
 parts-kept : (o : Option ℕ) (pieces : List Piece) (s : State) → list_all keeps pieces ≡ true → read_parts pieces (reorder o s) ≡ map_state o (read_parts pieces s)

@@ -1,5 +1,5 @@
 -- No prefix list is named as the word of an inert row.
-use Rattle.std.proofs.Common.{◌≡◌, ◌≢◌, ℕ, ◌+◌, Bool, true, false, List, [], ◌∷◌, Option, Some, None, Result, Ok, Err, refl, sym, ap, subst, ◌∙◌, codes, find, take}
+use Rattle.std.proofs.Common.{◌≡◌, ℕ, false, List, ◌∷◌, Option, None, Ok, refl, sym, ap, subst, ◌∙◌, codes, find, take}
 use Rattle.std.specs.Prelude.{bytes_eq}
 use Rattle.std.proofs.lemmas.Bool.{false≢true}
 use Rattle.std.proofs.lemmas.Slice.Eq.{bytes_eq-Decides}
@@ -12,12 +12,12 @@ use Rattle.ios_words.specs.Commands.{completes}
 use Rattle.ios_words.specs.Language.{rows}
 use Rattle.ios_words.specs.ListLines.{PrefixListsHaveOtherNames}
 use Rattle.ios_words.specs.Meanings.{give}
-use Rattle.ios_words.specs.Readings.{read, read_parts, finish}
+use Rattle.ios_words.specs.Readings.{read}
 use Rattle.ios_words.specs.Rows.{Word, Place, Bracket, Rule}
 use Rattle.ios_words.specs.Values.{Values, no_values}
 use Rattle.ios_words.proofs.PrintedSteps.{at}
 use Rattle.ios_words.proofs.RenumberedLines.{prefix-by, prefix_row, route_parts, named-other}
-use Rattle.ios_words.proofs.Sequences.{word-read, name-read, one-of, same-values}
+use Rattle.ios_words.proofs.Sequences.{word-read, name-read, same-values}
 use Rattle.ios_words.proofs.TextKept.{retitled, map_values, read-kept}
 
 list-text : (list : List ℕ) (order : Option ℕ) (values : Values) (e : RouteText) → PrefixLine list order e ≡ give means.PrefixLine values → list ≡ values.text

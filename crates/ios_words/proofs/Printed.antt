@@ -1,5 +1,5 @@
 -- Lines that the program writes are read as what they were written for.
-use Rattle.std.proofs.Common.{◌≡◌, ℕ, ◌+◌, ◌^◌, ◌<◌, Bool, true, false, cond, List, [], ◌∷◌, ◌++◌, take, drop, Option, Some, None, Ok, refl, sym, ap, ◌∙◌, arith, codes, decimal, append-nil, take-append-drop, is_ok}
+use Rattle.std.proofs.Common.{◌≡◌, ℕ, ◌+◌, ◌^◌, ◌<◌, Bool, true, false, cond, List, [], ◌∷◌, ◌++◌, take, drop, Option, Some, None, Ok, refl, sym, ap, ◌∙◌, arith, codes, decimal, append_assoc, take-append-drop, is_ok}
 use Rattle.std.proofs.lemmas.Bool.{cond-true, cond-false}
 use Rattle.std.proofs.lemmas.List.Folds.{find-append}
 use Rattle.std.specs.Fmt.{digits}
@@ -23,11 +23,13 @@ use Rattle.ios_words.specs.Names.{is_name, is_face_name}
 use Rattle.ios_words.specs.Numbers.{list_kind, number_in}
 use Rattle.ios_words.specs.Prefixes.{holding, whole}
 use Rattle.ios_words.specs.Printed.{passive_words, neighbor_words, neighbor_list_words, group_words, list_head_words, verdict_word, side_words, packet_words, entry_words, list_line_words, prefix_line_words, permit_all_words}
-use Rattle.ios_words.specs.Readings.{begins_entry, after, after_word, match_words, matches, place, then_do, side, as_source, step, read_parts, finish, read}
-use Rattle.ios_words.specs.Rows.{Piece, Word, Verdict, Place, Bracket, Flag, EntryNumber, Protocol, Source, Destination, Anything, Rule, row}
+use Rattle.ios_words.specs.Readings.{begins_entry, after, after_word, match_words, matches, place, then_do, as_source, step, read_parts, finish, read}
+use Rattle.ios_words.specs.Rows.{Piece, Word, Verdict, Place, Bracket, Flag, EntryNumber, Protocol, Source, Destination, Ports, Anything, Rule, row}
+use Rattle.ios_words.specs.Services.{IsWritable, protocol_word, port_words}
 use Rattle.ios_words.specs.Values.{Values, with_value, no_values}
 use Rattle.ios_words.proofs.PrintedSides.{side-read}
-use Rattle.ios_words.proofs.PrintedSteps.{at, chain, name-step, face-step, address-step, order-step, ranged-decimal, list_number-step, verdict-step, number-begins, route-step}
+use Rattle.ios_words.proofs.PrintedSteps.{at, chain, name-step, face-step, address-step, order-step, ranged-decimal, list_number-step, verdict-step, verdict-begins, number-begins, route-step}
+use Rattle.ios_words.proofs.PrintedServices.{services_in, first_services, protocol-step, ports-read}
 
 -- a row that matches with every word completes
 completes-by : (extended : Bool) (ws : List (List ℕ)) (rule : Rule) (values : Values) → matches ws rule ≡ true → read extended ws rule ≡ Ok values → completes extended ws rule ≡ true
@@ -95,48 +97,59 @@ list_head-read name is =
     reads-at false (list_head_words name) (rows blocks.Top) 78 _ _ (record (no_values false) { text = name }) (ListBlock true name) refl refl refl
     (ap finish (chain (Place Name) [] (at 3 (name ∷ []) (no_values false)) _ (name-step 3 name [] (no_values false) is))) refl
 
--- both sides of an entry, and nothing after them
-record SidesRead (from to : Prefix) (taken : ℕ) (v : Values) : Type 0 where
+-- the parts of an entry after its verdict's place, and those after its protocol
+abbrev entry_parts : List Piece
+entry_parts = Verdict ∷ Protocol ∷ Source ∷ Destination ∷ Ports ∷ Flag (codes "log") ∷ []
+
+abbrev side_parts : List Piece
+side_parts = Source ∷ Destination ∷ Ports ∷ Flag (codes "log") ∷ []
+
+-- both sides of an entry and its ports, and nothing after them
+record SidesRead (e : PacketText) (taken : ℕ) (v : Values) : Type 0 where
   after : ℕ
   addr : ℕ
   len : ℕ
-  read : read_parts (Source ∷ Destination ∷ Flag (codes "log") ∷ []) (at taken (side_words from ++ side_words to) (record v { extended = true })) ≡ Ok (at after [] (record v { extended = true; address = addr; length = len; from = from; to = to }))
+  read : read_parts side_parts (at taken (side_words e.from ++ side_words e.to ++ port_words e.low e.high) (record v { extended = true; services = first_services e }))
+      ≡ Ok (at after [] (record v { extended = true; address = addr; length = len; from = e.from; to = e.to; services = services_in e }))
 
-sides-read : (from to : Prefix) (taken : ℕ) (v : Values) → SidesRead from to taken v
-sides-read from to taken v =
-    let w = record v { extended = true } in
-    let first = side-read from (side_words to) taken w in
-    let mid = record w { address = first.addr; length = first.len; from = from; to = whole } in
-    let second = side-read to [] first.after mid in
-    let source : step Source (at taken (side_words from ++ side_words to) w) ≡ Ok (at first.after (side_words to) mid) = ap (then_do as_source) first.read in
-    let target : step Destination (at first.after (side_words to) mid) ≡ Ok (at second.after [] (record mid { address = second.addr; length = second.len; to = to })) =
-    ap (λ ws. side true (at first.after ws mid)) (sym (append-nil (side_words to))) ∙ second.read in
+sides-read : (e : PacketText) → IsWritable e → (taken : ℕ) (v : Values) → SidesRead e taken v
+sides-read e writable taken v =
+    let w = record v { extended = true; services = first_services e } in
+    let ports = port_words e.low e.high in
+    let words = side_words e.from ++ (side_words e.to ++ ports) in
+    let joined : side_words e.from ++ side_words e.to ++ ports ≡ words = append_assoc (side_words e.from) (side_words e.to) ports in
+    let first = side-read e.from (side_words e.to ++ ports) taken w in
+    let mid = record w { address = first.addr; length = first.len; from = e.from; to = whole } in
+    let second = side-read e.to ports first.after mid in
+    let last = ports-read e writable second.after (record mid { address = second.addr; length = second.len; to = e.to }) in
+    let source : step Source (at taken words w) ≡ Ok (at first.after (side_words e.to ++ ports) mid) = ap (then_do as_source) first.read in
     record {
-      after = second.after;
+      after = last.after;
       addr = second.addr;
       len = second.len;
-      read = chain Source (Destination ∷ Flag (codes "log") ∷ []) (at taken (side_words from ++ side_words to) w) _ source
-          ∙ chain Destination (Flag (codes "log") ∷ []) (at first.after (side_words to) mid) _ target;
+      read = ap (λ ws. read_parts side_parts (at taken ws w)) joined ∙ chain Source (Destination ∷ Ports ∷ Flag (codes "log") ∷ []) (at taken words w) _ source
+          ∙ chain Destination (Ports ∷ Flag (codes "log") ∷ []) (at first.after (side_words e.to ++ ports) mid) _ second.read
+          ∙ chain Ports (Flag (codes "log") ∷ []) (at second.after ports (record mid { address = second.addr; length = second.len; to = e.to })) _ last.read;
     }
 
--- permit or deny, and both sides
-record PacketRead (permit : Bool) (from to : Prefix) (taken : ℕ) (v : Values) : Type 0 where
+-- permit or deny, the protocol, both sides and the ports
+record PacketRead (e : PacketText) (taken : ℕ) (v : Values) : Type 0 where
   addr : ℕ
   len : ℕ
-  read : finish (read_parts (Verdict ∷ Word (codes "ip") ∷ Source ∷ Destination ∷ Flag (codes "log") ∷ []) (at taken (packet_words permit from to) (record v { extended = true }))) ≡ Ok (record v { extended = true; permit = permit; address = addr; length = len; from = from; to = to })
+  read : finish (read_parts entry_parts (at taken (packet_words e) (record v { extended = true })))
+      ≡ Ok (record v { extended = true; permit = e.permit; address = addr; length = len; from = e.from; to = e.to; services = services_in e })
 
-packet-read : (permit : Bool) (from to : Prefix) (taken : ℕ) (v : Values) → PacketRead permit from to taken v
-packet-read permit from to taken v =
-    let sides = sides-read from to (taken + 1 + 1) (record v { permit = permit }) in
+packet-read : (e : PacketText) → IsWritable e → (taken : ℕ) (v : Values) → PacketRead e taken v
+packet-read e writable taken v =
+    let rest = side_words e.from ++ side_words e.to ++ port_words e.low e.high in
+    let sides = sides-read e writable (taken + 1 + 1) (record v { permit = e.permit }) in
     record {
       addr = sides.addr;
       len = sides.len;
-      read = ap finish (chain Verdict (Word (codes "ip") ∷ Source ∷ Destination ∷ Flag (codes "log") ∷ []) (at taken (packet_words permit from to) (record v { extended = true })) _ (verdict-step permit taken (codes "ip" ∷ side_words from ++ side_words to) (record v { extended = true }))
+      read = ap finish (chain Verdict (Protocol ∷ side_parts) (at taken (packet_words e) (record v { extended = true })) _ (verdict-step e.permit taken (protocol_word e.low e.high ∷ rest) (record v { extended = true }))
+          ∙ chain Protocol side_parts (at (taken + 1) (protocol_word e.low e.high ∷ rest) (record v { extended = true; permit = e.permit })) _ (protocol-step e writable (taken + 1) rest (record v { permit = e.permit }))
           ∙ sides.read);
     }
-
-abbrev packet_text : Bool → Prefix → Prefix → PacketText
-packet_text permit from to = record { permit = permit; from = from; to = to }
 
 -- the inert row of a packet list's block, and one of prefix lists
 abbrev remark : Rule
@@ -145,50 +158,57 @@ remark = row (EntryNumber ∷ [] ++ fixed (codes "remark") ++ Anything ∷ []) m
 abbrev sequence_number : Rule
 sequence_number = inert (codes "ip prefix-list sequence-number")
 
+no-remark : (permit : Bool) (rest : List (List ℕ)) → match_words (Word (codes "remark") ∷ Anything ∷ []) (verdict_word permit ∷ rest) ≡ false
+no-remark true rest = refl
+no-remark false rest = refl
+
+verdict-matches : (permit : Bool) (rest : List (List ℕ)) → match_words entry_parts (verdict_word permit ∷ rest) ≡ true
+verdict-matches true rest = refl
+verdict-matches false rest = refl
+
 -- an entry of a block
-pub entry-read : (order : Option ℕ) (permit : Bool) (from to : Prefix) → IsOrder 2147483647 order → ReadBy true (entry_words order permit from to) (rows blocks.Extended) (Entry order (packet_text permit from to))
-entry-read None true from to ranged =
-    let packet = packet-read true from to 0 (no_values true) in
-    reads-at true (entry_words None true from to) (rows blocks.Extended) 1 _ _ _ (Entry None (packet_text true from to)) refl refl refl packet.read refl
-entry-read None false from to ranged =
-    let packet = packet-read false from to 0 (no_values true) in
-    reads-at true (entry_words None false from to) (rows blocks.Extended) 1 _ _ _ (Entry None (packet_text false from to)) refl refl refl packet.read refl
-entry-read (Some n) permit from to ranged =
+pub entry-read : (order : Option ℕ) (e : PacketText) → IsWritable e → IsOrder 2147483647 order → ReadBy true (entry_words order e) (rows blocks.Extended) (Entry order e)
+entry-read None e writable ranged =
+    let packet = packet-read e writable 0 (no_values true) in
+    let words = packet_words e in
+    let begins : begins_entry words ≡ true = verdict-begins e.permit (drop 1 words) in
+    let stays : step EntryNumber (at 0 words (no_values true)) ≡ Ok (at 0 words (no_values true)) = cond-true (begins_entry words) (Ok (at 0 words (no_values true))) (place (Order 2147483647) (at 0 words (no_values true))) begins in
+    let stands : after EntryNumber words ≡ Some words = ap Some (cond-true (begins_entry words) words (drop 1 words) begins) in
+    reads-at true words (rows blocks.Extended) 1 _ _ _ (Entry None e) refl
+    (none-split (completes true words) [] remark [] refl (fails-by true words remark (ap (λ o. option_map_or (match_words (Word (codes "remark") ∷ Anything ∷ [])) o false) stands ∙ no-remark e.permit (drop 1 words))) refl)
+    (ap (λ o. option_map_or (match_words entry_parts) o false) stands ∙ verdict-matches e.permit (drop 1 words))
+    (ap finish (chain EntryNumber entry_parts (at 0 words (no_values true)) (at 0 words (no_values true)) stays) ∙ packet.read) refl
+entry-read (Some n) e writable ranged =
     let small : n < 2 ^ 64 = let most = ranged.1 in omega arith in
     let v = record (no_values true) { order = Some n } in
-    let packet = packet-read permit from to 1 v in
-    let words = entry_words (Some n) permit from to in
-    let tail = packet_words permit from to in
+    let packet = packet-read e writable 1 v in
+    let words = entry_words (Some n) e in
+    let tail = packet_words e in
     let number : step EntryNumber (at 0 words (no_values true)) ≡ Ok (at 1 tail v) =
     cond-false (begins_entry words) (Ok (at 0 words (no_values true))) (place (Order 2147483647) (at 0 words (no_values true))) (number-begins n tail small) ∙ order-step 2147483647 0 n tail (no_values true) ranged.0 ranged.1 small in
     let skip : after EntryNumber words ≡ Some tail = ap Some (cond-false (begins_entry words) words tail (number-begins n tail small)) in
-    reads-at true words (rows blocks.Extended) 1 _ _ _ (Entry (Some n) (packet_text permit from to)) refl
-    (none-split (completes true words) [] remark [] refl (fails-by true words remark (ap (λ o. option_map_or (match_words (Word (codes "remark") ∷ Anything ∷ [])) o false) skip ∙ no-remark permit (drop 1 tail))) refl)
-    (ap (λ o. option_map_or (match_words (Verdict ∷ Word (codes "ip") ∷ Source ∷ Destination ∷ Flag (codes "log") ∷ [])) o false) skip ∙ verdict-ip permit (side_words from ++ side_words to))
-    (ap finish (chain EntryNumber (Verdict ∷ Word (codes "ip") ∷ Source ∷ Destination ∷ Flag (codes "log") ∷ []) (at 0 words (no_values true)) (at 1 tail v) number) ∙ packet.read) refl
-  where
-    no-remark : (permit : Bool) (rest : List (List ℕ)) → match_words (Word (codes "remark") ∷ Anything ∷ []) (verdict_word permit ∷ rest) ≡ false
-    no-remark true rest = refl
-    no-remark false rest = refl
-
-    verdict-ip : (permit : Bool) (rest : List (List ℕ)) → match_words (Verdict ∷ Word (codes "ip") ∷ Source ∷ Destination ∷ Flag (codes "log") ∷ []) (verdict_word permit ∷ codes "ip" ∷ rest) ≡ true
-    verdict-ip true rest = refl
-    verdict-ip false rest = refl
+    reads-at true words (rows blocks.Extended) 1 _ _ _ (Entry (Some n) e) refl
+    (none-split (completes true words) [] remark [] refl (fails-by true words remark (ap (λ o. option_map_or (match_words (Word (codes "remark") ∷ Anything ∷ [])) o false) skip ∙ no-remark e.permit (drop 1 tail))) refl)
+    (ap (λ o. option_map_or (match_words entry_parts) o false) skip ∙ verdict-matches e.permit (drop 1 tail))
+    (ap finish (chain EntryNumber entry_parts (at 0 words (no_values true)) (at 1 tail v) number) ∙ packet.read) refl
 
 -- an entry of a numbered list, as a line
-pub list_line-read : (name : List ℕ) (permit : Bool) (from to : Prefix) → list_kind (number_of name) ≡ Some true → ReadBy false (list_line_words name permit from to) (rows blocks.Top) (ListLine name (packet_text permit from to))
-list_line-read name true from to is =
-    let v = record (no_values false) { text = name; extended = true; permit = true } in
-    let rest = packet_words true from to in
-    let sides = sides-read from to 4 v in
-    reads-at false (list_line_words name true from to) (rows blocks.Top) 80 _ _ _ (ListLine name (packet_text true from to)) refl refl refl
-    (ap finish (chain (Place ListNumber) (Verdict ∷ Protocol ∷ Source ∷ Destination ∷ Flag (codes "log") ∷ []) (at 1 (name ∷ rest) (no_values false)) _ (list_number-step 1 name rest (no_values false) is) ∙ sides.read)) refl
-list_line-read name false from to is =
-    let v = record (no_values false) { text = name; extended = true; permit = false } in
-    let rest = packet_words false from to in
-    let sides = sides-read from to 4 v in
-    reads-at false (list_line_words name false from to) (rows blocks.Top) 80 _ _ _ (ListLine name (packet_text false from to)) refl refl refl
-    (ap finish (chain (Place ListNumber) (Verdict ∷ Protocol ∷ Source ∷ Destination ∷ Flag (codes "log") ∷ []) (at 1 (name ∷ rest) (no_values false)) _ (list_number-step 1 name rest (no_values false) is) ∙ sides.read)) refl
+pub list_line-read : (name : List ℕ) (e : PacketText) → IsWritable e → list_kind (number_of name) ≡ Some true → ReadBy false (list_line_words name e) (rows blocks.Top) (ListLine name e)
+list_line-read name e writable is =
+    let v = record (no_values false) { text = name } in
+    let tail = packet_words e in
+    let words = list_line_words name e in
+    let packet = packet-read e writable 2 v in
+    reads-at false words (rows blocks.Top) 80 _ _ _ (ListLine name e) refl (none-before e.permit (drop 1 tail)) (row-matches e.permit (drop 1 tail))
+    (ap finish (chain (Place ListNumber) entry_parts (at 1 (name ∷ tail) (no_values false)) _ (list_number-step 1 name tail (no_values false) is)) ∙ packet.read) refl
+  where
+    none-before : (permit : Bool) (rest : List (List ℕ)) → find (completes false (codes "access-list" ∷ name ∷ verdict_word permit ∷ rest)) (take 80 (rows blocks.Top)) ≡ None
+    none-before true rest = refl
+    none-before false rest = refl
+
+    row-matches : (permit : Bool) (rest : List (List ℕ)) → match_words (Word (codes "access-list") ∷ Place ListNumber ∷ entry_parts) (codes "access-list" ∷ name ∷ verdict_word permit ∷ rest) ≡ true
+    row-matches true rest = refl
+    row-matches false rest = refl
 
 abbrev route_text : Bool → Prefix → RouteText
 route_text permit p = record { permit = permit; prefix = p; low = p.len; high = p.len }

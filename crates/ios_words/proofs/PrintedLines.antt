@@ -1,10 +1,12 @@
 -- Lines that the program writes are lines of their kinds, and are read as what they were written for.
-use Rattle.std.proofs.Common.{◌≡◌, ◌≢◌, ℕ, ◌-◌, ◌^◌, ◌<◌, ◌≤◌, ◌==◌, Bool, true, false, cond, List, [], ◌∷◌, ◌++◌, codes, decimal, Option, Some, None, refl, arith}
+use Rattle.std.proofs.Common.{◌≡◌, ◌≢◌, ℕ, ◌-◌, ◌/◌, ◌%◌, ◌^◌, ◌<◌, ◌≤◌, ◌==◌, Bool, true, false, cond, List, [], ◌∷◌, ◌++◌, codes, decimal, Option, Some, None, refl, arith}
 use Rattle.std.proofs.lemmas.Bool.{ne_eqb}
 use Rattle.std.proofs.lemmas.Fmt.{decimal_is_IsNumeral}
 use Rattle.std.proofs.lemmas.Slice.Eq.{bytes_eq-Decides}
 use Rattle.std.proofs.lemmas.Str.Parse.{digit_from_value}
-use Rattle.std.proofs.Math.Nat.{one-le-pow, pow-le-pow_right}
+use Rattle.std.proofs.Math.Nat.{one-le-pow, pow-le-pow_right, mod-lt, div-le_self}
+use Rattle.std.specs.List.{find}
+use Rattle.std.specs.Option.{option_map_or}
 use Rattle.std.specs.Str.{bytes_eq}
 use Rattle.std.specs.Str.Parse.{AllDigits}
 use Rattle.arc_base.specs.declared.prefix.Prefix.{Prefix}
@@ -14,14 +16,17 @@ use Rattle.ios_lines.specs.Written.{is_plain, ArePlain}
 use Rattle.ios_lines.proofs.WrittenLines.{indented-written, top-written, indented-inner, top-kinds}
 use Rattle.ios_words.specs.declared.commands.Command.{Command}
 use Rattle.ios_words.specs.declared.commands.Command.TheVariants.{Passive, NeighborDown, NeighborList, Group, Entry}
+use Rattle.ios_words.specs.declared.commands.PacketText.{PacketText}
 use Rattle.ios_words.specs.declared.kinds.BlockKind.{BlockKind}
 use Rattle.ios_words.specs.declared.kinds.BlockKind.TheVariants as blocks
 use Rattle.ios_words.specs.Commands.{is_extended_block, ReadBy}
 use Rattle.ios_words.specs.Forms.{IsOrder}
 use Rattle.ios_words.specs.Language.{rows}
-use Rattle.ios_words.specs.Printed.{verdict_word, side_words, packet_words, sequence_words, IsInnerLine, IsClosingLine, packet_text, PassiveLinesAreRead, NeighborLinesAreRead, NeighborListLinesAreRead, GroupLinesAreRead, EntryLinesAreRead, ListHeadsAreRead, ListLinesAreRead, PrefixLinesAreRead, PermitAllLinesAreRead}
+use Rattle.ios_words.specs.Printed.{verdict_word, side_words, packet_words, sequence_words, IsInnerLine, IsClosingLine, PassiveLinesAreRead, NeighborLinesAreRead, NeighborListLinesAreRead, GroupLinesAreRead, EntryLinesAreRead, ListHeadsAreRead, ListLinesAreRead, PrefixLinesAreRead, PermitAllLinesAreRead}
+use Rattle.ios_words.specs.Services.{protocol, port, protocol_names, protocol_text, protocol_word, port_words, are_all, are_all_ports}
 use Rattle.ios_words.proofs.PlainWords.{name-plain, face-plain, decimal-plain, address-plain, prefix-plain, list_number-plain}
 use Rattle.ios_words.proofs.Printed.{passive-read, neighbor-read, neighbor_list-read, group-read, entry-read, list_head-read, list_line-read, prefix_line-read, permit_all-read}
+use Rattle.ios_words.proofs.PrintedServices.{found-both}
 
 inner-line : (within : BlockKind) (word : List ℕ) (ws : List (List ℕ)) (command : Command) → ArePlain (word ∷ ws) → is_mark word ≡ false → ReadBy (is_extended_block within) (word ∷ ws) (rows within) command → IsInnerLine within (word ∷ ws) command
 inner-line within word ws command plain mark reads = record { written = indented-written (word ∷ ws) plain; kind = indented-inner word ws plain mark; reads = reads }
@@ -50,8 +55,35 @@ verdict-plain : (permit : Bool) → is_plain (verdict_word permit) ≡ true
 verdict-plain true = refl
 verdict-plain false = refl
 
-packet-plain : (permit : Bool) (from to : Prefix) → ArePlain (packet_words permit from to)
-packet-plain permit from to = (verdict-plain permit, (refl, plain-append (side_words from) (side_words to) (side-plain from) (side-plain to)))
+-- the names of protocols are plain
+abbrev is_named_plain : ℕ × List ℕ → Bool
+is_named_plain row = is_plain row.1
+
+pub protocol-plain : (n : ℕ) → n < 2 ^ 64 → is_plain (protocol_text n) ≡ true
+protocol-plain n small = by (find (λ row. row.0 == n) protocol_names) refl
+  where
+    by : (o : Option (ℕ × List ℕ)) → find (λ row. row.0 == n) protocol_names ≡ o → is_plain (option_map_or (λ row. row.1) o (decimal n)) ≡ true
+    by (Some row) is = (found-both (λ row. row.0 == n) is_named_plain protocol_names row is refl).1
+    by None is = decimal-plain n small
+
+service-plain : (e : PacketText) → is_plain (protocol_word e.low e.high) ≡ true
+service-plain e =
+    let few : e.high < 2 ^ 24 = e.in_range in
+    let ordered : e.low ≤ e.high = e.ordered in
+    let less : e.low / 65536 ≤ e.low = div-le_self e.low 65536 in
+    choice (λ w. is_plain w ≡ true) (are_all e.low e.high) _ _ refl (protocol-plain (protocol e.low) (omega (arith, few, ordered, less)))
+
+port-plain : (n : ℕ) → is_plain (decimal (port n)) ≡ true
+port-plain n = let few : n % 65536 < 65536 = mod-lt n (omega arith) in decimal-plain (n % 65536) (omega (arith, few))
+
+ports-plain : (e : PacketText) → ArePlain (port_words e.low e.high)
+ports-plain e = choice ArePlain (are_all_ports e.low e.high) _ _ tt (choice ArePlain (e.low == e.high) _ _ (refl, (port-plain e.low, tt)) (refl, (port-plain e.low, (port-plain e.high, tt))))
+
+packet-plain : (e : PacketText) → ArePlain (packet_words e)
+packet-plain e = (
+  verdict-plain e.permit,
+  (service-plain e, plain-append (side_words e.from ++ side_words e.to) (port_words e.low e.high) (plain-append (side_words e.from) (side_words e.to) (side-plain e.from) (side-plain e.to)) (ports-plain e)),
+)
 
 verdict-mark : (permit : Bool) → is_mark (verdict_word permit) ≡ false
 verdict-mark true = refl
@@ -78,11 +110,11 @@ pub group-line : GroupLinesAreRead
 group-line name is = inner-line blocks.Interface (codes "ip") (codes "access-group" ∷ name ∷ codes "in" ∷ []) (Group name true) (refl, (refl, (name-plain name is, (refl, tt)))) refl (group-read name is)
 
 pub entry-line : EntryLinesAreRead
-entry-line None permit from to ranged =
-    inner-line blocks.Extended (verdict_word permit) (codes "ip" ∷ side_words from ++ side_words to) (Entry None (packet_text permit from to)) (packet-plain permit from to) (verdict-mark permit) (entry-read None permit from to ranged)
-entry-line (Some n) permit from to ranged =
+entry-line None e writable ranged =
+    inner-line blocks.Extended (verdict_word e.permit) (protocol_word e.low e.high ∷ side_words e.from ++ side_words e.to ++ port_words e.low e.high) (Entry None e) (packet-plain e) (verdict-mark e.permit) (entry-read None e writable ranged)
+entry-line (Some n) e writable ranged =
     let small : n < 2 ^ 64 = let most = ranged.1 in omega arith in
-    inner-line blocks.Extended (decimal n) (packet_words permit from to) (Entry (Some n) (packet_text permit from to)) (decimal-plain n small, packet-plain permit from to) (digits-mark (decimal n) (decimal_is_IsNumeral n small).0.1) (entry-read (Some n) permit from to ranged)
+    inner-line blocks.Extended (decimal n) (packet_words e) (Entry (Some n) e) (decimal-plain n small, packet-plain e) (digits-mark (decimal n) (decimal_is_IsNumeral n small).0.1) (entry-read (Some n) e writable ranged)
 
 pub list_head-line : ListHeadsAreRead
 list_head-line name is =
@@ -94,12 +126,12 @@ list_head-line name is =
     }
 
 pub list_line-line : ListLinesAreRead
-list_line-line name permit from to is =
-    let rest : ArePlain (name ∷ packet_words permit from to) = (list_number-plain name is, packet-plain permit from to) in
+list_line-line name e writable is =
+    let rest : ArePlain (name ∷ packet_words e) = (list_number-plain name is, packet-plain e) in
     record {
-      written = top-written (codes "access-list") (name ∷ packet_words permit from to) refl rest;
-      kind = top-kinds (codes "access-list") (name ∷ packet_words permit from to) refl rest;
-      reads = list_line-read name permit from to is;
+      written = top-written (codes "access-list") (name ∷ packet_words e) refl rest;
+      kind = top-kinds (codes "access-list") (name ∷ packet_words e) refl rest;
+      reads = list_line-read name e writable is;
     }
 
 -- a name that is not a word fails the test of it

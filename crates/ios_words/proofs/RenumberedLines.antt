@@ -24,7 +24,7 @@ use Rattle.ios_words.specs.Names.{is_name}
 use Rattle.ios_words.specs.Numbers.{number_in}
 use Rattle.ios_words.specs.Readings.{State, begins_verdict, begins_entry, after, after_word, match_words, matches, place, then_do, step, read_parts, finish, start, read}
 use Rattle.ios_words.specs.Renumbered.{EntriesMayBeRenumbered, PrefixLinesMayBeRenumbered}
-use Rattle.ios_words.specs.Rows.{Piece, Word, Verdict, Place, Bracket, Flag, EntryNumber, Source, Destination, Anything, Rule, row}
+use Rattle.ios_words.specs.Rows.{Piece, Word, Verdict, Place, Bracket, Flag, EntryNumber, Protocol, Source, Destination, Ports, Anything, Rule, row}
 use Rattle.ios_words.specs.Values.{Values, with_value, tested, no_values}
 use Rattle.ios_words.proofs.Heads.{find-passes}
 use Rattle.ios_words.proofs.OrderKept.{reordered, map_values, read-kept}
@@ -47,7 +47,7 @@ abbrev remark : Rule
 remark = row (EntryNumber ∷ [] ++ fixed (codes "remark") ++ Anything ∷ []) means.Inert
 
 abbrev rest : List Piece
-rest = Verdict ∷ Word (codes "ip") ∷ Source ∷ Destination ∷ Flag (codes "log") ∷ []
+rest = Verdict ∷ Protocol ∷ Source ∷ Destination ∷ Ports ∷ Flag (codes "log") ∷ []
 
 abbrev entry_row : Rule
 entry_row = row (EntryNumber ∷ rest) means.Entry
@@ -80,7 +80,7 @@ verdict-first (w ∷ ws) match = ⊎_elim
     subst (λ v. match_words (Word (codes "remark") ∷ Anything ∷ []) (v ∷ ws) ≡ false) (sym is) refl)
     (λ no_deny.
     let none : begins_verdict (w ∷ ws) ≡ false = ap (λ b. b || bytes_eq w (codes "deny")) no_permit ∙ no_deny in
-    let fails : match_words rest (w ∷ ws) ≡ false = ap (λ b. option_map_or (match_words (Word (codes "ip") ∷ Source ∷ Destination ∷ Flag (codes "log") ∷ [])) (cond b (Some ws) None) false) none in
+    let fails : match_words rest (w ∷ ws) ≡ false = ap (λ b. option_map_or (match_words (Protocol ∷ Source ∷ Destination ∷ Ports ∷ Flag (codes "log") ∷ [])) (cond b (Some ws) None) false) none in
     absurd (true≢false (sym match ∙ fails)))
     (cases_Bool (bytes_eq w (codes "deny"))))
     (cases_Bool (bytes_eq w (codes "permit")))

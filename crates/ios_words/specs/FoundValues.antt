@@ -19,6 +19,7 @@ values_of f = record {
   to = f.to;
   low = f.low;
   high = f.high;
+  services = f.services;
 }
 
 -- the values after a word, or its flaw

@@ -6,7 +6,7 @@ use Rattle.ios_words.specs.declared.kinds.BlockKind.{BlockKind}
 use Rattle.ios_words.specs.declared.kinds.BlockKind.TheVariants as blocks
 use Rattle.ios_words.specs.declared.rows.Form.TheVariants.{Name, FaceName, Number, Address, Network, Mask, Wildcard, Area, ListNumber, Order, Route, AtLeast, AtMost}
 use Rattle.ios_words.specs.declared.rows.Meaning.TheVariants as means
-use Rattle.ios_words.specs.Rows.{Piece, Word, Verdict, Place, Bracket, Flag, EntryNumber, Protocol, Source, Destination, Anything, Rule, row}
+use Rattle.ios_words.specs.Rows.{Piece, Word, Verdict, Place, Bracket, Flag, EntryNumber, Protocol, Source, Destination, Ports, Anything, Rule, row}
 
 -- the words of a text, with a space between them, as the fixed words of a row
 abbrev pub fixed : List ℕ → List Piece
@@ -52,7 +52,7 @@ read_top =
     ∷ row (fixed (codes "router bgp") ++ Place (Number 1 4294967295) ∷ []) means.RouterBgp
     ∷ row (fixed (codes "ip access-list extended") ++ Place Name ∷ []) means.ExtendedList
     ∷ row (fixed (codes "ip access-list standard") ++ Place Name ∷ []) means.StandardList
-    ∷ row (fixed (codes "access-list") ++ Place ListNumber ∷ Verdict ∷ Protocol ∷ Source ∷ Destination ∷ Flag (codes "log") ∷ []) means.ListLine
+    ∷ row (fixed (codes "access-list") ++ Place ListNumber ∷ Verdict ∷ Protocol ∷ Source ∷ Destination ∷ Ports ∷ Flag (codes "log") ∷ []) means.ListLine
     ∷ row (fixed (codes "ip prefix-list") ++ Place Name ∷ Bracket (codes "seq") (Order 4294967294) ∷ Verdict ∷ Place Route ∷ Bracket (codes "ge") AtLeast ∷ Bracket (codes "le") AtMost ∷ []) means.PrefixLine
     ∷ []
 
@@ -132,7 +132,7 @@ inert_list =
 -- the other lines of an extended list
 abbrev pub read_extended : List Rule
 read_extended =
-    row (EntryNumber ∷ Verdict ∷ [] ++ fixed (codes "ip") ++ Source ∷ Destination ∷ Flag (codes "log") ∷ []) means.Entry
+    row (EntryNumber ∷ Verdict ∷ Protocol ∷ Source ∷ Destination ∷ Ports ∷ Flag (codes "log") ∷ []) means.Entry
     ∷ []
 
 -- the other lines of a standard list

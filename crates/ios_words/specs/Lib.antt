@@ -5,9 +5,12 @@ pub mod FoundValues
 pub mod Language
 pub mod Laws
 pub mod Meanings
+pub mod NameRows
 pub mod Names
 pub mod Numbers
 pub mod Prefixes
+pub mod ServiceRanges
+pub mod Services
 pub mod Printed
 pub mod Readings
 pub mod Renumbered

@@ -11,7 +11,15 @@ use Rattle.ios_words.specs.Values.{Values}
 
 -- the entry of a packet list
 abbrev pub packet : Values → PacketText
-packet v = record { permit = v.permit; from = v.from; to = v.to }
+packet v = record {
+  permit = v.permit;
+  from = v.from;
+  to = v.to;
+  low = v.services.low;
+  high = v.services.high;
+  ordered = v.services.ordered;
+  in_range = v.services.in_range;
+}
 
 -- the entry of a prefix list
 abbrev pub route : Values → RouteText

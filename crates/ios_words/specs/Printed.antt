@@ -16,6 +16,7 @@ use Rattle.ios_words.specs.Language.{rows}
 use Rattle.ios_words.specs.Names.{is_name, is_face_name}
 use Rattle.ios_words.specs.Numbers.{list_kind}
 use Rattle.ios_words.specs.Prefixes.{whole}
+use Rattle.ios_words.specs.Services.{IsWritable, protocol_word, port_words}
 
 -- no before the words of what is no longer to be
 abbrev pub unless : Bool → List (List ℕ) → List (List ℕ)
@@ -53,8 +54,9 @@ side_words p =
     else (if p.len == 32 then codes "host" ∷ address_text p.addr ∷ [] else address_text p.addr ∷ address_text (2 ^ (32 - p.len) - 1) ∷ [])
 
 -- an entry without its number
-abbrev pub packet_words : Bool → Prefix → Prefix → List (List ℕ)
-packet_words permit from to = verdict_word permit ∷ codes "ip" ∷ side_words from ++ side_words to
+abbrev pub packet_words : PacketText → List (List ℕ)
+packet_words entry =
+    verdict_word entry.permit ∷ protocol_word entry.low entry.high ∷ side_words entry.from ++ side_words entry.to ++ port_words entry.low entry.high
 
 -- the number before an entry, if there is one
 abbrev pub order_words : Option ℕ → List (List ℕ)
@@ -62,12 +64,12 @@ order_words None = []
 order_words (Some number) = decimal number ∷ []
 
 -- an entry of a packet list, in its block
-abbrev pub entry_words : Option ℕ → Bool → Prefix → Prefix → List (List ℕ)
-entry_words order permit from to = order_words order ++ packet_words permit from to
+abbrev pub entry_words : Option ℕ → PacketText → List (List ℕ)
+entry_words order entry = order_words order ++ packet_words entry
 
 -- an entry of a numbered list, as a line
-abbrev pub list_line_words : List ℕ → Bool → Prefix → Prefix → List (List ℕ)
-list_line_words name permit from to = codes "access-list" ∷ name ∷ packet_words permit from to
+abbrev pub list_line_words : List ℕ → PacketText → List (List ℕ)
+list_line_words name entry = codes "access-list" ∷ name ∷ packet_words entry
 
 -- the number after seq, if there is one
 abbrev pub sequence_words : Option ℕ → List (List ℕ)
@@ -99,10 +101,7 @@ pub record IsTopLine (Is : List ℕ → Type 0) (ws : List (List ℕ)) (command 
   pub kind : Is (top_line ws)
   pub reads : ReadBy false ws (rows blocks.Top) command
 
--- an entry of a packet list, and one of a prefix list that says of one prefix alone
-abbrev pub packet_text : Bool → Prefix → Prefix → PacketText
-packet_text permit from to = record { permit = permit; from = from; to = to }
-
+-- an entry of a prefix list that says of one prefix alone
 abbrev pub route_text : Bool → Prefix → RouteText
 route_text permit p = record { permit = permit; prefix = p; low = p.len; high = p.len }
 
@@ -126,13 +125,15 @@ GroupLinesAreRead = (name : List ℕ) → IsTrue (is_name name) → IsInnerLine 
 
 -- the lines of a packet list, as a block and as lines
 abbrev pub EntryLinesAreRead : Type 0
-EntryLinesAreRead = (order : Option ℕ) (permit : Bool) (from to : Prefix) → IsOrder 2147483647 order → IsInnerLine blocks.Extended (entry_words order permit from to) (Entry order (packet_text permit from to))
+EntryLinesAreRead =
+    (order : Option ℕ) (entry : PacketText) → IsWritable entry → IsOrder 2147483647 order → IsInnerLine blocks.Extended (entry_words order entry) (Entry order entry)
 
 abbrev pub ListHeadsAreRead : Type 0
 ListHeadsAreRead = (name : List ℕ) → IsTrue (is_name name) → IsTopLine IsHead (list_head_words name) (ListBlock true name)
 
 abbrev pub ListLinesAreRead : Type 0
-ListLinesAreRead = (name : List ℕ) (permit : Bool) (from to : Prefix) → list_kind (number_of name) ≡ Some true → IsTopLine IsSingle (list_line_words name permit from to) (ListLine name (packet_text permit from to))
+ListLinesAreRead =
+    (name : List ℕ) (entry : PacketText) → IsWritable entry → list_kind (number_of name) ≡ Some true → IsTopLine IsSingle (list_line_words name entry) (ListLine name entry)
 
 -- the lines of a prefix list, whose name is not the word of an inert row
 abbrev pub PrefixLinesAreRead : Type 0

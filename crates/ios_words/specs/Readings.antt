@@ -7,9 +7,11 @@ use Rattle.ios_words.specs.declared.kinds.Flaw.TheVariants.{Amiss, Scattered}
 use Rattle.ios_words.specs.declared.kinds.WordFault.{WordFault}
 use Rattle.ios_words.specs.declared.kinds.WordFault.TheVariants.{BadWord, WildcardNotPrefix}
 use Rattle.ios_words.specs.declared.rows.Form.{Form}
-use Rattle.ios_words.specs.declared.rows.Form.TheVariants.{Host, Address, Wildcard, Order}
+use Rattle.ios_words.specs.declared.rows.Form.TheVariants.{Host, Address, Wildcard, Order, Port, FirstPort, LastPort}
+use Rattle.ios_words.specs.declared.rows.Form.TheVariants as forms
 use Rattle.ios_words.specs.Prefixes.{holding, whole}
-use Rattle.ios_words.specs.Rows.{Piece, Word, Verdict, Place, Bracket, Flag, EntryNumber, Protocol, Source, Destination, Anything, Rule}
+use Rattle.ios_words.specs.Rows.{Piece, Word, Verdict, Place, Bracket, Flag, EntryNumber, Protocol, Source, Destination, Ports, Anything, Rule}
+use Rattle.ios_words.specs.Services.{protocol, has_ports}
 use Rattle.ios_words.specs.Values.{Values, values_with, no_values}
 
 -- whether the words begin with this one
@@ -25,7 +27,7 @@ begins_verdict words = begins (codes "permit") words || begins (codes "deny") wo
 abbrev pub begins_entry : List (List ℕ) → Bool
 begins_entry words = begins_verdict words || begins (codes "remark") words
 
--- the words after a part of a row, where the line has the part's fixed words; no fixed word comes after the last four
+-- the words after a part of a row, where the line has the part's fixed words; no fixed word comes after the last five
 abbrev pub after : Piece → List (List ℕ) → Option (List (List ℕ))
 after (Word word) words = if begins word words then Some (drop 1 words) else None
 after Verdict words = if begins_verdict words then Some (drop 1 words) else None
@@ -36,6 +38,7 @@ after EntryNumber words = Some (if begins_entry words then words else drop 1 wor
 after Protocol words = Some []
 after Source words = Some []
 after Destination words = Some []
+after Ports words = Some []
 after Anything words = Some []
 
 -- whether the words have the fixed words of these parts where the parts have them
@@ -121,6 +124,12 @@ side extended s =
 abbrev pub as_source : State → Result State WordFault
 as_source s = Ok (record s { values = record s.values { from = s.values.to; to = whole } })
 
+-- the state after eq and a port, or range and two ports, if one of these words stands here
+abbrev pub ports : State → Result State WordFault
+ports s =
+    if begins (codes "eq") s.words then place Port (passed s)
+    else (if begins (codes "range") s.words then then_do (place LastPort) (place FirstPort (passed s)) else Ok s)
+
 -- the state after a part of a row
 abbrev pub step : Piece → State → Result State WordFault
 step (Word word) s = this_word word s
@@ -129,9 +138,10 @@ step (Place form) s = place form s
 step (Bracket word form) s = if begins word s.words then place form (passed s) else Ok s
 step (Flag word) s = if begins word s.words then Ok (passed s) else Ok s
 step EntryNumber s = if begins_entry s.words then Ok s else place (Order 2147483647) s
-step Protocol s = if s.values.extended then this_word (codes "ip") s else Ok s
+step Protocol s = if s.values.extended then place forms.Protocol s else Ok s
 step Source s = then_do as_source (side s.values.extended s)
 step Destination s = if s.values.extended then side true s else Ok s
+step Ports s = if has_ports (protocol s.values.services.low) then ports s else Ok s
 step Anything s = Ok (record s { words = [] })
 
 -- the state after these parts

@@ -7,7 +7,8 @@ use Rattle.ios_words.specs.declared.rows.Part.TheVariants as parts
 use Rattle.ios_words.specs.declared.rows.Row.{Row}
 
 -- a part of a row: this word; permit or deny; a word of a form; a word and one of a form after it, or neither; a word, or nothing;
--- the number before an entry, or nothing; the word ip in extended lists; where packets come from; where they go to in extended lists; any words
+-- the number before an entry, or nothing; the word of a protocol in extended lists; where packets come from; where they go to in
+-- extended lists; which ports they are for, after a protocol that has ports, or nothing; any words
 pub data Piece : Type 0 where
   Word : (word : List ℕ) → Piece
   Verdict : Piece
@@ -18,6 +19,7 @@ pub data Piece : Type 0 where
   Protocol : Piece
   Source : Piece
   Destination : Piece
+  Ports : Piece
   Anything : Piece
 
 -- a row of the language: its parts, and what it means
@@ -40,6 +42,7 @@ piece_of parts.EntryNumber = EntryNumber
 piece_of parts.Protocol = Protocol
 piece_of parts.Source = Source
 piece_of parts.Destination = Destination
+piece_of parts.Ports = Ports
 piece_of parts.Anything = Anything
 
 -- the row that the program's table writes so

@@ -6,13 +6,17 @@ use Rattle.arc_base.specs.PrefixText.{number_of, address_of}
 use Rattle.ios_words.specs.declared.kinds.Flaw.{Flaw}
 use Rattle.ios_words.specs.declared.kinds.Flaw.TheVariants.{Amiss}
 use Rattle.ios_words.specs.declared.rows.Form.{Form}
-use Rattle.ios_words.specs.declared.rows.Form.TheVariants.{Name, FaceName, Number, Address, Host, Network, Mask, Wildcard, Area, ListNumber, Order, Route, AtLeast, AtMost}
+use Rattle.ios_words.specs.declared.rows.Form.TheVariants.{Name, FaceName, Number, Address, Host, Network, Mask, Wildcard, Area, ListNumber, Order, Route, AtLeast, AtMost, Protocol, Port, FirstPort, LastPort}
+use Rattle.ios_words.specs.declared.services.Services.{Services}
 use Rattle.ios_words.specs.Names.{is_name, is_face_name}
-use Rattle.ios_words.specs.Numbers.{number_in, mask_length, wildcard_length, area_of, class_length, list_kind}
+use Rattle.ios_words.specs.Numbers.{ranged, number_in, mask_length, wildcard_length, area_of, class_length, list_kind}
 use Rattle.ios_words.specs.Prefixes.{holding, whole}
+use Rattle.ios_words.specs.ServiceRanges.{all, of_ports, services_of}
+use Rattle.ios_words.specs.Services.{protocol, port, port_of}
 
 -- what a line's words gave so far: a name or number as it is written, a number, an address, the length of a mask, an area, the number
--- of an entry, whether it permits, whether its list is extended, where its packets come from and go to, and the lengths of a route
+-- of an entry, whether it permits, whether its list is extended, where its packets come from and go to, the lengths of a route,
+-- and the services of its packets
 pub record Values : Type 0 where
   pub text : List ℕ
   pub number : ℕ
@@ -26,6 +30,7 @@ pub record Values : Type 0 where
   pub to : Prefix
   pub low : ℕ
   pub high : ℕ
+  pub services : Services
 
 -- what is made of a value that is there
 abbrev pub with_value : {A : Type 0} → (A → Values) → Option A → Result Values Flaw
@@ -70,6 +75,14 @@ route_of word = route_parts (cut_at 47 word)
 abbrev pub with_length : Values → Result ℕ Flaw → Result Values Flaw
 with_length v length = with_result (λ l. record v { length = l; to = holding v.address l }) length
 
+-- the port of the protocol before it that a word writes
+abbrev pub port_in : Values → List ℕ → Option ℕ
+port_in v word = port_of (protocol v.services.low) word
+
+-- the values with the ports from one to another of the protocol before them
+abbrev pub with_ports : Values → ℕ → ℕ → Values
+with_ports v first last = record v { services = of_ports (protocol v.services.low) first last }
+
 -- the values with what a word of the form gives
 abbrev pub values_with : Form → Values → List ℕ → Result Values Flaw
 values_with Name v word = with_value (λ w. record v { text = w }) (tested (is_name word) word)
@@ -86,6 +99,11 @@ values_with (Order high) v word = with_value (λ n. record v { order = Some n })
 values_with Route v word = with_value (λ r. record v { to = holding r.0 r.1; low = r.1; high = r.1 }) (route_of word)
 values_with AtLeast v word = with_value (λ n. record v { low = n; high = 32 }) (number_in v.to.len 32 word)
 values_with AtMost v word = with_value (λ n. record v { high = n }) (number_in v.low 32 word)
+values_with Protocol v word = with_value (λ s. record v { services = s }) (services_of word)
+values_with Port v word = with_value (λ n. with_ports v n n) (port_in v word)
+values_with FirstPort v word = with_value (λ n. with_ports v n 65535) (port_in v word)
+values_with LastPort v word =
+    with_value (λ n. with_ports v (port v.services.low) n) (ranged (port v.services.low) 65535 (port_in v word))
 
 -- what is known before the first word: whether the line stands in the block of an extended list
 abbrev pub no_values : Bool → Values
@@ -102,4 +120,5 @@ no_values extended = record {
   to = whole;
   low = 0;
   high = 0;
+  services = all;
 }

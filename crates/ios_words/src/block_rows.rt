@@ -56,8 +56,8 @@ const BGP: &[Row] = &[
 const EXTENDED: &[Row] = &[
     row!(Inert: Part::EntryNumber, Word(b"remark"), Part::Anything),
     row!(Entry:
-        Part::EntryNumber, Part::Verdict, Word(b"ip"), Part::Source, Part::Destination,
-        Part::Flag(b"log")
+        Part::EntryNumber, Part::Verdict, Part::Protocol, Part::Source, Part::Destination,
+        Part::Ports, Part::Flag(b"log")
     ),
 ];
 

@@ -1,4 +1,5 @@
 //! What one line of a router file says.
+ghost use Rattle.std.specs.Prelude.{◌≤◌, ◌<◌, ◌^◌};
 
 use arc_base::{Name, Prefix};
 
@@ -60,6 +61,12 @@ pub struct PacketText {
     pub permit: bool,
     pub from: Prefix,
     pub to: Prefix,
+    /// The first of its services: the protocol's number times 65,536, plus the destination port.
+    pub low: u32,
+    /// The last of its services; 16,777,215 with a first of 0 in an entry for all protocols.
+    pub high: u32,
+    pub ghost ordered: { low ≤ high },
+    pub ghost in_range: { high < 2 ^ 24 },
 }
 
 /// An entry of a prefix list: the prefixes inside `prefix` whose length is from `low` to `high`.

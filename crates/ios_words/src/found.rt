@@ -2,9 +2,11 @@
 
 use crate::kinds::Flaw;
 use crate::names::{is_face_name, is_name};
-use crate::numbers::{area_of, list_kind, mask_length, number_in, wildcard_length};
+use crate::numbers::{area_of, is_from, list_kind, mask_length, number_in, wildcard_length};
 use crate::prefixes::{class_prefix, holding, route_of};
+use crate::protocols::{port_of, services_of};
 use crate::rows::Form;
+use crate::services::Services;
 use arc_base::{Prefix, read_address};
 
 /// What the words of a line gave so far.
@@ -29,12 +31,14 @@ pub(crate) struct Found<'a> {
     /// The lengths of a route.
     pub(crate) low: u8,
     pub(crate) high: u8,
+    /// The services of packets.
+    pub(crate) services: Services,
 }
 
 impl<'a> Found<'a> {
     ghost use Rattle.std.specs.Prelude.{◌≡◌, ◌≤◌, IfOk};
     ghost use Rattle.ios_words.specs.FoundValues.{values_of, word_values};
-    ghost use Rattle.ios_words.specs.Values.{values_with, with_length, no_values};
+    ghost use Rattle.ios_words.specs.Values.{values_with, with_length, with_ports, no_values};
 
     /// What is known before the first word: whether the line stands in the block of an extended list.
     pub(crate) fn nothing(extended: bool) -> Found<'a>
@@ -54,6 +58,7 @@ impl<'a> Found<'a> {
             to: whole,
             low: 0,
             high: 0,
+            services: Services::whole(),
         }
     }
 
@@ -76,6 +81,10 @@ impl<'a> Found<'a> {
             Form::Route => self.with_route(word),
             Form::AtLeast => self.with_least(word),
             Form::AtMost => self.with_greatest(word),
+            Form::Protocol => self.with_protocol(word),
+            Form::Port => self.with_port(word),
+            Form::FirstPort => self.with_first_port(word),
+            Form::LastPort => self.with_last_port(word),
         }
     }
 
@@ -224,6 +233,61 @@ impl<'a> Found<'a> {
                 ..self
             }),
             None => Err(Flaw::Amiss),
+        }
+    }
+
+    fn with_protocol(self, word: &[u8]) -> Result<Found<'a>, Flaw>
+        ensures { word_values result ≡ values_with Form.Protocol (values_of self.entry) word.now }
+    {
+        match services_of(word) {
+            Some(services) => Ok(Found { services, ..self }),
+            None => Err(Flaw::Amiss),
+        }
+    }
+
+    fn with_port(self, word: &[u8]) -> Result<Found<'a>, Flaw>
+        ensures { word_values result ≡ values_with Form.Port (values_of self.entry) word.now }
+    {
+        match port_of(self.services.protocol(), word) {
+            Some(port) => Ok(self.with_ports(port, port)),
+            None => Err(Flaw::Amiss),
+        }
+    }
+
+    fn with_first_port(self, word: &[u8]) -> Result<Found<'a>, Flaw>
+        ensures { word_values result ≡ values_with Form.FirstPort (values_of self.entry) word.now }
+    {
+        match port_of(self.services.protocol(), word) {
+            Some(first) => Ok(self.with_ports(first, 65535)),
+            None => Err(Flaw::Amiss),
+        }
+    }
+
+    fn with_last_port(self, word: &[u8]) -> Result<Found<'a>, Flaw>
+        ensures { word_values result ≡ values_with Form.LastPort (values_of self.entry) word.now }
+    {
+        let first = self.services.first_port();
+        match port_of(self.services.protocol(), word) {
+            Some(last) => {
+                if is_from(u64::from(first), 65535, u64::from(last)) {
+                    Ok(self.with_ports(first, last))
+                } else {
+                    Err(Flaw::Amiss)
+                }
+            }
+            None => Err(Flaw::Amiss),
+        }
+    }
+
+    /// With the ports from one to another of the protocol before them.
+    fn with_ports(self, first: u32, last: u32) -> Found<'a>
+        requires ordered { first ≤ last }
+        requires few { last ≤ 65535 }
+        ensures { values_of result ≡ with_ports (values_of self.entry) first last }
+    {
+        Found {
+            services: Services::of_ports(self.services.protocol(), first, last),
+            ..self
         }
     }
 }

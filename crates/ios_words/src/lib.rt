@@ -16,8 +16,10 @@ mod names;
 mod numbers;
 mod prefixes;
 pub mod printing;
+mod protocols;
 mod reading;
 mod rows;
+mod services;
 #[cfg(test)]
 mod tests;
 mod top_rows;

@@ -62,6 +62,8 @@ fn after<'a>(part: Part, words: Words<'a>) -> Option<Words<'a>>
                 Some(words.rest())
             }
         }
-        Part::Protocol | Part::Source | Part::Destination | Part::Anything => Some(words.none()),
+        Part::Protocol | Part::Source | Part::Destination | Part::Ports | Part::Anything => {
+            Some(words.none())
+        }
     }
 }

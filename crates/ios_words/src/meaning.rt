@@ -69,6 +69,8 @@ fn packet(found: Found) -> PacketText
         permit: found.permit,
         from: found.from,
         to: found.to,
+        low: found.services.low,
+        high: found.services.high,
     }
 }
 

@@ -61,7 +61,7 @@ pub(crate) fn number_in(word: &[u8], low: u32, high: u32) -> Option<u32>
 }
 
 /// Whether a number is from the first to the second.
-fn is_from(low: u64, high: u64, number: u64) -> bool
+pub(crate) fn is_from(low: u64, high: u64, number: u64) -> bool
     ensures { result ≡ is_from low high number }
 {
     low <= number && number <= high

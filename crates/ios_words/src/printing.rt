@@ -3,7 +3,10 @@ ghost use Rattle.std.specs.Prelude.{◌≡◌, ◌≤◌, ◌-◌, ◌^◌, ◌�
 ghost use Rattle.arc_base.specs.PrefixText.{address_text, prefix_text};
 ghost use Rattle.ios_lines.specs.Written.{spaced};
 ghost use Rattle.ios_words.specs.Printed.{unless, passive_words, neighbor_words, neighbor_list_words, group_words, list_head_words, verdict_word, side_words, packet_words, order_words, entry_words, list_line_words, sequence_words, prefix_line_words, permit_all_words, top_line};
+ghost use Rattle.ios_words.specs.Services.{are_all, are_all_ports, protocol_text, protocol_word, port_words};
 
+use crate::commands::PacketText;
+use crate::protocols::protocol_name;
 use arc_base::{Memory, Prefix, push_address, push_number, push_prefix};
 use std::alloc::Global;
 
@@ -136,20 +139,65 @@ fn wildcard(len: u8) -> u32
     ((1u64 << (32 - len)) - 1) as u32
 }
 
-/// An entry of a packet list without its number.
-fn push_packet(
-    alloc: Global,
-    text: &mut Vec<u8>,
-    permit: bool,
-    from: &Prefix,
-    to: &Prefix,
-) -> Result<(), Memory>
-    ensures { OnOk result (text.new.items ≡ text.old.items ++ spaced (packet_words permit from.now to.now)) }
+/// Whether the range from the one service to the other is that of all services.
+fn are_all(low: u32, high: u32) -> bool
+    ensures { result ≡ are_all low high }
 {
-    push_verdict(text, permit)?;
-    push_word(text, b"ip")?;
-    push_side(alloc, text, from)?;
-    push_side(alloc, text, to)
+    low == 0 && high == 16777215
+}
+
+/// Whether it begins at the first port of a protocol and ends at a last one.
+fn are_all_ports(low: u32, high: u32) -> bool
+    ensures { result ≡ are_all_ports low high }
+{
+    low % 65536 == 0 && high % 65536 == 65535
+}
+
+/// A protocol, by its name where it has one.
+fn push_protocol_name(alloc: Global, text: &mut Vec<u8>, number: u32) -> Result<(), Memory>
+    ensures { OnOk result (text.new.items ≡ text.old.items ++ spaced (protocol_text number ∷ [])) }
+{
+    match protocol_name(number) {
+        Some(name) => push_word(text, name),
+        None => push_number_word(alloc, text, number),
+    }
+}
+
+/// The protocol of a range of services.
+fn push_protocol(alloc: Global, text: &mut Vec<u8>, low: u32, high: u32) -> Result<(), Memory>
+    ensures { OnOk result (text.new.items ≡ text.old.items ++ spaced (protocol_word low high ∷ [])) }
+{
+    if are_all(low, high) {
+        return push_word(text, b"ip");
+    }
+    push_protocol_name(alloc, text, low / 65536)
+}
+
+/// The destination ports of a range of services, if they aren't all.
+fn push_ports(alloc: Global, text: &mut Vec<u8>, low: u32, high: u32) -> Result<(), Memory>
+    ensures { OnOk result (text.new.items ≡ text.old.items ++ spaced (port_words low high)) }
+{
+    if are_all_ports(low, high) {
+        return Ok(());
+    }
+    if low == high {
+        push_word(text, b"eq")?;
+        return push_number_word(alloc, text, low % 65536);
+    }
+    push_word(text, b"range")?;
+    push_number_word(alloc, text, low % 65536)?;
+    push_number_word(alloc, text, high % 65536)
+}
+
+/// An entry of a packet list without its number.
+fn push_packet(alloc: Global, text: &mut Vec<u8>, entry: &PacketText) -> Result<(), Memory>
+    ensures { OnOk result (text.new.items ≡ text.old.items ++ spaced (packet_words entry.now)) }
+{
+    push_verdict(text, entry.permit)?;
+    push_protocol(alloc, text, entry.low, entry.high)?;
+    push_side(alloc, text, &entry.from)?;
+    push_side(alloc, text, &entry.to)?;
+    push_ports(alloc, text, entry.low, entry.high)
 }
 
 /// The number before an entry, if it has one.
@@ -167,14 +215,12 @@ pub fn push_entry(
     alloc: Global,
     text: &mut Vec<u8>,
     order: Option<u32>,
-    permit: bool,
-    from: &Prefix,
-    to: &Prefix,
+    entry: &PacketText,
 ) -> Result<(), Memory>
-    ensures { OnOk result (text.new.items ≡ text.old.items ++ spaced (entry_words order permit from.now to.now)) }
+    ensures { OnOk result (text.new.items ≡ text.old.items ++ spaced (entry_words order entry.now)) }
 {
     push_order(alloc, text, order)?;
-    push_packet(alloc, text, permit, from, to)
+    push_packet(alloc, text, entry)
 }
 
 /// An entry of a numbered packet list, as a line.
@@ -182,15 +228,13 @@ pub fn push_list_line(
     alloc: Global,
     text: &mut Vec<u8>,
     name: &[u8],
-    permit: bool,
-    from: &Prefix,
-    to: &Prefix,
+    entry: &PacketText,
 ) -> Result<(), Memory>
-    ensures { OnOk result (text.new.items ≡ text.old.items ++ top_line (list_line_words name.now permit from.now to.now)) }
+    ensures { OnOk result (text.new.items ≡ text.old.items ++ top_line (list_line_words name.now entry.now)) }
 {
     text.extend_from_slice(b"access-list")?;
     push_word(text, name)?;
-    push_packet(alloc, text, permit, from, to)
+    push_packet(alloc, text, entry)
 }
 
 /// The number of an entry of a prefix list, if it has one.

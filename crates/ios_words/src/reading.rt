@@ -5,6 +5,7 @@ ghost use Rattle.ios_words.specs.Readings.{fault_at};
 use crate::found::Found;
 use crate::kinds::{Flaw, WordFault};
 use crate::prefixes::holding;
+use crate::protocols::has_ports;
 use crate::rows::{Form, Part};
 use crate::words::Words;
 
@@ -22,7 +23,7 @@ pub(crate) struct Reader<'a> {
 impl<'a> Reader<'a> {
     ghost use Rattle.std.specs.Prelude.{◌≡◌, ◌+◌, ◌*◌, ◌^◌, ◌<◌, ◌≤◌, Bool, map, length, codes, IfOk};
     ghost use Rattle.ios_words.specs.Readings.{place, this_word, verdict, passed, stands_alone, alone, any, width, side, as_source, step, read_parts, finish, start};
-    ghost use Rattle.ios_words.specs.Rows.{Bracket, Flag, Source, piece_of};
+    ghost use Rattle.ios_words.specs.Rows.{Bracket, Flag, Source, Ports, piece_of};
     ghost use Rattle.ios_words.specs.Views.{words_of, state_of, next_state, line_values};
 
     /// A line that is to be read in a block, extended or not.
@@ -69,7 +70,7 @@ impl<'a> Reader<'a> {
     fn step(self, part: Part) -> Result<Reader<'a>, WordFault>
         requires { self.taken ≤ 1000 }
         ensures state { next_state result ≡ step (piece_of part) (state_of self.entry) }
-        ensures taken { IfOk result (λ reader. reader.taken ≤ self.entry.taken + 2) }
+        ensures taken { IfOk result (λ reader. reader.taken ≤ self.entry.taken + 3) }
     {
         match part {
             Part::Word(word) => self.this_word(word),
@@ -86,7 +87,7 @@ impl<'a> Reader<'a> {
             }
             Part::Protocol => {
                 if self.found.extended {
-                    self.this_word(b"ip")
+                    self.place(Form::Protocol)
                 } else {
                     Ok(self)
                 }
@@ -99,6 +100,7 @@ impl<'a> Reader<'a> {
                     Ok(self)
                 }
             }
+            Part::Ports => self.ports(),
             Part::Anything => Ok(Reader {
                 words: self.words.none(),
                 ..self
@@ -231,6 +233,27 @@ impl<'a> Reader<'a> {
     {
         match self.side(self.found.extended) {
             Ok(reader) => Ok(reader.as_source()),
+            Err(fault) => Err(fault),
+        }
+    }
+
+    /// Reads the destination ports, where the protocol has ports and words of them stand here.
+    fn ports(self) -> Result<Reader<'a>, WordFault>
+        requires { self.taken ≤ 1000 }
+        ensures state { next_state result ≡ step Ports (state_of self.entry) }
+        ensures taken { IfOk result (λ reader. reader.taken ≤ self.entry.taken + 3) }
+    {
+        if !has_ports(self.found.services.protocol()) {
+            return Ok(self);
+        }
+        if self.words.begin_with(b"eq") {
+            return self.passed().place(Form::Port);
+        }
+        if !self.words.begin_with(b"range") {
+            return Ok(self);
+        }
+        match self.passed().place(Form::FirstPort) {
+            Ok(reader) => reader.place(Form::LastPort),
             Err(fault) => Err(fault),
         }
     }

@@ -27,6 +27,14 @@ pub(crate) enum Form {
     AtLeast,
     /// The greatest length of a route's prefix.
     AtMost,
+    /// The word of a protocol, or `ip` for all.
+    Protocol,
+    /// A destination port of the protocol before it.
+    Port,
+    /// The first of some ports.
+    FirstPort,
+    /// The last of them, which is not below the first.
+    LastPort,
 }
 
 /// A part of a row.
@@ -44,12 +52,14 @@ pub(crate) enum Part {
     Flag(&'static [u8]),
     /// The number before an entry, or nothing.
     EntryNumber,
-    /// The word `ip`, where the list is extended.
+    /// The word of a protocol, where the list is extended.
     Protocol,
     /// Where the packets of an entry come from.
     Source,
     /// Where the packets of an entry go to, where the list is extended.
     Destination,
+    /// Which destination ports they are for, after a protocol that has ports, or nothing.
+    Ports,
     /// Any words.
     Anything,
 }

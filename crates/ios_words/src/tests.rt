@@ -4,7 +4,7 @@ mod blocks;
 mod outside;
 
 use crate::{BlockKind, Command, WordFault, command};
-use blocks::{BGP, EXTENDED, INERT, INTERFACE, OSPF, STANDARD};
+use blocks::{BGP, EXTENDED, FAULTY_SERVICES, INERT, INTERFACE, OSPF, SERVICES, STANDARD};
 use ios_lines::cut;
 use outside::{FAULTY_OUTSIDE, OUTSIDE};
 use std::alloc::Global;
@@ -68,6 +68,34 @@ fn lines_of_a_bgp_process(rt: HostRuntime) -> Result<(), Fail> {
 #[test]
 fn lines_of_an_extended_list(rt: HostRuntime) -> Result<(), Fail> {
     each_says(&rt, rt.alloc(), BlockKind::Extended, EXTENDED)
+}
+
+/// The services of the entry that a line says.
+fn services(said: Result<Command, WordFault>) -> Option<(u32, u32)> {
+    match said {
+        Ok(Command::Entry(_, entry)) => Some((entry.low, entry.high)),
+        _ => None,
+    }
+}
+
+#[test]
+fn services_of_entries(rt: HostRuntime) -> Result<(), Fail> {
+    for (text, low, high) in SERVICES {
+        let found = services(said(rt.alloc(), text, BlockKind::Extended));
+        assert_eq!(&rt; found, Some((*low, *high)));
+    }
+    Ok(())
+}
+
+#[test]
+fn faulty_services_of_entries(rt: HostRuntime) -> Result<(), Fail> {
+    for (text, place) in FAULTY_SERVICES {
+        match said(rt.alloc(), text, BlockKind::Extended) {
+            Err(WordFault::BadWord(word)) => assert_eq!(&rt; word, *place),
+            _ => assert!(&rt; false),
+        }
+    }
+    Ok(())
 }
 
 #[test]

@@ -21,7 +21,7 @@ const TOP_A: &[Row] = &[
     row!(Inert: Word(b"access-list"), Place(Form::ListNumber), Word(b"remark"), Part::Anything),
     row!(ListLine:
         Word(b"access-list"), Place(Form::ListNumber), Part::Verdict, Part::Protocol,
-        Part::Source, Part::Destination, Part::Flag(b"log")
+        Part::Source, Part::Destination, Part::Ports, Part::Flag(b"log")
     ),
 ];
 

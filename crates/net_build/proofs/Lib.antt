@@ -62,3 +62,5 @@ mod PrefixKeys
 mod Gathered
 mod ConnectedSubnets
 mod IndexLines
+pub mod SessionPackets
+pub mod SameService

@@ -1,10 +1,6 @@
 -- The ends of links at which a list stops the protocol: of the network's rows, and of the files.
-use Rattle.std.proofs.Common.{◌≡◌, ℕ, zero, suc, ◌+◌, ◌⊎◌, inl, inr, Option, Some, None, List, [], ◌∷◌, refl, sym, ◌∙◌, ap, subst, arith, Bool, true, false, IsTrue, IsFalse, ◌↔◌, not}
-use Rattle.std.specs.Prelude.{Any, IsSomeAnd, slice_get, option_map, unwrap_or, map}
-use Rattle.std.proofs.lemmas.Bool.{false≢true}
-use Rattle.net_model.specs.declared.lists.PacketEntry.{PacketEntry}
-use Rattle.net_model.specs.declared.rows.Protocol.TheVariants.{Ospf}
-use Rattle.net_model.specs.Lists.{permits}
+use Rattle.std.proofs.Common.{◌≡◌, ℕ, ◌+◌, Option, Some, None, List, refl, sym, ◌∙◌, ap, subst, Bool}
+use Rattle.std.specs.Prelude.{IsSomeAnd, slice_get, option_map, unwrap_or, map}
 use Rattle.std.proofs.lemmas.Option.{same_Some, slice_get-get_or, slice_get_within, get_or_from_slice_get}
 use Rattle.arc_base.specs.declared.place.ListId.{ListId}
 use Rattle.arc_base.specs.declared.refusal.Kind.TheVariants as kinds
@@ -22,46 +18,11 @@ use Rattle.net_build.specs.Names.{AreDistinct}
 use Rattle.net_build.specs.Lists.{IsPlaceAmong, packet_list_key}
 use Rattle.net_build.specs.Rows.{IsFaceRow, AreRows}
 use Rattle.net_build.specs.Reasons.{IsClear, IsFirst}
-use Rattle.net_build.specs.Stops.{RefusesListStopsSession, Denies}
+use Rattle.net_build.specs.Stops.{RefusesListStopsSession}
 use Rattle.net_build.specs.FarEnds.{FindsOnly}
 use Rattle.net_build.specs.Stopping.{list_line, StopsBetween, IsRefusalAt, StopsAt, StopsAtSome}
 use Rattle.net_build.proofs.Zips.{AllZip-left}
 use Rattle.net_build.proofs.SameNetwork.{same_rows}
-
--- one of three items
-pub any_three : {X : Type 0} (P : X → Type 0) (x y z : X) → Any P (x ∷ y ∷ z ∷ []) ↔ (P x ⊎ (P y ⊎ P z))
-any_three {X} P x y z = (to, from)
-  where
-    to : Any P (x ∷ y ∷ z ∷ []) → P x ⊎ (P y ⊎ P z)
-    to (zero, w, l, e, p) = inl (subst P (sym e) p)
-    to (suc zero, w, l, e, p) = inr (inl (subst P (sym e) p))
-    to (suc (suc zero), w, l, e, p) = inr (inr (subst P (sym e) p))
-    to (suc (suc (suc k)), w, l, e, p) = absurd (omega (arith, l))
-
-    from : P x ⊎ (P y ⊎ P z) → Any P (x ∷ y ∷ z ∷ [])
-    from (inl p) = (0, x, omega arith, refl, p)
-    from (inr (inl p)) = (1, y, omega arith, refl, p)
-    from (inr (inr p)) = (2, z, omega arith, refl, p)
-
-not_true : (b : Bool) → not b ≡ true → b ≡ false
-not_true true h = absurd (false≢true h)
-not_true false h = refl
-
--- the last of the three packets that OSPF sends decides, where the list permits the others
-pub denies_last : (entries : List PacketEntry) (from own : ℕ) (a b c : Bool) → a ≡ permits entries (record { from = from; to = own }) → b ≡ permits entries (record { from = from; to = 3758096389 }) →
-    c ≡ permits entries (record { from = from; to = 3758096390 }) → a ≡ true → b ≡ true → IsTrue (not c) ↔ Denies Ospf entries from own
-denies_last entries from own a b c a_is b_is c_is a_yes b_yes = (λ t. three.1 (inr (inl (sym c_is ∙ not_true c t))), λ h. by (three.0 h))
-  where
-    P : ℕ → Type 0
-    P to = IsFalse (permits entries (record { from = from; to = to }))
-
-    three : Any P (3758096389 ∷ 3758096390 ∷ own ∷ []) ↔ (P 3758096389 ⊎ (P 3758096390 ⊎ P own))
-    three = any_three P 3758096389 3758096390 own
-
-    by : P 3758096389 ⊎ (P 3758096390 ⊎ P own) → IsTrue (not c)
-    by (inl p) = absurd (false≢true (sym (b_is ∙ p) ∙ b_yes))
-    by (inr (inl p)) = ap not (c_is ∙ p)
-    by (inr (inr p)) = absurd (false≢true (sym (a_is ∙ p) ∙ a_yes))
 
 -- the refusal at a place
 abbrev at_site : Site → Refusal

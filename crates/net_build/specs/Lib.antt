@@ -27,3 +27,4 @@ pub mod FarEnds
 pub mod Stopping
 pub mod Indexes
 pub mod Prefixes
+pub mod SessionPackets

@@ -9,6 +9,7 @@ use Rattle.net_model.specs.declared.lists.RouteEntry.{RouteEntry}
 use Rattle.net_model.specs.declared.lists.RouteList.{RouteList}
 use Rattle.ios_words.specs.declared.commands.Command.{Command}
 use Rattle.ios_words.specs.declared.commands.Command.TheVariants as commands
+use Rattle.ios_words.specs.declared.commands.PacketText.{PacketText}
 use Rattle.ios_config.specs.declared.settings.Given.{Given}
 use Rattle.ios_config.specs.declared.settings.Config.{Config}
 use Rattle.ios_config.specs.declared.settings.FaceText.{FaceText}
@@ -31,10 +32,30 @@ is_extended_kind Extended = true
 is_extended_kind Standard = false
 is_extended_kind Prefix = false
 
+-- the entry that the words of a line give, and the words of an entry
+abbrev pub entry_of : PacketText → PacketEntry
+entry_of text = record {
+  permit = text.permit;
+  from = text.from;
+  to = text.to;
+  service = record { low = text.low; high = text.high; ordered = text.ordered; in_range = text.in_range };
+}
+
+abbrev pub packet_text : PacketEntry → PacketText
+packet_text entry = record {
+  permit = entry.permit;
+  from = entry.from;
+  to = entry.to;
+  low = entry.service.low;
+  high = entry.service.high;
+  ordered = entry.service.ordered;
+  in_range = entry.service.in_range;
+}
+
 -- the entry of a packet list that the command is
 abbrev pub packet_entry : Command → Option PacketEntry
-packet_entry (commands.Entry number text) = Some (record { permit = text.permit; from = text.from; to = text.to })
-packet_entry (commands.ListLine name text) = Some (record { permit = text.permit; from = text.from; to = text.to })
+packet_entry (commands.Entry number text) = Some (entry_of text)
+packet_entry (commands.ListLine name text) = Some (entry_of text)
 packet_entry other = None
 
 -- the entry of a route list that the command is

@@ -1,14 +1,18 @@
 -- Packet lists that stop the routing protocol's own packets on a link that is able.
-use Rattle.std.specs.Prelude.{◌≡◌, ℕ, ◌+◌, IsFalse, Some, IsSomeAnd, List, [], ◌∷◌, slice_get, Any}
+use Rattle.std.specs.Prelude.{◌≡◌, ℕ, ◌+◌, IsFalse, Some, IsSomeAnd, List, [], ◌∷◌, slice_get, Any, Contains}
+use Rattle.std.proofs.Common.{arith}
 use Rattle.arc_base.specs.declared.refusal.Kind.TheVariants as kinds
 use Rattle.net_doc.specs.declared.fault.Refusal.{Refusal}
 use Rattle.net_model.specs.declared.policies.Document.{Document}
+use Rattle.net_model.specs.declared.lists.Packet.{Packet}
 use Rattle.net_model.specs.declared.lists.PacketEntry.{PacketEntry}
 use Rattle.net_model.specs.declared.rows.FaceRow.{FaceRow}
 use Rattle.net_model.specs.declared.rows.Network.{Network}
 use Rattle.net_model.specs.declared.rows.Protocol.{Protocol}
 use Rattle.net_model.specs.declared.rows.Protocol.TheVariants.{Ospf, Bgp}
+use Rattle.net_model.specs.declared.services.Service.{Service}
 use Rattle.net_model.specs.Lists.{permits}
+use Rattle.net_model.specs.Services.{Serves}
 use Rattle.net_model.specs.Routing.{Arc, IsArc, IsAbleEnd, session_at, tail_face, head_face}
 use Rattle.ios_config.specs.declared.settings.Config.{Config}
 use Rattle.net_build.specs.Sites.{Site, sites}
@@ -25,9 +29,32 @@ abbrev pub targets : Protocol → ℕ → List ℕ
 targets Ospf own = 3758096389 ∷ 3758096390 ∷ own ∷ []
 targets Bgp own = own ∷ []
 
--- the entries deny one of the protocol's packets from the one address to the interface with the other
+-- all services of OSPF, which is protocol 89
+abbrev pub ospf_services : Service
+ospf_services = record { low = 5832704; high = 5898239; ordered = omega arith; in_range = omega arith }
+
+-- the service of TCP (protocol 6) for port 179, on which BGP listens (RFC 4271)
+abbrev pub bgp_service : Service
+bgp_service = record { low = 393395; high = 393395; ordered = omega arith; in_range = omega arith }
+
+-- the services of TCP for the ports from 1024 to 65535, from one of which the end that opens a session sends
+abbrev pub opener_services : Service
+opener_services = record { low = 394240; high = 458751; ordered = omega arith; in_range = omega arith }
+
+-- the services of the packets that the protocol needs: for eBGP both those of TCP, because either end may open the session
+abbrev pub session_services : Protocol → List Service
+session_services Ospf = ospf_services ∷ []
+session_services Bgp = bgp_service ∷ opener_services ∷ []
+
+-- the protocol needs the packet on the way from the interface with the one address to that with the other
+pub record IsNeeded (protocol : Protocol) (from own : ℕ) (p : Packet) : Type 0 where
+  pub source : p.from ≡ from
+  pub target : Contains (targets protocol own) p.to
+  pub service : Any (λ range. Serves range p.service) (session_services protocol)
+
+-- the entries deny a packet that the protocol needs from the one address to the interface with the other
 abbrev pub Denies : Protocol → List PacketEntry → ℕ → ℕ → Type 0
-Denies protocol entries from own = Any (λ to. IsFalse (permits entries (record { from = from; to = to }))) (targets protocol own)
+Denies protocol entries from own = (p : Packet) × IsNeeded protocol from own p × IsFalse (permits entries p)
 
 -- the list bound inbound at the one interface denies a packet of the protocol from the address of the other
 pub record StopsPackets (net : Network) (tail head : FaceRow) : Type 0 where

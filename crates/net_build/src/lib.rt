@@ -30,6 +30,7 @@ mod processes;
 mod reasons;
 mod repeats;
 mod routers;
+mod session_packets;
 mod sessions;
 mod spots;
 mod stops;

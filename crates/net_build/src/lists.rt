@@ -1,15 +1,15 @@
 //! The lists of router files: their names, and the rows of those that are bound and defined.
 ghost use Rattle.std.specs.Prelude.{◌≡◌, ◌≤◌, ◌<◌, ◌^◌, ◌-◌, ◌++◌, ℕ, List, Any, IfOk, OnOk, option_map, length, AllPairs};
 ghost use Rattle.std.specs.Option.{option_copied, option_or, option_to_list};
-ghost use Rattle.net_build.specs.Lists.{AreListNames, ArePacketLists, AreRouteLists, is_packet_kind, is_extended_kind, packet_entry, route_entry, packet_entries, route_entries, is_of_kind, list_named, if_defined, packet_row, route_row};
+ghost use Rattle.net_build.specs.Lists.{AreListNames, ArePacketLists, AreRouteLists, is_packet_kind, is_extended_kind, entry_of, packet_entry, route_entry, packet_entries, route_entries, is_of_kind, list_named, if_defined, packet_row, route_row};
 ghost use Rattle.net_build.specs.Ordered.{IsNameBefore};
 ghost use Rattle.net_build.specs.ListTables.{texts_at, Adds, list_at, list_if, AddsPacketRows, AddsRouteRows};
 
 use crate::bound_lists::{Names, add_bound_packet, add_bound_route};
 use arc_base::{List, Memory, Name, Router};
 use ios_config::{Config, ListKind, ListText};
-use ios_words::Command;
-use net_model::{PacketEntry, PacketList, RouteEntry, RouteList};
+use ios_words::{Command, PacketText};
+use net_model::{PacketEntry, PacketList, RouteEntry, RouteList, Service};
 use std::alloc::Global;
 use std::collections::{BTreeMap, BTreeSet};
 
@@ -115,20 +115,27 @@ fn defined(found: Option<&ListText>) -> Option<&ListText>
     }
 }
 
+/// The entry that the words of a line give.
+fn entry_of(text: &PacketText) -> PacketEntry
+    ensures { result ≡ entry_of text.now }
+{
+    PacketEntry {
+        permit: text.permit,
+        from: text.from,
+        to: text.to,
+        service: Service {
+            low: text.low,
+            high: text.high,
+        },
+    }
+}
+
 fn packet_entry(command: &Command) -> Option<PacketEntry>
     ensures { result ≡ packet_entry command.now }
 {
     match command {
-        Command::Entry(_, text) => Some(PacketEntry {
-            permit: text.permit,
-            from: text.from,
-            to: text.to,
-        }),
-        Command::ListLine(_, text) => Some(PacketEntry {
-            permit: text.permit,
-            from: text.from,
-            to: text.to,
-        }),
+        Command::Entry(_, text) => Some(entry_of(text)),
+        Command::ListLine(_, text) => Some(entry_of(text)),
         _ => None,
     }
 }

@@ -1,7 +1,6 @@
 //! Packet lists that stop the routing protocol's own packets.
 ghost use Rattle.std.specs.Prelude.{◌≡◌, ◌↔◌, ◌≤◌, IsTrue, Some, slice_get, length};
 ghost use Rattle.net_model.specs.declared.policies.Document.{Document};
-ghost use Rattle.net_model.specs.Lists.{permits};
 ghost use Rattle.net_build.specs.Reasons.{TriedAlone};
 ghost use Rattle.net_build.specs.Rows.{AreRows};
 ghost use Rattle.net_build.specs.Names.{AreDistinct};
@@ -9,40 +8,14 @@ ghost use Rattle.net_build.specs.Sites.{full_names};
 ghost use Rattle.net_model.specs.Routing.{tail_end, head_end};
 ghost use Rattle.net_build.specs.FarEnds.{FindsOnly};
 ghost use Rattle.net_build.specs.Stopping.{list_line, StopsBetween, IsRefusalAt, StopsAt, StopsAtSome, FindsFirst, is_before, earlier};
-ghost use Rattle.net_build.specs.Stops.{RefusesListStopsSession, Denies, StopsPackets};
+ghost use Rattle.net_build.specs.Stops.{RefusesListStopsSession, StopsPackets};
 
+use crate::session_packets::denies;
 use crate::spots::spot_at;
 use arc_base::{Kind, List};
 use ios_config::{Config, FaceText};
 use net_doc::{NetFault, Refusal};
-use net_model::{FaceRow, LinkRow, Network, Packet, PacketList, Protocol};
-
-/// The address of all OSPF routers, 224.0.0.5 (RFC 2328, appendix A.1).
-const ALL_ROUTERS: u32 = 0xe000_0005;
-
-/// The address of all designated OSPF routers, 224.0.0.6.
-const ALL_DESIGNATED: u32 = 0xe000_0006;
-
-/// Whether the list denies a packet of the protocol from the one address to the other's interface.
-fn denies(protocol: Protocol, list: &PacketList, from: u32, own: u32) -> bool
-    ensures { IsTrue result ↔ Denies protocol list.now.entries from own }
-{
-    if !list.permits(Packet { from, to: own }) {
-        return true;
-    }
-    match protocol {
-        Protocol::Bgp => false,
-        Protocol::Ospf => {
-            !list.permits(Packet {
-                from,
-                to: ALL_ROUTERS,
-            }) || !list.permits(Packet {
-                from,
-                to: ALL_DESIGNATED,
-            })
-        }
-    }
-}
+use net_model::{FaceRow, LinkRow, Network};
 
 /// Whether the list bound inbound at `head` denies a packet of the protocol from the address of `tail`.
 fn stops(net: &Network, tail: &FaceRow, head: &FaceRow) -> bool

@@ -18,10 +18,10 @@ use Rattle.net_doc.proofs.Readings.{all_of-next}
 use Rattle.net_doc.proofs.Forms.{all_few, counts_within}
 
 -- one policy more is read
-pub policies_next : (items : List Value) (i : ℕ) (d : Value) (done after : List PolicyText) (text : PolicyText) → i < length items → all_of policy_of (items_view (take i items)) ≡ Some (map policy_meant done) →
-    Some (policy_meant text) ≡ policy_of (view (get_or items i d)) → after ≡ done ++ text ∷ [] → all_of policy_of (items_view (take (i + 1) items)) ≡ Some (map policy_meant after)
-policies_next items i d done after text within before next pushed =
-    all_of-next policy_of items i d (map policy_meant done) (policy_meant text) within before (sym next) ∙ ap Some (sym (map_push policy_meant done text) ∙ ap (map policy_meant) (sym pushed))
+pub policies_next : (version : ℕ) (items : List Value) (i : ℕ) (d : Value) (done after : List PolicyText) (text : PolicyText) → i < length items → all_of (policy_of version) (items_view (take i items)) ≡ Some (map policy_meant done) →
+    Some (policy_meant text) ≡ policy_of version (view (get_or items i d)) → after ≡ done ++ text ∷ [] → all_of (policy_of version) (items_view (take (i + 1) items)) ≡ Some (map policy_meant after)
+policies_next version items i d done after text within before next pushed =
+    all_of-next (policy_of version) items i d (map policy_meant done) (policy_meant text) within before (sym next) ∙ ap Some (sym (map_push policy_meant done text) ∙ ap (map policy_meant) (sym pushed))
 
 -- the refusals of the policies from a place on
 abbrev pub rest_refusal : List PolicyText → ℕ → Option Refusal

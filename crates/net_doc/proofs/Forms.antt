@@ -21,8 +21,8 @@ use Rattle.net_model.specs.declared.policies.Policy.{Policy}
 use Rattle.net_model.specs.declared.policies.Document.{Document}
 use Rattle.net_doc.specs.declared.fault.NetFault.{NetFault}
 use Rattle.net_doc.specs.declared.fault.Refusal.{Refusal}
-use Rattle.net_doc.specs.Members.{all_of, list_under, number_under, or_default}
-use Rattle.net_doc.specs.Documents.{router_of, routers_of, links_of, policies_of, weight_from, weight_under, weights_from, weights_of, unit_weights, document_from, document_of, form_refusal, over, failures_refusal, policies_refusal, limit_refusal, within_limits, limited, reading, IsFileName, IsWeight, HasFewFailures, IsWellFormed}
+use Rattle.net_doc.specs.Members.{all_of, list_under, or_default}
+use Rattle.net_doc.specs.Documents.{router_of, routers_of, links_of, policies_of, weight_from, weight_under, weights_from, weights_of, unit_weights, version_of, document_from, document_of, form_refusal, over, failures_refusal, policies_refusal, limit_refusal, within_limits, limited, reading, IsFileName, IsWeight, HasFewFailures, IsWellFormed}
 use Rattle.net_doc.proofs.Names.{AllPairs-different}
 
 -- where each form that reads has a property, so have all items
@@ -112,10 +112,10 @@ record HasForms (doc : Document) : Type 0 where
 
 from-forms : (d : Data) (doc : Document) → document_from d ≡ Some doc → HasForms doc
 from-forms d doc e =
-    and_then_some _ (number_under (codes "version") d) doc e λ version _ e₁.
+    and_then_some _ (version_of d) doc e λ version _ e₁.
     and_then_some _ (routers_of d) doc e₁ λ routers routers_is e₂.
     and_then_some _ (links_of d) doc e₂ λ links _ e₃.
-    and_then_some _ (policies_of d) doc e₃ λ policies _ e₄.
+    and_then_some _ (policies_of version d) doc e₃ λ policies _ e₄.
     and_then_some _ (weights_of d) doc e₄ λ weights weights_is e₅.
     let (_, value) = cond_some _ _ _ e₅ in
     subst HasForms value (record { routers = routers_of-some d routers routers_is; weights = weights_of-some d weights weights_is })

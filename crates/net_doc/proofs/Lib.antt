@@ -3,3 +3,5 @@ pub mod Names
 pub mod Forms
 pub mod Drafted
 pub mod Refused
+pub mod SameService
+pub mod OldPolicies

@@ -1,5 +1,5 @@
 -- Which document a text is: JSON (RFC 8259), an object whose members have these forms.
-use Rattle.std.specs.Prelude.{◌≡◌, ◌≢◌, ◌⊎◌, ℕ, ◌==◌, ◌+◌, ◌≤◌, ◌&&◌, nat_le, nat_lt, Bool, true, false, not, List, [], ◌∷◌, length, codes, bytes_eq, Option, Some, None, option_map, option_and_then, if◌then◌else◌, Result, Ok, Err, All, AllPairs}
+use Rattle.std.specs.Prelude.{◌≡◌, ◌≢◌, ◌⊎◌, ℕ, ◌==◌, ◌+◌, ◌≤◌, ◌&&◌, ◌||◌, nat_le, nat_lt, Bool, true, false, not, List, [], ◌∷◌, length, codes, bytes_eq, Option, Some, None, option_map, option_and_then, if◌then◌else◌, Result, Ok, Err, All, AllPairs}
 use Rattle.std.specs.List.{list_any}
 use Rattle.std.specs.Option.{option_or}
 use Rattle.std.specs.Str.{is_utf8}
@@ -18,9 +18,11 @@ use Rattle.net_model.specs.declared.policies.PolicyKind.TheVariants.{Blocked, Th
 use Rattle.net_model.specs.declared.policies.Policy.{Policy}
 use Rattle.net_model.specs.declared.policies.Weights.{Weights}
 use Rattle.net_model.specs.declared.policies.Document.{Document}
+use Rattle.net_model.specs.Services.{whole_service}
 use Rattle.net_doc.specs.declared.fault.Refusal.{Refusal}
 use Rattle.net_doc.specs.declared.fault.NetFault.{NetFault}
 use Rattle.net_doc.specs.declared.fault.NetFault.TheVariants.{Refused, Memory}
+use Rattle.net_doc.specs.Services.{services_of}
 use Rattle.net_doc.specs.Members.{has_only, number_under, text_under, list_under, all_of, or_default}
 
 -- what a value that is there is read as
@@ -36,10 +38,14 @@ abbrev pub link_members : List (List ℕ)
 link_members = codes "a" ∷ codes "b" ∷ codes "waypoint" ∷ []
 
 -- a policy has the number of failures exactly where it asks that packets reach their destination
-abbrev pub policy_members : PolicyKind → List (List ℕ)
-policy_members Blocked = codes "kind" ∷ codes "from" ∷ codes "to" ∷ []
-policy_members Through = codes "kind" ∷ codes "from" ∷ codes "to" ∷ []
-policy_members (Reach failures) = codes "kind" ∷ codes "from" ∷ codes "to" ∷ codes "failures" ∷ []
+abbrev pub kind_members : PolicyKind → List (List ℕ)
+kind_members Blocked = codes "kind" ∷ codes "from" ∷ codes "to" ∷ []
+kind_members Through = codes "kind" ∷ codes "from" ∷ codes "to" ∷ []
+kind_members (Reach failures) = codes "kind" ∷ codes "from" ∷ codes "to" ∷ codes "failures" ∷ []
+
+-- and in version 2 it may have a protocol and a port
+abbrev pub policy_members : ℕ → PolicyKind → List (List ℕ)
+policy_members version kind = if version == 2 then codes "proto" ∷ codes "port" ∷ kind_members kind else kind_members kind
 
 abbrev pub weight_members : List (List ℕ)
 weight_members = codes "list" ∷ codes "filter" ∷ codes "session" ∷ []
@@ -97,20 +103,22 @@ kind_of text failures =
     else if bytes_eq text (codes "reach") then option_map Reach failures
     else None
 
--- a policy: what it asks of the packets from one prefix to another
-abbrev pub policy_of : Data → Option Policy
-policy_of d = do
+-- a policy in a document of this version: what it asks of the packets from one prefix to another, of some services
+abbrev pub policy_of : ℕ → Data → Option Policy
+policy_of version d = do
   kind_text ← text_under (codes "kind") d
   kind ← kind_of kind_text (number_under (codes "failures") d)
   from_text ← text_under (codes "from") d
   from ← prefix_of from_text
   to_text ← text_under (codes "to") d
   to ← prefix_of to_text
-  where_true (has_only (policy_members kind) d) (record { kind = kind; from = from; to = to })
+  service ← services_of d
+  where_true (has_only (policy_members version kind) d)
+      (record { kind = kind; from = from; to = to; service = service })
 
 -- the policies
-abbrev pub policies_of : Data → Option (List Policy)
-policies_of d = option_and_then (all_of policy_of) (list_under (codes "policies") d)
+abbrev pub policies_of : ℕ → Data → Option (List Policy)
+policies_of version d = option_and_then (all_of (policy_of version)) (list_under (codes "policies") d)
 
 -- a weight is from 1 to 16
 abbrev pub weight_from : Data → Option ℕ
@@ -137,15 +145,21 @@ unit_weights = record { list = 1; filter = 1; session = 1 }
 abbrev pub weights_of : Data → Option Weights
 weights_of d = or_default unit_weights weights_from (get (codes "weights") d)
 
--- the document that the JSON value is: version 1, with routers, links and policies
+-- the version, which is 1 or 2
+abbrev pub version_of : Data → Option ℕ
+version_of d = do
+  version ← number_under (codes "version") d
+  where_true (version == 1 || version == 2) version
+
+-- the document that the JSON value is: its version, routers, links and policies
 abbrev pub document_from : Data → Option Document
 document_from d = do
-  version ← number_under (codes "version") d
+  version ← version_of d
   routers ← routers_of d
   links ← links_of d
-  policies ← policies_of d
+  policies ← policies_of version d
   weights ← weights_of d
-  where_true (version == 1 && has_only document_members d)
+  where_true (has_only document_members d)
       (record { routers = routers; links = links; policies = policies; weights = weights })
 
 -- the document that the bytes are: JSON in UTF-8, in which the last of several members of one name counts
@@ -225,6 +239,10 @@ pub record IsWellFormed (doc : Document) : Type 0 where
   pub list : IsWeight doc.weights.list
   pub filter : IsWeight doc.weights.filter
   pub session : IsWeight doc.weights.session
+
+-- a policy of version 1 speaks of all services
+abbrev pub OldPoliciesAreWhole : Type 0
+OldPoliciesAreWhole = (d : Data) (policy : Policy) → policy_of 1 d ≡ Some policy → policy.service ≡ whole_service
 
 -- a text is refused for its form, or for a count that passes its limit
 abbrev pub IsFormOrLimit : Kind → Type 0

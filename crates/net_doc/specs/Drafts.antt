@@ -17,7 +17,7 @@ kind_meant (Reach failures) = kinds.Reach failures
 
 -- the policy that is meant
 abbrev pub policy_meant : PolicyText → Policy
-policy_meant text = record { kind = kind_meant text.kind; from = text.from; to = text.to }
+policy_meant text = record { kind = kind_meant text.kind; from = text.from; to = text.to; service = text.service }
 
 -- the document that is meant
 abbrev pub document_meant : Draft → Document

@@ -1,3 +1,4 @@
 pub mod Members
 pub mod Documents
 pub mod Drafts
+pub mod Services

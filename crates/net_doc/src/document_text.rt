@@ -1,6 +1,6 @@
 ghost use Rattle.std.specs.Prelude.{◌≡◌, ◌≤◌, None, length, map, option_map, All, IfOk, IfErr};
 ghost use Rattle.serde_json.specs.View.{view};
-ghost use Rattle.net_doc.specs.Documents.{ReadsDocument, IsWellFormed, HasFewFailures, document_from, document_of, limit_refusal, reading};
+ghost use Rattle.net_doc.specs.Documents.{ReadsDocument, IsWellFormed, HasFewFailures, document_from, document_of, version_of, limit_refusal, reading};
 ghost use Rattle.net_doc.specs.Drafts.{kind_meant, policy_meant, document_meant};
 
 use crate::drafts::{Draft, KindText, PolicyText};
@@ -46,12 +46,13 @@ pub fn document(alloc: Global, bytes: &[u8]) -> Result<Document, NetFault>
 fn read_draft(alloc: Global, value: &Value) -> Result<Option<Draft>, Memory>
     ensures { IfOk result (λ draft. option_map document_meant draft ≡ document_from (view value.now)) }
 {
-    if number_under(value, "version") != Some(1)
-        || !has_only(
-            value,
-            &["version", "routers", "links", "policies", "weights"],
-        )
-    {
+    let Some(version) = read_version(value) else {
+        return Ok(None);
+    };
+    if !has_only(
+        value,
+        &["version", "routers", "links", "policies", "weights"],
+    ) {
         return Ok(None);
     }
     let Some(routers) = read_routers(alloc, value)? else {
@@ -60,7 +61,7 @@ fn read_draft(alloc: Global, value: &Value) -> Result<Option<Draft>, Memory>
     let Some(links) = read_links(alloc, value)? else {
         return Ok(None);
     };
-    let Some(policies) = read_policies(alloc, value)? else {
+    let Some(policies) = read_policies(alloc, version, value)? else {
         return Ok(None);
     };
     let Some(weights) = read_weights(value) else {
@@ -72,6 +73,18 @@ fn read_draft(alloc: Global, value: &Value) -> Result<Option<Draft>, Memory>
         policies,
         weights,
     }))
+}
+
+/// The version, where there is one of this number.
+fn read_version(value: &Value) -> Option<u64>
+    ensures { result ≡ version_of (view value.now) }
+{
+    let version = number_under(value, "version")?;
+    if version == 1 || version == 2 {
+        Some(version)
+    } else {
+        None
+    }
 }
 
 /// The document that is meant, where no limit is passed.
@@ -99,6 +112,7 @@ fn policy_meant(text: &PolicyText) -> Policy
         kind: kind_meant(text.kind),
         from: text.from,
         to: text.to,
+        service: text.service,
     }
 }
 

@@ -1,6 +1,6 @@
 //! A document as it is written: a policy may speak of more failures than it may, and then the refusal tells how many.
 use arc_base::{List, Name, Prefix};
-use net_model::{LinkText, Weights};
+use net_model::{LinkText, Service, Weights};
 
 /// What a policy asks, with as many failures as are written.
 #[derive(Clone, Copy, Debug)]
@@ -16,6 +16,7 @@ pub(crate) struct PolicyText {
     pub(crate) kind: KindText,
     pub(crate) from: Prefix,
     pub(crate) to: Prefix,
+    pub(crate) service: Service,
 }
 
 /// A document as it is written.

@@ -7,6 +7,7 @@ ghost use Rattle.net_doc.specs.Drafts.{kind_meant, policy_meant};
 
 use crate::drafts::{KindText, PolicyText};
 use crate::members::{has_only, list_under, number_under, text_under};
+use crate::services::read_services;
 use arc_base::{List, Memory, Name, cut_at, read_prefix};
 use indexmap::IndexSet;
 use net_model::LinkText;
@@ -118,16 +119,20 @@ fn read_end<'v>(value: &'v Value, name: &str) -> Option<(&'v [u8], &'v [u8])>
     cut_at(text_under(value, name)?.as_bytes(), b':')
 }
 
-/// The policies.
-pub(crate) fn read_policies(alloc: Global, value: &Value) -> Result<Option<Vec<PolicyText>>, Memory>
-    ensures { IfOk result (λ policies. option_map (λ policies. map policy_meant policies.items) policies ≡ policies_of (view value.now)) }
+/// The policies of a document of this version.
+pub(crate) fn read_policies(
+    alloc: Global,
+    version: u64,
+    value: &Value,
+) -> Result<Option<Vec<PolicyText>>, Memory>
+    ensures { IfOk result (λ policies. option_map (λ policies. map policy_meant policies.items) policies ≡ policies_of version (view value.now)) }
 {
     let Some(items) = list_under(value, "policies") else {
         return Ok(None);
     };
     let mut policies = Vec::new(alloc);
     for item in items {
-        let Some(policy) = read_policy(item) else {
+        let Some(policy) = read_policy(version, item) else {
             return Ok(None);
         };
         policies.push(policy)?;
@@ -135,25 +140,48 @@ pub(crate) fn read_policies(alloc: Global, value: &Value) -> Result<Option<Vec<P
     Ok(Some(policies))
 }
 
-fn read_policy(value: &Value) -> Option<PolicyText>
-    ensures { option_map policy_meant result ≡ policy_of (view value.now) }
+fn read_policy(version: u64, value: &Value) -> Option<PolicyText>
+    ensures { option_map policy_meant result ≡ policy_of version (view value.now) }
 {
     let kind = read_kind(text_under(value, "kind")?, number_under(value, "failures"))?;
     let from = read_prefix(text_under(value, "from")?.as_bytes())?;
     let to = read_prefix(text_under(value, "to")?.as_bytes())?;
-    if has_policy_members(value, kind) {
-        Some(PolicyText { kind, from, to })
+    let service = read_services(value)?;
+    if has_policy_members(version, value, kind) {
+        Some(PolicyText {
+            kind,
+            from,
+            to,
+            service,
+        })
     } else {
         None
     }
 }
 
-fn has_policy_members(value: &Value, kind: KindText) -> bool
-    ensures { result ≡ has_only (policy_members (kind_meant kind)) (view value.now) }
+fn has_policy_members(version: u64, value: &Value, kind: KindText) -> bool
+    ensures { result ≡ has_only (policy_members version (kind_meant kind)) (view value.now) }
 {
+    if version == 2 {
+        return has_members(value, kind);
+    }
     match kind {
         KindText::Blocked | KindText::Through => has_only(value, &["kind", "from", "to"]),
         KindText::Reach(_) => has_only(value, &["kind", "from", "to", "failures"]),
+    }
+}
+
+/// Whether the policy has no members but those of version 2.
+fn has_members(value: &Value, kind: KindText) -> bool
+    ensures { result ≡ has_only (policy_members 2 (kind_meant kind)) (view value.now) }
+{
+    match kind {
+        KindText::Blocked | KindText::Through => {
+            has_only(value, &["proto", "port", "kind", "from", "to"])
+        }
+        KindText::Reach(_) => {
+            has_only(value, &["proto", "port", "kind", "from", "to", "failures"])
+        }
     }
 }
 

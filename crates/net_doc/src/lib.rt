@@ -9,6 +9,7 @@ mod items;
 pub mod laws;
 mod limits;
 mod members;
+mod services;
 #[cfg(test)]
 mod tests;
 mod weights;

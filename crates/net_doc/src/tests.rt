@@ -1,6 +1,6 @@
 use crate::{NetFault, Refusal, document};
 use arc_base::{Kind, LimitKind, Prefix};
-use net_model::PolicyKind;
+use net_model::{PolicyKind, Service};
 use std::test::Fail;
 
 const WHOLE: &str =
@@ -36,6 +36,67 @@ fn all_members_are_read(rt: HostRuntime) -> Result<(), Fail> {
     assert_eq!(rt; through.kind, PolicyKind::Through);
     assert_eq!(rt; doc.weights.filter, 16);
     assert_eq!(rt; doc.weights.session, 1);
+    Ok(())
+}
+
+const SERVICES: &str = r#"{"version": 2, "routers": ["r1.cfg"], "links": [], "policies": [
+    {"kind": "reach", "from": "10.1.0.0/24", "to": "10.2.0.0/24", "failures": 0, "proto": "tcp", "port": 22},
+    {"kind": "blocked", "from": "10.1.0.0/24", "to": "10.2.0.0/24", "proto": "udp"},
+    {"kind": "blocked", "from": "10.1.0.0/24", "to": "10.2.0.0/24", "proto": 17, "port": 65535},
+    {"kind": "through", "from": "10.1.0.0/24", "to": "10.2.0.0/24", "proto": "icmp"},
+    {"kind": "through", "from": "10.1.0.0/24", "to": "10.2.0.0/24", "proto": 255},
+    {"kind": "through", "from": "10.1.0.0/24", "to": "10.2.0.0/24"}]}"#;
+
+// The services of its policies, first and last.
+const RANGES: [(u32, u32); 6] = [
+    (393_238, 393_238),
+    (1_114_112, 1_179_647),
+    (1_179_647, 1_179_647),
+    (65_536, 131_071),
+    (16_711_680, 16_777_215),
+    (0, 16_777_215),
+];
+
+#[test]
+fn services_are_read(rt: HostRuntime) -> Result<(), Fail> {
+    let doc = document(rt.alloc(), SERVICES.as_bytes())?;
+    assert_eq!(rt; doc.policies.len(), 6);
+    let mut place = 0;
+    for (low, high) in RANGES {
+        let policy = doc.policies.get(place).ok_or("a policy")?;
+        assert_eq!(rt; Some(policy.service), Service::new(low, high));
+        place += 1;
+    }
+    Ok(())
+}
+
+// The members of a policy that are refused in a document of the version.
+const UNKNOWN: [(u32, &str); 9] = [
+    (1, r#""proto": "tcp""#),
+    (1, r#""port": 80"#),
+    (2, r#""port": 80"#),
+    (2, r#""proto": "icmp", "port": 80"#),
+    (2, r#""proto": "ospf""#),
+    (2, r#""proto": 0"#),
+    (2, r#""proto": 256"#),
+    (2, r#""proto": 6, "port": 65536"#),
+    (2, r#""proto": 6, "port": "80""#),
+];
+
+#[test]
+fn unknown_services_are_refused(rt: HostRuntime) -> Result<(), Fail> {
+    let form = NetFault::Refused(Refusal {
+        file: 0,
+        number: 0,
+        kind: Kind::DocumentForm,
+    });
+    for (version, members) in UNKNOWN {
+        let text = format!(in rt.alloc();
+            "{{\"version\": {version}, \"routers\": [\"r1.cfg\"], \"links\": [], \"policies\": [{{\"kind\": \"blocked\",
+            \"from\": \"10.1.0.0/24\", \"to\": \"10.2.0.0/24\", {members}}}]}}"
+        )?;
+        assert_eq!(rt; document(rt.alloc(), text.as_bytes()).err(), Some(form));
+    }
     Ok(())
 }
 

@@ -18,15 +18,19 @@ pub const OUTSIDE: &[(&[u8], &str)] = &[
     ),
     (
         b"access-list 101 permit ip any host 10.0.0.1 log",
-        "Ok(ListLine(Name { bytes: [49, 48, 49] }, PacketText { permit: true, from: Prefix { addr: 0, len: 0 }, to: Prefix { addr: 167772161, len: 32 } }))",
+        "Ok(ListLine(Name { bytes: [49, 48, 49] }, PacketText { permit: true, from: Prefix { addr: 0, len: 0 }, to: Prefix { addr: 167772161, len: 32 }, low: 0, high: 16777215 }))",
+    ),
+    (
+        b"access-list 101 deny tcp any any eq www",
+        "Ok(ListLine(Name { bytes: [49, 48, 49] }, PacketText { permit: false, from: Prefix { addr: 0, len: 0 }, to: Prefix { addr: 0, len: 0 }, low: 393296, high: 393296 }))",
     ),
     (
         b"access-list 1 deny 10.0.0.7",
-        "Ok(ListLine(Name { bytes: [49] }, PacketText { permit: false, from: Prefix { addr: 167772167, len: 32 }, to: Prefix { addr: 0, len: 0 } }))",
+        "Ok(ListLine(Name { bytes: [49] }, PacketText { permit: false, from: Prefix { addr: 167772167, len: 32 }, to: Prefix { addr: 0, len: 0 }, low: 0, high: 16777215 }))",
     ),
     (
         b"access-list 1999 deny 10.0.0.7 0.0.0.3 log",
-        "Ok(ListLine(Name { bytes: [49, 57, 57, 57] }, PacketText { permit: false, from: Prefix { addr: 167772164, len: 30 }, to: Prefix { addr: 0, len: 0 } }))",
+        "Ok(ListLine(Name { bytes: [49, 57, 57, 57] }, PacketText { permit: false, from: Prefix { addr: 167772164, len: 30 }, to: Prefix { addr: 0, len: 0 }, low: 0, high: 16777215 }))",
     ),
     (b"access-list 2699 remark at all times", "Ok(Inert)"),
     (
@@ -80,7 +84,14 @@ pub const FAULTY_OUTSIDE: &[(&[u8], &str)] = &[
     (b"router ospf 010", "Err(BadWord(3))"),
     (b"router ospf 1 vrf x", "Err(BadWord(4))"),
     (b"router bgp 4294967296", "Err(BadWord(3))"),
-    (b"access-list 100 permit tcp any any", "Err(BadWord(4))"),
+    (b"access-list 100 permit any any", "Err(BadWord(4))"),
+    (b"access-list 100 permit 0 any any", "Err(BadWord(4))"),
+    (
+        b"access-list 100 permit tcp any any range 5 4",
+        "Err(BadWord(9))",
+    ),
+    (b"access-list 1 permit tcp any any", "Err(BadWord(4))"),
+    (b"access-list 1 permit any eq 80", "Err(BadWord(5))"),
     (b"access-list 300 remark x", "Err(BadWord(2))"),
     (b"access-list 1 permit", "Err(BadWord(4))"),
     (b"access-list 1", "Err(Unknown)"),

@@ -6,4 +6,4 @@ use Rattle.net_doc.specs.Drafts.{policy_meant}
 use Rattle.net_doc.proofs.items.read_policies.Given as goal
 
 abbrev pub invariant-loop-item : goal.invariant-loop-item
-invariant-loop-item l = all_of policy_of (items_view (take l.item-index l.items)) ≡ Some (map policy_meant l.policies.items)
+invariant-loop-item l = all_of (policy_of l.version) (items_view (take l.item-index l.items)) ≡ Some (map policy_meant l.policies.items)
