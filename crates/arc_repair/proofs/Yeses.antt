@@ -1,7 +1,8 @@
 -- Yeses on policies, one after another, and why no policy has too many classes.
-use Rattle.std.proofs.Common.{◌≡◌, ℕ, ◌+◌, ◌<◌, Bool, false, Option, Some, None, List, [], ◌∷◌, ◌++◌, length, take, get_or, IsTrue, refl, subst, sym, ◌∙◌, arith}
+use Rattle.std.proofs.Common.{◌≡◌, ℕ, ◌+◌, ◌-◌, ◌^◌, ◌<◌, ◌≤◌, Bool, false, Option, Some, None, List, [], ◌∷◌, ◌++◌, length, take, get_or, IsTrue, refl, subst, sym, ◌∙◌, arith}
 use Rattle.std.specs.Prelude.{All, IfSome, IsNone, slice_get}
 use Rattle.std.specs.List.{AllZip}
+use Rattle.std.proofs.Math.Nat.{min-le_left}
 use Rattle.std.specs.Option.{ForSome}
 use Rattle.std.proofs.lemmas.Bool.{false≢true}
 use Rattle.std.proofs.lemmas.List.{take_more, get_or_default}
@@ -70,7 +71,8 @@ never_many net (q ∷ qs) place fault count few within is many =
     let said : P count × (4096 < count) = subst (CountsMore P) is many in
     let Q : Option Policy → Type 0 = λ o. IfSome o (λ p. HasClasses net (q ∷ qs) p count) in
     let has : HasClasses net (q ∷ qs) policy count = subst Q (slice_get-get_or (q ∷ qs) place q within) said.0 in
-    omega (arith, few policy (place, within, get_or_default (q ∷ qs) place policy q within) has.classes has.are, has.counted, said.1)
+    let told : count ≤ length has.classes = subst (λ (n : ℕ). n ≤ length has.classes) has.counted (min-le_left (length has.classes) (2 ^ 64 - 1)) in
+    omega (arith, few policy (place, within, get_or_default (q ∷ qs) place policy q within) has.classes has.are, told, said.1)
 
 -- where the document has few classes, each policy has few after edits too
 pub few_after : ClassesStay → (net after : Network) (doc : Document) (list : List Edit) (flags : List Bool) → AreEdits net doc list → IsAfter net (chosen_of list flags) after → HasFewClasses net doc → HasFewClassesEach after doc.policies

@@ -19,7 +19,7 @@ use Rattle.edit_space.specs.declared.edit_kinds.Edit.TheVariants as edits
 use Rattle.edit_space.specs.declared.sites.Site.{Site}
 use Rattle.edit_space.specs.declared.sites.Site.TheVariants.{Bound, New}
 use Rattle.edit_space.specs.Changes.{session_change, route_list_change, new_route_change, packet_list_change, new_packet_change, turns_session, list_prefixes, new_prefixes, list_classes, new_classes}
-use Rattle.edit_space.specs.EditLists.{has_session, edits_at, link_edits, route_edit, packet_edit, AreEdits}
+use Rattle.edit_space.specs.EditLists.{has_session, edits_at, link_edits, route_edit, packet_edit, AreEdits, writable_classes}
 use Rattle.edit_space.specs.Numbered.{placed, if_number, of_number, by_number}
 use Rattle.edit_space.specs.Sites.{route_list_site, neighbor_site, packet_list_site, face_site, takes_list, route_sites, packet_sites}
 use Rattle.edit_laws.proofs.Apart.{from_picked, to_picked, number_of, from_placed}
@@ -191,10 +191,10 @@ module _ (net : Network) (doc : Document) (list : List Edit) (are : AreEdits net
   A : List Edit
   A = flat_map (link_edits net) net.links
 
-  split : (e : Edit) → Contains list e → Contains (flat_map (link_edits net) net.links) e ⊎ Contains (flat_map (λ site. map (route_edit site) are.destinations) (route_sites net)) e ⊎ Contains (flat_map (λ site. map (packet_edit site) are.classes) (packet_sites net)) e
+  split : (e : Edit) → Contains list e → Contains (flat_map (link_edits net) net.links) e ⊎ Contains (flat_map (λ site. map (route_edit site) are.destinations) (route_sites net)) e ⊎ Contains (flat_map (λ site. map (packet_edit site) (writable_classes are.classes)) (packet_sites net)) e
   split e m =
       let B : List Edit = flat_map (λ site. map (route_edit site) are.destinations) (route_sites net) in
-      let C : List Edit = flat_map (λ site. map (packet_edit site) are.classes) (packet_sites net) in
+      let C : List Edit = flat_map (λ site. map (packet_edit site) (writable_classes are.classes)) (packet_sites net) in
       elim (Contains-append_cases (flat_map (link_edits net) net.links ++ B) C e (subst (λ (l : List Edit). Contains l e) are.all m)) [
         | inl front ↦ elim (Contains-append_cases (flat_map (link_edits net) net.links) B e front) [ inl a ↦ inl a | inr b ↦ inr (inl b) ]
         | inr c ↦ inr (inr c)
@@ -210,8 +210,8 @@ module _ (net : Network) (doc : Document) (list : List Edit) (are : AreEdits net
           let s = from_map (route_edit r.0) are.destinations (edits.PacketNew face c) r.2 in
           absurd (no_face (new_packet_face (route_edit r.0 s.0)) face (route_no_packet r.0 s.0) (ap new_packet_face s.2))
       | inr k ↦
-          let r = from_piece (λ site. map (packet_edit site) are.classes) (packet_sites net) (edits.PacketNew face c) k in
-          let s = from_map (packet_edit r.0) are.classes (edits.PacketNew face c) r.2 in
+          let r = from_piece (λ site. map (packet_edit site) (writable_classes are.classes)) (packet_sites net) (edits.PacketNew face c) k in
+          let s = from_map (packet_edit r.0) (writable_classes are.classes) (edits.PacketNew face c) r.2 in
           unbound (subst (λ (x : Site). Contains (packet_sites net) x) (packet_new_site r.0 s.0 face (ap new_packet_face s.2)) r.1)
     ]
   ]
@@ -250,8 +250,8 @@ module _ (net : Network) (doc : Document) (list : List Edit) (are : AreEdits net
           let s = from_map (route_edit r.0) are.destinations (edits.RouteNew face p) r.2 in
           unbound (subst (λ (x : Site). Contains (route_sites net) x) (route_new_site r.0 s.0 face (ap new_route_face s.2)) r.1)
       | inr k ↦
-          let r = from_piece (λ site. map (packet_edit site) are.classes) (packet_sites net) (edits.RouteNew face p) k in
-          let s = from_map (packet_edit r.0) are.classes (edits.RouteNew face p) r.2 in
+          let r = from_piece (λ site. map (packet_edit site) (writable_classes are.classes)) (packet_sites net) (edits.RouteNew face p) k in
+          let s = from_map (packet_edit r.0) (writable_classes are.classes) (edits.RouteNew face p) r.2 in
           absurd (no_face (new_route_face (packet_edit r.0 s.0)) face (packet_no_route r.0 s.0) (ap new_route_face s.2))
     ]
   ]

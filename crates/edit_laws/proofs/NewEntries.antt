@@ -13,9 +13,12 @@ use Rattle.net_model.specs.declared.lists.PacketEntry.{PacketEntry}
 use Rattle.net_model.specs.declared.lists.RouteEntry.{RouteEntry}
 use Rattle.net_model.specs.declared.policies.Class.{Class}
 use Rattle.net_model.specs.Lists.{matches, permits, route_matches, route_permits}
+use Rattle.net_model.specs.declared.services.Service.{Service}
+use Rattle.net_model.specs.Services.{serves, Serves, whole_service}
 use Rattle.net_model.specs.Packets.{IsOf}
+use Rattle.net_model.proofs.ServiceRanges.{bounds, serve}
 use Rattle.traffic_classes.proofs.Ranges.{same_length, holds_range}
-use Rattle.edit_space.specs.After.{any, class_entry, exact_entry, new_packet_entries, new_route_entries}
+use Rattle.edit_space.specs.After.{any, every_packet, class_entry, exact_entry, new_packet_entries, new_route_entries}
 
 abbrev packet_answer : Option PacketEntry → Bool
 packet_answer o = option_map_or (λ (e : PacketEntry). e.permit) o false
@@ -36,19 +39,30 @@ in_any p = let low : p.addr < 2 ^ 32 = p.in_range in holds_range any p.addr (ome
 all_in_any : (p : Prefix) (a : ℕ) → Holds p a → Holds any a
 all_in_any p a h = IsInside-shorter p any (omega arith) (in_any p) a h
 
+-- a service of a range is one of all
+one_of_all : (s : Service) (n : ℕ) → Serves s n → Serves whole_service n
+one_of_all s n h = let top : s.high < 2 ^ 24 = s.in_range in serve whole_service n (omega arith) (omega (arith, top, (bounds s n h).1))
+
 module _ (p : Packet) where
   match_of : (class : Class) → IsOf class p → matches p (class_entry false class) ≡ true
-  match_of class of_p = and_from (holds class.from p.from) (holds class.to p.to) of_p.0 of_p.1
+  match_of class of_p =
+      and_from (holds class.from p.from && holds class.to p.to) (serves class.service p.service)
+      (and_from (holds class.from p.from) (holds class.to p.to) of_p.0 of_p.1) of_p.2
 
   of_match : (class : Class) → matches p (class_entry false class) ≡ true → IsOf class p
-  of_match class hit = let both = and_parts (holds class.from p.from) (holds class.to p.to) hit in (both.0, both.1)
+  of_match class hit =
+      let all = and_parts (holds class.from p.from && holds class.to p.to) (serves class.service p.service) hit in
+      let both = and_parts (holds class.from p.from) (holds class.to p.to) all.0 in
+      (both.0, both.1, all.1)
 
-  last_permits : (class : Class) → IsOf class p → permits (record { permit = true; from = any; to = any } ∷ []) p ≡ true
+  last_permits : (class : Class) → IsOf class p → permits (every_packet ∷ []) p ≡ true
   last_permits class of_p =
-      packet_step (record { permit = true; from = any; to = any }) (matches p (record { permit = true; from = any; to = any })) true None
+      packet_step every_packet (matches p every_packet) true None
+      (and_from (holds any p.from && holds any p.to) (serves whole_service p.service)
       (and_from (holds any p.from) (holds any p.to) (all_in_any class.from p.from of_p.0) (all_in_any class.to p.to of_p.1))
+      (one_of_all class.service p.service of_p.2))
 
-  -- a packet of none of the classes is permitted, if it has addresses at all
+  -- a packet of none of the classes is permitted, if it has addresses and a service at all
   pub new_permits : (whole : Class) → IsOf whole p → (classes : List Class) → ((class : Class) → Contains classes class → ¬ IsOf class p) → permits (new_packet_entries classes) p ≡ true
   new_permits whole of_p [] none = last_permits whole of_p
   new_permits whole of_p (c ∷ cs) none = elim (cases_Bool (matches p (class_entry false c))) [

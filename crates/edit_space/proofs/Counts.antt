@@ -4,6 +4,7 @@ use Rattle.std.specs.Prelude.{All}
 use Rattle.std.specs.List.{filter_map, flat_map, cons_option, list_any, range_with_len, zip}
 use Rattle.std.proofs.lemmas.Bool.{eqb-true}
 use Rattle.std.proofs.lemmas.List.{length-map}
+use Rattle.std.proofs.lemmas.List.Sums.{length-filter, count_by-le-length}
 use Rattle.std.proofs.lemmas.List.Elements.{All-weaker}
 use Rattle.std.proofs.lemmas.List.FromFn.{get_or-map-range_with_len, length-map-range_with_len}
 use Rattle.std.proofs.lemmas.Option.{slice_get-get_or}
@@ -20,9 +21,10 @@ use Rattle.net_model.specs.Packets.{subject}
 use Rattle.net_model.proofs.Hosts.{target_face}
 use Rattle.edit_space.specs.declared.edit_kinds.Edit.{Edit}
 use Rattle.edit_space.specs.declared.sites.Site.{Site}
-use Rattle.edit_space.specs.EditLists.{link_edits, route_edit, packet_edit, all_edits}
+use Rattle.edit_space.specs.EditLists.{link_edits, route_edit, packet_edit, all_edits, writable_classes}
 use Rattle.edit_space.specs.Listing.{KnowsSessions}
 use Rattle.edit_space.specs.Numbered.{placed, of_number, by_number, Tells}
+use Rattle.edit_space.specs.Writable.{is_writable}
 use Rattle.edit_space.specs.Sites.{route_list_site, neighbor_site, packet_list_site, face_site, route_sites, packet_sites}
 
 pub few_picked : {X Y : Type 0} (h : X → Option Y) (xs : List X) → length (filter_map h xs) ≤ length xs
@@ -77,6 +79,10 @@ few_by_number count (x ∷ xs) = omega (arith, (few_one x xs 0 count).0, few_by_
 pub few_sites : {X : Type 0} (count : ℕ) (things all more : List (ℕ × X)) (sites : List X) → sites ≡ by_number count things → things ≡ all ++ more → length all < 2 ^ 32 → length more < 2 ^ 32 → length sites < 2 ^ 33
 few_sites count things all more sites are joined l m = omega (arith, ap length are, few_by_number count things, ap length joined, length-append all more, l, m)
 
+-- no more classes can be written than there are
+pub few_writable : (classes : List Class) → length (writable_classes classes) ≤ length classes
+few_writable classes = omega (arith, length-filter (λ (class : Class). is_writable class.service) classes, count_by-le-length (λ (class : Class). is_writable class.service) classes)
+
 -- as many edits at each site
 pub edits_at_sites : {S X E : Type 0} (edit : S → X → E) (sites : List S) (things : List X) → length (flat_map (λ site. map (edit site) things) sites) ≡ length sites * length things
 edits_at_sites edit [] things = omega arith
@@ -84,20 +90,21 @@ edits_at_sites edit (s ∷ sites) things =
     length-append (map (edit s) things) (flat_map (λ site. map (edit site) things) sites) ∙ grind (arith, length-map things (edit s), edits_at_sites edit sites things)
 
 pub all_counted : (net : Network) (destinations : List Prefix) (classes : List Class) (sessions routes packets : ℕ) → sessions ≡ length (flat_map (link_edits net) net.links) →
-    routes ≡ length (route_sites net) → packets ≡ length (packet_sites net) → length (all_edits net destinations classes) ≡ sessions + routes * length destinations + packets * length classes
+    routes ≡ length (route_sites net) → packets ≡ length (packet_sites net) → length (all_edits net destinations classes) ≡ sessions + routes * length destinations + packets * length (writable_classes classes)
 all_counted net destinations classes sessions routes packets is_sessions is_routes is_packets =
     let first : List Edit = flat_map (link_edits net) net.links in
     let second : List Edit = flat_map (λ site. map (route_edit site) destinations) (route_sites net) in
-    let third : List Edit = flat_map (λ site. map (packet_edit site) classes) (packet_sites net) in
+    let third : List Edit = flat_map (λ site. map (packet_edit site) (writable_classes classes)) (packet_sites net) in
     let joined : length ((first ++ second) ++ third) ≡ length first + length second + length third = length-append (first ++ second) third ∙ ap (λ n. n + length third) (length-append first second) in
     let at_routes : length second ≡ routes * length destinations = edits_at_sites route_edit (route_sites net) destinations ∙ ap (λ n. n * length destinations) (sym is_routes) in
-    let at_packets : length third ≡ packets * length classes = edits_at_sites packet_edit (packet_sites net) classes ∙ ap (λ n. n * length classes) (sym is_packets) in
+    let at_packets : length third ≡ packets * length (writable_classes classes) =
+    edits_at_sites packet_edit (packet_sites net) (writable_classes classes) ∙ ap (λ n. n * length (writable_classes classes)) (sym is_packets) in
     joined ∙ ap (λ n. n + length second + length third) (sym is_sessions) ∙ ap (λ n. sessions + n + length third) at_routes ∙ ap (λ n. sessions + routes * length destinations + n) at_packets
 
 pub counted_all : (net : Network) (destinations : List Prefix) (classes : List Class) (sessions routes prefixes packets kinds : ℕ) → sessions ≡ length (flat_map (link_edits net) net.links) → routes ≡ length (route_sites net) →
-    prefixes ≡ length destinations → packets ≡ length (packet_sites net) → kinds ≡ length classes → length (all_edits net destinations classes) ≡ sessions + routes * prefixes + packets * kinds
+    prefixes ≡ length destinations → packets ≡ length (packet_sites net) → kinds ≡ length (writable_classes classes) → length (all_edits net destinations classes) ≡ sessions + routes * prefixes + packets * kinds
 counted_all net destinations classes sessions routes prefixes packets kinds is_sessions is_routes is_prefixes is_packets is_kinds =
-    all_counted net destinations classes sessions routes packets is_sessions is_routes is_packets ∙ ap (λ n. sessions + routes * n + packets * length classes) (sym is_prefixes) ∙
+    all_counted net destinations classes sessions routes packets is_sessions is_routes is_packets ∙ ap (λ n. sessions + routes * n + packets * length (writable_classes classes)) (sym is_prefixes) ∙
     ap (λ n. sessions + routes * prefixes + packets * n) (sym is_kinds)
 
 pub small_product : (a b n m : ℕ) → a ≤ n → b ≤ m → a * b ≤ n * m

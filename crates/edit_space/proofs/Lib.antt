@@ -22,6 +22,8 @@ pub mod AfterValid
 pub mod NoEdits
 pub mod Listed
 pub mod SameHosts
+pub mod KeptEntries
+pub mod SameServices
 pub mod SameClasses
 pub mod Sorting
 pub mod SomeNames

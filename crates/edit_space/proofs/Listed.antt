@@ -1,23 +1,26 @@
 -- Chosen edits are edits of the list, and what they put into lists are destinations and classes of the document.
-use Rattle.std.proofs.Common.{◌≡◌, ℕ, ◌==◌, inl, inr, Bool, true, false, Option, Some, None, List, [], ◌∷◌, ◌++◌, map, ap, subst, if◌then◌else◌}
-use Rattle.std.specs.Prelude.{Contains}
+use Rattle.std.proofs.Common.{◌≡◌, ℕ, ◌==◌, inl, inr, Bool, true, false, Option, Some, None, List, [], ◌∷◌, ◌++◌, map, refl, ap, subst, if◌then◌else◌}
+use Rattle.std.specs.Prelude.{Contains, IsTrue}
 use Rattle.std.specs.List.{filter_map, flat_map, zip}
 use Rattle.std.proofs.lemmas.List.Elements.{Contains-append_cases}
 use Rattle.std.proofs.lemmas.Option.{none-some, same_Some}
-use Rattle.arc_base.proofs.Items.{Contains-head, Contains-tail, Contains-cases, Contains-none, from_map, from_piece}
+use Rattle.arc_base.proofs.Items.{All-from, Contains-head, Contains-tail, Contains-cases, Contains-none, from_map, from_filter, from_piece}
 use Rattle.arc_base.specs.declared.place.Face.{Face}
 use Rattle.arc_base.specs.declared.prefix.Prefix.{Prefix}
 use Rattle.net_model.specs.declared.policies.Class.{Class}
+use Rattle.net_model.specs.declared.policies.Document.{Document}
 use Rattle.net_model.specs.declared.rows.Network.{Network}
 use Rattle.edit_space.specs.declared.edit_kinds.Edit.{Edit}
 use Rattle.edit_space.specs.declared.edit_kinds.Edit.TheVariants as edits
 use Rattle.edit_space.specs.declared.sites.Site.{Site}
 use Rattle.edit_space.specs.declared.sites.Site.TheVariants.{Bound, New}
 use Rattle.edit_space.specs.Changes.{route_list_change, new_route_change, packet_list_change, new_packet_change, list_prefixes, new_prefixes, list_classes, new_classes}
-use Rattle.edit_space.specs.EditLists.{has_session, edits_at, link_edits, route_edit, packet_edit, all_edits}
+use Rattle.edit_space.specs.EditLists.{has_session, edits_at, link_edits, route_edit, packet_edit, all_edits, writable_classes, AreEdits}
+use Rattle.edit_space.specs.Laws.{PacketEditsAreWritable, ChosenClassesAreWritable}
 use Rattle.edit_space.specs.Numbered.{if_number, of_number}
 use Rattle.edit_space.specs.Prices.{if_chosen, chosen_of}
 use Rattle.edit_space.specs.Sites.{route_sites, packet_sites}
+use Rattle.edit_space.specs.Writable.{is_writable}
 use Rattle.edit_space.proofs.NewListFacts.{picked_from}
 
 zip_first : {X Y : Type 0} (xs : List X) (ys : List Y) (p : X × Y) → Contains (zip xs ys) p → Contains xs p.0
@@ -117,10 +120,11 @@ module _ (chosen : List Edit) (place : ℕ) where
       let from = picked_from new_route_change chosen (n.0, p) n.1 in
       (from.0, from.1, new_prefix from.0 n.0 p from.2)
 
--- what an edit of the list puts into lists
+-- what an edit of the list puts into lists: an entry for a class that one entry can speak for, or for a destination
 module _ (net : Network) (destinations : List Prefix) (classes : List Class) where
   abbrev IsGood : Edit → Type 0
-  IsGood e = ((c : Class) → class_put e ≡ Some c → Contains classes c) × ((p : Prefix) → prefix_put e ≡ Some p → Contains destinations p)
+  IsGood e =
+      ((c : Class) → class_put e ≡ Some c → Contains (writable_classes classes) c) × ((p : Prefix) → prefix_put e ≡ Some p → Contains destinations p)
 
   good_session : (b : Bool) (face : Face) (e : Edit) → Contains (if b then edits.Session face ∷ [] else []) e → IsGood e
   good_session false face e there = absurd (Contains-none e there)
@@ -133,9 +137,11 @@ module _ (net : Network) (destinations : List Prefix) (classes : List Class) whe
   good_route (Bound list) p one = (λ c h. absurd (none-some c h), λ q h. subst (λ (r : Prefix). Contains destinations r) (same_Some p q h) one)
   good_route (New face) p one = (λ c h. absurd (none-some c h), λ q h. subst (λ (r : Prefix). Contains destinations r) (same_Some p q h) one)
 
-  good_packet : (site : Site) (c : Class) → Contains classes c → IsGood (packet_edit site c)
-  good_packet (Bound list) c one = (λ d h. subst (λ (x : Class). Contains classes x) (same_Some c d h) one, λ q h. absurd (none-some q h))
-  good_packet (New face) c one = (λ d h. subst (λ (x : Class). Contains classes x) (same_Some c d h) one, λ q h. absurd (none-some q h))
+  good_packet : (site : Site) (c : Class) → Contains (writable_classes classes) c → IsGood (packet_edit site c)
+  good_packet (Bound list) c one =
+      (λ d h. subst (λ (x : Class). Contains (writable_classes classes) x) (same_Some c d h) one, λ q h. absurd (none-some q h))
+  good_packet (New face) c one =
+      (λ d h. subst (λ (x : Class). Contains (writable_classes classes) x) (same_Some c d h) one, λ q h. absurd (none-some q h))
 
   good_sessions : (e : Edit) → Contains (flat_map (link_edits net) net.links) e → IsGood e
   good_sessions e there =
@@ -151,15 +157,15 @@ module _ (net : Network) (destinations : List Prefix) (classes : List Class) whe
       let one = from_map (route_edit from.0) destinations e from.2 in
       subst IsGood one.2 (good_route from.0 one.0 one.1)
 
-  good_packets : (e : Edit) → Contains (flat_map (λ site. map (packet_edit site) classes) (packet_sites net)) e → IsGood e
+  good_packets : (e : Edit) → Contains (flat_map (λ site. map (packet_edit site) (writable_classes classes)) (packet_sites net)) e → IsGood e
   good_packets e there =
-      let from = from_piece (λ site. map (packet_edit site) classes) (packet_sites net) e there in
-      let one = from_map (packet_edit from.0) classes e from.2 in
+      let from = from_piece (λ site. map (packet_edit site) (writable_classes classes)) (packet_sites net) e there in
+      let one = from_map (packet_edit from.0) (writable_classes classes) e from.2 in
       subst IsGood one.2 (good_packet from.0 one.0 one.1)
 
   all_good : (e : Edit) → Contains (all_edits net destinations classes) e → IsGood e
   all_good e there =
-      elim (Contains-append_cases (flat_map (link_edits net) net.links ++ flat_map (λ site. map (route_edit site) destinations) (route_sites net)) (flat_map (λ site. map (packet_edit site) classes) (packet_sites net)) e there) [
+      elim (Contains-append_cases (flat_map (link_edits net) net.links ++ flat_map (λ site. map (route_edit site) destinations) (route_sites net)) (flat_map (λ site. map (packet_edit site) (writable_classes classes)) (packet_sites net)) e there) [
         | inl front ↦ elim (Contains-append_cases (flat_map (link_edits net) net.links) (flat_map (λ site. map (route_edit site) destinations) (route_sites net)) e front) [
           | inl session ↦ good_sessions e session
           | inr route ↦ good_routes e route
@@ -168,7 +174,33 @@ module _ (net : Network) (destinations : List Prefix) (classes : List Class) whe
       ]
 
   pub class_listed : (e : Edit) (c : Class) → Contains (all_edits net destinations classes) e → class_put e ≡ Some c → Contains classes c
-  class_listed e c there = (all_good e there).0 c
+  class_listed e c there puts = (from_filter (λ (class : Class). is_writable class.service) classes c ((all_good e there).0 c puts)).0
+
+  -- it can be written
+  pub class_writable : (e : Edit) (c : Class) → Contains (all_edits net destinations classes) e → class_put e ≡ Some c → IsTrue (is_writable c.service)
+  class_writable e c there puts = (from_filter (λ (class : Class). is_writable class.service) classes c ((all_good e there).0 c puts)).1
 
   pub prefix_listed : (e : Edit) (p : Prefix) → Contains (all_edits net destinations classes) e → prefix_put e ≡ Some p → Contains destinations p
   prefix_listed e p there = (all_good e there).1 p
+
+-- what the edits of a network for a document put into lists can be written
+module _ (net : Network) (doc : Document) (list : List Edit) (are : AreEdits net doc list) where
+  put_writable : (e : Edit) (class : Class) → Contains list e → class_put e ≡ Some class → IsTrue (is_writable class.service)
+  put_writable e class there = class_writable net are.destinations are.classes e class (subst (λ (l : List Edit). Contains l e) are.all there)
+
+  chosen_writable : (flags : List Bool) (class : Class) → (e : Edit) × Contains (chosen_of list flags) e × (class_put e ≡ Some class) → IsTrue (is_writable class.service)
+  chosen_writable flags class (e, one, puts) = put_writable e class (chosen_listed list flags e one) puts
+
+pub packet_edits_are_writable : PacketEditsAreWritable
+packet_edits_are_writable net doc list are class = (
+  λ at there. put_writable net doc list are (edits.PacketList at class) class there refl,
+  λ face there. put_writable net doc list are (edits.PacketNew face class) class there refl,
+)
+
+pub chosen_classes_are_writable : ChosenClassesAreWritable
+chosen_classes_are_writable net doc list flags are place = (
+  All-from (λ (class : Class). IsTrue (is_writable class.service)) (list_classes (chosen_of list flags) place)
+      (λ class there. chosen_writable net doc list are flags class (class_of_list (chosen_of list flags) place class there)),
+  All-from (λ (class : Class). IsTrue (is_writable class.service)) (new_classes (chosen_of list flags) place)
+      (λ class there. chosen_writable net doc list are flags class (class_of_new (chosen_of list flags) place class there)),
+)

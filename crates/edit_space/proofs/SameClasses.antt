@@ -5,7 +5,6 @@ use Rattle.std.specs.List.{flat_map, AllZip}
 use Rattle.std.proofs.lemmas.List.Elements.{Contains-append_left, Contains-append_right, Contains-append_cases}
 use Rattle.arc_base.proofs.Agreement.{Holds-first}
 use Rattle.arc_base.proofs.Items.{Contains-map, from_map, Contains-piece, from_piece, Contains-cases, Contains-none}
-use Rattle.arc_base.specs.declared.place.Face.{Face}
 use Rattle.arc_base.specs.declared.prefix.Prefix.{Prefix}
 use Rattle.net_model.specs.declared.lists.PacketEntry.{PacketEntry}
 use Rattle.net_model.specs.declared.lists.PacketList.{PacketList}
@@ -13,20 +12,21 @@ use Rattle.net_model.specs.declared.policies.Class.{Class}
 use Rattle.net_model.specs.declared.policies.Document.{Document}
 use Rattle.net_model.specs.declared.policies.Policy.{Policy}
 use Rattle.net_model.specs.declared.rows.Network.{Network}
-use Rattle.net_model.proofs.Readings.{place_of_item, item_at_place}
-use Rattle.traffic_classes.specs.Classes.{source_marks, destination_marks, AreClasses}
+use Rattle.net_model.specs.declared.services.Service.{Service}
+use Rattle.traffic_classes.specs.Classes.{source_marks, destination_marks, service_marks, AreClasses}
 use Rattle.traffic_classes.specs.Leaves.{IsStrictlyInside, IsSplit, IsLeaf, AreLeaves}
+use Rattle.traffic_classes.specs.ServiceLeaves.{IsCut, IsServiceLeaf}
 use Rattle.traffic_classes.specs.Parts.{IsClassOf}
-use Rattle.traffic_classes.proofs.MakingUp.{from_leaf, to_leaf}
+use Rattle.traffic_classes.proofs.MakingUp.{from_leaf, to_leaf, service_leaf}
 use Rattle.traffic_classes.proofs.Ranges.{nested}
 use Rattle.traffic_classes.proofs.Unions.{comes_from, tell_apart}
 use Rattle.edit_space.specs.declared.edit_kinds.Edit.{Edit}
-use Rattle.edit_space.specs.After.{any, class_entry, opposite_packet_entry, with_classes, new_packet_entries, edited_packet_list, IsPacketListAfter, IsAfter}
-use Rattle.edit_space.specs.Changes.{list_classes, new_classes}
+use Rattle.edit_space.specs.After.{any, class_entry, every_packet, IsAfter}
 use Rattle.edit_space.specs.EditLists.{AreEdits}
 use Rattle.edit_space.specs.Kept.{ClassesStay, AllClassesStay, ListsStayUniform}
 use Rattle.edit_space.specs.Prices.{chosen_of}
-use Rattle.edit_space.proofs.Listed.{class_put, chosen_listed, class_of_list, class_of_new, class_listed}
+use Rattle.edit_space.proofs.KeptEntries.{IsEntry, IsForClass, entry_was, entry_stays}
+use Rattle.edit_space.proofs.SameServices.{same_cuts, same_service_leaves}
 
 -- marks that split the same prefixes give the same leaves
 module _ (marks others : List Prefix) (same : (p : Prefix) → IsSplit marks p ↔ IsSplit others p) where
@@ -57,68 +57,51 @@ module _ (side : PacketEntry → Prefix) (side_of : Class → Prefix) (end_of : 
   abbrev marks_of : Network → List Policy → List Prefix
   marks_of net policies = flat_map (λ l. map side l.entries) net.packet_lists ++ map end_of policies
 
-  module _ (fits : (b : Bool) (c : Class) → side (class_entry b c) ≡ side_of c) (free : (b : Bool) → side (record { permit = b; from = any; to = any }) ≡ any)
+  entry_mark : (net : Network) (policies : List Policy) (e : PacketEntry) → IsEntry net e → Contains (marks_of net policies) (side e)
+  entry_mark net policies e is =
+      Contains-append_left (flat_map (λ (l : PacketList). map side l.entries) net.packet_lists) (map end_of policies) (side e)
+      (Contains-piece (λ (l : PacketList). map side l.entries) net.packet_lists is.list (side e) is.one (Contains-map side is.list.entries e is.there))
+
+  policy_mark : (net : Network) (policies : List Policy) (m : Prefix) → Contains (map end_of policies) m → Contains (marks_of net policies) m
+  policy_mark net policies m there = Contains-append_right (flat_map (λ (l : PacketList). map side l.entries) net.packet_lists) (map end_of policies) m there
+
+  -- a mark is the side of an entry, or a policy's
+  mark_from : (net : Network) (policies : List Policy) (m : Prefix) → Contains (marks_of net policies) m →
+      ((e : PacketEntry) × IsEntry net e × (side e ≡ m)) ⊎ Contains (map end_of policies) m
+  mark_from net policies m there =
+      elim (Contains-append_cases (flat_map (λ (l : PacketList). map side l.entries) net.packet_lists) (map end_of policies) m there) [
+        | inl entry ↦
+            let from = from_piece (λ (l : PacketList). map side l.entries) net.packet_lists m entry in
+            let one = from_map side from.0.entries m from.2 in
+            inl (one.0, record { list = from.0; one = from.1; there = one.1 }, one.2)
+        | inr policy ↦ inr policy
+      ]
+
+  module _ (fits : (b : Bool) (c : Class) → side (class_entry b c) ≡ side_of c) (free : side every_packet ≡ any)
       (net after : Network) (doc : Document) (list : List Edit) (flags : List Bool) (are : AreEdits net doc list) (is : IsAfter net (chosen_of list flags) after)
       (leaf : (c : Class) → Contains are.classes c → (policy : Policy) × Contains doc.policies policy × IsLeaf (marks_of net doc.policies) (end_of policy) (side_of c)) where
     -- a mark of the network after the edits is one of the network before, the side of a class, or all addresses
     abbrev Marks : Prefix → Type 0
     Marks m = Contains (marks_of net doc.policies) m ⊎ (((c : Class) × Contains are.classes c × (side_of c ≡ m)) ⊎ (m ≡ any))
 
-    class_there : (c : Class) → (e : Edit) × Contains (chosen_of list flags) e × (class_put e ≡ Some c) → Contains are.classes c
-    class_there c (e, one, puts) = class_listed net are.destinations are.classes e c (subst (λ (l : List Edit). Contains l e) are.all (chosen_listed list flags e one)) puts
-
-    old_entry : (l : PacketList) (e : PacketEntry) → Contains net.packet_lists l → Contains l.entries e → Marks (side e)
-    old_entry l e one there =
-        inl (Contains-append_left (flat_map (λ l. map side l.entries) net.packet_lists) (map end_of doc.policies) (side e)
-        (Contains-piece (λ (l : PacketList). map side l.entries) net.packet_lists l (side e) one (Contains-map side l.entries e there)))
-
-    edited_entry : (place : ℕ) (was : PacketList) (e : PacketEntry) → slice_get net.packet_lists place ≡ Some was → Contains (with_classes was.entries (list_classes (chosen_of list flags) place)) e → Marks (side e)
-    edited_entry place was e at there =
-        elim (Contains-append_cases (map (opposite_packet_entry was.entries) (list_classes (chosen_of list flags) place)) was.entries e there) [
-          | inl new ↦ let from = from_map (opposite_packet_entry was.entries) (list_classes (chosen_of list flags) place) e new in
-              inr (inl (from.0, class_there from.0 (class_of_list (chosen_of list flags) place from.0 from.1), sym (fits (opposite_packet_entry was.entries from.0).permit from.0) ∙ ap side from.2))
-          | inr old ↦ old_entry was e (item_at_place net.packet_lists place was at) old
-        ]
-
-    new_entry : (face : Face) (e : PacketEntry) → Contains (new_packet_entries (new_classes (chosen_of list flags) face.0)) e → Marks (side e)
-    new_entry face e there =
-        elim (Contains-append_cases (map (class_entry false) (new_classes (chosen_of list flags) face.0)) (record { permit = true; from = any; to = any } ∷ []) e there) [
-          | inl new ↦ let from = from_map (class_entry false) (new_classes (chosen_of list flags) face.0) e new in
-              inr (inl (from.0, class_there from.0 (class_of_new (chosen_of list flags) face.0 from.0 from.1), sym (fits false from.0) ∙ ap side from.2))
-          | inr last ↦ elim (Contains-cases (record { permit = true; from = any; to = any }) e [] last) [
-            | inl same ↦ inr (inr (ap side (sym same) ∙ free true))
-            | inr none ↦ absurd (Contains-none e none)
-          ]
-        ]
-
-    entry_of : (l : PacketList) (e : PacketEntry) → IsPacketListAfter net (chosen_of list flags) l → Contains l.entries e → Marks (side e)
-    entry_of l e (inl (place, was, at, same)) there = edited_entry place was e at (subst (λ (m : PacketList). Contains m.entries e) same there)
-    entry_of l e (inr (face, new)) there = new_entry face e (subst (λ (es : List PacketEntry). Contains es e) new.entries there)
+    entry_was_mark : (e : PacketEntry) → IsEntry after e → Marks (side e)
+    entry_was_mark e now = elim (entry_was net after doc list flags are is e now) [
+      | inl old ↦ inl (entry_mark net doc.policies e old)
+      | inr (inl for) ↦ inr (inl (for.class, for.one, sym (fits for.permit for.class) ∙ ap side for.same))
+      | inr (inr last) ↦ inr (inr (ap side (sym last) ∙ free))
+    ]
 
     mark_was : (m : Prefix) → Contains (marks_of after doc.policies) m → Marks m
-    mark_was m there =
-        elim (Contains-append_cases (flat_map (λ (l : PacketList). map side l.entries) after.packet_lists) (map end_of doc.policies) m there) [
-          | inl entry ↦
-              let from = from_piece (λ (l : PacketList). map side l.entries) after.packet_lists m entry in
-              let one = from_map side from.0.entries m from.2 in
-              subst Marks one.2 (entry_of from.0 one.0 ((is.packet_lists from.0).0 from.1) one.1)
-          | inr policy ↦ inl (Contains-append_right (flat_map (λ (l : PacketList). map side l.entries) net.packet_lists) (map end_of doc.policies) m policy)
-        ]
+    mark_was m there = elim (mark_from after doc.policies m there) [
+      | inl (e, now, same) ↦ subst Marks same (entry_was_mark e now)
+      | inr policy ↦ inl (policy_mark net doc.policies m policy)
+    ]
 
     mark_stays : (m : Prefix) → Contains (marks_of net doc.policies) m → Contains (marks_of after doc.policies) m
-    mark_stays m there =
-        elim (Contains-append_cases (flat_map (λ (l : PacketList). map side l.entries) net.packet_lists) (map end_of doc.policies) m there) [
-          | inl entry ↦
-              let from = from_piece (λ (l : PacketList). map side l.entries) net.packet_lists m entry in
-              let place = place_of_item net.packet_lists from.0 from.1 in
-              let now : PacketList = edited_packet_list (chosen_of list flags) place.0 from.0 in
-              let one : Contains after.packet_lists now = (is.packet_lists now).1 (inl (place.0, from.0, place.1, refl)) in
-              let old = from_map side from.0.entries m from.2 in
-              let in_now : Contains now.entries old.0 = Contains-append_right (map (opposite_packet_entry from.0.entries) (list_classes (chosen_of list flags) place.0)) from.0.entries old.0 old.1 in
-              Contains-append_left (flat_map (λ (l : PacketList). map side l.entries) after.packet_lists) (map end_of doc.policies) m
-              (Contains-piece (λ (l : PacketList). map side l.entries) after.packet_lists now m one (subst (λ (q : Prefix). Contains (map side now.entries) q) old.2 (Contains-map side now.entries old.0 in_now)))
-          | inr policy ↦ Contains-append_right (flat_map (λ (l : PacketList). map side l.entries) after.packet_lists) (map end_of doc.policies) m policy
-        ]
+    mark_stays m there = elim (mark_from net doc.policies m there) [
+      | inl (e, old, same) ↦ subst (λ (q : Prefix). Contains (marks_of after doc.policies) q) same (entry_mark after doc.policies e (entry_stays net after doc list flags are is e old))
+      | inr policy ↦ policy_mark after doc.policies m policy
+    ]
 
     -- a prefix that a class lies strictly inside of is split already
     class_splits : (c : Class) (p : Prefix) → Contains are.classes c → IsStrictlyInside (side_of c) p → IsSplit (marks_of net doc.policies) p
@@ -128,7 +111,7 @@ module _ (side : PacketEntry → Prefix) (side_of : Class → Prefix) (end_of : 
           | inl inside ↦ of.2.largest p strict inside
           | inr whole ↦ record {
             mark = end_of of.0;
-            one = Contains-append_right (flat_map (λ (l : PacketList). map side l.entries) net.packet_lists) (map end_of doc.policies) (end_of of.0) (Contains-map end_of doc.policies of.0 of.1);
+            one = policy_mark net doc.policies (end_of of.0) (Contains-map end_of doc.policies of.0 of.1);
             inside = whole;
           }
         ]
@@ -156,10 +139,18 @@ module _ (net after : Network) (doc : Document) (list : List Edit) (flags : List
       (of.policy, of.one, to_leaf net doc.policies of.policy of.classes of.are c of.there)
 
   sources : Split (source_marks net doc.policies) (source_marks after doc.policies)
-  sources = same_splits (λ e. e.from) (λ c. c.from) (λ p. p.from) (λ b c. refl) (λ b. refl) net after doc list flags are is source_leaf
+  sources = same_splits (λ e. e.from) (λ c. c.from) (λ p. p.from) (λ b c. refl) refl net after doc list flags are is source_leaf
 
   destinations : Split (destination_marks net doc.policies) (destination_marks after doc.policies)
-  destinations = same_splits (λ e. e.to) (λ c. c.to) (λ p. p.to) (λ b c. refl) (λ b. refl) net after doc list flags are is destination_leaf
+  destinations = same_splits (λ e. e.to) (λ c. c.to) (λ p. p.to) (λ b c. refl) refl net after doc list flags are is destination_leaf
+
+  service_leaf_of : (c : Class) → Contains are.classes c → (policy : Policy) × Contains doc.policies policy × IsServiceLeaf (service_marks net doc.policies) policy.service c.service
+  service_leaf_of c one =
+      let of : IsClassOf net doc.policies doc.policies c = comes_from net doc.policies doc.policies are.classes are.classes_are c one in
+      (of.policy, of.one, service_leaf net doc.policies of.policy of.classes of.are c of.there)
+
+  services : (s : Service) → IsCut (service_marks net doc.policies) s ↔ IsCut (service_marks after doc.policies) s
+  services = same_cuts net after doc list flags are is service_leaf_of
 
   pub classes_now : (policy : Policy) (classes : List Class) → AreClasses net doc.policies policy classes → AreClasses after doc.policies policy classes
   classes_now policy classes c = record {
@@ -167,7 +158,9 @@ module _ (net after : Network) (doc : Document) (list : List Edit) (flags : List
     destinations = c.destinations;
     sources_are = leaves_too (source_marks net doc.policies) (source_marks after doc.policies) sources policy.from c.sources c.sources_are;
     destinations_are = leaves_too (destination_marks net doc.policies) (destination_marks after doc.policies) destinations policy.to c.destinations c.destinations_are;
-    pairs = c.pairs;
+    services = c.services;
+    services_are = same_service_leaves (service_marks net doc.policies) (service_marks after doc.policies) services policy.service c.services c.services_are;
+    triples = c.triples;
   }
 
   pub classes_before : (policy : Policy) (classes : List Class) → AreClasses after doc.policies policy classes → AreClasses net doc.policies policy classes
@@ -177,7 +170,10 @@ module _ (net after : Network) (doc : Document) (list : List Edit) (flags : List
     sources_are = leaves_too (source_marks after doc.policies) (source_marks net doc.policies) (turned (source_marks net doc.policies) (source_marks after doc.policies) sources) policy.from c.sources c.sources_are;
     destinations_are =
         leaves_too (destination_marks after doc.policies) (destination_marks net doc.policies) (turned (destination_marks net doc.policies) (destination_marks after doc.policies) destinations) policy.to c.destinations c.destinations_are;
-    pairs = c.pairs;
+    services = c.services;
+    services_are =
+        same_service_leaves (service_marks after doc.policies) (service_marks net doc.policies) (λ s. ((services s).1, (services s).0)) policy.service c.services c.services_are;
+    triples = c.triples;
   }
 
 zip_along : {X Y : Type 0} (R S : X → Y → Type 0) → ((x : X) (y : Y) → R x y → S x y) → (xs : List X) (ys : List Y) → AllZip R xs ys → AllZip S xs ys

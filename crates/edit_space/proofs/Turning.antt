@@ -14,6 +14,7 @@ use Rattle.net_model.specs.declared.lists.PacketEntry.{PacketEntry}
 use Rattle.net_model.specs.declared.lists.RouteEntry.{RouteEntry}
 use Rattle.net_model.specs.declared.policies.Class.{Class}
 use Rattle.net_model.specs.Lists.{matches, permits, route_matches, route_permits}
+use Rattle.net_model.specs.Services.{serves}
 use Rattle.net_model.specs.Packets.{IsOf, first_packet}
 use Rattle.net_model.specs.Witnesses.{IsUniform}
 use Rattle.net_model.proofs.Packets.{first_is_of}
@@ -42,10 +43,15 @@ route_miss e b o is = ap (λ c. route_answer (cond c (Some e) o)) is
 
 module _ (base : List PacketEntry) (p : Packet) where
   of_class : (class : Class) → matches p (opposite_packet_entry base class) ≡ true → IsOf class p
-  of_class class hit = let both = and_parts (holds class.from p.from) (holds class.to p.to) hit in (both.0, both.1)
+  of_class class hit =
+      let all = and_parts (holds class.from p.from && holds class.to p.to) (serves class.service p.service) hit in
+      let both = and_parts (holds class.from p.from) (holds class.to p.to) all.0 in
+      (both.0, both.1, all.1)
 
   class_of : (class : Class) → IsOf class p → matches p (opposite_packet_entry base class) ≡ true
-  class_of class of_p = and_from (holds class.from p.from) (holds class.to p.to) of_p.0 of_p.1
+  class_of class of_p =
+      and_from (holds class.from p.from && holds class.to p.to) (serves class.service p.service)
+      (and_from (holds class.from p.from) (holds class.to p.to) of_p.0 of_p.1) of_p.2
 
   others_stay : (classes : List Class) → ((class : Class) → Contains classes class → ¬ IsOf class p) → permits (map (opposite_packet_entry base) classes ++ base) p ≡ permits base p
   others_stay [] none = refl

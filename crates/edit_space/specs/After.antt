@@ -17,6 +17,7 @@ use Rattle.net_model.specs.declared.rows.SessionRow.{SessionRow}
 use Rattle.net_model.specs.declared.rows.Network.{Network}
 use Rattle.net_model.specs.Lists.{permits, route_permits}
 use Rattle.net_model.specs.Packets.{first_packet}
+use Rattle.net_model.specs.Services.{whole_service}
 use Rattle.edit_space.specs.declared.edit_kinds.Edit.{Edit}
 use Rattle.edit_space.specs.declared.new_lists.NewList.TheVariants.{Route, Packet}
 use Rattle.edit_space.specs.Numbered.{is_empty, EachRow}
@@ -34,7 +35,7 @@ exact_entry permit prefix = record { permit = permit; prefix = prefix; low = pre
 
 -- the entry of a packet list for the class
 abbrev pub class_entry : Bool → Class → PacketEntry
-class_entry permit class = record { permit = permit; from = class.from; to = class.to }
+class_entry permit class = record { permit = permit; from = class.from; to = class.to; service = class.service }
 
 -- the entry for exactly this prefix, with the answer opposite to the one that the route list gives
 abbrev pub opposite_route_entry : List RouteEntry → Prefix → RouteEntry
@@ -56,9 +57,13 @@ with_classes entries classes = map (opposite_packet_entry entries) classes ++ en
 abbrev pub new_route_entries : List Prefix → List RouteEntry
 new_route_entries prefixes = map (exact_entry false) prefixes ++ record { permit = true; prefix = any; low = 0; high = 32 } ∷ []
 
+-- the entry that permits every packet
+abbrev pub every_packet : PacketEntry
+every_packet = record { permit = true; from = any; to = any; service = whole_service }
+
 -- the entries of a new packet list: it denies these classes and permits all other packets
 abbrev pub new_packet_entries : List Class → List PacketEntry
-new_packet_entries classes = map (class_entry false) classes ++ record { permit = true; from = any; to = any } ∷ []
+new_packet_entries classes = map (class_entry false) classes ++ every_packet ∷ []
 
 -- the route list that was at this place, with the entries that the edits put at its front
 abbrev pub edited_route_list : List Edit → ℕ → RouteList → RouteList

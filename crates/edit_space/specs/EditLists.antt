@@ -1,5 +1,5 @@
 -- The edits of a network for a document, in their order: sessions, then entries for routes, then entries for packets.
-use Rattle.std.specs.Prelude.{◌≡◌, ℕ, ◌<◌, ◌≤◌, ◌&&◌, nat_eq, Bool, false, is_some, Some, List, [], ◌∷◌, ◌++◌, map, fold, length, slice_get, Any, if◌then◌else◌}
+use Rattle.std.specs.Prelude.{◌≡◌, ℕ, ◌<◌, ◌≤◌, ◌&&◌, nat_eq, Bool, false, is_some, Some, List, [], ◌∷◌, ◌++◌, map, filter, fold, length, slice_get, Any, if◌then◌else◌}
 use Rattle.std.specs.List.{flat_map, list_any, AllZip}
 use Rattle.std.specs.Option.{option_map_or}
 use Rattle.arc_base.specs.Addresses.{IsInside}
@@ -24,6 +24,7 @@ use Rattle.traffic_classes.specs.declared.fault.ClassFault.TheVariants as classe
 use Rattle.edit_space.specs.declared.sites.Site.{Site}
 use Rattle.edit_space.specs.declared.sites.Site.TheVariants.{Bound, New}
 use Rattle.edit_space.specs.Sites.{route_sites, packet_sites}
+use Rattle.edit_space.specs.Writable.{is_writable}
 
 -- whether the interface runs the protocol with a neighbour: under OSPF it is enabled, under eBGP a neighbour is configured at it
 abbrev pub has_session : Protocol → Network → Face → Bool
@@ -48,12 +49,16 @@ abbrev pub packet_edit : Site → Class → Edit
 packet_edit (Bound list) class = edits.PacketList list class
 packet_edit (New face) class = edits.PacketNew face class
 
+-- the classes for which one entry of a packet list can speak
+abbrev pub writable_classes : List Class → List Class
+writable_classes classes = filter (λ class. is_writable class.service) classes
+
 -- all edits, where these are the destinations and the classes: sessions by link, routes by site, packets by site
 abbrev pub all_edits : Network → List Prefix → List Class → List Edit
 all_edits net destinations classes =
     flat_map (link_edits net) net.links ++
     flat_map (λ site. map (route_edit site) destinations) (route_sites net) ++
-    flat_map (λ site. map (packet_edit site) classes) (packet_sites net)
+    flat_map (λ site. map (packet_edit site) (writable_classes classes)) (packet_sites net)
 
 -- the prefix lies in this host network
 abbrev pub LiesInHost : Network → Prefix → Prefix → Type 0

@@ -1,19 +1,27 @@
 -- Laws of edits, in the words of packets and prefixes.
-use Rattle.std.specs.Prelude.{◌≡◌, not, List, [], AllPairs, Contains, All}
+use Rattle.std.specs.Prelude.{◌≡◌, ℕ, Bool, not, IsTrue, List, [], AllPairs, Contains, All}
+use Rattle.arc_base.specs.declared.place.Face.{Face}
+use Rattle.arc_base.specs.declared.place.ListId.{ListId}
 use Rattle.arc_base.specs.declared.prefix.Prefix.{Prefix}
 use Rattle.net_model.specs.declared.lists.Packet.{Packet}
 use Rattle.net_model.specs.declared.lists.PacketEntry.{PacketEntry}
 use Rattle.net_model.specs.declared.lists.RouteEntry.{RouteEntry}
 use Rattle.net_model.specs.declared.policies.Class.{Class}
+use Rattle.net_model.specs.declared.policies.Document.{Document}
 use Rattle.net_model.specs.declared.policies.Weights.{Weights}
 use Rattle.net_model.specs.declared.rows.Network.{Network}
 use Rattle.net_model.specs.Lists.{permits, route_permits}
 use Rattle.net_model.specs.Packets.{IsOf}
 use Rattle.net_model.specs.Validity.{IsValid}
 use Rattle.net_model.specs.Witnesses.{IsUniform}
+use Rattle.edit_space.specs.declared.edit_kinds.Edit.{Edit}
+use Rattle.edit_space.specs.declared.edit_kinds.Edit.TheVariants as edits
+use Rattle.edit_space.specs.Changes.{list_classes, new_classes}
+use Rattle.edit_space.specs.EditLists.{AreEdits}
 use Rattle.edit_space.specs.Ordered.{IsNameBefore, IsKeyBefore}
 use Rattle.edit_space.specs.After.{with_prefixes, with_classes, IsAfter}
-use Rattle.edit_space.specs.Prices.{price_of}
+use Rattle.edit_space.specs.Prices.{price_of, chosen_of}
+use Rattle.edit_space.specs.Writable.{is_writable}
 
 -- a packet list that is uniform on classes that share no packet answers the opposite, with entries for them at its front, to each packet of one of them
 abbrev pub ClassesTurn : Type 0
@@ -44,3 +52,15 @@ NoEditsChangeNothing = (net : Network) → IsValid net → All (λ router. AllPa
 -- and no edits cost nothing
 abbrev pub NoEditsCostNothing : Type 0
 NoEditsCostNothing = (weights : Weights) → price_of weights [] ≡ 0
+
+-- each packet edit in the list of edits is for a class for which one entry can speak
+abbrev pub PacketEditsAreWritable : Type 0
+PacketEditsAreWritable = (net : Network) (doc : Document) (list : List Edit) → AreEdits net doc list → (class : Class) →
+    ((at : ListId) → Contains list (edits.PacketList at class) → IsTrue (is_writable class.service)) ×
+    ((face : Face) → Contains list (edits.PacketNew face class) → IsTrue (is_writable class.service))
+
+-- so each class that chosen edits put into a list, one that stands or a new one, is one for which one entry can speak
+abbrev pub ChosenClassesAreWritable : Type 0
+ChosenClassesAreWritable = (net : Network) (doc : Document) (list : List Edit) (flags : List Bool) → AreEdits net doc list → (place : ℕ) →
+    All (λ class. IsTrue (is_writable class.service)) (list_classes (chosen_of list flags) place) ×
+    All (λ class. IsTrue (is_writable class.service)) (new_classes (chosen_of list flags) place)

@@ -1,5 +1,6 @@
 pub mod Numbered
 pub mod Sites
+pub mod Writable
 pub mod EditLists
 pub mod Listing
 pub mod Changes

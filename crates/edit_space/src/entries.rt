@@ -4,7 +4,7 @@ ghost use Rattle.edit_space.specs.After.{any, exact_entry, class_entry, opposite
 
 use crate::numbered::append;
 use arc_base::{List, Memory, Prefix};
-use net_model::{Class, PacketEntry, PacketList, RouteEntry, RouteList};
+use net_model::{Class, PacketEntry, PacketList, RouteEntry, RouteList, Service};
 use std::alloc::Global;
 
 /// The prefix of all addresses.
@@ -33,6 +33,7 @@ fn class_entry(permit: bool, class: Class) -> PacketEntry
         permit,
         from: class.from,
         to: class.to,
+        service: class.service,
     }
 }
 
@@ -152,6 +153,7 @@ pub fn new_packet_entries(alloc: Global, classes: &[Class]) -> Result<List<Packe
         permit: true,
         from: any(),
         to: any(),
+        service: Service::whole(),
     };
     entries.push(others)?;
     List::of(entries)

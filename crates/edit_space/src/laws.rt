@@ -1,7 +1,7 @@
 //! Laws over the definitions alone: each is the contract of a function that does nothing.
 ghost use Rattle.edit_space.specs.Determined.{AfterIsThere, AfterIsValid, AfterIsOne, EditListsAreOne};
 ghost use Rattle.edit_space.specs.Kept.{HostsStay, EndsStay, ClassesStay, AllClassesStay, ListsStayUniform};
-ghost use Rattle.edit_space.specs.Laws.{ClassesTurn, OthersStay, PrefixesTurn, OtherPrefixesStay, NoEditsChangeNothing, NoEditsCostNothing};
+ghost use Rattle.edit_space.specs.Laws.{ClassesTurn, OthersStay, PrefixesTurn, OtherPrefixesStay, NoEditsChangeNothing, NoEditsCostNothing, PacketEditsAreWritable, ChosenClassesAreWritable};
 
 /// An entry at the front of a list turns its answer for the packets of its class, or for its prefix, and for no others.
 pub fn entries_turn_answers()
@@ -37,4 +37,10 @@ pub fn networks_after_edits_are_valid()
 /// A valid network has one list of edits for a document.
 pub fn edit_lists_are_one()
     ensures { EditListsAreOne }
+{}
+
+/// The packet edits of a document are for those of its classes for which one entry can speak.
+pub fn packet_edits_are_writable()
+    ensures listed { PacketEditsAreWritable }
+    ensures chosen { ChosenClassesAreWritable }
 {}

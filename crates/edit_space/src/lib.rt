@@ -21,6 +21,7 @@ mod prices;
 mod route_lists;
 mod rows;
 mod sites;
+mod writable;
 
 pub use changes::Changes;
 pub use claims::Claim;

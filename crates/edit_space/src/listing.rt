@@ -13,6 +13,7 @@ use crate::destinations::destinations;
 use crate::edit_kinds::{Edit, EditFault, LIMIT};
 use crate::numbered::{append, marked};
 use crate::sites::{Site, packet_sites, route_sites};
+use crate::writable::writable_classes;
 use arc_base::{Face, LimitKind, List, Memory, Prefix};
 use net_model::{Class, Document, Network, Protocol};
 use std::alloc::Global;
@@ -155,8 +156,8 @@ fn add_packet_edits(
 }
 
 /// The edits of the network for the document, in their order: sessions by link; then entries for the host networks that are
-/// destinations of policies, by router, list and neighbour; then entries for the classes of all policies, by router, list and
-/// interface.
+/// destinations of policies, by router, list and neighbour; then entries for those classes of all policies for which one entry
+/// can speak, by router, list and interface.
 pub fn edits(alloc: Global, net: &Network, doc: &Document) -> Result<List<Edit>, EditFault>
     requires valid { IsValid net.now }
     requires few { length doc.now.policies ≤ 256 }
@@ -169,17 +170,18 @@ pub fn edits(alloc: Global, net: &Network, doc: &Document) -> Result<List<Edit>,
 {
     count_rows(net);
     let classes = all_classes(alloc, net, &doc.policies)?;
+    let writable = writable_classes(alloc, classes.slice())?;
     let destinations = destinations(alloc, net, &doc.policies)?;
     let routes = route_sites(alloc, net)?;
     let packets = packet_sites(alloc, net)?;
     let mut list = session_edits(alloc, net)?;
     let count = list.len() as u64
         + routes.len() as u64 * destinations.len() as u64
-        + packets.len() as u64 * classes.len() as u64;
+        + packets.len() as u64 * writable.len() as u64;
     if count > LIMIT {
         return Err(EditFault::Limit(LimitKind::Edits, count));
     }
     add_route_edits(alloc, &mut list, &routes, &destinations)?;
-    add_packet_edits(alloc, &mut list, &packets, classes.slice())?;
+    add_packet_edits(alloc, &mut list, &packets, &writable)?;
     Ok(List::of(list)?)
 }

@@ -1,6 +1,7 @@
 -- A generated network's document has one class for each of its policies.
-use Rattle.std.proofs.Common.{◌≡◌, ℕ, zero, suc, ◌+◌, ◌*◌, ◌<◌, ◌≤◌, Bool, true, false, cond, List, [], ◌∷◌, ◌++◌, length, take, drop, map, fold, sym, ap, subst, ◌∙◌, arith, Contains, take-append-drop, length-append}
+use Rattle.std.proofs.Common.{◌≡◌, ℕ, zero, suc, ◌+◌, ◌*◌, ◌<◌, ◌≤◌, inl, inr, ◌-◌, ◌^◌, Bool, true, false, cond, List, [], ◌∷◌, ◌++◌, length, take, drop, map, fold, sym, ap, subst, ◌∙◌, arith, Contains, take-append-drop, length-append}
 use Rattle.std.specs.List.{AllZip, flat_map, list_any}
+use Rattle.std.proofs.Math.Nat.{min-le_left}
 use Rattle.std.proofs.lemmas.List.Elements.{Contains-append_left}
 use Rattle.arc_base.specs.declared.prefix.Prefix.{Prefix}
 use Rattle.arc_base.proofs.Items as items
@@ -8,11 +9,14 @@ use Rattle.net_model.specs.declared.lists.PacketList.{PacketList}
 use Rattle.net_model.specs.declared.policies.Class.{Class}
 use Rattle.net_model.specs.declared.policies.Policy.{Policy}
 use Rattle.net_model.specs.declared.rows.Network.{Network}
+use Rattle.net_model.specs.declared.services.Service.{Service}
+use Rattle.net_model.specs.Services.{serves, Serves, whole_service}
 use Rattle.traffic_classes.specs.AllClasses.{is_same, with_class, each_once, AreAllClasses, FirstHaveMore}
-use Rattle.traffic_classes.specs.Classes.{source_marks, destination_marks, AreClasses}
+use Rattle.traffic_classes.specs.Classes.{source_marks, destination_marks, service_marks, marks_of, told, AreClasses}
 use Rattle.traffic_classes.specs.Leaves.{IsSplit, AreLeaves}
+use Rattle.traffic_classes.specs.ServiceLeaves.{IsCut, IsServiceLeaf, AreServiceLeaves}
 use Rattle.traffic_classes.proofs.HalvesLeaves.{unsplit_is_leaf}
-use Rattle.traffic_classes.proofs.Pairs.{length-pairs}
+use Rattle.traffic_classes.proofs.Triples.{length-triples}
 
 -- a prefix that is not split has one leaf
 one-leaf : (marks : List Prefix) (whole : Prefix) (leaves : List Prefix) → ¬ IsSplit marks whole → AreLeaves marks whole leaves → length leaves ≤ 1
@@ -26,10 +30,25 @@ one-leaf marks whole (p ∷ q ∷ rest) unsplit are =
     let same : p.addr ≡ q.addr = ap (λ (x : Prefix). x.addr) (one ∙ sym two) in
     absurd (omega arith)
 
--- the policies go between prefixes of one length
+-- a range that is not cut has one leaf
+one-range : (marks : List Service) (whole : Service) (leaves : List Service) → ¬ IsCut marks whole → AreServiceLeaves marks whole leaves → length leaves ≤ 1
+one-range marks whole [] uncut are = omega arith
+one-range marks whole (s ∷ []) uncut are = omega arith
+one-range marks whole (s ∷ t ∷ rest) uncut are =
+    let second : Contains (t ∷ rest) t = items.Contains-head t rest in
+    let first : IsServiceLeaf marks whole s = (are.each s).0 (items.Contains-head s (t ∷ rest)) in
+    let next : IsServiceLeaf marks whole t = (are.each t).0 (items.Contains-tail s t (t ∷ rest) second) in
+    let one : whole ≡ s = first.longest whole first.part (λ service h. h) uncut in
+    let two : whole ≡ t = next.longest whole next.part (λ service h. h) uncut in
+    let rising : s.low < t.low = items.AllPairs-first (λ (x y : Service). x.low < y.low) s t (t ∷ rest) are.rising second in
+    let same : s.low ≡ t.low = ap (λ (x : Service). x.low) (sym one ∙ two) in
+    absurd (omega arith)
+
+-- the policies go between prefixes of one length, and speak of all services
 pub record AreEven (policies : List Policy) : Type 0 where
   pub from : (p : Policy) → Contains policies p → p.from.len ≡ 24
   pub to : (p : Policy) → Contains policies p → p.to.len ≡ 24
+  pub service : (p : Policy) → Contains policies p → p.service ≡ whole_service
 
 even-from : (net : Network) (policies : List Policy) (p : Policy) → net.packet_lists ≡ [] → AreEven policies → Contains policies p → ¬ IsSplit (source_marks net policies) p.from
 even-from net policies p none even there split =
@@ -51,6 +70,20 @@ even-to net policies p none even there split =
     let longer : p.to.len < split.mark.len = split.inside.longer in
     omega arith
 
+-- all services are the only mark of all services
+whole-marks : (mark : Service) → Contains (marks_of whole_service) mark → mark ≡ whole_service
+whole-marks mark there = elim (items.Contains-cases whole_service mark [] there) [ inl same ↦ sym same | inr none ↦ absurd (items.Contains-none mark none) ]
+
+even-services : (net : Network) (policies : List Policy) (p : Policy) → net.packet_lists ≡ [] → AreEven policies → Contains policies p → ¬ IsCut (service_marks net policies) p.service
+even-services net policies p none even there cut =
+    let marks : Contains (flat_map (λ (q : Policy). marks_of q.service) policies) cut.mark =
+    subst (λ (ls : List PacketList). Contains (flat_map (λ l. flat_map (λ e. marks_of e.service) l.entries) ls ++ flat_map (λ (q : Policy). marks_of q.service) policies) cut.mark) none cut.one in
+    let other = items.from_piece (λ (q : Policy). marks_of q.service) policies cut.mark marks in
+    let whole : cut.mark ≡ p.service =
+    whole-marks cut.mark (subst (λ (s : Service). Contains (marks_of s) cut.mark) (even.service other.0 other.1) other.2) ∙ sym (even.service p there) in
+    let at : (service : ℕ) → Serves p.service service → serves cut.mark service ≡ true = λ service h. ap (λ (s : Service). serves s service) whole ∙ h in
+    cut.parted (at cut.service cut.first ∙ sym (at (cut.service + 1) cut.next))
+
 at-most-one : (x y : ℕ) → x ≤ 1 → y ≤ 1 → x * y ≤ 1
 at-most-one zero y low few = omega arith
 at-most-one (suc zero) y low few = omega arith
@@ -60,8 +93,10 @@ pub one-class : (net : Network) (policies : List Policy) (p : Policy) (classes :
 one-class net policies p classes none even there are =
     let sources = one-leaf (source_marks net policies) p.from are.sources (even-from net policies p none even there) are.sources_are in
     let targets = one-leaf (destination_marks net policies) p.to are.destinations (even-to net policies p none even there) are.destinations_are in
-    let product : length classes ≡ length are.sources * length are.destinations = ap length are.pairs ∙ length-pairs are.sources are.destinations in
-    let few = at-most-one (length are.sources) (length are.destinations) sources targets in
+    let ranges = one-range (service_marks net policies) p.service are.services (even-services net policies p none even there) are.services_are in
+    let product : length classes ≡ length are.sources * length are.destinations * length are.services = ap length are.triples ∙ length-triples are.sources are.destinations are.services in
+    let pairs = at-most-one (length are.sources) (length are.destinations) sources targets in
+    let few = at-most-one (length are.sources * length are.destinations) (length are.services) pairs ranges in
     omega arith
 
 few-with : (classes : List Class) (class : Class) → length (with_class classes class) ≤ length classes + 1
@@ -93,6 +128,10 @@ few-classes net policies some classes none even among all =
     let same : length classes ≡ length (each_once (flat_map (λ (l : List Class). l) all.lists)) = ap length all.once in
     omega arith
 
+-- the number that a fault tells is no more than there are
+pub told-few : (n count : ℕ) → told n ≡ count → count ≤ n
+told-few n count is = let least = min-le_left n (2 ^ 64 - 1) in omega (arith, is, least)
+
 -- and so of the first policies
 pub few-first : (net : Network) (policies : List Policy) (count : ℕ) → net.packet_lists ≡ [] → AreEven policies → FirstHaveMore net policies count → count ≤ length policies
 few-first net policies count none even first =
@@ -101,6 +140,6 @@ few-first net policies count none even first =
     let whole : front ++ drop k policies ≡ policies = take-append-drop k policies in
     let classes = first.with_it.classes in
     let few = few-classes net policies front classes none even (λ p there. subst (λ ps. Contains ps p) whole (Contains-append_left front (drop k policies) p there)) first.with_it.are in
-    let counted : length classes ≡ count = first.with_it.counted in
+    let counted : count ≤ length classes = told-few (length classes) count first.with_it.counted in
     let long : length front + length (drop k policies) ≡ length policies = sym (length-append front (drop k policies)) ∙ ap length whole in
     omega arith

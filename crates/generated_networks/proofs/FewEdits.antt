@@ -1,8 +1,9 @@
 -- There are few edits of a generated network.
-use Rattle.std.proofs.Common.{◌≡◌, ℕ, zero, suc, ◌+◌, ◌*◌, ◌<◌, ◌≤◌, ◌==◌, Bool, true, false, Some, None, List, [], ◌∷◌, ◌++◌, length, map, refl, ap, subst, ◌∙◌, arith, length-append, if◌then◌else◌, mul-le-mul}
+use Rattle.std.proofs.Common.{◌≡◌, ℕ, zero, suc, ◌+◌, ◌*◌, ◌<◌, ◌≤◌, ◌==◌, Bool, true, false, Some, None, List, [], ◌∷◌, ◌++◌, length, map, refl, ap, subst, ◌∙◌, arith, length-append, not, if◌then◌else◌, mul-le-mul}
 use Rattle.std.specs.List.{AllZip, cons_option, enumerate_from, filter_map, flat_map, range_with_len}
 use Rattle.std.proofs.lemmas.Bool.{eqb-true}
 use Rattle.std.proofs.lemmas.List.{length-map}
+use Rattle.std.proofs.lemmas.List.Filters.{length-filter_both}
 use Rattle.net_model.specs.declared.lists.PacketList.{PacketList}
 use Rattle.net_model.specs.declared.lists.RouteList.{RouteList}
 use Rattle.net_model.specs.declared.policies.Class.{Class}
@@ -23,13 +24,14 @@ use Rattle.edit_space.specs.declared.edit_kinds.Edit.TheVariants as edits
 use Rattle.edit_space.specs.declared.edit_kinds.EditFault.{EditFault}
 use Rattle.edit_space.specs.declared.edit_kinds.EditFault.TheVariants.{Limit, Memory}
 use Rattle.arc_base.specs.declared.refusal.LimitKind.TheVariants as limits
-use Rattle.edit_space.specs.EditLists.{has_session, edits_at, link_edits, AreEdits, NamesLimit, HasEdits}
+use Rattle.edit_space.specs.EditLists.{has_session, edits_at, link_edits, writable_classes, AreEdits, NamesLimit, HasEdits}
+use Rattle.edit_space.specs.Writable.{is_writable}
 use Rattle.edit_space.specs.Numbered.{placed, of_number, by_number}
 use Rattle.edit_space.specs.Sites.{route_list_site, neighbor_site, packet_list_site, face_site, route_sites, packet_sites}
 use Rattle.edit_space.proofs.Counts.{few_picked, few_placed, all_counted}
 use Rattle.generated_networks.specs.Limits.{GeneratedNetworksHaveFewEdits}
 use Rattle.generated_networks.proofs.Degrees.{degree}
-use Rattle.generated_networks.proofs.FewClasses.{AreEven, one-class, few-classes, few-first}
+use Rattle.generated_networks.proofs.FewClasses.{AreEven, one-class, few-classes, few-first, told-few}
 use Rattle.generated_networks.proofs.FilesClear.{length-faces}
 use Rattle.generated_networks.proofs.Items.{zip-left, zip-length}
 use Rattle.generated_networks.proofs.Networks.{have-plan, have-policies}
@@ -138,13 +140,15 @@ few-edits n doc net list some few faces links no-packets no-lists no-sessions cl
     let r = length (route_sites net) in
     let p = length (packet_sites net) in
     let d = length are.destinations in
-    let c = length are.classes in
+    let c = length (writable_classes are.classes) in
     let counted : length list ≡ s + r * d + p * c = ap length are.all ∙ all_counted net are.destinations are.classes s r p refl refl refl in
     let one : s ≤ 2 * length net.links = few-at-links net net.links in
     let two : r * d ≡ 0 = none-times r d (no-routes net no-lists no-sessions) in
     let at-faces : p ≤ length net.faces = few-packets net no-packets in
     let sites : p ≤ 160 = omega arith in
-    let kinds : c ≤ n + 1 = classes are.classes are.classes_are in
+    let kinds : length are.classes ≤ n + 1 = classes are.classes are.classes_are in
+    let both = length-filter_both (λ (class : Class). is_writable class.service) (λ (class : Class). not (is_writable class.service)) (λ class. refl) are.classes in
+    let writable : c ≤ length are.classes = omega (arith, both) in
     let forty : c ≤ 41 = omega arith in
     let three : p * c ≤ 160 * 41 = mul-le-mul sites forty in
     omega arith
@@ -153,6 +157,7 @@ even : (doc : Document) (n : ℕ) → AllZip Asks (asked n) doc.policies → Are
 even doc n asks = record {
   from = λ p there. let at = at_Contains doc.policies p there in let ask = zip-left Asks (asked n) doc.policies asks at.0 p at.1 in ask.2.from.len;
   to = λ p there. let at = at_Contains doc.policies p there in let ask = zip-left Asks (asked n) doc.policies asks at.0 p at.1 in ask.2.to.len;
+  service = λ p there. let at = at_Contains doc.policies p there in let ask = zip-left Asks (asked n) doc.policies asks at.0 p at.1 in ask.2.service;
 }
 
 no-limit : (n : ℕ) (net : Network) (doc : Document) → n ≤ 40 → ((count : ℕ) → FirstHaveMore net doc.policies count → count ≤ n + 1) → ((list : List Edit) → AreEdits net doc list → length list ≤ 8192) → (fault : EditFault) → NamesLimit net doc fault → fault ≡ Memory
@@ -183,7 +188,7 @@ few-of-all n most generated net g is =
     let edits : (list : List Edit) → AreEdits net doc list → length list ≤ 8192 =
     λ list are. few-edits n doc net list (omega arith) few (few-faces n doc net rows (omega arith)) links plan.packet_lists plan.route_lists plan.sessions classes are in
     record {
-      one_class = λ policy count there has. let one = one-class net doc.policies policy has.classes plan.packet_lists evens there has.are in let same : length has.classes ≡ count = has.counted in omega arith;
+      one_class = λ policy count there has. let one = one-class net doc.policies policy has.classes plan.packet_lists evens there has.are in let most : count ≤ length has.classes = told-few (length has.classes) count has.counted in omega arith;
       classes = classes;
       first_classes = first;
       edits = edits;

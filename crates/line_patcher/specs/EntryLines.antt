@@ -14,6 +14,7 @@ use Rattle.ios_config.specs.declared.settings.ListForm.{ListForm}
 use Rattle.ios_config.specs.declared.settings.ListForm.TheVariants.{Block, Lines, PrefixLines}
 use Rattle.net_build.specs.declared.built.Places.{Places}
 use Rattle.net_build.specs.declared.built.ListPlace.{ListPlace}
+use Rattle.net_build.specs.Lists.{packet_text}
 use Rattle.edit_space.specs.declared.edit_kinds.Edit.{Edit}
 use Rattle.edit_space.specs.After.{opposite_packet_entry, opposite_route_entry}
 use Rattle.edit_space.specs.Changes.{list_prefixes, list_classes}
@@ -26,8 +27,8 @@ order_at place step at = if place.numbered then Some (step * at) else None
 
 -- the line of an entry of a packet list that stands in this form
 abbrev pub packet_line : ListForm → List ℕ → Option ℕ → PacketEntry → List ℕ
-packet_line Block name order entry = spaced (entry_words order entry.permit entry.from entry.to)
-packet_line Lines name order entry = top_line (list_line_words name entry.permit entry.from entry.to)
+packet_line Block name order entry = spaced (entry_words order (packet_text entry))
+packet_line Lines name order entry = top_line (list_line_words name (packet_text entry))
 packet_line PrefixLines name order entry = []
 
 -- the line of the new entry at this place of a packet list, which turns its answer for a class

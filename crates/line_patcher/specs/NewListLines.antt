@@ -6,7 +6,8 @@ use Rattle.net_model.specs.declared.policies.Class.{Class}
 use Rattle.net_model.specs.declared.rows.Network.{Network}
 use Rattle.net_model.specs.Routing.{session_at}
 use Rattle.ios_lines.specs.Written.{spaced}
-use Rattle.edit_space.specs.After.{any}
+use Rattle.net_build.specs.Lists.{packet_text}
+use Rattle.edit_space.specs.After.{class_entry, every_packet}
 use Rattle.ios_words.specs.Printed.{prefix_line_words, permit_all_words, list_head_words, entry_words, neighbor_list_words, group_words, top_line}
 use Rattle.net_build.specs.declared.built.Places.{Places}
 use Rattle.net_build.specs.declared.built.FacePlace.{FacePlace}
@@ -27,12 +28,12 @@ new_route_lines name prefixes =
 
 -- the line of a new packet list that denies a class
 abbrev pub deny_class_line : Class → List ℕ
-deny_class_line class = spaced (entry_words None false class.from class.to)
+deny_class_line class = spaced (entry_words None (packet_text (class_entry false class)))
 
 -- the lines of a new packet list: it denies these classes and permits all other packets
 abbrev pub new_packet_lines : List ℕ → List Class → List (List ℕ)
 new_packet_lines name classes =
-    top_line (list_head_words name) ∷ map deny_class_line classes ++ spaced (entry_words None true any any) ∷ codes "!" ∷ []
+    top_line (list_head_words name) ∷ map deny_class_line classes ++ spaced (entry_words None (packet_text every_packet)) ∷ codes "!" ∷ []
 
 -- the lines of a new list of this name
 abbrev pub new_list_lines : List Edit → NewList → List ℕ → List (List ℕ)

@@ -1,12 +1,14 @@
 //! The lines of entries at the front of lists, and the new numbers of the old ones.
 ghost use Rattle.std.specs.Prelude.{◌≡◌, ◌<◌, ◌≤◌, ◌+◌, ◌*◌, ◌^◌, ◌++◌, length, IfOk, OnOk};
 ghost use Rattle.std.specs.Option.{option_copied};
+ghost use Rattle.net_build.specs.Lists.{packet_text};
 ghost use Rattle.line_patcher.specs.EntryLines.{order_at, packet_line, class_line, prefix_line, class_lines, prefix_lines, is_packet_form, packet_place, route_place, first_line, at_front, new_numbers};
 
 use crate::additions::NewNumber;
 use arc_base::{Memory, Name, Prefix};
 use edit_space::{Changes, opposite_packet_entry, opposite_route_entry, things_at};
 use ios_config::ListForm;
+use ios_words::PacketText;
 use ios_words::printing::{push_entry, push_list_line, push_prefix_line};
 use net_build::{ListPlace, Places};
 use net_model::{Class, Network, PacketEntry, PacketList, RouteList};
@@ -24,6 +26,19 @@ fn order_at(place: &ListPlace, step: u32, at: u32) -> Option<u32>
     }
 }
 
+/// What the line of an entry of a packet list says.
+pub fn packet_text(entry: &PacketEntry) -> PacketText
+    ensures { result ≡ packet_text entry.now }
+{
+    PacketText {
+        permit: entry.permit,
+        from: entry.from,
+        to: entry.to,
+        low: entry.service.low,
+        high: entry.service.high,
+    }
+}
+
 /// The line of an entry of a packet list that stands in a form.
 fn packet_line(
     alloc: Global,
@@ -36,19 +51,8 @@ fn packet_line(
 {
     let mut text = Vec::new(alloc);
     match form {
-        ListForm::Block => {
-            push_entry(
-                alloc,
-                &mut text,
-                order,
-                entry.permit,
-                &entry.from,
-                &entry.to,
-            )?
-        }
-        ListForm::Lines => {
-            push_list_line(alloc, &mut text, name, entry.permit, &entry.from, &entry.to)?
-        }
+        ListForm::Block => push_entry(alloc, &mut text, order, &packet_text(entry))?,
+        ListForm::Lines => push_list_line(alloc, &mut text, name, &packet_text(entry))?,
         ListForm::PrefixLines => (),
     }
     Ok(Name::of(text))

@@ -1,20 +1,23 @@
 //! The lines of new lists, and those that bind them.
-ghost use Rattle.std.specs.Prelude.{◌≡◌, ◌<◌, ◌≤◌, ◌+◌, ◌*◌, ◌^◌, ◌++◌, map, flat_map, length, All, IfOk, OnOk};
+ghost use Rattle.std.specs.Prelude.{false, ◌≡◌, ◌<◌, ◌≤◌, ◌+◌, ◌*◌, ◌^◌, ◌++◌, map, flat_map, length, All, IfOk, OnOk};
 ghost use Rattle.std.specs.List.{filter_map, zip, enumerate_from};
 ghost use Rattle.net_model.specs.Routing.{session_at};
 ghost use Rattle.ios_lines.specs.Written.{spaced};
 ghost use Rattle.ios_words.specs.Printed.{permit_all_words, list_head_words, entry_words, top_line};
+ghost use Rattle.net_build.specs.Lists.{packet_text};
+ghost use Rattle.edit_space.specs.After.{class_entry, every_packet};
 ghost use Rattle.edit_space.specs.Working.{AreChanges};
 ghost use Rattle.line_patcher.specs.NewListLines.{deny_line, new_route_lines, deny_class_line, new_packet_lines, new_list_lines, filter_line, group_line_among};
 ghost use Rattle.line_patcher.specs.Working.{face_of};
 
+use crate::entries::packet_text;
 use arc_base::{Face, Memory, Name, Prefix};
 use edit_space::{Changes, NewList, any, things_at};
 use ios_words::printing::{
     push_entry, push_group, push_list_head, push_neighbor_list, push_permit_all, push_prefix_line,
 };
 use net_build::FacePlace;
-use net_model::{Class, Network};
+use net_model::{Class, Network, PacketEntry, Service};
 use std::alloc::Global;
 
 /// The line of a new route list that denies a prefix.
@@ -69,12 +72,36 @@ fn push_route_list(
 }
 
 /// An entry of a new packet list.
-fn entry_line(alloc: Global, permit: bool, from: &Prefix, to: &Prefix) -> Result<Name, Memory>
-    ensures { IfOk result (λ line. line ≡ spaced (entry_words None permit from.now to.now)) }
+fn entry_line(alloc: Global, entry: &PacketEntry) -> Result<Name, Memory>
+    ensures { IfOk result (λ line. line ≡ spaced (entry_words None (packet_text entry.now))) }
 {
     let mut text = Vec::new(alloc);
-    push_entry(alloc, &mut text, None, permit, from, to)?;
+    push_entry(alloc, &mut text, None, &packet_text(entry))?;
     Ok(Name::of(text))
+}
+
+/// The entry of a new packet list that denies a class.
+fn deny_entry(class: &Class) -> PacketEntry
+    ensures { result ≡ class_entry false class.now }
+{
+    PacketEntry {
+        permit: false,
+        from: class.from,
+        to: class.to,
+        service: class.service,
+    }
+}
+
+/// The last entry of a new packet list, which permits every packet.
+fn every_packet() -> PacketEntry
+    ensures { result ≡ every_packet }
+{
+    PacketEntry {
+        permit: true,
+        from: any(),
+        to: any(),
+        service: Service::whole(),
+    }
 }
 
 fn head_line(alloc: Global, name: &[u8]) -> Result<Name, Memory>
@@ -94,7 +121,7 @@ fn push_deny_class_lines(
     ensures { OnOk result (lines.new.items ≡ lines.old.items ++ map deny_class_line classes.now) }
 {
     for class in classes {
-        lines.push(entry_line(alloc, false, &class.from, &class.to)?)?;
+        lines.push(entry_line(alloc, &deny_entry(class))?)?;
     }
     Ok(())
 }
@@ -110,7 +137,7 @@ fn push_packet_list(
 {
     lines.push(head_line(alloc, name)?)?;
     push_deny_class_lines(alloc, lines, classes)?;
-    lines.push(entry_line(alloc, true, &any(), &any())?)?;
+    lines.push(entry_line(alloc, &every_packet())?)?;
     lines.push(Name::make(alloc, b"!")?)?;
     Ok(())
 }

@@ -7,6 +7,7 @@ use Rattle.net_model.specs.declared.policies.Policy.{Policy}
 use Rattle.net_model.specs.declared.policies.PolicyKind.{PolicyKind}
 use Rattle.net_model.specs.declared.policies.PolicyKind.TheVariants.{Blocked, Reach}
 use Rattle.net_model.specs.declared.policies.Document.{Document}
+use Rattle.net_model.specs.Services.{whole_service}
 use Rattle.net_gen.specs.declared.generating.Generated.{Generated}
 use Rattle.net_gen.specs.Plans.{numbers, link_count, next, a_router, b_router, port}
 use Rattle.net_gen.specs.RouterFiles.{host_name, file_name, face_name, router_lines, text_of}
@@ -40,11 +41,12 @@ asked_around n router = record { kind = Reach 1; source = router; target = next 
 abbrev pub asked : ℕ → List Asked
 asked n = map (asked_around n) (numbers n) ++ record { kind = Blocked; source = 1; target = n } ∷ []
 
--- the policy asks just this
+-- the policy asks just this, of all services
 pub record Asks (asked : Asked) (policy : Policy) : Type 0 where
   pub kind : policy.kind ≡ asked.kind
   pub from : IsHostNetwork asked.source policy.from
   pub to : IsHostNetwork asked.target policy.to
+  pub service : policy.service ≡ whole_service
 
 -- the document of a network of n routers
 pub record IsDocument (n : ℕ) (doc : Document) : Type 0 where

@@ -8,7 +8,7 @@ ghost use Rattle.net_gen.specs.Generated.{IsHostNetwork, Asks, asked_around, ask
 use crate::plans::{a_router, b_router, link_count, next, port};
 use crate::router_files::{face_name, file_name, host_name};
 use arc_base::{List, Memory, Name, Prefix};
-use net_model::{Document, LinkText, Policy, PolicyKind, Weights};
+use net_model::{Document, LinkText, Policy, PolicyKind, Service, Weights};
 use std::alloc::Global;
 
 /// The link of this number.
@@ -63,7 +63,7 @@ fn host_network(router: u32) -> Prefix
     }
 }
 
-/// The policy from the host network of a router to that of another.
+/// The policy from the host network of a router to that of another, on all services.
 fn policy(kind: PolicyKind, source: u32, target: u32) -> Policy
     requires source { source ≤ 40 }
     requires target { target ≤ 40 }
@@ -73,6 +73,7 @@ fn policy(kind: PolicyKind, source: u32, target: u32) -> Policy
         kind,
         from: host_network(source),
         to: host_network(target),
+        service: Service::whole(),
     }
 }
 

@@ -25,7 +25,7 @@ use Rattle.edit_space.specs.declared.new_lists.NewList.{NewList}
 use Rattle.edit_space.specs.declared.new_lists.NewList.TheVariants as lists
 use Rattle.edit_space.specs.Changes.{new_route_change, new_packet_change, new_prefixes, new_classes}
 use Rattle.edit_space.specs.Numbered.{if_number}
-use Rattle.edit_space.specs.After.{exact_entry, class_entry, opposite_route_entry, opposite_packet_entry, new_route_entries, new_packet_entries, any}
+use Rattle.edit_space.specs.After.{exact_entry, class_entry, opposite_route_entry, opposite_packet_entry, new_route_entries, new_packet_entries, any, every_packet}
 use Rattle.edit_space.proofs.Counts.{few_picked}
 use Rattle.patched_settings.specs.Additions.{named_lists, prefix_for, class_for, route_line, packet_line, front_lines}
 use Rattle.patched_settings.specs.Plain.{said, plain_entry, plain_list}
@@ -68,7 +68,7 @@ module _ (net : Network) (chosen : List Edit) (router : ℕ) where
         arith,
         length-map (map (packet_line forms.Block name) (new_packet_entries (new_classes chosen face.0))) (λ (c : Command). said c),
         length-map (new_packet_entries (new_classes chosen face.0)) (packet_line forms.Block name),
-        length-append (map (class_entry false) (new_classes chosen face.0)) (record { permit = true; from = any; to = any } ∷ []),
+        length-append (map (class_entry false) (new_classes chosen face.0)) (every_packet ∷ []),
         length-map (new_classes chosen face.0) (class_entry false),
         few_new_classes face.0,
       )

@@ -9,7 +9,7 @@ use Rattle.arc_base.specs.Addresses.{IsInside}
 use Rattle.arc_base.specs.declared.place.Face.{Face}
 use Rattle.arc_base.specs.declared.place.ListId.{ListId}
 use Rattle.arc_base.specs.declared.prefix.Prefix.{Prefix}
-use Rattle.arc_base.proofs.Items.{Contains-none, Contains-cases, from_map, from_piece}
+use Rattle.arc_base.proofs.Items.{Contains-none, Contains-cases, from_filter, from_map, from_piece}
 use Rattle.net_model.specs.declared.lists.PacketList.{PacketList}
 use Rattle.net_model.specs.declared.policies.Class.{Class}
 use Rattle.net_model.specs.declared.policies.Document.{Document}
@@ -28,7 +28,8 @@ use Rattle.edit_space.specs.declared.edit_kinds.Edit.{Edit}
 use Rattle.edit_space.specs.declared.edit_kinds.Edit.TheVariants as edits
 use Rattle.edit_space.specs.declared.sites.Site.{Site}
 use Rattle.edit_space.specs.declared.sites.Site.TheVariants.{Bound, New}
-use Rattle.edit_space.specs.EditLists.{has_session, edits_at, link_edits, route_edit, packet_edit, all_edits, AreEdits}
+use Rattle.edit_space.specs.EditLists.{has_session, edits_at, link_edits, route_edit, packet_edit, writable_classes, all_edits, AreEdits}
+use Rattle.edit_space.specs.Writable.{is_writable}
 use Rattle.edit_space.specs.Numbered.{placed, if_number, of_number, by_number}
 use Rattle.edit_space.specs.Prices.{if_chosen, chosen_of}
 use Rattle.edit_space.specs.Sites.{route_list_site, neighbor_site, packet_list_site, takes_list, face_site, route_sites, packet_sites}
@@ -145,7 +146,7 @@ module _ (net : Network) (valid : IsValid net) where
 
     edit_fits : (destinations : List Prefix) (classes : List Class) → AreAllClasses net doc.policies doc.policies classes → (e : Edit) → Contains (all_edits net destinations classes) e → IsFitting net e
     edit_fits destinations classes are e there =
-        elim (Contains-append_cases (flat_map (link_edits net) net.links ++ flat_map (λ site. map (route_edit site) destinations) (route_sites net)) (flat_map (λ site. map (packet_edit site) classes) (packet_sites net)) e there) [
+        elim (Contains-append_cases (flat_map (link_edits net) net.links ++ flat_map (λ site. map (route_edit site) destinations) (route_sites net)) (flat_map (λ site. map (packet_edit site) (writable_classes classes)) (packet_sites net)) e there) [
           | inl others ↦ elim (Contains-append_cases (flat_map (link_edits net) net.links) (flat_map (λ site. map (route_edit site) destinations) (route_sites net)) e others) [
             | inl sessions ↦
                 let l = from_piece (link_edits net) net.links e sessions in
@@ -156,9 +157,9 @@ module _ (net : Network) (valid : IsValid net) where
                 subst (IsFitting net) p.2 (route_fits s.0 p.0 s.1)
           ]
           | inr packets ↦
-              let s = from_piece (λ site. map (packet_edit site) classes) (packet_sites net) e packets in
-              let c = from_map (packet_edit s.0) classes e s.2 in
-              subst (IsFitting net) c.2 (packet_fits s.0 c.0 s.1 (class_host classes are c.0 c.1))
+              let s = from_piece (λ site. map (packet_edit site) (writable_classes classes)) (packet_sites net) e packets in
+              let c = from_map (packet_edit s.0) (writable_classes classes) e s.2 in
+              subst (IsFitting net) c.2 (packet_fits s.0 c.0 s.1 (class_host classes are c.0 (from_filter (λ class. is_writable class.service) classes c.0 c.1).0))
         ]
 
     pub edits_fit : (list : List Edit) (flags : List Bool) → AreEdits net doc list → AreFitting net (chosen_of list flags)

@@ -23,7 +23,7 @@ use Rattle.edit_space.specs.declared.edit_kinds.Edit.TheVariants as edits
 use Rattle.edit_space.specs.declared.new_lists.NewList.TheVariants as lists
 use Rattle.edit_space.specs.Changes.{packet_list_change, list_classes, new_classes}
 use Rattle.edit_space.specs.Numbered.{if_number}
-use Rattle.edit_space.specs.After.{opposite_packet_entry, with_classes, new_packet_entries, edited_packet_list, class_entry, any}
+use Rattle.edit_space.specs.After.{opposite_packet_entry, with_classes, new_packet_entries, edited_packet_list, class_entry, every_packet}
 use Rattle.patched_settings.specs.Plain.{said, plain_entry, plain_list}
 use Rattle.patched_settings.specs.Additions.{if_own_list, class_for, packet_line, front_lines}
 use Rattle.patched_settings.specs.SettingsAfter.{list_with, new_list_text}
@@ -181,7 +181,7 @@ module _ (net : Network) (valid : IsValid net) (chosen : List Edit) (router : �
       ap (λ (es : List PacketEntry). Some (record { router = record { 0 = router }; name = name; extended = true; entries = es }))
       (said_picks packet_entry (packet_line forms.Block name) (λ (e : PacketEntry). e) (packet_line_is forms.Block name) (new_packet_entries (new_classes chosen face.0)) ∙ map_same (new_packet_entries (new_classes chosen face.0)))
     where
-      some_entries : (es : List PacketEntry) → has_entries (map said (map (packet_line forms.Block name) (es ++ record { permit = true; from = any; to = any } ∷ []))) ≡ true
+      some_entries : (es : List PacketEntry) → has_entries (map said (map (packet_line forms.Block name) (es ++ every_packet ∷ []))) ≡ true
       some_entries [] = refl
       some_entries (e ∷ es) = refl
 

@@ -1,6 +1,6 @@
 -- No list stops the routing protocol after the edits that did not before: the packets that edits deny come from host networks, and the protocol's
 -- own packets come from the interfaces of links.
-use Rattle.std.proofs.Common.{◌≡◌, ◌≢◌, ℕ, ◌+◌, ◌^◌, ◌<◌, ◌==◌, inl, inr, Bool, true, false, cond, Option, Some, None, List, [], ◌∷◌, map, refl, sym, ◌∙◌, ap, subst, arith, IsTrue, find}
+use Rattle.std.proofs.Common.{◌≡◌, ◌≢◌, ℕ, ◌+◌, ◌^◌, ◌<◌, ◌==◌, ◌&&◌, inl, inr, Bool, true, false, cond, Option, Some, None, List, [], ◌∷◌, map, refl, sym, ◌∙◌, ap, subst, arith, IsTrue, find}
 use Rattle.std.specs.Prelude.{Contains, IfSome, IsSomeAnd, IsFalse, MatchBool, is_some, slice_get, option_map}
 use Rattle.std.specs.Option.{option_map_or}
 use Rattle.std.specs.List.{filter_map}
@@ -24,25 +24,28 @@ use Rattle.net_model.specs.declared.rows.SessionRow.{SessionRow}
 use Rattle.net_model.specs.declared.rows.Network.{Network}
 use Rattle.net_model.specs.declared.rows.Protocol.{Protocol}
 use Rattle.net_model.specs.declared.rows.Protocol.TheVariants.{Ospf, Bgp}
+use Rattle.net_model.specs.declared.services.Service.{Service}
 use Rattle.net_model.specs.Forwarding.{HasHost}
 use Rattle.net_model.specs.Lists.{matches, permits}
 use Rattle.net_model.specs.Packets.{IsOf}
+use Rattle.net_model.specs.Services.{Serves, serves, whole_service}
 use Rattle.net_model.specs.Routing.{Arc, IsArc, IsAbleEnd, TakesPart, Names, session_at, tail_end, tail_face, head_face}
 use Rattle.net_model.specs.Validity.{EndsAt, IsLinkEnd, AreApart}
 use Rattle.net_model.proofs.Readings.{item_at_place, place_of_item}
+use Rattle.net_model.proofs.ServiceRanges.{bounds, serve}
 use Rattle.ios_config.specs.declared.settings.Config.{Config}
 use Rattle.net_build.specs.Lists.{IsPlaceAmong, packet_list_key}
 use Rattle.net_build.specs.Reasons.{IsClear}
 use Rattle.net_build.specs.Rows.{AreRows, IsSubnet}
 use Rattle.net_build.specs.Settings.{value, address_of}
 use Rattle.net_build.specs.Sites.{Site}
-use Rattle.net_build.specs.Stops.{IsAble, targets, Denies, StopsPackets, RefusesListStopsSession}
+use Rattle.net_build.specs.Stops.{IsAble, IsNeeded, targets, session_services, Denies, StopsPackets, RefusesListStopsSession}
 use Rattle.traffic_classes.proofs.Ranges.{range_holds, holds_range, ends_below}
 use Rattle.edit_space.specs.declared.edit_kinds.Edit.{Edit}
 use Rattle.edit_space.specs.declared.edit_kinds.Edit.TheVariants as edits
 use Rattle.edit_space.specs.Changes.{packet_list_change, list_classes, new_classes}
 use Rattle.edit_space.specs.Numbered.{is_empty, if_number}
-use Rattle.edit_space.specs.After.{IsAfter, IsFaceAfter, IsSessionAfter, IsRouterAfter, StaysBound, PacketListMoves, IsNewPacketList, edited_packet_list, with_classes, class_entry, new_packet_entries, any}
+use Rattle.edit_space.specs.After.{IsAfter, IsFaceAfter, IsSessionAfter, IsRouterAfter, StaysBound, PacketListMoves, IsNewPacketList, edited_packet_list, with_classes, class_entry, new_packet_entries, any, every_packet}
 use Rattle.edit_space.proofs.NewListFacts.{picked_from}
 use Rattle.edit_space.proofs.RowFacts.{row_was}
 use Rattle.edit_space.proofs.Turning.{staying_packets}
@@ -62,15 +65,28 @@ any_holds a low =
     let whole : size any ≡ 2 ^ 32 = refl in
     holds_range any a (omega arith) (omega (arith, low, whole))
 
+-- the packet's addresses are of 32 bits, and its service of 24
+record IsSmall (p : Packet) : Type 0 where
+  from : p.from < 2 ^ 32
+  to : p.to < 2 ^ 32
+  service : p.service < 2 ^ 24
+
+every_matches : (p : Packet) → IsSmall p → matches p every_packet ≡ true
+every_matches p small =
+    let service : p.service < 2 ^ 24 = small.service in
+    and_from (holds any p.from && holds any p.to) (serves whole_service p.service)
+    (and_from (holds any p.from) (holds any p.to) (any_holds p.from small.from) (any_holds p.to small.to)) (serve whole_service p.service (omega arith) (omega (arith, service)))
+
 -- a new list permits each packet that is of none of its classes
-new_list_permits : (classes : List Class) (p : Packet) → p.from < 2 ^ 32 → p.to < 2 ^ 32 → ((class : Class) → Contains classes class → ¬ IsOf class p) → permits (new_packet_entries classes) p ≡ true
-new_list_permits [] p from_low to_low none =
-    ap (λ b. option_map_or (λ (e : PacketEntry). e.permit) (cond b (Some (record { permit = true; from = any; to = any })) None) false)
-    (and_from (holds any p.from) (holds any p.to) (any_holds p.from from_low) (any_holds p.to to_low))
-new_list_permits (c ∷ cs) p from_low to_low none =
+new_list_permits : (classes : List Class) (p : Packet) → IsSmall p → ((class : Class) → Contains classes class → ¬ IsOf class p) → permits (new_packet_entries classes) p ≡ true
+new_list_permits [] p small none = ap (λ b. option_map_or (λ (e : PacketEntry). e.permit) (cond b (Some every_packet) None) false) (every_matches p small)
+new_list_permits (c ∷ cs) p small none =
     ap (λ b. option_map_or (λ (e : PacketEntry). e.permit) (cond b (Some (class_entry false c)) (find (matches p) (new_packet_entries cs))) false)
-    (false_from_ne_true (matches p (class_entry false c)) (λ hit. let both = and_parts (holds c.from p.from) (holds c.to p.to) hit in none c (Contains-head c cs) (both.0, both.1))) ∙
-    new_list_permits cs p from_low to_low (λ d there. none d (Contains-tail c d cs there))
+    (false_from_ne_true (matches p (class_entry false c)) (λ hit.
+    let all = and_parts (holds c.from p.from && holds c.to p.to) (serves c.service p.service) hit in
+    let ends = and_parts (holds c.from p.from) (holds c.to p.to) all.0 in
+    none c (Contains-head c cs) (ends.0, ends.1, all.1))) ∙
+    new_list_permits cs p small (λ d there. none d (Contains-tail c d cs there))
 
 -- the addresses to which the protocol's packets go are of 32 bits
 target_small : (p : Protocol) (own : ℕ) → own < 2 ^ 32 → (to : ℕ) → Contains (targets p own) to → to < 2 ^ 32
@@ -82,6 +98,17 @@ target_small Ospf own low to there = elim (Contains-cases 3758096389 to (3758096
     | inr last ↦ elim (Contains-cases own to [] last) [ inl same ↦ omega (arith, same, low) | inr none ↦ absurd (Contains-none to none) ]
   ]
 ]
+
+-- a packet that the protocol needs between such addresses is small
+needed_small : (protocol : Protocol) (from own : ℕ) (p : Packet) → from < 2 ^ 32 → own < 2 ^ 32 → IsNeeded protocol from own p → IsSmall p
+needed_small protocol from own p from_low own_low needed =
+    let range = of_any (λ (s : Service). Serves s p.service) (session_services protocol) needed.service in
+    let most = (bounds range.0 p.service range.2).1 in
+    record {
+      from = omega (arith, needed.source, from_low);
+      to = target_small protocol own own_low p.to needed.target;
+      service = omega (arith, most, range.0.in_range);
+    }
 
 -- an edit that puts an entry for the class in front of the list
 list_edit_there : (chosen : List Edit) (place : ℕ) (class : Class) → Contains (list_classes chosen place) class → (list : ListId) × Contains chosen (edits.PacketList list class)
@@ -221,8 +248,9 @@ module _ (doc : Document) (net : Network) (old new : List Config) (chosen : List
     own_small = let q = own_subnet (head_face arc).0 head_was.0 stops.own head_was.1 own_was in held_small q.0 stops.own q.2
 
     -- a class of the edits has no packet of the protocol
-    of_no_class : (class : Class) → HasHost net class.from → (to : ℕ) → ¬ IsOf class (record { from = stops.from; to = to })
-    of_no_class class host to of = not_in_host class.from host (tail_face arc).0 tail_was.0 stops.from tail_was.1 tail_is_end from_was of.0
+    of_no_class : (class : Class) → HasHost net class.from → (p : Packet) → p.from ≡ stops.from → ¬ IsOf class p
+    of_no_class class host p source of =
+        not_in_host class.from host (tail_face arc).0 tail_was.0 stops.from tail_was.1 tail_is_end from_was (subst (λ (a : ℕ). Holds class.from a) source of.0)
 
     abbrev DeniesAt : ListId → Type 0
     DeniesAt id = IsSomeAnd (slice_get net.packet_lists id.0) (λ list. Denies net.protocol list.entries stops.from stops.own)
@@ -230,19 +258,18 @@ module _ (doc : Document) (net : Network) (old new : List Config) (chosen : List
     denies_was : (id now : ListId) → PacketListMoves net chosen after id now → IsSomeAnd (slice_get after.packet_lists now.0) (λ list. Denies after.protocol list.entries stops.from stops.own) → DeniesAt id
     denies_was id now moves denies = by (slice_get net.packet_lists id.0) refl moves
       where
-        same_answer : (list : PacketList) (to : ℕ) → permits (with_classes list.entries (list_classes chosen id.0)) (record { from = stops.from; to = to }) ≡ permits list.entries (record { from = stops.from; to = to })
-        same_answer list to = staying_packets list.entries (list_classes chosen id.0) (record { from = stops.from; to = to }) (λ class there.
+        same_answer : (list : PacketList) (p : Packet) → p.from ≡ stops.from → permits (with_classes list.entries (list_classes chosen id.0)) p ≡ permits list.entries p
+        same_answer list p source = staying_packets list.entries (list_classes chosen id.0) p (λ class there.
             let e = list_edit_there chosen id.0 class there in
-            of_no_class class (g.fits (edits.PacketList e.0 class) e.1) to)
+            of_no_class class (g.fits (edits.PacketList e.0 class) e.1) p source)
 
         by : (o : Option PacketList) → slice_get net.packet_lists id.0 ≡ o → IsSomeAnd o (λ list. slice_get after.packet_lists now.0 ≡ Some (edited_packet_list chosen id.0 list)) → IsSomeAnd (slice_get net.packet_lists id.0) (λ list. Denies net.protocol list.entries stops.from stops.own)
         by None e h = absurd h
         by (Some list) e h =
             let now_denies : Denies after.protocol (with_classes list.entries (list_classes chosen id.0)) stops.from stops.own = subst (λ (o : Option PacketList). IsSomeAnd o (λ l. Denies after.protocol l.entries stops.from stops.own)) h denies in
-            let t = of_any (λ (to : ℕ). IsFalse (permits (with_classes list.entries (list_classes chosen id.0)) (record { from = stops.from; to = to }))) (targets after.protocol stops.own) now_denies in
-            let there : Contains (targets net.protocol stops.own) t.0 = subst (λ (p : Protocol). Contains (targets p stops.own) t.0) is.protocol t.1 in
+            let (p, needed, denied) = now_denies in
             subst (λ (o : Option PacketList). IsSomeAnd o (λ l. Denies net.protocol l.entries stops.from stops.own)) (sym e)
-            (any_of (λ (to : ℕ). IsFalse (permits list.entries (record { from = stops.from; to = to }))) (targets net.protocol stops.own) t.0 there (sym (same_answer list t.0) ∙ t.2))
+            (p, subst (λ (protocol : Protocol). IsNeeded protocol stops.from stops.own p) is.protocol needed, sym (same_answer list p needed.source) ∙ denied)
 
     new_denies_none : (now : ListId) → IsSomeAnd (slice_get after.packet_lists now.0) (IsNewPacketList net chosen (record { 0 = (head_face arc).0 })) → IsSomeAnd (slice_get after.packet_lists now.0) (λ list. Denies after.protocol list.entries stops.from stops.own) → ⊥
     new_denies_none now made denies = by (slice_get after.packet_lists now.0) made denies
@@ -250,13 +277,13 @@ module _ (doc : Document) (net : Network) (old new : List Config) (chosen : List
         by : (o : Option PacketList) → IsSomeAnd o (IsNewPacketList net chosen (record { 0 = (head_face arc).0 })) → IsSomeAnd o (λ list. Denies after.protocol list.entries stops.from stops.own) → ⊥
         by None m h = h
         by (Some list) m h =
-            let t = of_any (λ (to : ℕ). IsFalse (permits list.entries (record { from = stops.from; to = to }))) (targets after.protocol stops.own) h in
-            let permitted : permits list.entries (record { from = stops.from; to = t.0 }) ≡ true =
-            ap (λ (es : List PacketEntry). permits es (record { from = stops.from; to = t.0 })) m.entries ∙
-            new_list_permits (new_classes chosen (head_face arc).0) (record { from = stops.from; to = t.0 }) from_small (target_small after.protocol stops.own own_small t.0 t.1) (λ class there.
+            let (p, needed, denied) = h in
+            let permitted : permits list.entries p ≡ true =
+            ap (λ (es : List PacketEntry). permits es p) m.entries ∙
+            new_list_permits (new_classes chosen (head_face arc).0) p (needed_small after.protocol stops.from stops.own p from_small own_small needed) (λ class there.
             let e = packet_edit_of chosen (head_face arc).0 class there in
-            of_no_class class (g.fits (edits.PacketNew e.0 class) e.1).0 t.0) in
-            false≢true (sym t.2 ∙ permitted)
+            of_no_class class (g.fits (edits.PacketNew e.0 class) e.1).0 p needed.source) in
+            false≢true (sym denied ∙ permitted)
 
     -- so the list that was bound stopped the protocol before
     record StopsBefore : Type 0 where

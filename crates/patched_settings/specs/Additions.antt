@@ -12,7 +12,6 @@ use Rattle.net_model.specs.declared.rows.Protocol.TheVariants.{Ospf, Bgp}
 use Rattle.net_model.specs.Routing.{session_at}
 use Rattle.ios_words.specs.declared.commands.Command.{Command}
 use Rattle.ios_words.specs.declared.commands.Command.TheVariants as commands
-use Rattle.ios_words.specs.declared.commands.PacketText.{PacketText}
 use Rattle.ios_words.specs.declared.commands.RouteText.{RouteText}
 use Rattle.ios_config.specs.declared.settings.ListForm.{ListForm}
 use Rattle.ios_config.specs.declared.settings.ListForm.TheVariants as forms
@@ -20,7 +19,7 @@ use Rattle.ios_config.specs.declared.settings.ListKind.{ListKind}
 use Rattle.ios_config.specs.declared.settings.ListKind.TheVariants.{Extended, Standard}
 use Rattle.ios_config.specs.declared.settings.ListKind.TheVariants as kinds
 use Rattle.ios_config.specs.declared.settings.ListText.{ListText}
-use Rattle.net_build.specs.Lists.{packet_entries, route_entries}
+use Rattle.net_build.specs.Lists.{packet_entries, packet_text, route_entries}
 use Rattle.edit_space.specs.declared.edit_kinds.Edit.{Edit}
 use Rattle.edit_space.specs.declared.edit_kinds.Edit.TheVariants as edits
 use Rattle.edit_space.specs.declared.new_lists.NewList.{NewList}
@@ -93,9 +92,6 @@ class_for net router name other = None
 -- what the line of an entry says
 abbrev pub route_text : RouteEntry → RouteText
 route_text e = record { permit = e.permit; prefix = e.prefix; low = e.low; high = e.high }
-
-abbrev pub packet_text : PacketEntry → PacketText
-packet_text e = record { permit = e.permit; from = e.from; to = e.to }
 
 -- the line of an entry of the route list of this name
 abbrev pub route_line : List ℕ → RouteEntry → Command

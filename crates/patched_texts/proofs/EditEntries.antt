@@ -6,6 +6,7 @@ use Rattle.std.proofs.lemmas.List.Elements.{Contains-append_cases}
 use Rattle.arc_base.specs.declared.prefix.Prefix.{Prefix}
 use Rattle.arc_base.specs.PrefixText.{number_of}
 use Rattle.arc_base.proofs.Items.{Contains-cases, Contains-none, Contains-head, Contains-tail, from_map, from_piece}
+use Rattle.net_model.proofs.Readings.{item_at_place}
 use Rattle.net_model.specs.declared.lists.PacketEntry.{PacketEntry}
 use Rattle.net_model.specs.declared.lists.PacketList.{PacketList}
 use Rattle.net_model.specs.declared.lists.RouteList.{RouteList}
@@ -27,11 +28,13 @@ use Rattle.ios_config.specs.declared.settings.ListText.{ListText}
 use Rattle.ios_config.specs.Texts.{config_of, entry_number}
 use Rattle.net_build.specs.declared.built.ListPlace.{ListPlace}
 use Rattle.net_build.specs.declared.built.Places.{Places}
+use Rattle.net_build.specs.Lists.{packet_text}
 use Rattle.net_build.specs.Places.{list_place}
 use Rattle.edit_space.specs.declared.edit_kinds.Edit.{Edit}
 use Rattle.edit_space.specs.declared.new_lists.NewList.{NewList}
 use Rattle.edit_space.specs.declared.new_lists.NewList.TheVariants.{Route, Packet}
-use Rattle.edit_space.specs.After.{any, opposite_packet_entry}
+use Rattle.edit_space.specs.After.{class_entry, every_packet, opposite_packet_entry}
+use Rattle.edit_space.specs.Writable.{is_writable}
 use Rattle.edit_space.specs.Changes.{list_prefixes, list_classes, new_prefixes, new_classes}
 use Rattle.line_patcher.specs.EntryLines.{first_line, order_at, packet_line, edited_packet_lists, edited_route_lists}
 use Rattle.line_patcher.specs.NewListLines.{deny_line, deny_class_line, new_list_lines}
@@ -83,8 +86,9 @@ module _ (net : Network) (places : List Places) (chosen : List Edit) (router : �
   abbrev own : Places
   own = own_places cs
 
-  packet-item : (id : ℕ) (row : PacketList) (h : HasPacketList cs row) (entry : ℕ × Class) → 1 ≤ entry.0 → entry.0 ≤ 16384 → TableEntry cs (first_line (list_place h.list), class_written (list_place h.list) row entry)
-  packet-item id row h entry low few = by h.form
+  packet-item : (id : ℕ) (row : PacketList) (h : HasPacketList cs row) (entry : ℕ × Class) → IsTrue (is_writable entry.1.service) → 1 ≤ entry.0 → entry.0 ≤ 16384 →
+      TableEntry cs (first_line (list_place h.list), class_written (list_place h.list) row entry)
+  packet-item id row h entry writable low few = by h.form
     where
       order : Option ℕ
       order = order_at (list_place h.list) 10 entry.0
@@ -94,7 +98,7 @@ module _ (net : Network) (places : List Places) (chosen : List Edit) (router : �
 
       by : (h.list.form ≡ forms.Block) ⊎ ((h.list.form ≡ forms.Lines) × (list_kind (number_of h.list.name) ≡ Some true)) → TableEntry cs (first_line (list_place h.list), packet_written h.list.form row.name order new)
       by (inl form) =
-          let b = block-entries row.name order new (order-fits (list_place h.list) 10 entry.0 2147483647 (omega arith) (omega arith)) in
+          let b = block-entries row.name order new writable (order-fits (list_place h.list) 10 entry.0 2147483647 (omega arith) (omega arith)) in
           record {
             list = h.list;
             among = h.among;
@@ -105,7 +109,7 @@ module _ (net : Network) (places : List Places) (chosen : List Edit) (router : �
             order = λ none. subst (λ (f : ListForm). entry_number (packet_command f row.name order new) ≡ None) (sym form) (ap (λ (b : Bool). if b then Some (10 * entry.0) else None) none);
           }
       by (inr form) =
-          let b = list-entries row.name order new (ap (λ (n : List ℕ). list_kind (number_of n)) (sym h.name) ∙ form.1) in
+          let b = list-entries row.name order new writable (ap (λ (n : List ℕ). list_kind (number_of n)) (sym h.name) ∙ form.1) in
           record {
             list = h.list;
             among = h.among;
@@ -142,7 +146,7 @@ module _ (net : Network) (places : List Places) (chosen : List Edit) (router : �
       let low = slice_get_within (list_classes chosen id) k entry.1 get in
       let few = few-classes chosen id in
       let all = file.few in
-      subst (TableEntry cs) (ap (λ (x : Written). (first_line (list_place h.list), x)) same ∙ is) (packet-item id row h entry (omega arith) (omega arith)))
+      subst (TableEntry cs) (ap (λ (x : Written). (first_line (list_place h.list), x)) same ∙ is) (packet-item id row h entry (file.classes id entry.1 (item_at_place (list_classes chosen id) k entry.1 get)) (omega arith) (omega arith)))
       (λ routes.
       let (id, in_ids, has) = from_piece (prefix_table net own chosen) (edited_route_lists net chosen router) item routes in
       let (row, at, h) = routes-of net places chosen router text lines cs file id in_ids in
@@ -172,15 +176,19 @@ route-fit : (name : List ℕ) → IsTrue (is_name name) → name ≢ codes "sequ
 route-fit name is other k [] last low high some few = (permit-fit name is other last some few, tt)
 route-fit name is other k (p ∷ prefixes) last low high some few = (deny-fit name is other (k, p) low (omega arith), route-fit name is other (k + 1) prefixes last (omega arith) (omega arith) some few)
 
-entry-fit : (permit : Bool) (from to : Prefix) → IsFit (spaced (entry_words None permit from to))
-entry-fit permit from to = let line = entry-line None permit from to tt in written-fit (entry_words None permit from to) (spaced (entry_words None permit from to)) line.written (omega arith)
+entry-fit : (entry : PacketEntry) → IsTrue (is_writable entry.service) → IsFit (spaced (entry_words None (packet_text entry)))
+entry-fit entry writable =
+    let line = entry-line None (packet_text entry) writable tt in
+    written-fit (entry_words None (packet_text entry)) (spaced (entry_words None (packet_text entry))) line.written (omega arith)
 
 mark-fit : IsFit (codes "!")
 mark-fit = written-fit (codes "!" ∷ []) (codes "!") closing-line.written (omega arith)
 
-packet-fit : (classes : List Class) → AllByRecursion IsFit (map deny_class_line classes ++ spaced (entry_words None true any any) ∷ codes "!" ∷ [])
-packet-fit [] = (entry-fit true any any, (mark-fit, tt))
-packet-fit (class ∷ classes) = (entry-fit false class.from class.to, packet-fit classes)
+packet-fit : (classes : List Class) → ((class : Class) → Contains classes class → IsTrue (is_writable class.service)) →
+    AllByRecursion IsFit (map deny_class_line classes ++ spaced (entry_words None (packet_text every_packet)) ∷ codes "!" ∷ [])
+packet-fit [] writable = (entry-fit every_packet refl, (mark-fit, tt))
+packet-fit (class ∷ classes) writable =
+    (entry-fit (class_entry false class) (writable class (Contains-head class classes)), packet-fit classes (λ c there. writable c (Contains-tail class c classes there)))
 
 pub new-lines-fit : (chosen : List Edit) (list : NewList) (name : List ℕ) → IsNewName chosen (list, name) → AllByRecursion IsFit (new_list_lines chosen list name)
 new-lines-fit chosen (Route face) name is =
@@ -188,4 +196,4 @@ new-lines-fit chosen (Route face) name is =
     route-fit name is.name is.other 1 (new_prefixes chosen face.0) (5 * (length (new_prefixes chosen face.0) + 1)) (omega arith) (omega arith) (omega arith) (omega arith)
 new-lines-fit chosen (Packet face) name is =
     let head = list_head-line name is.name in
-    (written-fit (list_head_words name) (top_line (list_head_words name)) head.written (omega arith), packet-fit (new_classes chosen face.0))
+    (written-fit (list_head_words name) (top_line (list_head_words name)) head.written (omega arith), packet-fit (new_classes chosen face.0) (is.writable face.0))

@@ -40,7 +40,7 @@ use Rattle.edit_space.specs.declared.edit_kinds.Edit.TheVariants as edits
 use Rattle.edit_space.specs.declared.sites.Site.{Site}
 use Rattle.edit_space.specs.declared.sites.Site.TheVariants.{Bound, New}
 use Rattle.edit_space.specs.Changes.{list_classes, packet_list_change}
-use Rattle.edit_space.specs.EditLists.{AreEdits, all_edits, edits_at, link_edits, packet_edit, route_edit, has_session}
+use Rattle.edit_space.specs.EditLists.{AreEdits, all_edits, edits_at, link_edits, packet_edit, route_edit, has_session, writable_classes}
 use Rattle.edit_space.specs.Numbered.{by_number, if_number, of_number, placed}
 use Rattle.edit_space.specs.Prices.{chosen_of, if_chosen}
 use Rattle.edit_space.specs.Sites.{face_site, packet_list_site, packet_sites, route_sites, takes_list}
@@ -291,7 +291,7 @@ module _ (net : Network) (id : ℕ) (row : PacketList) (at : slice_get net.packe
           absurd (no-option id (packet_of e) (ap packet_of (sym p.2) ∙ site-route s.0 p.0) is))
           (Contains-append_cases (flat_map (link_edits net) net.links) (flat_map (λ site. map (route_edit site) destinations) (route_sites net)) e others))
           (λ packets.
-          let s = from_piece (λ site. map (packet_edit site) classes) (packet_sites net) e packets in
-          let c = from_map (packet_edit s.0) classes e s.2 in
+          let s = from_piece (λ site. map (packet_edit site) (writable_classes classes)) (packet_sites net) e packets in
+          let c = from_map (packet_edit s.0) (writable_classes classes) e s.2 in
           site-extended s.0 s.1 (sym (site-edit s.0 c.0) ∙ ap packet_of c.2 ∙ is))
-          (Contains-append_cases (flat_map (link_edits net) net.links ++ flat_map (λ site. map (route_edit site) destinations) (route_sites net)) (flat_map (λ site. map (packet_edit site) classes) (packet_sites net)) e there)
+          (Contains-append_cases (flat_map (link_edits net) net.links ++ flat_map (λ site. map (route_edit site) destinations) (route_sites net)) (flat_map (λ site. map (packet_edit site) (writable_classes classes)) (packet_sites net)) e there)

@@ -15,14 +15,16 @@ use Rattle.net_model.specs.Validity.{IsName, IsValid}
 use Rattle.ios_words.specs.Names.{is_name, is_name_byte}
 use Rattle.ios_config.specs.declared.settings.Config.{Config}
 use Rattle.ios_config.specs.declared.settings.ListText.{ListText}
+use Rattle.net_model.specs.declared.policies.Class.{Class}
 use Rattle.net_build.specs.Lists.{IsListName}
 use Rattle.net_build.specs.Rows.{IsRouterRow}
 use Rattle.edit_space.specs.declared.edit_kinds.Edit.{Edit}
 use Rattle.edit_space.specs.declared.new_lists.NewList.{NewList}
-use Rattle.edit_space.specs.Changes.{new_route_change}
+use Rattle.edit_space.specs.Changes.{new_classes, new_route_change}
 use Rattle.edit_space.specs.Determined.{IsCountable}
 use Rattle.edit_space.specs.NewLists.{free_names, is_among, names_of, new_lists, new_lists_of, new_name, new_names_of, new_packet_list, new_route_list}
 use Rattle.edit_space.specs.Numbered.{if_number, placed}
+use Rattle.edit_space.specs.Writable.{is_writable}
 use Rattle.edit_space.proofs.Counts.{few_picked, few_placed}
 use Rattle.edit_space.proofs.FreeNames.{free_name_is_new, free_names_apart}
 use Rattle.patched_settings.specs.Additions.{named_lists}
@@ -83,8 +85,9 @@ module _ (net : Network) (valid : IsValid net) (small : IsCountable net) (chosen
       by None e = let none : length (names_of net router) ≡ 0 = ap (λ (o : Option RouterRow). length (option_map_or (λ (r : RouterRow). r.names) o [])) e in omega (arith, none)
       by (Some row) e = small.names router (slice_get_within net.routers router row e)
 
-  pub new-names : length chosen < 16384 → AllByRecursion (IsNewName chosen) (named_lists net chosen router)
-  new-names room = all-from (IsNewName chosen) (named_lists net chosen router) (λ named there.
+  pub new-names : length chosen < 16384 → ((face : ℕ) (class : Class) → Contains (new_classes chosen face) class → IsTrue (is_writable class.service)) →
+      AllByRecursion (IsNewName chosen) (named_lists net chosen router)
+  new-names room writable = all-from (IsNewName chosen) (named_lists net chosen router) (λ named there.
       let is = new_of_named net valid small chosen router named there in
       let in_names : Contains (new_names_of net chosen router) named.1 = item_at_place (new_names_of net chosen router) is.place named.1 is.name_is in
       record {
@@ -94,6 +97,7 @@ module _ (net : Network) (valid : IsValid net) (small : IsCountable net) (chosen
             let one = few_picked (if_number face) (filter_map new_route_change chosen) in
             let two = few_picked new_route_change chosen in
             omega (arith, one, two, room);
+        writable = writable;
       })
 
   pub new-different : AreDifferent (named_lists net chosen router)

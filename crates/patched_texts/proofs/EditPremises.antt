@@ -21,15 +21,14 @@ use Rattle.net_build.specs.declared.built.Built.{Built}
 use Rattle.net_build.specs.Networks.{Says, IsBuilt}
 use Rattle.net_build.specs.Rows.{IsRouterRow}
 use Rattle.edit_space.specs.declared.edit_kinds.Edit.{Edit}
-use Rattle.edit_space.specs.Changes.{list_classes, packet_list_change}
+use Rattle.edit_space.specs.Changes.{list_classes}
 use Rattle.edit_space.specs.Determined.{IsCountable}
-use Rattle.edit_space.specs.Numbered.{of_number}
 use Rattle.edit_space.specs.Prices.{chosen_of}
 use Rattle.net_build.specs.Places.{places_of}
 use Rattle.line_patcher.specs.Additions.{lines_after, lines_before, numbers_at}
 use Rattle.patched_settings.specs.Premises.{HasRoom}
 use Rattle.patched_settings.proofs.FittingEdits.{edits_fit}
-use Rattle.patched_settings.proofs.Pairs.{picks_nothing, zip_right}
+use Rattle.patched_settings.proofs.Pairs.{zip_right}
 use Rattle.patched_settings.proofs.Writable.{network_written}
 use Rattle.patched_texts.specs.EditFiles.{HaveListLines, IsEditedFile}
 use Rattle.patched_texts.specs.EditSiteLaws.{CommandsHaveListLines, CommandsGrowByEdits, EditSitesAreGood, EditSitesAreThere, EditedFilesAreFiles, EditedFilesAreSited, EditedFilesHaveTheNetwork, EditedTextsCanBePatched, own_places}
@@ -37,6 +36,7 @@ use Rattle.patched_texts.specs.EditSites.{added, grow, new_key, put}
 use Rattle.patched_texts.specs.Files.{AreSited, IsSited}
 use Rattle.patched_texts.specs.Laws.{SessionFilesHaveTheNetwork}
 use Rattle.patched_texts.specs.Sessions.{AreSessions}
+use Rattle.patched_texts.proofs.EditClasses.{AreSaid, edits-said, no-classes, sessions-said}
 use Rattle.patched_texts.proofs.EditInterfaces.{OneProcess, has-face, one-process}
 use Rattle.patched_texts.proofs.EditHasLists.{edited-extended, has-packets, has-routes}
 use Rattle.patched_texts.proofs.EditNewNames.{new-different, new-free, new-names}
@@ -48,7 +48,7 @@ abbrev AreInExtended : Network → List Edit → Type 0
 AreInExtended net chosen = (id : ℕ) (row : PacketList) → slice_get net.packet_lists id ≡ Some row → list_classes chosen id ≢ [] → row.extended ≡ true
 
 module _ (have_lines : CommandsHaveListLines) (doc : Document) (files : List (List ℕ)) (built : Built) (was : IsBuilt doc files built) (chosen : List Edit) (valid : IsValid built.net) (small : IsCountable built.net) (extended : AreInExtended built.net chosen)
-    (room : HasRoom chosen was.network.configs) where
+    (said : AreSaid chosen) (room : HasRoom chosen was.network.configs) where
   abbrev net : Network
   net = built.net
 
@@ -81,11 +81,12 @@ module _ (have_lines : CommandsHaveListLines) (doc : Document) (files : List (Li
         process = process.process;
         one = ap (λ (c : Config). c.process) (sym set) ∙ process.one;
         runs = process.runs;
-        names = new-names net valid small chosen router room.new;
+        names = new-names net valid small chosen router room.new said.new;
         different = new-different net valid small chosen router;
         free = λ named there l in_lists. new-free net valid small chosen router row config at_row is_row named there l (subst (λ (c : Config). Contains c.lists l) (sym set) in_lists);
         packets = λ id p at_p own some. has-packets cs listed router was.network.configs at p own ((was.network.rows.base.packet_lists.just p).0 (item_at_place net.packet_lists id p at_p)) (extended id p at_p some);
         routes = λ id p at_p own some. has-routes cs listed router was.network.configs at p own ((was.network.rows.base.route_lists.just p).0 (item_at_place net.route_lists id p at_p)) (route-valid id p at_p).name;
+        classes = said.lists;
         faces = λ face name there. has-face doc files built was router config at_c chosen valid small cs set face name there;
         room = λ l in_lists. room.old config (item_at_place was.network.configs router config at_c) l (subst (λ (c : Config). Contains c.lists l) (sym set) in_lists);
         few = room.new;
@@ -119,22 +120,18 @@ module _ (have_lines : CommandsHaveListLines) (doc : Document) (files : List (Li
 
 pub edited-files : CommandsHaveListLines → EditedFilesAreFiles
 edited-files have_lines doc files built was list flags valid small ends are room router config text says lines at_c at_t are_lines =
-    file-of have_lines doc files built was (chosen_of list flags) valid small (λ id row at some. edited-extended built.net id row at doc list flags are some) room router config text says lines at_c are_lines
+    file-of have_lines doc files built was (chosen_of list flags) valid small (λ id row at some. edited-extended built.net id row at doc list flags are some) (edits-said built.net doc list flags are) room router config text says lines at_c are_lines
 
 pub edited-sited : CommandsHaveListLines → EditSitesAreThere → EditedTextsCanBePatched → EditSitesAreGood → CommandsGrowByEdits → EditedFilesAreSited
 edited-sited have_lines there can good grows doc files built was list flags valid small ends are room =
-    sited-of have_lines doc files built was (chosen_of list flags) valid small (λ id row at some. edited-extended built.net id row at doc list flags are some) room there can good grows
+    sited-of have_lines doc files built was (chosen_of list flags) valid small (λ id row at some. edited-extended built.net id row at doc list flags are some) (edits-said built.net doc list flags are) room there can good grows
 
 pub edited-network : EditedFilesAreSited → EditedFilesHaveTheNetwork
 edited-network sited doc files new built was list flags after valid small ends are room patched is =
     sited-files-have doc files new built was (chosen_of list flags) after valid small (edits_fit built.net valid doc ends list flags are) room
     (sited doc files built was list flags valid small ends are room) patched is
 
--- edits that turn sessions put nothing into lists
-no-classes : (chosen : List Edit) → AreSessions chosen → (id : ℕ) → list_classes chosen id ≡ []
-no-classes chosen only id = ap (of_number id) (picks_nothing packet_list_change chosen (λ e there. let s = only e there in ap packet_list_change s.1))
-
 pub session-network : CommandsHaveListLines → EditSitesAreThere → EditedTextsCanBePatched → EditSitesAreGood → CommandsGrowByEdits → SessionFilesHaveTheNetwork
 session-network have_lines there can good grows doc files new built was chosen after valid small fits room only patched is =
     sited-files-have doc files new built was chosen after valid small fits room
-    (sited-of have_lines doc files built was chosen valid small (λ id row at some. absurd (some (no-classes chosen only id))) room there can good grows) patched is
+    (sited-of have_lines doc files built was chosen valid small (λ id row at some. absurd (some (no-classes chosen only id))) (sessions-said chosen only) room there can good grows) patched is

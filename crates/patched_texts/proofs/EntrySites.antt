@@ -24,15 +24,17 @@ use Rattle.ios_lines.proofs.Replacements.{kind-there}
 use Rattle.ios_lines.proofs.RewrittenLines.{a-word-replaced}
 use Rattle.ios_words.specs.declared.commands.Command.{Command}
 use Rattle.ios_words.specs.declared.commands.Command.TheVariants as commands
+use Rattle.ios_words.specs.declared.commands.PacketText.{PacketText}
 use Rattle.ios_words.specs.declared.kinds.BlockKind.TheVariants as kinds
 use Rattle.ios_words.specs.Commands.{ReadBy}
 use Rattle.ios_words.specs.Language.{rows}
-use Rattle.ios_words.specs.Printed.{entry_words, list_line_words, prefix_line_words, top_line, packet_text, route_text}
+use Rattle.ios_words.specs.Printed.{entry_words, list_line_words, prefix_line_words, top_line, route_text}
 use Rattle.ios_words.proofs.PlainWords.{decimal-plain}
 use Rattle.ios_words.proofs.PrintedLines.{entry-line, list_line-line, prefix_line-line}
 use Rattle.ios_words.proofs.RenumberedLines as renumbering
 use Rattle.ios_config.specs.Groups.{Block}
 use Rattle.net_build.specs.declared.built.ListPlace.{ListPlace}
+use Rattle.net_build.specs.Lists.{packet_text}
 use Rattle.edit_space.specs.After.{opposite_route_entry}
 use Rattle.line_patcher.specs.EntryLines.{order_at, class_line, prefix_line}
 use Rattle.edited_lines.specs.Sites.{bytes_of}
@@ -50,31 +52,31 @@ prefix-bytes place list (e ∷ es) = ap (λ ls. prefix_line place list e ∷ ls)
 pub entries-lines : EntriesHaveTheirLines
 entries-lines place packets classes routes prefixes = (class-bytes place packets (enumerate_from 1 classes), prefix-bytes place routes (enumerate_from 1 prefixes))
 
-some-spaced : (order : Option ℕ) (permit : Bool) (from to : Prefix) → 0 < length (spaced (entry_words order permit from to))
-some-spaced None permit from to = omega arith
-some-spaced (Some n) permit from to = omega arith
+some-spaced : (order : Option ℕ) (entry : PacketText) → 0 < length (spaced (entry_words order entry))
+some-spaced None entry = omega arith
+some-spaced (Some n) entry = omega arith
 
 pub block-entries : BlockEntriesAreRead
-block-entries name order entry fits =
-    let line = entry-line order entry.permit entry.from entry.to fits in (
+block-entries name order entry writable fits =
+    let line = entry-line order (packet_text entry) writable fits in (
       record {
         inner = line.kind;
-        reads = subst (λ (ws : List (List ℕ)). ReadBy true ws (rows kinds.Extended) (commands.Entry order (packet_text entry.permit entry.from entry.to))) (sym line.written.words) line.reads;
+        reads = subst (λ (ws : List (List ℕ)). ReadBy true ws (rows kinds.Extended) (commands.Entry order (packet_text entry))) (sym line.written.words) line.reads;
         part = λ block. refl;
       },
-      written-fit (entry_words order entry.permit entry.from entry.to) (spaced (entry_words order entry.permit entry.from entry.to)) line.written (some-spaced order entry.permit entry.from entry.to),
+      written-fit (entry_words order (packet_text entry)) (spaced (entry_words order (packet_text entry))) line.written (some-spaced order (packet_text entry)),
     )
 
 pub list-entries : ListEntriesAreRead
-list-entries name order entry extended =
-    let line = list_line-line name entry.permit entry.from entry.to extended in (
+list-entries name order entry writable extended =
+    let line = list_line-line name (packet_text entry) writable extended in (
       record {
         single = line.kind;
-        reads = subst (λ (ws : List (List ℕ)). ReadBy false ws (rows kinds.Top) (commands.ListLine name (packet_text entry.permit entry.from entry.to))) (sym line.written.words) line.reads;
+        reads = subst (λ (ws : List (List ℕ)). ReadBy false ws (rows kinds.Top) (commands.ListLine name (packet_text entry))) (sym line.written.words) line.reads;
         name = name;
         part = inl refl;
       },
-      written-fit (list_line_words name entry.permit entry.from entry.to) (top_line (list_line_words name entry.permit entry.from entry.to)) line.written (omega arith),
+      written-fit (list_line_words name (packet_text entry)) (top_line (list_line_words name (packet_text entry))) line.written (omega arith),
     )
 
 pub prefix-entries : PrefixEntriesAreRead

@@ -30,6 +30,7 @@ pub mod EditSequences
 pub mod EditNewNames
 pub mod EditInterfaces
 pub mod EditHasLists
+pub mod EditClasses
 pub mod EditPremises
 pub mod EditTops
 pub mod FileParts

@@ -1,23 +1,27 @@
 -- The lines of new lists may be put before a top line, and are read as the entries of these lists.
-use Rattle.std.proofs.Common.{◌≡◌, ◌≢◌, ℕ, ◌+◌, ◌*◌, ◌<◌, ◌≤◌, inr, Bool, true, false, Some, None, List, [], ◌∷◌, ◌++◌, length, map, refl, sym, ap, subst, ◌∙◌, arith, append_assoc, append-nil, IsTrue}
+use Rattle.std.proofs.Common.{◌≡◌, ◌≢◌, ℕ, ◌+◌, ◌*◌, ◌<◌, ◌≤◌, inr, Bool, true, false, Some, None, List, [], ◌∷◌, ◌++◌, length, map, refl, sym, ap, subst, ◌∙◌, arith, append_assoc, append-nil, Contains, IsTrue}
 use Rattle.std.specs.Prelude.{codes}
 use Rattle.std.specs.List.{AllByRecursion, enumerate_from, flat_map}
 use Rattle.std.proofs.lemmas.Bool.{ne_eqb}
 use Rattle.std.proofs.lemmas.List.Concat.{flat_map-append}
 use Rattle.arc_base.specs.declared.prefix.Prefix.{Prefix}
+use Rattle.arc_base.proofs.Items.{Contains-head, Contains-tail}
+use Rattle.net_model.specs.declared.lists.PacketEntry.{PacketEntry}
 use Rattle.net_model.specs.declared.policies.Class.{Class}
 use Rattle.ios_lines.specs.Written.{spaced}
 use Rattle.ios_words.specs.Commands.{ReadBy}
 use Rattle.ios_words.specs.Language.{rows}
 use Rattle.ios_words.specs.Names.{is_name}
-use Rattle.ios_words.specs.Printed.{entry_words, list_head_words, permit_all_words, packet_text, top_line}
+use Rattle.ios_words.specs.Printed.{entry_words, list_head_words, permit_all_words, top_line}
 use Rattle.ios_words.specs.declared.commands.Command.TheVariants as commands
 use Rattle.ios_words.specs.declared.kinds.BlockKind.TheVariants as kinds
 use Rattle.ios_words.proofs.PrintedLines.{entry-line, list_head-line, prefix_line-line, permit_all-line, closing-line}
 use Rattle.ios_config.specs.declared.commands.FileCommand.{FileCommand}
 use Rattle.ios_config.specs.Groups.{Block, is_same, part_in, part_of}
-use Rattle.edit_space.specs.After.{any}
+use Rattle.net_build.specs.Lists.{packet_text}
+use Rattle.edit_space.specs.After.{class_entry, every_packet}
 use Rattle.edit_space.specs.Changes.{new_prefixes, new_classes}
+use Rattle.edit_space.specs.Writable.{is_writable}
 use Rattle.edit_space.specs.declared.edit_kinds.Edit.{Edit}
 use Rattle.edit_space.specs.declared.new_lists.NewList.{NewList}
 use Rattle.edit_space.specs.declared.new_lists.NewList.TheVariants.{Route, Packet}
@@ -39,14 +43,21 @@ all-single name is other number low high =
     record { single = line.kind; reads = subst (λ (ws : List (List ℕ)). ReadBy false ws (rows kinds.Top) (permit_all_written name number).command) (sym line.written.words) line.reads; name = name; part = inr refl }
 
 -- the lines of a new packet list
-entry-block-line : (permit : Bool) (from to : Prefix) → IsBlockLine kinds.Extended (record { line = spaced (entry_words None permit from to); command = commands.Entry None (packet_text permit from to) })
-entry-block-line permit from to =
-    let line = entry-line None permit from to tt in
-    record { inner = line.kind; reads = subst (λ (ws : List (List ℕ)). ReadBy true ws (rows kinds.Extended) (commands.Entry None (packet_text permit from to))) (sym line.written.words) line.reads; part = λ block. refl }
+entry-block-line : (entry : PacketEntry) → IsTrue (is_writable entry.service) →
+    IsBlockLine kinds.Extended (record { line = spaced (entry_words None (packet_text entry)); command = commands.Entry None (packet_text entry) })
+entry-block-line entry writable =
+    let line = entry-line None (packet_text entry) writable tt in
+    record { inner = line.kind; reads = subst (λ (ws : List (List ℕ)). ReadBy true ws (rows kinds.Extended) (commands.Entry None (packet_text entry))) (sym line.written.words) line.reads; part = λ block. refl }
 
-packet-lines : (classes : List Class) → AllByRecursion (IsBlockLine kinds.Extended) (packet_written classes)
-packet-lines [] = (entry-block-line true any any, tt)
-packet-lines (class ∷ classes) = (entry-block-line false class.from class.to, packet-lines classes)
+packet-lines : (classes : List Class) → ((class : Class) → Contains classes class → IsTrue (is_writable class.service)) → AllByRecursion (IsBlockLine kinds.Extended) (packet_written classes)
+packet-lines [] writable = (entry-block-line every_packet refl, tt)
+packet-lines (class ∷ classes) writable =
+    (entry-block-line (class_entry false class) (writable class (Contains-head class classes)), packet-lines classes (λ c there. writable c (Contains-tail class c classes there)))
+
+-- and they are of its block
+packet-parts : (key : ℕ) (classes : List Class) → AllByRecursion (λ (w : Written). part_in key w.command ≡ Block key) (packet_written classes)
+packet-parts key [] = (refl, tt)
+packet-parts key (class ∷ classes) = (refl, packet-parts key classes)
 
 all-append : {X : Type 0} (P : X → Type 0) (xs ys : List X) → AllByRecursion P xs → AllByRecursion P ys → AllByRecursion P (xs ++ ys)
 all-append P [] ys one two = two
@@ -61,15 +72,15 @@ route-parts : (j : ℕ) (name : List ℕ) (entries : List (ℕ × Prefix)) (last
 route-parts j name [] last = (refl, tt)
 route-parts j name (e ∷ entries) last = (refl, route-parts j name entries last)
 
-block-clear : (j key : ℕ) → j ≢ key → (ws : List Written) → AllByRecursion (IsBlockLine kinds.Extended) ws → AllByRecursion (λ (v : FileCommand). is_same (Block j) (part_of v) ≡ false) (map (in_block key) ws)
+block-clear : (j key : ℕ) → j ≢ key → (ws : List Written) → AllByRecursion (λ (w : Written). part_in key w.command ≡ Block key) ws → AllByRecursion (λ (v : FileCommand). is_same (Block j) (part_of v) ≡ false) (map (in_block key) ws)
 block-clear j key other [] all = tt
-block-clear j key other (w ∷ ws) all = (ap (is_same (Block j)) (all.0.part key) ∙ ne_eqb j key other, block-clear j key other ws all.1)
+block-clear j key other (w ∷ ws) all = (ap (is_same (Block j)) all.0 ∙ ne_eqb j key other, block-clear j key other ws all.1)
 
 one-clear : (chosen : List Edit) (j key : ℕ) → j ≢ key → (list : NewList) (name : List ℕ) → AllByRecursion (λ (v : FileCommand). is_same (Block j) (part_of v) ≡ false) (flat_map chunk_commands (new_chunks chosen key list name))
 one-clear chosen j key other (Route face) name = route-clear j (route_written name (new_prefixes chosen face.0)) (route-parts j name (enumerate_from 1 (new_prefixes chosen face.0)) (5 * (length (new_prefixes chosen face.0) + 1)))
 one-clear chosen j key other (Packet face) name =
     subst (AllByRecursion (λ (v : FileCommand). is_same (Block j) (part_of v) ≡ false)) (sym (append-nil (chunk_commands (NewBlock key (head_written name) (packet_written (new_classes chosen face.0)) (codes "!")))))
-    (ne_eqb j key other, block-clear j key other (packet_written (new_classes chosen face.0)) (packet-lines (new_classes chosen face.0)))
+    (ne_eqb j key other, block-clear j key other (packet_written (new_classes chosen face.0)) (packet-parts key (new_classes chosen face.0)))
 
 lists-clear : (chosen : List Edit) (j key : ℕ) → j < key → (ns : List (NewList × List ℕ)) → AllByRecursion (λ (v : FileCommand). is_same (Block j) (part_of v) ≡ false) (flat_map chunk_commands (list_chunks chosen key ns))
 lists-clear chosen j key low [] = tt
@@ -108,7 +119,7 @@ one-chunk chosen number key later (Packet face) name is high fresh =
         within = kinds.Extended;
         opens = refl;
         known = λ same. absurd (apart same);
-        lines = packet-lines (new_classes chosen face.0);
+        lines = packet-lines (new_classes chosen face.0) (is.writable face.0);
         closes = closing-line.kind;
         high = high;
         fresh = fresh;
@@ -136,7 +147,7 @@ route-bytes : (name : List ℕ) (entries : List (ℕ × Prefix)) (last : ℕ) �
 route-bytes name [] last = refl
 route-bytes name (e ∷ entries) last = ap (λ ls. deny_line name e ∷ ls) (route-bytes name entries last)
 
-packet-bytes : (classes : List Class) (more : List (List ℕ)) → bytes_of (packet_written classes) ++ more ≡ map deny_class_line classes ++ spaced (entry_words None true any any) ∷ more
+packet-bytes : (classes : List Class) (more : List (List ℕ)) → bytes_of (packet_written classes) ++ more ≡ map deny_class_line classes ++ spaced (entry_words None (packet_text every_packet)) ∷ more
 packet-bytes [] more = refl
 packet-bytes (c ∷ classes) more = ap (λ ls. deny_class_line c ∷ ls) (packet-bytes classes more)
 

@@ -5,6 +5,7 @@ use Rattle.arc_base.specs.declared.place.Face.{Face}
 use Rattle.arc_base.specs.PrefixText.{number_of}
 use Rattle.net_model.specs.declared.lists.PacketList.{PacketList}
 use Rattle.net_model.specs.declared.lists.RouteList.{RouteList}
+use Rattle.net_model.specs.declared.policies.Class.{Class}
 use Rattle.net_model.specs.declared.rows.FaceRow.{FaceRow}
 use Rattle.net_model.specs.declared.rows.Network.{Network}
 use Rattle.net_model.specs.Validity.{FitsProtocol, IsValid}
@@ -33,6 +34,7 @@ use Rattle.edit_space.specs.declared.edit_kinds.Edit.{Edit}
 use Rattle.edit_space.specs.declared.new_lists.NewList.{NewList}
 use Rattle.edit_space.specs.declared.new_lists.NewList.TheVariants.{Packet}
 use Rattle.edit_space.specs.Changes.{list_prefixes, list_classes}
+use Rattle.edit_space.specs.Writable.{is_writable}
 use Rattle.line_patcher.specs.EntryLines.{packet_place, route_place}
 use Rattle.line_patcher.specs.NewListLines.{face_places}
 use Rattle.patched_settings.specs.Additions.{named_lists}
@@ -80,8 +82,9 @@ pub record HasFace (net : Network) (places : List Places) (router : ℕ) (cs : L
   pub name : face.name ≡ row.name
   pub place_is : slice_get (face_places places) place ≡ Some (face_place face)
 
--- The file of the router, with these lines and commands, is one of the network's, and the edits are those of the network: they put entries only into
--- lists that the file has, new lists have free names, and there is room for all.
+-- The file of the router, with these lines and commands, is one of the network's, and the edits are those of the network: they put
+-- entries only into lists that the file has and only for classes that one entry can say, new lists have free names, and there is
+-- room for all.
 pub record IsEditedFile (net : Network) (places : List Places) (chosen : List Edit) (router : ℕ) (text : List ℕ) (lines : Lines) (cs : List FileCommand) : Type 0 where
   pub valid : IsValid net
   pub writable : IsWritable net
@@ -100,6 +103,7 @@ pub record IsEditedFile (net : Network) (places : List Places) (chosen : List Ed
   pub free : (named : NewList × List ℕ) → Contains (named_lists net chosen router) named → (list : ListText) → Contains (config_of cs).lists list → list.name ≢ named.1
   pub packets : (id : ℕ) (row : PacketList) → slice_get net.packet_lists id ≡ Some row → row.router.0 ≡ router → list_classes chosen id ≢ [] → HasPacketList cs row
   pub routes : (id : ℕ) (row : RouteList) → slice_get net.route_lists id ≡ Some row → row.router.0 ≡ router → list_prefixes chosen id ≢ [] → HasRouteList cs row
+  pub classes : (id : ℕ) (class : Class) → Contains (list_classes chosen id) class → IsTrue (is_writable class.service)
   pub faces : (face : Face) (name : List ℕ) → Contains (named_lists net chosen router) (Packet face, name) → HasFace net places router cs face.0
   pub room : (list : ListText) → Contains (config_of cs).lists list → length list.entries + length chosen ≤ 16384
   pub few : length chosen < 16384

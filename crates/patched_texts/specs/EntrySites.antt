@@ -25,21 +25,23 @@ use Rattle.ios_words.specs.Forms.{IsOrder}
 use Rattle.ios_words.specs.Language.{rows}
 use Rattle.ios_words.specs.Names.{is_name}
 use Rattle.ios_words.specs.Numbers.{list_kind}
-use Rattle.ios_words.specs.Printed.{packet_text, route_text}
+use Rattle.ios_words.specs.Printed.{route_text}
 use Rattle.ios_config.specs.declared.commands.FileCommand.{FileCommand}
 use Rattle.ios_config.specs.declared.settings.ListForm.{ListForm}
 use Rattle.ios_config.specs.declared.settings.ListForm.TheVariants as forms
 use Rattle.net_build.specs.declared.built.ListPlace.{ListPlace}
+use Rattle.net_build.specs.Lists.{packet_text}
 use Rattle.edit_space.specs.After.{opposite_packet_entry, opposite_route_entry}
+use Rattle.edit_space.specs.Writable.{is_writable}
 use Rattle.line_patcher.specs.EntryLines.{order_at, packet_line, prefix_line, class_lines, prefix_lines}
 use Rattle.edited_lines.specs.Sites.{Written, Site, bytes_of, IsSingleLine, IsBlockLine, IsOfBlock, IsRewrittenFor}
 use Rattle.patched_texts.specs.Fits.{IsFit}
 
 -- what the line of an entry of a packet list is read as
 abbrev pub packet_command : ListForm → List ℕ → Option ℕ → PacketEntry → Command
-packet_command forms.Block name order entry = commands.Entry order (packet_text entry.permit entry.from entry.to)
-packet_command forms.Lines name order entry = commands.ListLine name (packet_text entry.permit entry.from entry.to)
-packet_command forms.PrefixLines name order entry = commands.Entry order (packet_text entry.permit entry.from entry.to)
+packet_command forms.Block name order entry = commands.Entry order (packet_text entry)
+packet_command forms.Lines name order entry = commands.ListLine name (packet_text entry)
+packet_command forms.PrefixLines name order entry = commands.Entry order (packet_text entry)
 
 abbrev pub packet_written : ListForm → List ℕ → Option ℕ → PacketEntry → Written
 packet_written form name order entry = record { line = packet_line form name order entry; command = packet_command form name order entry }
@@ -61,16 +63,16 @@ EntriesHaveTheirLines =
     (bytes_of (map (class_written place packets) (enumerate_from 1 classes)) ≡ class_lines place packets classes) ×
     (bytes_of (map (prefix_written place routes) (enumerate_from 1 prefixes)) ≡ prefix_lines place routes prefixes)
 
--- an entry of a packet list that stands as a block is a line of the block
+-- an entry of a packet list that stands as a block is a line of the block, where one entry can say its services
 abbrev pub BlockEntriesAreRead : Type 0
 BlockEntriesAreRead =
-    (name : List ℕ) (order : Option ℕ) (entry : PacketEntry) → IsOrder 2147483647 order →
+    (name : List ℕ) (order : Option ℕ) (entry : PacketEntry) → IsTrue (is_writable entry.service) → IsOrder 2147483647 order →
     IsBlockLine kinds.Extended (packet_written forms.Block name order entry) × IsFit (packet_line forms.Block name order entry)
 
 -- one of a packet list that stands as lines, and one of a route list, are lines of these lists
 abbrev pub ListEntriesAreRead : Type 0
 ListEntriesAreRead =
-    (name : List ℕ) (order : Option ℕ) (entry : PacketEntry) → list_kind (number_of name) ≡ Some true →
+    (name : List ℕ) (order : Option ℕ) (entry : PacketEntry) → IsTrue (is_writable entry.service) → list_kind (number_of name) ≡ Some true →
     IsSingleLine (packet_written forms.Lines name order entry) × IsFit (packet_line forms.Lines name order entry)
 
 abbrev pub PrefixEntriesAreRead : Type 0

@@ -1,17 +1,19 @@
 -- The lines of new lists with the commands that they are read as.
-use Rattle.std.specs.Prelude.{◌≡◌, ◌≢◌, ℕ, ◌+◌, ◌*◌, ◌≤◌, true, false, Some, None, List, [], ◌∷◌, ◌++◌, map, length, codes, IsTrue}
+use Rattle.std.specs.Prelude.{◌≡◌, ◌≢◌, ℕ, ◌+◌, ◌*◌, ◌≤◌, true, false, Some, None, List, [], ◌∷◌, ◌++◌, map, length, codes, Contains, IsTrue}
 use Rattle.std.specs.List.{AllByRecursion, enumerate_from, flat_map}
 use Rattle.arc_base.specs.declared.prefix.Prefix.{Prefix}
 use Rattle.net_model.specs.declared.policies.Class.{Class}
 use Rattle.ios_lines.specs.Written.{spaced}
 use Rattle.ios_words.specs.declared.commands.Command.TheVariants as commands
 use Rattle.ios_words.specs.Names.{is_name}
-use Rattle.ios_words.specs.Printed.{permit_all_words, list_head_words, entry_words, top_line, packet_text, route_text, all_routes}
-use Rattle.edit_space.specs.After.{any}
+use Rattle.ios_words.specs.Printed.{permit_all_words, list_head_words, entry_words, top_line, route_text, all_routes}
+use Rattle.net_build.specs.Lists.{packet_text}
+use Rattle.edit_space.specs.After.{class_entry, every_packet}
 use Rattle.edit_space.specs.Changes.{new_prefixes, new_classes}
 use Rattle.edit_space.specs.declared.edit_kinds.Edit.{Edit}
 use Rattle.edit_space.specs.declared.new_lists.NewList.{NewList}
 use Rattle.edit_space.specs.declared.new_lists.NewList.TheVariants.{Route, Packet}
+use Rattle.edit_space.specs.Writable.{is_writable}
 use Rattle.line_patcher.specs.NewListLines.{deny_line, deny_class_line}
 use Rattle.patched_settings.specs.Plain.{plain_list}
 use Rattle.patched_settings.specs.SettingsAfter.{new_list_text}
@@ -33,10 +35,12 @@ route_written name prefixes = map (deny_written name) (enumerate_from 1 prefixes
 
 -- the entries of a new packet list, and its head
 abbrev pub deny_class_written : Class → Written
-deny_class_written class = record { line = deny_class_line class; command = commands.Entry None (packet_text false class.from class.to) }
+deny_class_written class = record { line = deny_class_line class; command = commands.Entry None (packet_text (class_entry false class)) }
 
 abbrev pub packet_written : List Class → List Written
-packet_written classes = map deny_class_written classes ++ record { line = spaced (entry_words None true any any); command = commands.Entry None (packet_text true any any) } ∷ []
+packet_written classes =
+    map deny_class_written classes ++
+    record { line = spaced (entry_words None (packet_text every_packet)); command = commands.Entry None (packet_text every_packet) } ∷ []
 
 abbrev pub head_written : List ℕ → Written
 head_written name = record { line = top_line (list_head_words name); command = commands.ListBlock true name }
@@ -51,11 +55,13 @@ abbrev pub list_chunks : List Edit → ℕ → List (NewList × List ℕ) → Li
 list_chunks chosen key [] = []
 list_chunks chosen key (named ∷ more) = new_chunks chosen key named.0 named.1 ++ list_chunks chosen (key + 1) more
 
--- the name may be that of a new list, and a new route list has not too many entries for their numbers
+-- the name may be that of a new list; a new route list has not too many entries for their numbers, and one entry of a new packet
+-- list can say each of its classes
 pub record IsNewName (chosen : List Edit) (named : NewList × List ℕ) : Type 0 where
   pub name : IsTrue (is_name named.1)
   pub other : named.1 ≢ codes "sequence-number"
   pub few : (face : ℕ) → length (new_prefixes chosen face) ≤ 16384
+  pub writable : (face : ℕ) (class : Class) → Contains (new_classes chosen face) class → IsTrue (is_writable class.service)
 
 -- no command is of a block from this number on
 abbrev pub AreClear : ℕ → List FileCommand → Type 0

@@ -21,13 +21,15 @@ use Rattle.net_model.specs.Packets.{IsOf, ShareNoPacket, first_packet}
 use Rattle.net_model.specs.Validity.{IsValid, IsValidLink, AreLinksApart, AreSessionsApart}
 use Rattle.net_model.proofs.Packets.{first_is_of}
 use Rattle.net_model.proofs.Readings.{place_of_item}
+use Rattle.std.proofs.lemmas.List.Kept.{AllPairs-filter}
 use Rattle.traffic_classes.specs.Parts.{TellApart}
 use Rattle.traffic_classes.proofs.Unions.{tell_apart}
 use Rattle.edit_space.specs.declared.edit_kinds.Edit.{Edit}
 use Rattle.edit_space.specs.declared.edit_kinds.Edit.TheVariants as edits
 use Rattle.edit_space.specs.declared.sites.Site.{Site}
 use Rattle.edit_space.specs.declared.sites.Site.TheVariants.{Bound, New}
-use Rattle.edit_space.specs.EditLists.{has_session, edits_at, link_edits, route_edit, packet_edit, is_same, with_prefix, AreEdits}
+use Rattle.edit_space.specs.EditLists.{has_session, edits_at, link_edits, route_edit, packet_edit, is_same, with_prefix, writable_classes, AreEdits}
+use Rattle.edit_space.specs.Writable.{is_writable}
 use Rattle.edit_space.specs.Numbered.{placed}
 use Rattle.edit_space.specs.Sites.{route_list_site, neighbor_site, packet_list_site, face_site, takes_list, route_sites, packet_sites}
 use Rattle.edit_laws.proofs.Apart.{AllPairs-flat_map, AllPairs-picked, AllPairs-by_number, from_picked, places_apart}
@@ -256,14 +258,16 @@ other_part x y m n e f differ same = differ (sym e ∙ ap part same ∙ f)
 pub edits_differ : (net : Network) (doc : Document) (list : List Edit) → IsValid net → AreEdits net doc list → AllPairs (λ (e : Edit) (f : Edit). e ≢ f) list
 edits_differ net doc list valid are =
     let ds = are.destinations in
-    let cs = are.classes in
+    let all = are.classes in
+    let cs : List Class = writable_classes all in
     let A : List Edit = flat_map (link_edits net) net.links in
     let B : List Edit = flat_map (λ site. map (route_edit site) ds) (route_sites net) in
     let C : List Edit = flat_map (λ site. map (packet_edit site) cs) (packet_sites net) in
-    let tell : TellApart net doc.policies cs = tell_apart net doc.policies cs are.classes_are in
+    let tell : TellApart net doc.policies all = tell_apart net doc.policies all are.classes_are in
+    let apart : AllPairs ShareNoPacket cs = AllPairs-filter ShareNoPacket (λ (class : Class). is_writable class.service) all tell.disjoint in
     let hosts : AllPairs Differ ds = subst (λ (l : List Prefix). AllPairs Differ l) (sym are.destinations_are.once) (prefixes_differ are.destinations_are.hosts [] (AllPairs-none Differ)) in
     let routes : AllPairs Differ B = entries_differ route_edit route_differs (route_sites net) ds (route_sites_differ net valid) hosts in
-    let packets : AllPairs Differ C = entries_differ packet_edit packet_differs (packet_sites net) cs (packet_sites_differ net valid) (classes_differ cs tell.disjoint) in
+    let packets : AllPairs Differ C = entries_differ packet_edit packet_differs (packet_sites net) cs (packet_sites_differ net valid) (classes_differ cs apart) in
     let in_b : (x : Edit) → Contains B x → part x ≡ 1 = entry_part route_edit route_differs 1 route_part (route_sites net) ds in
     let in_c : (x : Edit) → Contains C x → part x ≡ 2 = entry_part packet_edit packet_differs 2 packet_part (packet_sites net) cs in
     let zero_one : 0 ≢ 1 = λ e. omega (arith, e) in

@@ -1,7 +1,8 @@
 -- The index of edits finds an edit's place, and what else the code needs of its lists.
-use Rattle.std.proofs.Common.{◌≡◌, ◌≢◌, ℕ, ◌+◌, ◌<◌, ◌≤◌, Bool, true, false, cond, not, inl, inr, Option, Some, None, List, [], ◌∷◌, ◌++◌, length, get_or, take, map, refl, sym, ◌∙◌, ap, subst, arith}
+use Rattle.std.proofs.Common.{◌≡◌, ◌≢◌, ℕ, ◌+◌, ◌-◌, ◌^◌, ◌<◌, ◌≤◌, Bool, true, false, cond, not, inl, inr, Option, Some, None, List, [], ◌∷◌, ◌++◌, length, get_or, take, map, refl, sym, ◌∙◌, ap, subst, arith}
 use Rattle.std.specs.Prelude.{AllPairs, Contains, IfSome, slice_get, nat_lt, if◌then◌else◌}
 use Rattle.std.specs.List.{list_any, position, position_or_len}
+use Rattle.std.proofs.Math.Nat.{min-le_left}
 use Rattle.std.proofs.lemmas.Bool.{false≢true, cases_Bool}
 use Rattle.std.proofs.lemmas.List.{length-map, map_more, length-take-le, get_or-take, get_or_default}
 use Rattle.std.proofs.lemmas.Option.{none-some}
@@ -70,4 +71,5 @@ few_enough net doc which count low few has many = by (slice_get doc.policies whi
         let all = (have_one_list net doc.policies doc.policies).0 in
         let less = no_more net doc.policies p h.classes all.0 (item_at_place doc.policies which p e) h.are all.1 in
         let most = few all.0 all.1 in
-        omega (arith, less, most, many, h.counted)
+        let told : count ≤ length h.classes = subst (λ (n : ℕ). n ≤ length h.classes) h.counted (min-le_left (length h.classes) (2 ^ 64 - 1)) in
+        omega (arith, less, most, many, told)

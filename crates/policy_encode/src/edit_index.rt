@@ -10,24 +10,29 @@ use edit_space::Edit;
 use indexmap::IndexSet;
 use std::alloc::Global;
 
-/// The numbers that make an edit: its kind, the place where it acts, and the prefix or the two prefixes of its entry.
-pub(crate) type EditKey = (u8, u32, u32, u8, u32, u8);
+/// The numbers that make an edit: its kind, the place where it acts, and of its entry the prefix, or the two prefixes and the
+/// range of services.
+pub(crate) type EditKey = (u8, u32, u32, u8, u32, u8, u32, u32);
 
 /// The numbers of an edit.
 fn key_of(edit: &Edit) -> EditKey
     ensures { result ≡ key_of edit.now }
 {
     match edit {
-        Edit::Session(face) => (0, face.0, 0, 0, 0, 0),
-        Edit::RouteList(list, to) => (1, list.0, to.addr, to.len, 0, 0),
-        Edit::RouteNew(face, to) => (2, face.0, to.addr, to.len, 0, 0),
+        Edit::Session(face) => (0, face.0, 0, 0, 0, 0, 0, 0),
+        Edit::RouteList(list, to) => (1, list.0, to.addr, to.len, 0, 0, 0, 0),
+        Edit::RouteNew(face, to) => (2, face.0, to.addr, to.len, 0, 0, 0, 0),
         Edit::PacketList(list, class) => {
-            let (from, to) = (class.from, class.to);
-            (3, list.0, from.addr, from.len, to.addr, to.len)
+            let (from, to, of) = (class.from, class.to, class.service);
+            (
+                3, list.0, from.addr, from.len, to.addr, to.len, of.low, of.high,
+            )
         }
         Edit::PacketNew(face, class) => {
-            let (from, to) = (class.from, class.to);
-            (4, face.0, from.addr, from.len, to.addr, to.len)
+            let (from, to, of) = (class.from, class.to, class.service);
+            (
+                4, face.0, from.addr, from.len, to.addr, to.len, of.low, of.high,
+            )
         }
     }
 }

@@ -115,3 +115,10 @@ chosen_next net edits flags i e f within same =
     ap (λ es. edit_lines net (chosen_of es (drop i flags))) (drop_next edits i e within)
     ∙ ap (λ fs. edit_lines net (chosen_of (get_or edits i e ∷ drop (i + 1) edits) fs)) (drop_next flags i f also)
     ∙ chosen_first net (get_or edits i e) (get_or flags i f) (drop (i + 1) edits) (drop (i + 1) flags)
+
+-- two words and others after them
+pub two_words_and_run : (t0 t1 t2 t3 a b : List ℕ) (ws : List (List ℕ)) → t1 ≡ t0 ++ 32 ∷ a → t2 ≡ t1 ++ 32 ∷ b → t3 ≡ t2 ++ after_spaces ws → t3 ≡ t0 ++ after_spaces (a ∷ b ∷ ws)
+two_words_and_run t0 t1 t2 t3 a b ws first second rest =
+    let run : List ℕ = after_spaces ws in
+    rest ∙ ap (λ t. t ++ run) (second ∙ ap (λ t. t ++ 32 ∷ b) first) ∙
+    append_assoc (t0 ++ 32 ∷ a) (32 ∷ b) run ∙ append_assoc t0 (32 ∷ a) (32 ∷ (b ++ run))

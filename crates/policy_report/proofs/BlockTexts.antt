@@ -4,7 +4,6 @@ use Rattle.std.specs.List.{concat}
 use Rattle.std.proofs.lemmas.List.{length-map}
 use Rattle.std.proofs.lemmas.List.Elements.{All-head, All-tail}
 use Rattle.cnf_types.specs.Words.{lines}
-use Rattle.arc_base.specs.PrefixText.{address_text}
 use Rattle.net_model.specs.declared.policies.Policy.{Policy}
 use Rattle.net_model.specs.declared.policies.PolicyKind.{PolicyKind}
 use Rattle.net_model.specs.declared.policies.PolicyKind.TheVariants as kinds
@@ -13,7 +12,7 @@ use Rattle.net_model.specs.declared.verdicts.Verdict.{Verdict}
 use Rattle.net_model.specs.declared.verdicts.Verdict.TheVariants.{Closed, Paths, Walk, Denied, Cut, Refused}
 use Rattle.net_model.specs.Validity.{IsValid}
 use Rattle.policy_report.specs.Lines.{line}
-use Rattle.policy_report.specs.Reports.{kind_word, answer_word, class_words, link_words, side_words, closed_line, path_line, witness_lines, block_text, blocks_text}
+use Rattle.policy_report.specs.Reports.{kind_word, answer_word, class_words, packet_words, link_words, side_words, closed_line, path_line, witness_lines, block_text, blocks_text}
 use Rattle.policy_report.specs.Rereading.{AreLinks, IsTold}
 use Rattle.policy_report.proofs.LineWords.{IsSide, closed_text, path_text, cut_words, witness_texts, are_closed_words, are_path_words, are_walk_words, are_denied_words, are_cut_words, are_side_line_words, are_refused_words}
 use Rattle.policy_report.proofs.Ended.{EndsLine, nothing_ends, line_ends, both_end, all_end}
@@ -74,7 +73,7 @@ module _ (net : Network) (valid : IsValid net) where
       first_of_text (codes "cut") (link_words links) (line (codes "side") (side_words net.routers side) ++ []) rest (are_cut_words net valid links told.0) ∙
       ap (λ ls. joined (cut_words links) ∷ ls) (first_of_text (codes "side") (side_words net.routers side) [] rest (are_side_line_words net valid side))
   witness_lines_of (Refused packet link) rest told =
-      first_of_text (codes "acl-on-routed-link") (address_text packet.from ∷ address_text packet.to ∷ decimal (link.0 + 1) ∷ []) [] rest
+      first_of_text (codes "acl-on-routed-link") (packet_words packet ++ decimal (link.0 + 1) ∷ []) [] rest
       (are_refused_words net valid packet link told)
 
   -- the lines of a block
@@ -117,7 +116,7 @@ witness_ends net (Cut links side) =
     both_end (line (codes "cut") (link_words links)) (concat (line (codes "side") (side_words net.routers side) ∷ [])) (line_ends (codes "cut") (link_words links))
     (all_end (λ (ws : List (List ℕ)). line (codes "side") ws) (line_ends (codes "side")) (side_words net.routers side ∷ []))
 witness_ends net (Refused packet link) =
-    all_end (λ (ws : List (List ℕ)). line (codes "acl-on-routed-link") ws) (line_ends (codes "acl-on-routed-link")) ((address_text packet.from ∷ address_text packet.to ∷ decimal (link.0 + 1) ∷ []) ∷ [])
+    all_end (λ (ws : List (List ℕ)). line (codes "acl-on-routed-link") ws) (line_ends (codes "acl-on-routed-link")) ((packet_words packet ++ decimal (link.0 + 1) ∷ []) ∷ [])
 
 pub blocks_end : (number : ℕ) (net : Network) (policies : List Policy) (vs : List Verdict) → EndsLine (blocks_text number net policies vs)
 blocks_end number net [] vs = nothing_ends

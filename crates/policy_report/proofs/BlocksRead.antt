@@ -99,6 +99,6 @@ module _ (net : Network) (valid : IsValid net) where
       let words : line_words t ≡ refused_words packet link = ap line_words here ∙ words_read (refused_words packet link) (omega arith) (are_refused_words net valid packet link fits) in (
         Whole (verdicts.Refused packet link),
         ap (grown net drafts.Refused) words ∙ ap (λ o. added o (λ (r : Packet × Link). Some (Whole (verdicts.Refused r.0 r.1))))
-            (refused_read net valid packet link fits.0 fits.1.0 fits.1.1),
+            (refused_read net valid packet link fits),
         (v_is, rest),
       )

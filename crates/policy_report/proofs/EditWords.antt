@@ -22,7 +22,9 @@ use Rattle.net_model.specs.Validity.{IsValid, IsName, IsFaceName, IsUnit, IsVali
 use Rattle.edit_space.specs.declared.edit_kinds.Edit.{Edit}
 use Rattle.edit_space.specs.declared.edit_kinds.Edit.TheVariants as edits
 use Rattle.policy_report.specs.Edits.{router_name, owner_name, face_name, neighbor_text, route_list_words, packet_list_words, edit_words, HasAddresses}
-use Rattle.policy_report.proofs.Spaced.{IsWord, AreWords}
+use Rattle.policy_report.specs.Reports.{class_words}
+use Rattle.policy_report.proofs.ServiceParts.{are_class_words}
+use Rattle.policy_report.proofs.Spaced.{IsWord, AreWords, words_append}
 use Rattle.policy_report.proofs.WordBytes.{word, joined_words, name_word, address_word, prefix_word}
 
 -- what holds of all rows holds of the one at a place
@@ -39,11 +41,6 @@ found_passes {X} test (y ∷ xs) x e = by (test y) refl (found_passes test xs x)
         let same : y ≡ x = same_Some y x e in
         (subst (λ (z : X). test z ≡ true) same passes, subst (λ (z : X). Contains (y ∷ xs) z) same (Contains-head y xs))
     by false fails rest e = let later = rest e in (later.0, Contains-tail y x xs later.1)
-
--- words, and others after them
-pub words_append : (vs ws : List (List ℕ)) → AreWords vs → AreWords ws → AreWords (vs ++ ws)
-words_append [] ws h k = k
-words_append (v ∷ vs) ws h k = (h.0, words_append vs ws h.1 k)
 
 -- the name of an interface
 digit_byte : (b : ℕ) → IsTrue (is_ascii_digit b) → 32 < b
@@ -130,6 +127,6 @@ module _ (net : Network) (valid : IsValid net) where
   are_edit_words small (edits.RouteNew face prefix) =
       (word _ refl, (word _ refl, (owner_word face, (word _ refl, (neighbor_word small face, (prefix_word prefix, tt))))))
   are_edit_words small (edits.PacketList list class) =
-      (word _ refl, (word _ refl, words_append (packet_list_words net list) _ (packet_words list) (prefix_word class.from, (prefix_word class.to, tt))))
+      (word _ refl, (word _ refl, words_append (packet_list_words net list) (class_words class) (packet_words list) (are_class_words class)))
   are_edit_words small (edits.PacketNew face class) =
-      (word _ refl, (word _ refl, (owner_word face, (word _ refl, (face_name_word face, (prefix_word class.from, (prefix_word class.to, tt)))))))
+      (word _ refl, (word _ refl, (owner_word face, (word _ refl, (face_name_word face, are_class_words class)))))

@@ -4,6 +4,7 @@ use Rattle.std.specs.Prelude.{AllPairs, Contains, slice_get, option_map}
 use Rattle.std.specs.List.{filter_map, flat_map}
 use Rattle.std.proofs.lemmas.Bool.{and_from, eq-eqb, false≢true}
 use Rattle.std.proofs.lemmas.List.Elements.{Contains-append_cases}
+use Rattle.std.proofs.lemmas.List.Kept.{AllPairs-filter}
 use Rattle.std.proofs.lemmas.Option.{none-some, same_Some, slice_get_within, slice_get-get_or}
 use Rattle.arc_base.proofs.Items.{Contains-none, Contains-cases, from_map, from_piece, AllPairs-append, AllPairs-among, AllPairs-map, AllPairs-none, AllPairs-single}
 use Rattle.arc_base.specs.declared.place.Face.{Face}
@@ -23,8 +24,9 @@ use Rattle.edit_space.specs.declared.edit_kinds.Edit.{Edit}
 use Rattle.edit_space.specs.declared.edit_kinds.Edit.TheVariants as edits
 use Rattle.edit_space.specs.declared.sites.Site.{Site}
 use Rattle.edit_space.specs.declared.sites.Site.TheVariants.{Bound, New}
-use Rattle.edit_space.specs.EditLists.{has_session, edits_at, link_edits, route_edit, packet_edit, all_edits, is_same, AreEdits}
+use Rattle.edit_space.specs.EditLists.{has_session, edits_at, link_edits, route_edit, packet_edit, writable_classes, all_edits, is_same, AreEdits}
 use Rattle.edit_space.specs.Numbered.{placed, if_number, of_number, by_number}
+use Rattle.edit_space.specs.Writable.{is_writable}
 use Rattle.edit_space.specs.Sites.{route_list_site, neighbor_site, packet_list_site, takes_list, face_site, route_sites, packet_sites}
 use Rattle.edit_space.proofs.NewListFacts.{picked_from, pairs_picked, placed_apart, placed_is}
 use Rattle.policy_report.proofs.Apart.{AreDifferent, only_item, number_told, pieces_apart, map_apart, numbers_apart, once_apart}
@@ -300,7 +302,7 @@ module _ (net : Network) (valid : IsValid net) where
     route_edits = flat_map (λ site. map (route_edit site) destinations) (route_sites net)
 
     abbrev packet_edits : List Edit
-    packet_edits = flat_map (λ site. map (packet_edit site) all) (packet_sites net)
+    packet_edits = flat_map (λ site. map (packet_edit site) (writable_classes all)) (packet_sites net)
 
     -- the rows of each edit are there
     pub edit_there : (x : Edit) → Contains (all_edits net destinations all) x → IsThere net x
@@ -310,7 +312,7 @@ module _ (net : Network) (valid : IsValid net) where
             | inl session ↦ let s = session_of x session in subst (IsThere net) (sym s.2) s.1
             | inr route ↦ let r = at_site route_edit (route_sites net) destinations x route in subst (IsThere net) r.3 (route_edit_there r.0 r.2 (route_site_there r.0 r.1))
           ]
-          | inr packet ↦ let r = at_site packet_edit (packet_sites net) all x packet in subst (IsThere net) r.3 (packet_edit_there r.0 r.2 (packet_site_there r.0 r.1))
+          | inr packet ↦ let r = at_site packet_edit (packet_sites net) (writable_classes all) x packet in subst (IsThere net) r.3 (packet_edit_there r.0 r.2 (packet_site_there r.0 r.1))
         ]
 
     session_kind_of : (x : Edit) → Contains session_list x → kind_of x ≡ 0
@@ -320,7 +322,7 @@ module _ (net : Network) (valid : IsValid net) where
     route_kind_of x there = let r = at_site route_edit (route_sites net) destinations x there in sym (ap kind_of r.3) ∙ route_kind r.0 r.2
 
     packet_kind_of : (x : Edit) → Contains packet_edits x → kind_of x ≡ 2
-    packet_kind_of x there = let r = at_site packet_edit (packet_sites net) all x there in sym (ap kind_of r.3) ∙ packet_kind r.0 r.2
+    packet_kind_of x there = let r = at_site packet_edit (packet_sites net) (writable_classes all) x there in sym (ap kind_of r.3) ∙ packet_kind r.0 r.2
 
     -- and no edit stands twice
     pub edits_different : AreDifferent destinations → AreDifferent all → AreDifferent (all_edits net destinations all)
@@ -329,7 +331,8 @@ module _ (net : Network) (valid : IsValid net) where
         (AllPairs-append (λ x y. x ≢ y) session_list route_edits sessions_different
         (sites_different route_edit one_route_edit (route_sites net) destinations (numbers_apart (length net.routers) route_things route_things_apart) destinations_apart)
         (λ x y in_x in_y e. omega (arith, session_kind_of x in_x, route_kind_of y in_y, ap kind_of e)))
-        (sites_different packet_edit one_packet_edit (packet_sites net) all (numbers_apart (length net.routers) packet_things packet_things_apart) all_apart)
+        (sites_different packet_edit one_packet_edit (packet_sites net) (writable_classes all) (numbers_apart (length net.routers) packet_things packet_things_apart)
+        (AllPairs-filter (λ c d. c ≢ d) (λ (class : Class). is_writable class.service) all all_apart))
         (λ x y in_x in_y e.
         let k : kind_of x ≡ 2 = ap kind_of e ∙ packet_kind_of y in_y in
         elim (Contains-append_cases session_list route_edits x in_x) [
@@ -342,7 +345,10 @@ prefix_itself p = and_from _ _ (eq-eqb p.addr p.addr refl) (eq-eqb p.len p.len r
 
 class_itself : (c : Class) → classes.is_same c c ≡ true
 class_itself c =
-    and_from _ _ (and_from _ _ (and_from _ _ (eq-eqb c.from.addr c.from.addr refl) (eq-eqb c.from.len c.from.len refl)) (eq-eqb c.to.addr c.to.addr refl)) (eq-eqb c.to.len c.to.len refl)
+    let itself = λ (n : ℕ). eq-eqb n n refl in
+    let from = and_from _ _ (itself c.from.addr) (itself c.from.len) in
+    let to = and_from _ _ (and_from _ _ from (itself c.to.addr)) (itself c.to.len) in
+    and_from _ _ (and_from _ _ to (itself c.service.low)) (itself c.service.high)
 
 -- the edits of a network
 pub all_there : (net : Network) (doc : Document) (list : List Edit) → IsValid net → AreEdits net doc list → (x : Edit) → Contains list x → IsThere net x

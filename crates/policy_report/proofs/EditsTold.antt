@@ -24,9 +24,11 @@ use Rattle.net_model.specs.Validity.{IsValid, AreSessionsApart, IsValidPacketLis
 use Rattle.edit_space.specs.declared.edit_kinds.Edit.{Edit}
 use Rattle.edit_space.specs.declared.edit_kinds.Edit.TheVariants as edits
 use Rattle.policy_report.specs.Edits.{router_name, owner_name, face_name, neighbor_text, route_list_words, packet_list_words, edit_words, edit_text, HasAddresses, EditsAreToldApart}
-use Rattle.policy_report.specs.Readings.{line_words}
+use Rattle.policy_report.specs.Readings.{line_words, class_at}
+use Rattle.policy_report.specs.Reports.{class_words}
 use Rattle.policy_report.proofs.EditsApart.{HasSession, IsThere, all_there, all_different}
 use Rattle.policy_report.proofs.EditWords.{at_place, found_passes, are_edit_words}
+use Rattle.policy_report.proofs.ServiceParts.{lone_class_read}
 use Rattle.policy_report.proofs.Spaced.{words_read}
 
 -- two rows that are not apart stand at one place
@@ -57,8 +59,8 @@ one_prefix p q e = same_Some p q (sym ((exact (prefix_text p) p).1 refl) ∙ ap 
 one_address : (a b : ℕ) → a < 2 ^ 32 → b < 2 ^ 32 → address_text a ≡ address_text b → a ≡ b
 one_address a b small low e = same_Some a b (sym (address_of-address_text a small) ∙ ap address_of e ∙ address_of-address_text b low)
 
-one_class : (c d : Class) → prefix_text c.from ≡ prefix_text d.from → prefix_text c.to ≡ prefix_text d.to → c ≡ d
-one_class c d from to = let a = one_prefix c.from d.from from in let b = one_prefix c.to d.to to in λ i. record { from = a i; to = b i }
+one_class : (c d : Class) → class_words c ≡ class_words d → c ≡ d
+one_class c d e = ap (λ (found : Class × List (List ℕ)). found.0) (same_Some _ _ (sym (lone_class_read c) ∙ ap class_at e ∙ lone_class_read d))
 
 -- a row at a place
 record Row {X : Type 0} (xs : List X) (place : ℕ) : Type 0 where
@@ -217,19 +219,19 @@ module _ (net : Network) (valid : IsValid net) where
   same_packet_list i j c d within also e =
       let one = row_at net.packet_lists i.0 within in
       let two = row_at net.packet_lists j.0 also in
-      let ws : codes "packet" ∷ router_name net one.row.router ∷ codes "list" ∷ one.row.name ∷ prefix_text c.from ∷ prefix_text c.to ∷ [] ≡
-      codes "packet" ∷ router_name net two.row.router ∷ codes "list" ∷ two.row.name ∷ prefix_text d.from ∷ prefix_text d.to ∷ [] =
-      ap (λ l. codes "packet" ∷ (l ++ prefix_text c.from ∷ prefix_text c.to ∷ [])) (sym (packet_list_is i one.row one.at)) ∙ e ∙
-      ap (λ l. codes "packet" ∷ (l ++ prefix_text d.from ∷ prefix_text d.to ∷ [])) (packet_list_is j two.row two.at) in
+      let ws : codes "packet" ∷ router_name net one.row.router ∷ codes "list" ∷ one.row.name ∷ class_words c ≡
+      codes "packet" ∷ router_name net two.row.router ∷ codes "list" ∷ two.row.name ∷ class_words d =
+      ap (λ l. codes "packet" ∷ (l ++ class_words c)) (sym (packet_list_is i one.row one.at)) ∙ e ∙
+      ap (λ l. codes "packet" ∷ (l ++ class_words d)) (packet_list_is j two.row two.at) in
       let k : i.0 ≡ j.0 = one_packet_list i j one.row two.row one.at two.at (cc) (cc) in
-      let r : c ≡ d = one_class c d (cc) (cc) in
+      let r : c ≡ d = one_class c d (cc) in
       λ t. edits.PacketList (record { 0 = k t }) (r t)
 
   same_packet_new : (f g : Face) (c d : Class) → f.0 < length net.faces → g.0 < length net.faces →
       edit_words net (edits.PacketNew f c) ≡ edit_words net (edits.PacketNew g d) → edits.PacketNew f c ≡ edits.PacketNew g d
   same_packet_new f g c d within also e =
       let k : f.0 ≡ g.0 = one_face f g within also (cc) (cc) in
-      let r : c ≡ d = one_class c d (cc) (cc) in
+      let r : c ≡ d = one_class c d (cc) in
       λ t. edits.PacketNew (record { 0 = k t }) (r t)
 
   -- a list and a new list have another third word
@@ -245,7 +247,7 @@ module _ (net : Network) (valid : IsValid net) where
   third_packet_list : (i : ListId) (c : Class) → i.0 < length net.packet_lists → third_of (edit_words net (edits.PacketList i c)) ≡ codes "list"
   third_packet_list i c within =
       let one = row_at net.packet_lists i.0 within in
-      ap (λ l. third_of (codes "packet" ∷ (l ++ prefix_text c.from ∷ prefix_text c.to ∷ []))) (packet_list_is i one.row one.at)
+      ap (λ l. third_of (codes "packet" ∷ (l ++ class_words c))) (packet_list_is i one.row one.at)
 
   same_edit : HasAddresses net → (x y : Edit) → IsThere net x → IsThere net y → edit_words net x ≡ edit_words net y → x ≡ y
   same_edit addresses (edits.Session f) (edits.Session g) h k e = same_session f g h k e

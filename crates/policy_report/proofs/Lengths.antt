@@ -1,5 +1,5 @@
 -- How long a report can get.
-use Rattle.std.proofs.Common.{◌≡◌, ℕ, ◌+◌, ◌*◌, ◌^◌, ◌<◌, ◌≤◌, Bool, true, false, List, [], ◌∷◌, ◌++◌, length, map, ap, sym, subst, ◌∙◌, arith, All, length-append, codes, decimal}
+use Rattle.std.proofs.Common.{◌≡◌, ℕ, ◌+◌, ◌*◌, ◌/◌, ◌%◌, ◌^◌, ◌<◌, ◌≤◌, ◌==◌, Bool, true, false, if◌then◌else◌, List, [], ◌∷◌, ◌++◌, length, map, ap, sym, subst, ◌∙◌, arith, All, length-append, append-nil, codes, decimal}
 use Rattle.std.specs.List.{AllZip, concat}
 use Rattle.std.specs.Net.Text.{dotted_text}
 use Rattle.std.proofs.lemmas.Fmt.{length-decimal-le}
@@ -18,12 +18,15 @@ use Rattle.net_model.specs.declared.verdicts.ClassSide.{ClassSide}
 use Rattle.net_model.specs.declared.verdicts.LinkPath.{LinkPath}
 use Rattle.net_model.specs.declared.verdicts.Verdict.{Verdict}
 use Rattle.net_model.specs.declared.verdicts.Verdict.TheVariants.{Closed, Paths, Walk, Denied, Cut, Refused}
+use Rattle.net_model.specs.declared.services.Service.{Service}
 use Rattle.net_model.specs.Validity.{IsValid, IsName}
 use Rattle.policy_report.specs.Lengths.{IsShort, ReportsAreShort}
 use Rattle.policy_report.specs.Lines.{after_spaces, line}
-use Rattle.policy_report.specs.Reports.{kind_word, answer_word, link_words, side_words, class_words, closed_line, path_line, refused_line, witness_lines, block_text, blocks_text}
+use Rattle.policy_report.specs.Reports.{kind_word, answer_word, link_words, side_words, class_words, packet_words, closed_line, path_line, refused_line, witness_lines, block_text, blocks_text}
+use Rattle.policy_report.specs.ServiceWords.{service_text, service_word, range_word, is_whole, service_words, range_words}
 use Rattle.policy_report.specs.Rereading.{AreLinks, IsTold, IsReadable}
 use Rattle.policy_report.proofs.BlockTexts.{few_lines}
+use Rattle.policy_report.proofs.ServiceTexts.{protocol_small, port_small}
 
 -- a line is its words and two spaces less
 line_length : (first : List ℕ) (ws : List (List ℕ)) → length (line first ws) ≡ length first + length (after_spaces ws) + 1
@@ -82,13 +85,63 @@ prefix_length p =
       length-decimal-le 2 p.len (omega arith) (omega arith) (omega arith),
     )
 
-class_length : (class : Class) (ws : List (List ℕ)) → length (after_spaces (class_words class ++ ws)) ≤ 38 + length (after_spaces ws)
+-- a service, and the services of a class and of a packet
+service_length : (n : ℕ) → n < 2 ^ 24 → length (service_text n) ≤ 9
+service_length n small =
+    let protocol : ℕ = n / 65536 in
+    let port : ℕ = n % 65536 in
+    let p : protocol ≤ 255 = protocol_small n small in
+    let q : port ≤ 65535 = port_small n in
+    omega (
+      arith,
+      length-append (decimal protocol ++ codes ".") (decimal port),
+      length-append (decimal protocol) (codes "."),
+      byte_length protocol (omega arith),
+      length-decimal-le 5 port (omega arith) (omega arith) (omega arith),
+    )
+
+range_length : (s : Service) (ws : List (List ℕ)) → length (after_spaces (range_words s ++ ws)) ≤ 28 + length (after_spaces ws)
+range_length s ws = by (is_whole s)
+  where
+    by : (b : Bool) → length (after_spaces ((if b then [] else range_word s ∷ []) ++ ws)) ≤ 28 + length (after_spaces ws)
+    by true = omega arith
+    by false =
+        let ordered : s.low ≤ s.high = s.ordered in
+        let high_small : s.high < 2 ^ 24 = s.in_range in
+        let low : List ℕ = service_text s.low in
+        let high : List ℕ = service_text s.high in
+        omega (
+          arith,
+          word_length (range_word s) ws,
+          length-append (codes "service:" ++ low ++ codes "-") high,
+          length-append (codes "service:" ++ low) (codes "-"),
+          length-append (codes "service:") low,
+          service_length s.low (omega arith),
+          service_length s.high high_small,
+        )
+
+point_length : (n : ℕ) (ws : List (List ℕ)) → n < 2 ^ 24 → length (after_spaces (service_words n ++ ws)) ≤ 18 + length (after_spaces ws)
+point_length n ws small = by (n == 0)
+  where
+    by : (b : Bool) → length (after_spaces ((if b then [] else service_word n ∷ []) ++ ws)) ≤ 18 + length (after_spaces ws)
+    by true = omega arith
+    by false = omega (arith, word_length (service_word n) ws, length-append (codes "service:") (service_text n), service_length n small)
+
+class_length : (class : Class) (ws : List (List ℕ)) → length (after_spaces (class_words class ++ ws)) ≤ 66 + length (after_spaces ws)
 class_length class ws =
-    omega (arith, word_length (prefix_text class.from) (prefix_text class.to ∷ ws), word_length (prefix_text class.to) ws, prefix_length class.from, prefix_length class.to)
+    let after : List (List ℕ) = range_words class.service ++ ws in
+    omega (
+      arith,
+      word_length (prefix_text class.from) (prefix_text class.to ∷ after),
+      word_length (prefix_text class.to) after,
+      range_length class.service ws,
+      prefix_length class.from,
+      prefix_length class.to,
+    )
 
 module _ (net : Network) (valid : IsValid net) where
-  -- a line has at most 16,700 bytes
-  closed_length : (shown : ClassSide) → length (closed_line net shown) ≤ 16700
+  -- a line has at most 16,720 bytes
+  closed_length : (shown : ClassSide) → length (closed_line net shown) ≤ 16720
   closed_length shown =
       let few : length net.routers ≤ 256 = valid.few_routers in
       omega (
@@ -98,15 +151,15 @@ module _ (net : Network) (valid : IsValid net) where
         sides_length net.routers shown.side valid.router_names,
       )
 
-  path_length : (path : LinkPath) → AreLinks net path.links → length path.links ≤ 1024 → length (path_line path) ≤ 16700
+  path_length : (path : LinkPath) → AreLinks net path.links → length path.links ≤ 1024 → length (path_line path) ≤ 16720
   path_length path are short =
       omega (arith, line_length (codes "path") (link_words path.links), links_length (length net.links) path.links valid.few_links are)
 
-  sides_lines : (sides : List ClassSide) → length (concat (map (closed_line net) sides)) ≤ 16700 * length sides
+  sides_lines : (sides : List ClassSide) → length (concat (map (closed_line net) sides)) ≤ 16720 * length sides
   sides_lines [] = omega arith
   sides_lines (s ∷ sides) = omega (arith, length-append (closed_line net s) (concat (map (closed_line net) sides)), closed_length s, sides_lines sides)
 
-  paths_lines : (paths : List LinkPath) → All (λ p. AreLinks net p.links) paths → All (λ p. length p.links ≤ 1024) paths → length (concat (map path_line paths)) ≤ 16700 * length paths
+  paths_lines : (paths : List LinkPath) → All (λ p. AreLinks net p.links) paths → All (λ p. length p.links ≤ 1024) paths → length (concat (map path_line paths)) ≤ 16720 * length paths
   paths_lines [] are short = omega arith
   paths_lines (p ∷ paths) are short =
       omega (
@@ -117,7 +170,7 @@ module _ (net : Network) (valid : IsValid net) where
       )
 
   -- the lines of a witness
-  witness_length : (v : Verdict) → IsTold net v → IsShort v → length (concat (witness_lines net v)) ≤ 68403200
+  witness_length : (v : Verdict) → IsTold net v → IsShort v → length (concat (witness_lines net v)) ≤ 68485120
   witness_length (Closed sides) told short = omega (arith, sides_lines sides)
   witness_length (Paths paths) told short = omega (arith, paths_lines paths told.0 short.1, short.0)
   witness_length (Walk class path) told short =
@@ -129,7 +182,13 @@ module _ (net : Network) (valid : IsValid net) where
         links_length (length net.links) path.links valid.few_links told,
       )
   witness_length (Denied class) told short =
-      omega (arith, length-append (line (codes "denied") (class_words class)) [], line_length (codes "denied") (class_words class), class_length class [])
+      omega (
+        arith,
+        length-append (line (codes "denied") (class_words class)) [],
+        line_length (codes "denied") (class_words class),
+        class_length class [],
+        ap (λ ws. length (after_spaces ws)) (append-nil (class_words class)),
+      )
   witness_length (Cut links side) told short =
       let few : length net.routers ≤ 256 = valid.few_routers in
       omega (
@@ -146,9 +205,10 @@ module _ (net : Network) (valid : IsValid net) where
       omega (
         arith,
         length-append (refused_line packet link) [],
-        line_length (codes "acl-on-routed-link") (address_text packet.from ∷ address_text packet.to ∷ decimal (link.0 + 1) ∷ []),
-        word_length (address_text packet.from) (address_text packet.to ∷ decimal (link.0 + 1) ∷ []),
-        word_length (address_text packet.to) (decimal (link.0 + 1) ∷ []),
+        line_length (codes "acl-on-routed-link") (packet_words packet ++ decimal (link.0 + 1) ∷ []),
+        word_length (address_text packet.from) (address_text packet.to ∷ (service_words packet.service ++ decimal (link.0 + 1) ∷ [])),
+        word_length (address_text packet.to) (service_words packet.service ++ decimal (link.0 + 1) ∷ []),
+        point_length packet.service (decimal (link.0 + 1) ∷ []) told.1.2,
         word_length (decimal (link.0 + 1)) [],
         address_length packet.from told.1.0,
         address_length packet.to told.1.1,
@@ -169,7 +229,7 @@ module _ (net : Network) (valid : IsValid net) where
   answer_length (Refused packet link) = omega arith
 
   -- a block
-  block_length : (number : ℕ) (policy : Policy) (v : Verdict) → number ≤ 4294967295 → IsTold net v → IsShort v → length (block_text number net policy v) ≤ 68403300
+  block_length : (number : ℕ) (policy : Policy) (v : Verdict) → number ≤ 4294967295 → IsTold net v → IsShort v → length (block_text number net policy v) ≤ 68485220
   block_length number policy v small told short =
       let count : ℕ = length (witness_lines net v) in
       let few : count ≤ 4294967295 = few_lines net v told in
@@ -189,7 +249,7 @@ module _ (net : Network) (valid : IsValid net) where
       )
 
   blocks_length : (number : ℕ) (policies : List Policy) (vs : List Verdict) → number + length policies ≤ 4294967295 → AllZip (IsReadable net) policies vs → All IsShort vs →
-      length (blocks_text number net policies vs) ≤ 68403300 * length policies
+      length (blocks_text number net policies vs) ≤ 68485220 * length policies
   blocks_length number [] vs small readable short = omega arith
   blocks_length number (policy ∷ policies) [] small readable short = omega arith
   blocks_length number (policy ∷ policies) (v ∷ vs) small readable short =

@@ -2,7 +2,11 @@ pub mod Appends
 pub mod NamedRouters
 mod Spaced
 mod Ended
+mod Separators
+mod SameServices
+mod ServiceTexts
 mod WordBytes
+mod ServiceParts
 mod LineWords
 mod Sides
 mod Parts

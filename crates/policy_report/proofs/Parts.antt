@@ -1,4 +1,4 @@
--- The parts of a line, as they are written and read: counts, links, classes and addresses.
+-- The parts of a line, as they are written and read: counts, links and addresses.
 use Rattle.std.proofs.Common.{◌≡◌, ℕ, ◌+◌, ◌-◌, ◌^◌, ◌<◌, ◌≤◌, ◌&&◌, nat_le, true, if◌then◌else◌, List, [], ◌∷◌, refl, ap, ap₂, sym, subst, ◌∙◌, arith, le-leb, All, Option, Some, None, option_and_then, decimal}
 use Rattle.std.specs.Int.{w32, from_be_bytes}
 use Rattle.std.proofs.lemmas.Bool.{and_from, and_parts, leb-true, cond-true}
@@ -6,13 +6,10 @@ use Rattle.std.proofs.lemmas.Option.{same_Some}
 use Rattle.std.proofs.lemmas.List.Elements.{All-nil, All-cons, All-head, All-tail}
 use Rattle.std.proofs.NetLemmas.Options.{and_then_some, cond_some}
 use Rattle.arc_base.specs.declared.place.Link.{Link}
-use Rattle.arc_base.specs.declared.prefix.Prefix.{Prefix}
-use Rattle.arc_base.specs.PrefixText.{address_of, address_text, prefix_of, prefix_text, number_of}
+use Rattle.arc_base.specs.PrefixText.{address_of, address_text, number_of}
 use Rattle.arc_base.proofs.AddressTexts.{address_of-some, address_text-dotted}
 use Rattle.arc_base.proofs.NumberTexts.{number_of-some, number_of-decimal}
-use Rattle.arc_base.proofs.PrefixTexts.{exact}
-use Rattle.net_model.specs.declared.policies.Class.{Class}
-use Rattle.policy_report.specs.Readings.{count_of, link_of, all_links, class_of}
+use Rattle.policy_report.specs.Readings.{count_of, link_of, all_links}
 use Rattle.policy_report.specs.Reports.{link_words}
 
 -- a count of 32 bits
@@ -72,21 +69,6 @@ links_told n (w ∷ ws) links e =
     let (here, within) = link_told n w link link_is in
     let (told, all) = links_told n ws rest rest_is in
     (ap₂ (λ v vs. v ∷ vs) here told ∙ ap link_words same, subst (λ (ls : List Link). All (λ l. l.0 < n) ls) same (All-cons (λ l. l.0 < n) link rest within all))
-
--- a class
-pub class_read : (class : Class) → class_of (prefix_text class.from) (prefix_text class.to) ≡ Some class
-class_read class =
-    let from = (exact (prefix_text class.from) class.from).1 refl in
-    let to = (exact (prefix_text class.to) class.to).1 refl in
-    let both : Prefix → Prefix → Option Class = λ f t. Some (record { from = f; to = t }) in
-    ap (option_and_then (λ f. option_and_then (both f) (prefix_of (prefix_text class.to)))) from ∙ ap (option_and_then (both class.from)) to
-
-pub class_told : (first second : List ℕ) (class : Class) → class_of first second ≡ Some class → (first ≡ prefix_text class.from) × (second ≡ prefix_text class.to)
-class_told first second class e =
-    and_then_some _ (prefix_of first) class e λ from from_is e₁.
-    and_then_some _ (prefix_of second) class e₁ λ to to_is e₂.
-    let same = same_Some _ class e₂ in
-    ((exact first from).0 from_is ∙ ap (λ (c : Class). prefix_text c.from) same, (exact second to).0 to_is ∙ ap (λ (c : Class). prefix_text c.to) same)
 
 -- an address of 32 bits
 four_bytes : (a b c d : ℕ) → (a < 256) × (b < 256) × (c < 256) × (d < 256) → from_be_bytes w32 (a ∷ b ∷ c ∷ d ∷ []) < 2 ^ 32

@@ -17,6 +17,11 @@ abbrev pub AreWords : List (List ℕ) → Type 0
 AreWords [] = Unit {0}
 AreWords (w ∷ ws) = IsWord w × AreWords ws
 
+-- words, and others after them
+pub words_append : (vs ws : List (List ℕ)) → AreWords vs → AreWords ws → AreWords (vs ++ ws)
+words_append [] ws h k = k
+words_append (v ∷ vs) ws h k = (h.0, words_append vs ws h.1 k)
+
 -- the words with one space between them
 abbrev pub joined : List (List ℕ) → List ℕ
 joined [] = []

@@ -1,4 +1,5 @@
 pub mod Lines
+pub mod ServiceWords
 pub mod Reports
 pub mod Readings
 pub mod Steps

@@ -2,6 +2,7 @@
 -- numbers, addresses and prefixes have the one form in which they are written.
 use Rattle.std.specs.Prelude.{ℕ, ◌-◌, ◌==◌, ◌&&◌, nat_le, Bool, true, false, if◌then◌else◌, List, [], ◌∷◌, length, Option, Some, None, option_and_then, bytes_eq, codes}
 use Rattle.std.specs.List.{slice_split}
+use Rattle.std.specs.Option.{option_map_or}
 use Rattle.arc_base.specs.declared.place.Link.{Link}
 use Rattle.arc_base.specs.PrefixText.{number_of, address_of, prefix_of}
 use Rattle.net_model.specs.declared.lists.Packet.{Packet}
@@ -10,6 +11,8 @@ use Rattle.net_model.specs.declared.policies.PolicyKind.{PolicyKind}
 use Rattle.net_model.specs.declared.policies.PolicyKind.TheVariants as kinds
 use Rattle.net_model.specs.declared.rows.RouterRow.{RouterRow}
 use Rattle.net_model.specs.declared.rows.Network.{Network}
+use Rattle.net_model.specs.declared.services.Service.{Service}
+use Rattle.net_model.specs.Services.{whole_service}
 use Rattle.net_model.specs.declared.verdicts.ClassSide.{ClassSide}
 use Rattle.net_model.specs.declared.verdicts.LinkPath.{LinkPath}
 use Rattle.net_model.specs.declared.verdicts.Verdict.TheVariants as verdicts
@@ -21,6 +24,7 @@ use Rattle.policy_report.specs.declared.drafts.Block.{Block}
 use Rattle.policy_report.specs.declared.drafts.Block.TheVariants.{Open, Whole}
 use Rattle.policy_report.specs.declared.drafts.Draft.TheVariants as drafts
 use Rattle.policy_report.specs.declared.drafts.Heading.{Heading}
+use Rattle.policy_report.specs.ServiceWords.{range_named, service_named}
 
 -- what a value that is there is read as
 infixl 10 ◌>>=◌
@@ -63,25 +67,52 @@ side_of (router ∷ routers) (name ∷ names) =
     then (do side ← side_of routers names; Some (true ∷ side))
     else (do side ← side_of routers (name ∷ names); Some (false ∷ side))
 
--- the two prefixes of a class
-abbrev pub class_of : List ℕ → List ℕ → Option Class
-class_of first second = do
+-- the services that the first word names, and the words after it; where it names none, all services,
+-- and the words as they are
+abbrev pub services_at : List (List ℕ) → Service × List (List ℕ)
+services_at [] = (whole_service, [])
+services_at (word ∷ words) =
+    option_map_or (λ range. (range, words)) (range_named word) (whole_service, word ∷ words)
+
+-- a class, and the words after it
+abbrev pub class_at : List (List ℕ) → Option (Class × List (List ℕ))
+class_at (first ∷ second ∷ words) = do
   from ← prefix_of first
   to ← prefix_of second
-  Some (record { from = from; to = to })
+  Some (record { from = from; to = to; service = (services_at words).0 }, (services_at words).1)
+class_at words = None
+
+-- the service that the first word names, and the words after it; where it names none, the service 0,
+-- and the words as they are
+abbrev pub service_at : List (List ℕ) → ℕ × List (List ℕ)
+service_at [] = (0, [])
+service_at (word ∷ words) =
+    option_map_or (λ service. (service, words)) (service_named word) (0, word ∷ words)
+
+-- a packet, and the words after it
+abbrev pub packet_at : List (List ℕ) → Option (Packet × List (List ℕ))
+packet_at (first ∷ second ∷ words) = do
+  from ← address_of first
+  to ← address_of second
+  Some (record { from = from; to = to; service = (service_at words).0 }, (service_at words).1)
+packet_at words = None
+
+-- the link, where its number is the only word
+abbrev pub lone_link : ℕ → List (List ℕ) → Option Link
+lone_link links (number ∷ []) = link_of links number
+lone_link links words = None
 
 -- the words after this first word, where they begin with it
 abbrev pub after_word : List ℕ → List (List ℕ) → Option (List (List ℕ))
 after_word first [] = None
 after_word first (word ∷ words) = if bytes_eq word first then Some words else None
 
--- `closed FROM TO ROUTERS..`
+-- `closed FROM TO [SERVICE] ROUTERS..`
 abbrev pub side_shown : Network → List (List ℕ) → Option ClassSide
-side_shown net (from ∷ to ∷ names) = do
-  class ← class_of from to
-  side ← side_of net.routers names
-  Some (record { class = class; side = side })
-side_shown net words = None
+side_shown net words = do
+  found ← class_at words
+  side ← side_of net.routers found.1
+  Some (record { class = found.0; side = side })
 
 abbrev pub closed_of : Network → List (List ℕ) → Option ClassSide
 closed_of net words = do
@@ -95,23 +126,23 @@ path_of net words = do
   links ← all_links (length net.links) numbers
   Some (record { links = links })
 
--- `walk FROM TO LINKS..`
+-- `walk FROM TO [SERVICE] LINKS..`
 abbrev pub walk_shown : Network → List (List ℕ) → Option (Class × LinkPath)
-walk_shown net (from ∷ to ∷ numbers) = do
-  class ← class_of from to
-  links ← all_links (length net.links) numbers
-  Some (class, record { links = links })
-walk_shown net words = None
+walk_shown net words = do
+  found ← class_at words
+  links ← all_links (length net.links) found.1
+  Some (found.0, record { links = links })
 
 abbrev pub walk_of : Network → List (List ℕ) → Option (Class × LinkPath)
 walk_of net words = do
   rest ← after_word (codes "walk") words
   walk_shown net rest
 
--- `denied FROM TO`
+-- `denied FROM TO [SERVICE]`
 abbrev pub class_shown : List (List ℕ) → Option Class
-class_shown (from ∷ to ∷ []) = class_of from to
-class_shown words = None
+class_shown words = do
+  found ← class_at words
+  if length found.1 == 0 then Some found.0 else None
 
 abbrev pub denied_of : List (List ℕ) → Option Class
 denied_of words = do
@@ -130,14 +161,12 @@ side_line_of net words = do
   names ← after_word (codes "side") words
   side_of net.routers names
 
--- `acl-on-routed-link FROMADDR TOADDR LINK`
+-- `acl-on-routed-link FROMADDR TOADDR [POINT] LINK`
 abbrev pub packet_shown : Network → List (List ℕ) → Option (Packet × Link)
-packet_shown net (first ∷ second ∷ number ∷ []) = do
-  from ← address_of first
-  to ← address_of second
-  link ← link_of (length net.links) number
-  Some (record { from = from; to = to }, link)
-packet_shown net words = None
+packet_shown net words = do
+  found ← packet_at words
+  link ← lone_link (length net.links) found.1
+  Some (found.0, link)
 
 abbrev pub refused_of : Network → List (List ℕ) → Option (Packet × Link)
 refused_of net words = do

@@ -16,6 +16,7 @@ use Rattle.net_model.specs.declared.verdicts.LinkPath.{LinkPath}
 use Rattle.net_model.specs.declared.verdicts.Verdict.{Verdict}
 use Rattle.net_model.specs.declared.verdicts.Verdict.TheVariants.{Closed, Paths, Walk, Denied, Cut, Refused}
 use Rattle.policy_report.specs.Lines.{line}
+use Rattle.policy_report.specs.ServiceWords.{range_words, service_words}
 
 -- what the policy asks, as a word
 abbrev pub kind_word : PolicyKind → List ℕ
@@ -43,9 +44,14 @@ side_words (router ∷ routers) [] = []
 side_words (router ∷ routers) (true ∷ flags) = router.name ∷ side_words routers flags
 side_words (router ∷ routers) (false ∷ flags) = side_words routers flags
 
--- the two prefixes of a class
+-- the two prefixes of a class, and its services where these are not all
 abbrev pub class_words : Class → List (List ℕ)
-class_words class = prefix_text class.from ∷ prefix_text class.to ∷ []
+class_words class = prefix_text class.from ∷ prefix_text class.to ∷ range_words class.service
+
+-- the two addresses of a packet, and its service where this is not 0
+abbrev pub packet_words : Packet → List (List ℕ)
+packet_words packet =
+    address_text packet.from ∷ address_text packet.to ∷ service_words packet.service
 
 -- a class and the routers that its packets may get to
 abbrev pub closed_line : Network → ClassSide → List ℕ
@@ -58,7 +64,7 @@ path_line path = line (codes "path") (link_words path.links)
 -- a packet, and the link on which it is denied
 abbrev pub refused_line : Packet → Link → List ℕ
 refused_line packet link =
-    line (codes "acl-on-routed-link") (address_text packet.from ∷ address_text packet.to ∷ decimal (link.0 + 1) ∷ [])
+    line (codes "acl-on-routed-link") (packet_words packet ++ decimal (link.0 + 1) ∷ [])
 
 -- the lines of the witness
 abbrev pub witness_lines : Network → Verdict → List (List ℕ)

@@ -35,15 +35,15 @@ IsAnswer _ _ = ⊥
 abbrev pub AreLinks : Network → List Link → Type 0
 AreLinks net links = All (λ l. l.0 < length net.links) links
 
--- the witness can be told in lines: links are the network's, a side has a flag for each router, an address has 32 bits, and
--- the lines can be counted in 32 bits
+-- the witness can be told in lines: links are the network's, a side has a flag for each router, an
+-- address has 32 bits and a service 24, and the lines can be counted in 32 bits
 abbrev pub IsTold : Network → verdicts.Verdict → Type 0
 IsTold net (Closed sides) = All (λ s. length s.side ≡ length net.routers) sides × (length sides ≤ 4294967295)
 IsTold net (Paths paths) = All (λ p. AreLinks net p.links) paths × (length paths ≤ 4294967295)
 IsTold net (Walk class path) = AreLinks net path.links
 IsTold net (Denied class) = Unit {0}
 IsTold net (Cut links side) = AreLinks net links × (length side ≡ length net.routers)
-IsTold net (Refused packet link) = (link.0 < length net.links) × ((packet.from < 2 ^ 32) × (packet.to < 2 ^ 32))
+IsTold net (Refused packet link) = (link.0 < length net.links) × ((packet.from < 2 ^ 32) × (packet.to < 2 ^ 32) × (packet.service < 2 ^ 24))
 
 -- the verdict on the policy can be told in a report
 pub record IsReadable (net : Network) (policy : Policy) (v : verdicts.Verdict) : Type 0 where

@@ -196,8 +196,10 @@ pub(crate) fn push_edit(
 }
 
 /// The text of the edit at this place, without a line end: `edit session ROUTER IFNAME`,
-/// `edit route ROUTER list NAME P/L`, `edit route ROUTER neighbor A P/L`, `edit packet ROUTER list NAME P/L P/L` or
-/// `edit packet ROUTER interface IFNAME P/L P/L`.
+/// `edit route ROUTER list NAME P/L`, `edit route ROUTER neighbor A P/L`,
+/// `edit packet ROUTER list NAME P/L P/L [SERVICE]` or
+/// `edit packet ROUTER interface IFNAME P/L P/L [SERVICE]`. SERVICE is `service:P.N-P.N`, and is left
+/// out where the edit speaks of all services.
 pub fn edit_text(
     alloc: Global,
     net: &Network,

@@ -3,6 +3,7 @@ ghost use Rattle.policy_report.specs.Edits.{EditTextsAreExact, EditsAreToldApart
 ghost use Rattle.policy_report.specs.Lengths.{ReportsAreShort};
 ghost use Rattle.policy_report.specs.Recertifying.{CertificatesAreWritten, CertificatesAreReadAgain, OnlyCertificatesAreTaken, BudgetsAreRefused};
 ghost use Rattle.policy_report.specs.Rereading.{ReportsAreReadAgain, OnlyReportsAreTaken};
+ghost use Rattle.policy_report.specs.ServiceWords.{ServiceWordsAreExact, RangeWordsAreExact, NamesAreNoServices};
 
 /// A reader that takes the lines of a report in order gives back its head, its verdicts and its end.
 pub fn reports_are_read_again()
@@ -46,4 +47,12 @@ pub fn budgets_are_refused()
 /// A report of short witnesses has at most 2^40 bytes.
 pub fn reports_are_short()
     ensures { ReportsAreShort }
+{}
+
+/// What is read as a service, or as a range of services, is its word, and the word is read as it. No
+/// router's name is such a word, so that the names after a class begin where its words end.
+pub fn service_words_are_exact()
+    ensures service { ServiceWordsAreExact }
+    ensures range { RangeWordsAreExact }
+    ensures names { NamesAreNoServices }
 {}

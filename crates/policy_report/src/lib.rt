@@ -16,6 +16,7 @@ mod lines;
 mod reader;
 mod reading;
 mod reports;
+mod services;
 mod stages;
 mod witness;
 mod words;
@@ -27,4 +28,4 @@ pub use lines::{push_denied_line, push_path_line, push_refused_line, push_side_l
 pub use reader::Reader;
 pub use reports::{push_answer_words, report};
 pub use witness::{count_lines, push_witness};
-pub use words::{push_count, push_links, push_word};
+pub use words::{push_class, push_count, push_links, push_word};

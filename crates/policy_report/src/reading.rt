@@ -1,9 +1,10 @@
 //! What the lines of a report are read as. Each line has one spelling.
 ghost use Rattle.std.specs.Prelude.{◌≡◌, ◌↔◌, map, option_map, slice_get, Some, IfOk, IsTrue};
-ghost use Rattle.policy_report.specs.Readings.{line_words, count_of, link_of, all_links, side_of, class_of, after_word, closed_of, path_of, walk_of, denied_of, cut_of, side_line_of, refused_of};
+ghost use Rattle.policy_report.specs.Readings.{line_words, count_of, link_of, all_links, side_of, services_at, class_at, service_at, packet_at, lone_link, after_word, closed_of, path_of, walk_of, denied_of, cut_of, side_line_of, refused_of};
 
+use crate::services::{range_named, service_named};
 use arc_base::{Link, List, Memory, read_address, read_number, read_prefix};
-use net_model::{Class, ClassSide, LinkPath, Network, Packet, RouterRow};
+use net_model::{Class, ClassSide, LinkPath, Network, Packet, RouterRow, Service};
 use std::alloc::{AllocError, Global};
 
 /// The words of a line: the pieces between spaces.
@@ -84,13 +85,72 @@ fn side_of(
     Ok(Some(List::of(side)?))
 }
 
-/// The two prefixes of a class.
-fn class_of(from: &[u8], to: &[u8]) -> Option<Class>
-    ensures { result ≡ class_of from.now to.now }
+/// The services that the first word names, and the words after it; if it names none, all services,
+/// and the words as they are.
+fn services_at<'w, 'a>(words: &'w [&'a [u8]]) -> (Service, &'w [&'a [u8]])
+    ensures { (result.0, map (λ word. word.now) result.1.now)
+        ≡ services_at (map (λ word. word.now) words.now) }
 {
+    match words {
+        [word, rest @ ..] => match range_named(word) {
+            Some(range) => (range, rest),
+            None => (Service::whole(), words),
+        },
+        [] => (Service::whole(), words),
+    }
+}
+
+/// A class, and the words after it.
+fn class_at<'w, 'a>(words: &'w [&'a [u8]]) -> Option<(Class, &'w [&'a [u8]])>
+    ensures { option_map (λ found. (found.0, map (λ word. word.now) found.1.now)) result
+        ≡ class_at (map (λ word. word.now) words.now) }
+{
+    let [from, to, rest @ ..] = words else {
+        return None;
+    };
     let from = read_prefix(from)?;
     let to = read_prefix(to)?;
-    Some(Class { from, to })
+    let (service, rest) = services_at(rest);
+    Some((Class { from, to, service }, rest))
+}
+
+/// The service that the first word names, and the words after it; if it names none, the service 0,
+/// and the words as they are.
+fn service_at<'w, 'a>(words: &'w [&'a [u8]]) -> (u32, &'w [&'a [u8]])
+    ensures { (result.0, map (λ word. word.now) result.1.now)
+        ≡ service_at (map (λ word. word.now) words.now) }
+{
+    match words {
+        [word, rest @ ..] => match service_named(word) {
+            Some(service) => (service, rest),
+            None => (0, words),
+        },
+        [] => (0, words),
+    }
+}
+
+/// A packet, and the words after it.
+fn packet_at<'w, 'a>(words: &'w [&'a [u8]]) -> Option<(Packet, &'w [&'a [u8]])>
+    ensures { option_map (λ found. (found.0, map (λ word. word.now) found.1.now)) result
+        ≡ packet_at (map (λ word. word.now) words.now) }
+{
+    let [from, to, rest @ ..] = words else {
+        return None;
+    };
+    let from = read_address(from)?;
+    let to = read_address(to)?;
+    let (service, rest) = service_at(rest);
+    Some((Packet { from, to, service }, rest))
+}
+
+/// The link, if its number is the only word.
+fn lone_link(links: usize, words: &[&[u8]]) -> Option<Link>
+    ensures { result ≡ lone_link links (map (λ word. word.now) words.now) }
+{
+    match words {
+        [number] => link_of(links, number),
+        _ => None,
+    }
 }
 
 /// The words after this first word, if the line begins with it.
@@ -103,7 +163,7 @@ pub(crate) fn after_word<'w, 'a>(words: &'w [&'a [u8]], first: &[u8]) -> Option<
     }
 }
 
-/// `closed FROM TO ROUTERS..`
+/// `closed FROM TO [SERVICE] ROUTERS..`
 pub(crate) fn closed_of(
     alloc: Global,
     net: &Network,
@@ -111,10 +171,10 @@ pub(crate) fn closed_of(
 ) -> Result<Option<ClassSide>, Memory>
     ensures { IfOk result (λ shown. shown ≡ closed_of net.now (map (λ word. word.now) words.now)) }
 {
-    let Some([from, to, names @ ..]) = after_word(words, b"closed") else {
+    let Some(rest) = after_word(words, b"closed") else {
         return Ok(None);
     };
-    let Some(class) = class_of(from, to) else {
+    let Some((class, names)) = class_at(rest) else {
         return Ok(None);
     };
     match side_of(alloc, net.routers.slice(), names)? {
@@ -140,7 +200,7 @@ pub(crate) fn path_of(
     }
 }
 
-/// `walk FROM TO LINKS..`
+/// `walk FROM TO [SERVICE] LINKS..`
 pub(crate) fn walk_of(
     alloc: Global,
     net: &Network,
@@ -148,10 +208,10 @@ pub(crate) fn walk_of(
 ) -> Result<Option<(Class, LinkPath)>, Memory>
     ensures { IfOk result (λ walk. walk ≡ walk_of net.now (map (λ word. word.now) words.now)) }
 {
-    let Some([from, to, numbers @ ..]) = after_word(words, b"walk") else {
+    let Some(rest) = after_word(words, b"walk") else {
         return Ok(None);
     };
-    let Some(class) = class_of(from, to) else {
+    let Some((class, numbers)) = class_at(rest) else {
         return Ok(None);
     };
     match all_links(alloc, net.links.slice().len(), numbers)? {
@@ -160,14 +220,12 @@ pub(crate) fn walk_of(
     }
 }
 
-/// `denied FROM TO`
+/// `denied FROM TO [SERVICE]`
 pub(crate) fn denied_of(words: &[&[u8]]) -> Option<Class>
     ensures { result ≡ denied_of (map (λ word. word.now) words.now) }
 {
-    match after_word(words, b"denied") {
-        Some([from, to]) => class_of(from, to),
-        _ => None,
-    }
+    let (class, rest) = class_at(after_word(words, b"denied")?)?;
+    if rest.is_empty() { Some(class) } else { None }
 }
 
 /// `cut LINKS..`
@@ -198,17 +256,11 @@ pub(crate) fn side_line_of(
     }
 }
 
-/// `acl-on-routed-link FROMADDR TOADDR LINK`
+/// `acl-on-routed-link FROMADDR TOADDR [POINT] LINK`
 pub(crate) fn refused_of(net: &Network, words: &[&[u8]]) -> Option<(Packet, Link)>
     ensures { result ≡ refused_of net.now (map (λ word. word.now) words.now) }
 {
-    match after_word(words, b"acl-on-routed-link") {
-        Some([from, to, number]) => {
-            let from = read_address(from)?;
-            let to = read_address(to)?;
-            let link = link_of(net.links.slice().len(), number)?;
-            Some((Packet { from, to }, link))
-        }
-        _ => None,
-    }
+    let (packet, rest) = packet_at(after_word(words, b"acl-on-routed-link")?)?;
+    let link = lone_link(net.links.slice().len(), rest)?;
+    Some((packet, link))
 }

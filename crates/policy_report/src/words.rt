@@ -2,8 +2,9 @@
 ghost use Rattle.std.specs.Prelude.{◌≡◌, ◌++◌, [], ◌∷◌, cond, decimal, false, slice_index_or, OnOk};
 ghost use Rattle.arc_base.specs.PrefixText.{address_text, prefix_text};
 ghost use Rattle.policy_report.specs.Lines.{after_spaces};
-ghost use Rattle.policy_report.specs.Reports.{class_words, link_words, side_words};
+ghost use Rattle.policy_report.specs.Reports.{class_words, packet_words, link_words, side_words};
 
+use crate::services::{push_class_services, push_packet_service};
 use arc_base::{Link, Memory, Prefix, push_address, push_number, push_prefix};
 use net_model::{Class, Packet, RouterRow};
 use std::alloc::Global;
@@ -47,21 +48,22 @@ pub(crate) fn push_address_word(
     push_address(alloc, text, address)
 }
 
-/// The two prefixes of a class.
-pub(crate) fn push_class(alloc: Global, text: &mut Vec<u8>, class: &Class) -> Result<(), Memory>
+/// The two prefixes of a class, and its services if they are not all of them.
+pub fn push_class(alloc: Global, text: &mut Vec<u8>, class: &Class) -> Result<(), Memory>
     ensures { OnOk result (text.new.items ≡ text.old.items ++ after_spaces (class_words class.now)) }
 {
     push_prefix_word(alloc, text, &class.from)?;
-    push_prefix_word(alloc, text, &class.to)
+    push_prefix_word(alloc, text, &class.to)?;
+    push_class_services(alloc, text, &class.service)
 }
 
-/// The two addresses of a packet.
+/// The two addresses of a packet, and its service if it is not 0.
 pub(crate) fn push_packet(alloc: Global, text: &mut Vec<u8>, packet: &Packet) -> Result<(), Memory>
-    ensures { OnOk result (text.new.items
-        ≡ text.old.items ++ after_spaces (address_text packet.now.from ∷ address_text packet.now.to ∷ [])) }
+    ensures { OnOk result (text.new.items ≡ text.old.items ++ after_spaces (packet_words packet.now)) }
 {
     push_address_word(alloc, text, packet.from)?;
-    push_address_word(alloc, text, packet.to)
+    push_address_word(alloc, text, packet.to)?;
+    push_packet_service(alloc, text, packet.service)
 }
 
 /// The numbers of links, counted from 1.

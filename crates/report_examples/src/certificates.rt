@@ -1,8 +1,11 @@
 use crate::tests::{class, policies, read, router};
-use arc_base::{CertKind, Face, List, Memory, Name, Router};
+use arc_base::{CertKind, Face, List, ListId, Memory, Name, Router};
 use cnf_types::Lit;
 use edit_space::{Claim, Edit};
-use net_model::{ClassSide, Document, FaceRow, Network, PolicyKind, Protocol, Verdict};
+use net_model::{
+    Class, ClassSide, Document, FaceRow, Network, PacketList, PolicyKind, Protocol, Service,
+    Verdict,
+};
 use policy_report::{CertFault, Got, Reader, budget, certificate, edit_line, edit_text};
 use proof_log::{Log, Step};
 use std::alloc::Global;
@@ -15,7 +18,7 @@ const CERTIFICATE: &[u8] =
 /// What each of its lines tells, by a letter. No line may follow the last.
 const TOLD: &[u8] = b"mhemvmse?";
 
-/// A network of one router with one interface.
+/// A network of one router with one interface and one packet list.
 fn one_face(alloc: Global) -> Result<Network, Memory> {
     let face = FaceRow {
         router: Router(0),
@@ -32,13 +35,19 @@ fn one_face(alloc: Global) -> Result<Network, Memory> {
         list_in: None,
         list_out: None,
     };
+    let list = PacketList {
+        router: Router(0),
+        name: Name::make(alloc, b"F")?,
+        extended: true,
+        entries: List::make(alloc),
+    };
     Ok(Network {
         protocol: Protocol::Ospf,
         routers: List::of(vec![in alloc; router(alloc, b"r1")?]?)?,
         faces: List::of(vec![in alloc; face]?)?,
         sessions: List::make(alloc),
         links: List::make(alloc),
-        packet_lists: List::make(alloc),
+        packet_lists: List::of(vec![in alloc; list]?)?,
         route_lists: List::make(alloc),
     })
 }
@@ -61,22 +70,70 @@ fn one_step(alloc: Global) -> Result<Log, Memory> {
     })
 }
 
+/// Edits at the interface and of the packet list: of the session, of all packets of a class, and of
+/// those of some services.
+fn edits_of_services(alloc: Global) -> Result<List<Edit>, Fail> {
+    let whole = class()?;
+    let service = Service::new(0x6_0050, 0x6_0050).ok_or("services")?;
+    let part = Class { service, ..whole };
+    let edits = vec![in alloc;
+        Edit::Session(Face(0)),
+        Edit::PacketNew(Face(0), whole),
+        Edit::PacketNew(Face(0), part),
+        Edit::PacketList(ListId(0), whole),
+        Edit::PacketList(ListId(0), part),
+    ]?;
+    Ok(List::of(edits)?)
+}
+
+/// Texts, and the place of the edit that each names.
+const TEXTS: &[(&[u8], Option<u32>)] = &[
+    (b"edit session r1 Ethernet0", Some(0)),
+    (b"edit session r1  Ethernet0", None),
+    (
+        b"edit packet r1 interface Ethernet0 10.1.0.0/24 10.2.0.0/24",
+        Some(1),
+    ),
+    (
+        b"edit packet r1 interface Ethernet0 10.1.0.0/24 10.2.0.0/24 service:6.80-6.80",
+        Some(2),
+    ),
+    (
+        b"edit packet r1 interface Ethernet0 10.1.0.0/24 10.2.0.0/24 service:0.0-255.65535",
+        None,
+    ),
+    (
+        b"edit packet r1 interface Ethernet0 10.1.0.0/24 10.2.0.0/24 service:6.80",
+        None,
+    ),
+    (b"edit packet r1 list F 10.1.0.0/24 10.2.0.0/24", Some(3)),
+    (
+        b"edit packet r1 list F 10.1.0.0/24 10.2.0.0/24 service:6.80-6.80",
+        Some(4),
+    ),
+    (
+        b"edit packet r1 list F 10.1.0.0/24 10.2.0.0/24 service:6.80-6.81",
+        None,
+    ),
+    (
+        b"edit packet r1 list F service:6.80-6.80 10.1.0.0/24 10.2.0.0/24",
+        None,
+    ),
+];
+
 #[test]
 fn an_edit_has_a_text(rt: HostRuntime) -> Result<(), Fail> {
     let alloc = rt.alloc();
     let net = one_face(alloc)?;
-    let edits = two_edits(alloc)?;
-    assert_eq!(rt; edits.len(), 2);
-    let text = edit_text(alloc, &net, &edits, 0)?;
-    assert_eq!(rt; text.as_slice(), b"edit session r1 Ethernet0".as_slice());
-    assert_eq!(rt;
-        edit_line(alloc, &net, &edits, b"edit session r1 Ethernet0")?,
-        Some(0)
-    );
-    assert_eq!(rt;
-        edit_line(alloc, &net, &edits, b"edit session r1  Ethernet0")?,
-        None
-    );
+    let edits = edits_of_services(alloc)?;
+    for (text, place) in TEXTS {
+        assert_eq!(rt; edit_line(alloc, &net, &edits, text)?, *place);
+        if let Some(at) = *place {
+            assert!(rt; at < edits.len());
+            let written = edit_text(alloc, &net, &edits, at)?;
+            assert_eq!(rt; written.as_slice(), *text);
+        }
+    }
     Ok(())
 }
 

@@ -1,7 +1,8 @@
 use arc_base::{Face, List, Memory, Name, Prefix};
 use edit_space::Edit;
 use net_model::{
-    Class, Document, LinkRow, Network, Policy, PolicyKind, Protocol, RouterRow, Verdict, Weights,
+    Class, Document, LinkRow, Network, Policy, PolicyKind, Protocol, RouterRow, Service, Verdict,
+    Weights,
 };
 use policy_report::{CertFault, CertForm, Got, Reader, report};
 use std::alloc::Global;
@@ -19,6 +20,7 @@ pub(crate) fn class() -> Result<Class, Fail> {
     Ok(Class {
         from: Prefix::new(0x0a01_0000, 24).ok_or("a prefix")?,
         to: Prefix::new(0x0a02_0000, 24).ok_or("a prefix")?,
+        service: Service::whole(),
     })
 }
 
@@ -60,6 +62,7 @@ pub(crate) fn policies(
             kind: *kind,
             from: class.from,
             to: class.to,
+            service: class.service,
         })?;
     }
     Ok(Document {
@@ -133,4 +136,120 @@ fn a_report_is_read_again(rt: HostRuntime) -> Result<(), Fail> {
     let (blocked, through) = (PolicyKind::Blocked, PolicyKind::Through);
     let kinds = [blocked, blocked, through, reach, reach, reach, reach];
     expect(&rt, rt.alloc(), &kinds, REPORT, TOLD)
+}
+
+/// What a policy asks.
+#[derive(Clone, Copy)]
+enum Asks {
+    Blocked,
+    Reach,
+}
+
+/// Blocks of two lines: what the policy asks, the first line, second lines that are read, and others
+/// that are not, since a service's word is out of form or out of place, or stands for what is left
+/// out.
+const BLOCKS: &[(Asks, &[u8], &[&[u8]], &[&[u8]])] = &[
+    (
+        Asks::Blocked,
+        b"1 blocked yes 1",
+        &[
+            b"closed 0.0.0.0/0 0.0.0.0/1",
+            b"closed 0.0.0.0/0 0.0.0.0/1 r1",
+            b"closed 0.0.0.0/0 0.0.0.0/1 service:0.0-5.65535",
+            b"closed 0.0.0.0/0 0.0.0.0/1 service:6.80-6.80 r1 r2",
+            b"closed 0.0.0.0/0 0.0.0.0/1 service:0.1-255.65535 r1",
+        ],
+        &[
+            b"closed 0.0.0.0/0 0.0.0.0/1 service:0.0-255.65535 r1",
+            b"closed 0.0.0.0/0 0.0.0.0/1 service:6.80 r1",
+            b"closed 0.0.0.0/0 0.0.0.0/1 r1 service:6.80-6.80",
+        ],
+    ),
+    (
+        Asks::Blocked,
+        b"1 blocked no 1",
+        &[
+            b"walk 0.0.0.0/0 1.2.0.0/16 1",
+            b"walk 0.0.0.0/0 1.2.0.0/16 service:17.0-17.65535 1",
+        ],
+        &[
+            b"walk 0.0.0.0/0 1.2.0.0/16 service:17.0-17.65536 1",
+            b"walk 0.0.0.0/0 1.2.0.0/16 service:255.0-256.0 1",
+            b"walk 0.0.0.0/0 1.2.0.0/16 service:6.81-6.80 1",
+            b"walk 0.0.0.0/0 1.2.0.0/16 service:6.080-6.80 1",
+            b"walk 0.0.0.0/0 1.2.0.0/16 service:+6.80-6.80 1",
+            b"walk 0.0.0.0/0 1.2.0.0/16 service:6-6 1",
+            b"walk 0.0.0.0/0 1.2.0.0/16 services:6.80-6.80 1",
+            b"walk 0.0.0.0/0 1.2.0.0/16 service:6.80-6.80 service:6.80-6.80 1",
+            b"walk 0.0.0.0/0 1.2.0.0/16 1 service:6.80-6.80",
+        ],
+    ),
+    (
+        Asks::Reach,
+        b"1 reach no 1",
+        &[
+            b"denied 0.0.0.0/0 1.2.3.4/32",
+            b"denied 0.0.0.0/0 1.2.3.4/32 service:6.22-17.53",
+        ],
+        &[
+            b"denied 0.0.0.0/0 1.2.3.4/32 service:0.0-255.65535",
+            b"denied 0.0.0.0/0 1.2.3.4/32 service:6.22-17.53 1",
+            b"denied 0.0.0.0/0 service:6.22-17.53 1.2.3.4/32",
+        ],
+    ),
+    (
+        Asks::Reach,
+        b"1 reach refused 1",
+        &[
+            b"acl-on-routed-link 10.1.0.0 10.4.0.0 1",
+            b"acl-on-routed-link 10.1.0.0 10.4.0.0 service:6.80 1",
+            b"acl-on-routed-link 10.1.0.0 10.4.0.0 service:255.65535 1",
+        ],
+        &[
+            b"acl-on-routed-link 10.1.0.0 10.4.0.0 service:0.0 1",
+            b"acl-on-routed-link 10.1.0.0 10.4.0.0 service:6.80-6.80 1",
+            b"acl-on-routed-link 10.1.0.0 10.4.0.0 service:6.80",
+            b"acl-on-routed-link 10.1.0.0 10.4.0.0 service:256.0 1",
+        ],
+    ),
+];
+
+/// The report with this block.
+fn report_with(alloc: Global, first: &[u8], second: &[u8]) -> Result<Vec<u8>, Memory> {
+    let mut text = Vec::new(alloc);
+    text.extend_from_slice(b"arc-report 1\n")?;
+    text.extend_from_slice(first)?;
+    text.push(b'\n')?;
+    text.extend_from_slice(second)?;
+    text.extend_from_slice(b"\nend")?;
+    Ok(text)
+}
+
+/// Checks that the report with this block is not read: its third line is rejected.
+fn expect_fault(rt: &impl Abort, alloc: Global, kind: PolicyKind, text: &[u8]) -> Result<(), Fail> {
+    let net = two_routers(alloc)?;
+    let doc = policies(alloc, class()?, &[kind])?;
+    let (told, _verdicts) = read(alloc, &net, &doc, &List::make(alloc), text)?;
+    assert_eq!(rt; told.as_slice(), b"rm??".as_slice());
+    Ok(())
+}
+
+#[test]
+fn a_service_has_one_word(rt: HostRuntime) -> Result<(), Fail> {
+    let alloc = rt.alloc();
+    for (asks, first, are_read, others) in BLOCKS {
+        let kind = match asks {
+            Asks::Blocked => PolicyKind::Blocked,
+            Asks::Reach => PolicyKind::Reach(0),
+        };
+        for second in *are_read {
+            let text = report_with(alloc, first, second)?;
+            expect(&rt, alloc, &[kind], text.as_slice(), b"rmve")?;
+        }
+        for second in *others {
+            let text = report_with(alloc, first, second)?;
+            expect_fault(&rt, alloc, kind, text.as_slice())?;
+        }
+    }
+    Ok(())
 }
