@@ -1,3 +1,2 @@
 pub mod RepairChecks
 pub mod Tells
-pub mod Laws

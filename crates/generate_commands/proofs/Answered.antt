@@ -36,8 +36,9 @@ use Rattle.output_files.specs.Outputs.{wrote_lines}
 use Rattle.changed_files.specs.Changes.{IsEditable}
 use Rattle.net_build.specs.declared.built.Built.{Built}
 use Rattle.net_gen.specs.declared.generating.Generated.{Generated}
+use Rattle.repair_commands.specs.Repairs.{IsAnswered}
 use Rattle.repair_commands.specs.Steps.{IsWholeAnswer, StopsFor}
-use Rattle.generate_commands.specs.Generates.{IsAnswered, IsGenerateRefusal, IsMade, IsSummary, TellsAnswer, WritesOne, certificate_of, default_bound, default_conflicts, document_name, status_of}
+use Rattle.generate_commands.specs.Generates.{IsGenerateRefusal, IsMade, IsSummary, TellsAnswer, WritesOne, certificate_of, default_bound, default_conflicts, document_name, status_of}
 use Rattle.generate_commands.specs.Summaries.{answer_lines, flags_set, made_line, repair_line, tally_line}
 use Rattle.generate_commands.specs.Tallies.{IsTally, tally_of}
 use Rattle.generate_commands.proofs.Tallied.{tallied}
@@ -136,7 +137,7 @@ few_each net doc few policy one classes are =
 module _ (ends : (net : Network) → IsValid net → HasOnePairOfEnds net) (are_true : (net : Network) → IsValid net → RightVerdictsAreTrue net)
     (decide : (net : Network) → IsValid net → RightVerdictsDecide net) (stays : AfterIsValid) where
   pub summed : (words : GenerateWords) (made : Generated) (built : Built) (list : List Edit) (answer : Answer) (verdicts : List Verdict) (done : Done) → IsMade words made built
-      → IsEditable made.doc built made.files → IsAnswered built.net made.doc list answer → AllZip (IsRight built.net) made.doc.policies verdicts
+      → IsEditable made.doc built made.files → IsAnswered default_bound default_conflicts built.net made.doc list answer → AllZip (IsRight built.net) made.doc.policies verdicts
       → done.writes ≡ (words.proof, certificate_of built.net made.doc list answer) ∷ [] → length (certificate_of built.net made.doc list answer) ≤ proof_limit
       → done.text ≡ (made_line words.number ++ (tally_line (codes "verdicts") (tally_of verdicts) ++ answer_lines answer)) ++ wrote_lines done.writes
       → done.status ≡ status_of answer → IsSummary words done

@@ -8,21 +8,24 @@ use Rattle.net_model.specs.declared.policies.LinkText.{LinkText}
 use Rattle.net_model.specs.declared.policies.Policy.{Policy}
 use Rattle.net_model.specs.declared.policies.PolicyKind.{PolicyKind}
 use Rattle.net_model.specs.declared.policies.Weights.{Weights}
+use Rattle.net_model.specs.declared.services.Service.{Service}
 use Rattle.net_gen.specs.Generated.{Asked, Asks, asked, IsDocument, IsGenerated, IsHostNetwork}
 use Rattle.net_gen.specs.declared.generating.Generated.{Generated}
 
 one_host : (router : ℕ) (p q : Prefix) → IsHostNetwork router p → IsHostNetwork router q → p ≡ q
 one_host router p q is are = same_prefix p q (is.addr ∙ sym are.addr) (is.len ∙ sym are.len)
 
-same_policy : (p q : Policy) → p.kind ≡ q.kind → p.from ≡ q.from → p.to ≡ q.to → p ≡ q
-same_policy p q a b c =
+same_policy : (p q : Policy) → p.kind ≡ q.kind → p.from ≡ q.from → p.to ≡ q.to → p.service ≡ q.service → p ≡ q
+same_policy p q a b c d =
     ap (λ (k : PolicyKind). record p { kind = k }) a
     ∙ ap (λ (x : Prefix). record p { kind = q.kind; from = x }) b
     ∙ ap (λ (x : Prefix). record p { kind = q.kind; from = q.from; to = x }) c
+    ∙ ap (λ (x : Service). record p { kind = q.kind; from = q.from; to = q.to; service = x }) d
 
 one_policy : (ask : Asked) (p q : Policy) → Asks ask p → Asks ask q → p ≡ q
 one_policy ask p q is are =
     same_policy p q (is.kind ∙ sym are.kind) (one_host ask.source p.from q.from is.from are.from) (one_host ask.target p.to q.to is.to are.to)
+    (is.service ∙ sym are.service)
 
 same_policies : (asks : List Asked) (ps qs : List Policy) → AllZip Asks asks ps → AllZip Asks asks qs → ps ≡ qs
 same_policies [] [] [] h k = refl

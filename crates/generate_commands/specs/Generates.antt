@@ -1,5 +1,5 @@
 -- The command `generate N --proof NAME`: what it answers, and what it would be refused for.
-use Rattle.std.specs.Prelude.{◌≡◌, ◌⊎◌, ℕ, ◌≤◌, Bool, List, [], ◌∷◌, ◌++◌, length, All, codes}
+use Rattle.std.specs.Prelude.{◌≡◌, ◌⊎◌, ℕ, ◌≤◌, Bool, List, [], ◌∷◌, ◌++◌, length, codes}
 use Rattle.arc_base.specs.declared.refusal.Kind.TheVariants.{Limit}
 use Rattle.arc_base.specs.declared.refusal.LimitKind.{LimitKind}
 use Rattle.net_model.specs.declared.policies.Document.{Document}
@@ -13,14 +13,11 @@ use Rattle.edit_space.specs.declared.claims.Claim.TheVariants.{Repaired, NoRepai
 use Rattle.edit_space.specs.declared.edit_kinds.Edit.{Edit}
 use Rattle.edit_space.specs.declared.edit_kinds.EditFault.TheVariants as faults
 use Rattle.edit_space.specs.After.{IsAfter}
-use Rattle.edit_space.specs.EditLists.{AreEdits}
 use Rattle.edit_space.specs.Prices.{chosen_of}
-use Rattle.proof_log.specs.Texts.{HasLine}
 use Rattle.policy_report.specs.Certificates.{budget_text, certificate_text}
 use Rattle.arc_repair.specs.declared.answer.Answer.{Answer}
 use Rattle.arc_repair.specs.declared.answer.Answer.TheVariants.{Done as Claimed, Budget}
-use Rattle.arc_repair.specs.Answers.{IsAnswer, IsRepairFault, IsUntouched, KeepsLimits, answer_steps}
-use Rattle.arc_repair.specs.Repairs.{Mends, none_of}
+use Rattle.arc_repair.specs.Answers.{IsRepairFault}
 use Rattle.changed_files.specs.Changes.{IsEditable}
 use Rattle.command_words.specs.declared.commands.GenerateWords.{GenerateWords}
 use Rattle.output_files.specs.Outputs.{wrote_lines}
@@ -28,6 +25,7 @@ use Rattle.run_files.specs.declared.outcome.Done.{Done}
 use Rattle.run_files.specs.declared.outcome.FileRefusal.{FileRefusal}
 use Rattle.run_files.specs.Limits.{proof_limit}
 use Rattle.run_files.specs.Refusals.{refusal_of}
+use Rattle.repair_commands.specs.Repairs.{IsAnswered}
 use Rattle.generate_commands.specs.declared.tallies.Tally.{Tally}
 use Rattle.generate_commands.specs.Summaries.{budget_line, made_line, none_line, repair_line, tally_line}
 use Rattle.generate_commands.specs.Tallies.{IsTally}
@@ -48,16 +46,7 @@ pub record IsMade (words : GenerateWords) (made : Generated) (built : Built) : T
   pub generated : IsGenerated words.number made
   pub is_built : IsBuiltWithin [] 2048 made.doc made.files built
 
--- what a repair of the network answers where its words name neither a bound nor a limit: over its edits, which are few, as is its
--- formula. A network that meets the document is left as it is.
-pub record IsAnswered (net : Network) (doc : Document) (list : List Edit) (answer : Answer) : Type 0 where
-  pub edits : AreEdits net doc list
-  pub limits : KeepsLimits net doc list default_bound
-  pub is_answer : IsAnswer net doc list default_bound default_conflicts answer
-  pub lines : All HasLine (answer_steps answer)
-  pub untouched : Mends net doc list (none_of list) → IsUntouched list answer
-
--- its certificate, and its status
+-- the certificate of an answer of its repair, and its status
 abbrev pub certificate_of : Network → Document → List Edit → Answer → List ℕ
 certificate_of net doc list (Claimed claim log) = certificate_text net doc list claim log
 certificate_of net doc list (Budget log) = budget_text default_conflicts default_bound log
@@ -82,8 +71,8 @@ TellsAnswer net doc list (Claimed (Repaired price bound flags verdicts) log) lin
 TellsAnswer net doc list (Claimed (NoRepair bound) log) lines = lines ≡ none_line
 TellsAnswer net doc list (Budget log) lines = lines ≡ budget_line
 
--- The answer: what was made; how many of its policies its network meets, breaks and has unclear; and what its repair came to. The
--- certificate is written, and nothing else.
+-- The answer: what was made; how many of its policies its network meets, breaks and has unclear; and what its repair came to, which is
+-- one of the answers that `repair` gives where its words name neither a bound nor a limit. The certificate is written, and nothing else.
 pub record IsSummary (words : GenerateWords) (done : Done) : Type 0 where
   pub made : Generated
   pub built : Built
@@ -91,7 +80,7 @@ pub record IsSummary (words : GenerateWords) (done : Done) : Type 0 where
   pub editable : IsEditable made.doc built made.files
   pub list : List Edit
   pub answer : Answer
-  pub answered : IsAnswered built.net made.doc list answer
+  pub answered : IsAnswered default_bound default_conflicts built.net made.doc list answer
   pub tally : Tally
   pub is_tally : IsTally built.net made.doc.policies tally
   pub lines : List ℕ

@@ -7,7 +7,8 @@ use Rattle.generated_networks.specs.Laws.{IsGeneratedWithin}
 use Rattle.edit_space.specs.declared.edit_kinds.Edit.{Edit}
 use Rattle.edit_space.specs.Determined.{IsCountable}
 use Rattle.arc_repair.specs.declared.answer.Answer.{Answer}
-use Rattle.generate_commands.specs.Generates.{IsAnswered}
+use Rattle.repair_commands.specs.Repairs.{IsAnswered}
+use Rattle.generate_commands.specs.Generates.{default_bound, default_conflicts}
 
 -- it was made of some number of routers
 abbrev pub IsSomeGenerated : Generated → Type 0
@@ -15,6 +16,6 @@ IsSomeGenerated made = (n : ℕ) × IsGeneratedWithin n made
 
 -- the edits of the network, and what its repair answers
 pub record IsFound (net : Network) (doc : Document) (list : List Edit) (answer : Answer) : Type 0 where
-  pub answered : IsAnswered net doc list answer
+  pub answered : IsAnswered default_bound default_conflicts net doc list answer
   pub few : length list ≤ 8192
   pub countable : IsCountable net

@@ -112,15 +112,15 @@ pub record WritesCertificate (words : RepairWords) (done : Done) : Type 0 where
   pub certificate : List ℕ
   pub writes : done.writes ≡ changed ++ (words.proof, certificate) ∷ []
 
--- what a repair of the network answers: over its edits, which are few, as is its formula; each verdict shows few sides or paths. A
--- network that meets the document is left as it is.
-pub record IsAnswered (words : RepairWords) (net : Network) (doc : Document) (list : List Edit) (answer : Answer) : Type 0 where
+-- what a repair of the network answers within a bound on its price and a limit of conflicts: over its edits, which are few, as is its
+-- formula; each verdict shows few sides or paths. A network that meets the document is left as it is.
+pub record IsAnswered (bound conflicts : ℕ) (net : Network) (doc : Document) (list : List Edit) (answer : Answer) : Type 0 where
   pub edits : AreEdits net doc list
-  pub limits : KeepsLimits net doc list words.bound
-  pub is_answer : IsAnswer net doc list words.bound words.conflicts answer
+  pub limits : KeepsLimits net doc list bound
+  pub is_answer : IsAnswer net doc list bound conflicts answer
   pub lines : All HasLine (answer_steps answer)
   pub few : AnswersFew answer
-  pub within : additions (answer_steps answer) ≤ words.conflicts
+  pub within : additions (answer_steps answer) ≤ conflicts
   pub untouched : Mends net doc list (none_of list) → IsUntouched list answer
 
 -- The answer: of the network and its edits, with what it writes.
@@ -131,5 +131,5 @@ pub record IsRepaired (words : RepairWords) (files : Files) (done : Done) : Type
   pub editable : IsEditable doc built (contents files doc)
   pub list : List Edit
   pub answer : Answer
-  pub answered : IsAnswered words built.net doc list answer
+  pub answered : IsAnswered words.bound words.conflicts built.net doc list answer
   pub writes : WritesAnswer words doc built (contents files doc) list answer done

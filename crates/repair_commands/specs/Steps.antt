@@ -23,7 +23,7 @@ IsWholeAnswer doc list (Budget log) = Unit {0}
 
 -- the edits of the network, and what its repair answers
 pub record IsFound (words : RepairWords) (net : Network) (doc : Document) (list : List Edit) (answer : Answer) : Type 0 where
-  pub answered : IsAnswered words net doc list answer
+  pub answered : IsAnswered words.bound words.conflicts net doc list answer
   pub few : length list ≤ 8192
   pub countable : IsCountable net
 
