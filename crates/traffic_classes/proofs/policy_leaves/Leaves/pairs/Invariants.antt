@@ -1,6 +1,0 @@
-use Rattle.std.proofs.Common.{◌≡◌, take}
-use Rattle.traffic_classes.specs.Classes.{all_pairs}
-use Rattle.traffic_classes.proofs.policy_leaves.Leaves.pairs.Given as goal
-
-abbrev pub invariant-loop-source : goal.invariant-loop-source
-invariant-loop-source l = l.classes.items ≡ all_pairs (take l.source-index l.source-items) l.self.destinations
