@@ -1,7 +1,6 @@
 -- A text that was written as the certificate of a claim is accepted, wherever it is saved.
 use Rattle.std.proofs.Common.{◌≡◌, ◌∙◌, ℕ, ◌<◌, ◌≤◌, ◌^◌, Bool, true, false, cond, List, [], ◌∷◌, length, refl, sym, ap, subst, arith}
-use Rattle.std.proofs.lemmas.Bool.{le-ltb}
-use Rattle.std.specs.Prelude.{All, Option, Some, None, Result, Ok, bytes_eq, codes, nat_lt, unwrap_or}
+use Rattle.std.specs.Prelude.{All, Option, Some, Result, Ok, bytes_eq, codes, unwrap_or}
 use Rattle.arc_base.specs.declared.certificate.CertKind.TheVariants.{Form}
 use Rattle.arc_base.proofs.Items.{All-from}
 use Rattle.arc_outside.specs.Files.{Files}
@@ -37,11 +36,12 @@ use Rattle.repair_check.specs.Certifies.{Certifies, CertificatesNameTheirBound, 
 use Rattle.changed_files.specs.Changes.{IsEditable}
 use Rattle.run_files.specs.declared.limits.Limits.TheVariants.{Editing}
 use Rattle.run_files.specs.Limits.{proof_limit}
-use Rattle.run_files.specs.Refusals.{bytes_at, read_refusal, refusal_within}
+use Rattle.run_files.specs.Refusals.{bytes_at}
 use Rattle.run_inputs.specs.Inputs.{HoldsInput}
 use Rattle.repair_commands.specs.Repairs.{IsAnswered}
 use Rattle.check_commands.specs.RepairChecks.{begins_repair}
 use Rattle.check_commands.specs.Tells.{IsRepairAccepted}
+use Rattle.certificate_laws.proofs.LaidOut.{held-short}
 
 -- ---- the first line of a text whose first line is taken as that of a repair
 
@@ -61,12 +61,6 @@ begins net doc list (line ∷ ls) rest e =
 head_read : (net : Network) (doc : Document) (list : List Edit) (ls : List (List ℕ)) (claim : Claim) (told : List Told) → answers net doc list start ls ≡ certificate_answers net claim told → begins_repair ls ≡ true
 head_read net doc list ls (Repaired price bound flags verdicts) told read = begins net doc list ls _ read
 head_read net doc list ls (NoRepair bound) told read = begins net doc list ls _ read
-
--- a text within the limit of certificates is held
-held_short : (files : Files) (name text : List ℕ) → files name ≡ Some text → length text ≤ proof_limit → read_refusal proof_limit files name ≡ None
-held_short files name text holds short =
-    let fits : nat_lt proof_limit (length text) ≡ false = le-ltb proof_limit (length text) short in
-    ap (refusal_within proof_limit name) holds ∙ (rw fits refl)
 
 -- the laws of the crates below
 pub record Known : Type 0 where
@@ -124,7 +118,7 @@ module _ (known : Known) (doc : Document) (built : Built) (files : List (List �
           list = list;
           judgeable = record {
             holds = record {
-              held = held_short after name (certificate_text built.net doc list claim log) holds short;
+              held = held-short proof_limit after name (certificate_text built.net doc list claim log) holds short;
               begins = ap (λ (t : List ℕ). begins_repair (lines t)) bytes ∙ head_is;
             };
             input = input;

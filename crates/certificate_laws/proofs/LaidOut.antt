@@ -23,8 +23,8 @@ held files (name ∷ names) (text ∷ texts) same =
     (held files names texts (rest-same (files name) (Some text) (map files names) (map Some texts) same))
 
 -- a text within the limit is not refused
-one-held : (limit : ℕ) (files : Files) (name text : List ℕ) → files name ≡ Some text → length text ≤ limit → read_refusal limit files name ≡ None
-one-held limit files name text holds short =
+pub held-short : (limit : ℕ) (files : Files) (name text : List ℕ) → files name ≡ Some text → length text ≤ limit → read_refusal limit files name ≡ None
+held-short limit files name text holds short =
     let fits : nat_lt limit (length text) ≡ false = le-ltb limit (length text) short in
     ap (refusal_within limit name) holds ∙ (rw fits refl)
 
@@ -39,6 +39,6 @@ none-refused most room files (name ∷ names) (text ∷ texts) few space short s
     let within : length text ≤ min most room = omega (arith, one, few, space) in
     let bytes : bytes_at files name ≡ text = ap (λ (o : Option (List ℕ)). unwrap_or o []) is in
     let left : length (bytes_at files name) ≤ 8192 = omega (arith, one, ap (λ (t : List ℕ). length t) bytes) in
-    ap (λ (o : Option FileRefusal). or_else o (first_refusal most (room - length (bytes_at files name)) files names)) (one-held (min most room) files name text is within)
+    ap (λ (o : Option FileRefusal). or_else o (first_refusal most (room - length (bytes_at files name)) files names)) (held-short (min most room) files name text is within)
     ∙ none-refused most (room - length (bytes_at files name)) files names texts few (omega (arith, left, space)) (λ k t at. short (suc k) t (omega (arith, at)))
     (rest-same (files name) (Some text) (map files names) (map Some texts) same)
