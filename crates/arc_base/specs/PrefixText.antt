@@ -1,7 +1,7 @@
 -- How numbers, addresses and prefixes are written, and what a text of one stands for. A number is written in decimal
 -- digits with no zero before another digit, an address as its four bytes with dots between them, and a prefix as its
 -- first address and its length with a slash between them (RFC 4632).
-use Rattle.std.specs.Prelude.{◌≡◌, ℕ, ◌-◌, ◌%◌, ◌^◌, ◌==◌, ◌&&◌, nat_lt, nat_le, Bool, true, false, List, [], ◌∷◌, ◌++◌, ◌⊎◌, ◌≤◌, slice_index, length, codes, decimal, bytes_eq, Option, Some, None, option_and_then, if◌then◌else◌, ◌↔◌, refl}
+use Rattle.std.specs.Prelude.{◌≡◌, ℕ, ◌-◌, ◌%◌, ◌^◌, ◌==◌, ◌&&◌, nat_lt, nat_le, Bool, true, false, List, [], ◌∷◌, ◌++◌, ◌⊎◌, ◌≤◌, slice_index, length, codes, decimal, bytes_eq, Option, Some, None, if◌then◌else◌, ◌↔◌, refl}
 use Rattle.std.specs.Int.{w32, to_be_bytes, from_be_bytes}
 use Rattle.std.specs.Net.Text.{ipv4_text}
 use Rattle.std.specs.Net.Reader.{read_ipv4}
@@ -9,11 +9,7 @@ use Rattle.std.specs.Str.Parse.{digits_value}
 use Rattle.std.proofs.lemmas.Bool.{and_parts, eqb-true, leb-true, ltb-true}
 use Rattle.arc_base.specs.Cuts.{cut_at}
 use Rattle.arc_base.specs.declared.prefix.Prefix.{Prefix}
-
--- what a value that is there is read as
-infixl 10 ◌>>=◌
-abbrev ◌>>=◌ : {A B : Type 0} → Option A → (A → Option B) → Option B
-o >>= f = option_and_then f o
+use Rattle.arc_base.specs.Options.{◌>>=◌}
 
 -- how an address is written
 abbrev pub address_text : ℕ → List ℕ

@@ -1,10 +1,11 @@
 -- What the lines of a report are read as. Each line has one spelling: its words stand with one space between them, and
 -- numbers, addresses and prefixes have the one form in which they are written.
-use Rattle.std.specs.Prelude.{ℕ, ◌-◌, ◌==◌, ◌&&◌, nat_le, Bool, true, false, if◌then◌else◌, List, [], ◌∷◌, length, Option, Some, None, option_and_then, bytes_eq, codes}
+use Rattle.std.specs.Prelude.{ℕ, ◌-◌, ◌==◌, ◌&&◌, nat_le, Bool, true, false, if◌then◌else◌, List, [], ◌∷◌, length, Option, Some, None, bytes_eq, codes}
 use Rattle.std.specs.List.{slice_split}
 use Rattle.std.specs.Option.{option_map_or}
 use Rattle.arc_base.specs.declared.place.Link.{Link}
 use Rattle.arc_base.specs.PrefixText.{number_of, address_of, prefix_of}
+use Rattle.arc_base.specs.Options.{◌>>=◌}
 use Rattle.net_model.specs.declared.lists.Packet.{Packet}
 use Rattle.net_model.specs.declared.policies.Class.{Class}
 use Rattle.net_model.specs.declared.policies.PolicyKind.{PolicyKind}
@@ -25,11 +26,6 @@ use Rattle.policy_report.specs.declared.drafts.Block.TheVariants.{Open, Whole}
 use Rattle.policy_report.specs.declared.drafts.Draft.TheVariants as drafts
 use Rattle.policy_report.specs.declared.drafts.Heading.{Heading}
 use Rattle.policy_report.specs.ServiceWords.{range_named, service_named}
-
--- what a value that is there is read as
-infixl 10 ◌>>=◌
-abbrev ◌>>=◌ : {A B : Type 0} → Option A → (A → Option B) → Option B
-o >>= f = option_and_then f o
 
 -- the words of a line: the pieces between spaces
 abbrev pub line_words : List ℕ → List (List ℕ)

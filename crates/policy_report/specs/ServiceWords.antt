@@ -2,18 +2,14 @@
 -- and its port with a dot between them, a range of services as its first and its last with a dash
 -- between them, and `service:` stands before either. Numbers have no zero before another digit. For
 -- all services, and for the service 0 of a packet, no word stands.
-use Rattle.std.specs.Prelude.{◌≡◌, ◌≢◌, ℕ, ◌+◌, ◌*◌, ◌/◌, ◌%◌, ◌^◌, ◌<◌, ◌==◌, ◌&&◌, ◌↔◌, nat_lt, nat_le, Bool, true, false, if◌then◌else◌, List, [], ◌∷◌, ◌++◌, codes, decimal, bytes_eq, Option, Some, None, option_and_then, refl}
+use Rattle.std.specs.Prelude.{◌≡◌, ◌≢◌, ℕ, ◌+◌, ◌*◌, ◌/◌, ◌%◌, ◌^◌, ◌<◌, ◌==◌, ◌&&◌, ◌↔◌, nat_lt, nat_le, Bool, true, false, if◌then◌else◌, List, [], ◌∷◌, ◌++◌, codes, decimal, bytes_eq, Option, Some, None, refl}
 use Rattle.std.proofs.lemmas.Bool.{and_parts, leb-true, ltb-true}
 use Rattle.arc_base.specs.Cuts.{cut_at}
 use Rattle.arc_base.specs.PrefixText.{number_of}
+use Rattle.arc_base.specs.Options.{◌>>=◌}
 use Rattle.net_model.specs.declared.services.Service.{Service}
 use Rattle.net_model.specs.Services.{is_service_inside, whole_service}
 use Rattle.net_model.specs.Validity.{IsName}
-
--- what a value that is there is read as
-infixl 10 ◌>>=◌
-abbrev ◌>>=◌ : {A B : Type 0} → Option A → (A → Option B) → Option B
-o >>= f = option_and_then f o
 
 -- how a service is written: its protocol, a dot and its port
 abbrev pub service_text : ℕ → List ℕ

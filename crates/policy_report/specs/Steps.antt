@@ -8,6 +8,7 @@
 use Rattle.std.specs.Prelude.{◌≡◌, ◌⊎◌, ℕ, ◌+◌, ◌-◌, ◌==◌, ◌&&◌, nat_lt, nat_le, Bool, true, false, if◌then◌else◌, List, [], ◌∷◌, ◌++◌, length, Option, Some, None, Result, Ok, Err, bytes_eq, codes, slice_get}
 use Rattle.arc_base.specs.declared.certificate.CertKind.{CertKind}
 use Rattle.arc_base.specs.declared.certificate.CertKind.TheVariants.{Form, NoClaim, Edit, Policy, NotYes, NoEnd, Memory}
+use Rattle.arc_base.specs.Options.{◌>>=◌}
 use Rattle.cnf_types.specs.Words.{words}
 use Rattle.edit_space.specs.declared.edit_kinds.Edit as edits
 use Rattle.net_model.specs.declared.policies.Document.{Document}
@@ -82,12 +83,6 @@ with_side left sides shown =
 abbrev pub with_path : ℕ → List LinkPath → LinkPath → Block
 with_path left paths path =
     if nat_le left 1 then Whole (verdicts.Paths (paths ++ path ∷ [])) else Open (drafts.Paths (left - 1) (paths ++ path ∷ []))
-
--- what a value that is there is read as
-infixl 10 ◌>>=◌
-abbrev ◌>>=◌ : {A B : Type 0} → Option A → (A → Option B) → Option B
-None >>= f = None
-Some a >>= f = f a
 
 -- the block with a line of these words, where they are of the form that comes next
 abbrev pub grown : Network → Draft → List (List ℕ) → Option Block
