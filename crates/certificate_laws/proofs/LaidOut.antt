@@ -4,7 +4,8 @@ use Rattle.std.proofs.lemmas.Bool.{le-ltb}
 use Rattle.std.specs.Prelude.{All, Option, Some, None, min, nat_lt, unwrap_or}
 use Rattle.arc_outside.specs.Files.{Files}
 use Rattle.run_files.specs.declared.outcome.FileRefusal.{FileRefusal}
-use Rattle.run_files.specs.Refusals.{bytes_at, first_refusal, or_else, read_refusal, refusal_within}
+use Rattle.run_files.specs.Refusals.{bytes_at, first_refusal, read_refusal, refusal_within}
+use Rattle.std.specs.Option.{option_or}
 
 first-same : {A : Type 0} (x y : A) (xs ys : List A) → x ∷ xs ≡ y ∷ ys → x ≡ y
 first-same x y xs ys e = cc
@@ -39,6 +40,6 @@ none-refused most room files (name ∷ names) (text ∷ texts) few space short s
     let within : length text ≤ min most room = omega (arith, one, few, space) in
     let bytes : bytes_at files name ≡ text = ap (λ (o : Option (List ℕ)). unwrap_or o []) is in
     let left : length (bytes_at files name) ≤ 8192 = omega (arith, one, ap (λ (t : List ℕ). length t) bytes) in
-    ap (λ (o : Option FileRefusal). or_else o (first_refusal most (room - length (bytes_at files name)) files names)) (held-short (min most room) files name text is within)
+    ap (λ (o : Option FileRefusal). option_or o (first_refusal most (room - length (bytes_at files name)) files names)) (held-short (min most room) files name text is within)
     ∙ none-refused most (room - length (bytes_at files name)) files names texts few (omega (arith, left, space)) (λ k t at. short (suc k) t (omega (arith, at)))
     (rest-same (files name) (Some text) (map files names) (map Some texts) same)

@@ -16,7 +16,8 @@ use Rattle.output_files.proofs.Left.{copies_left}
 use Rattle.run_files.specs.declared.outcome.FileRefusal.{FileRefusal}
 use Rattle.run_files.specs.declared.limits.Limits.TheVariants.{Editing}
 use Rattle.run_files.specs.Limits.{router_limit, routers_limit}
-use Rattle.run_files.specs.Refusals.{bytes_at, first_refusal, or_else, read_refusal, refusal_within}
+use Rattle.run_files.specs.Refusals.{bytes_at, first_refusal, read_refusal, refusal_within}
+use Rattle.std.specs.Option.{option_or}
 use Rattle.run_inputs.specs.Inputs.{HoldsInput, contents}
 use Rattle.changed_files.specs.Changes.{changed_names, Changes, ChangesAreLeft, IsEditable}
 
@@ -35,11 +36,11 @@ fewer_inputs input inputs (name ∷ outputs) free =
 
 -- ---- files that are held
 
-first_none : (o s : Option FileRefusal) → or_else o s ≡ None → o ≡ None
+first_none : (o s : Option FileRefusal) → option_or o s ≡ None → o ≡ None
 first_none None s e = refl
 first_none (Some r) s e = absurd (cc)
 
-second_none : (o s : Option FileRefusal) → or_else o s ≡ None → s ≡ None
+second_none : (o s : Option FileRefusal) → option_or o s ≡ None → s ≡ None
 second_none None s e = e
 second_none (Some r) s e = absurd (cc)
 

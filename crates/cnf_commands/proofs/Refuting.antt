@@ -19,17 +19,18 @@ use Rattle.cnf_commands.specs.Lrats.{judgement_of, lrat_refusal, IsJudged, IsLra
 use Rattle.run_files.specs.ReadingLines.{IsWithinLimit}
 use Rattle.cnf_commands.specs.ProofLines.{JudgesProof}
 use Rattle.run_files.specs.Limits.{proof_limit}
-use Rattle.run_files.specs.Refusals.{bytes_at, read_refusal, or_else}
+use Rattle.run_files.specs.Refusals.{bytes_at, read_refusal}
+use Rattle.std.specs.Option.{option_or}
 
 -- the refusal of the formula is the first
 first_of : (cnf proof : List ℕ) (files : Files) (r : FileRefusal) → cnf_refusal cnf files ≡ Some r → lrat_refusal cnf proof files ≡ Some r
 unfolding lrat_refusal
-first_of cnf proof files r e = ap (λ (o : Option FileRefusal). or_else o (read_refusal proof_limit files proof)) e
+first_of cnf proof files r e = ap (λ (o : Option FileRefusal). option_or o (read_refusal proof_limit files proof)) e
 
 -- that of the proof comes where the formula has none
 then_of : (cnf proof : List ℕ) (files : Files) (o : Option FileRefusal) → cnf_refusal cnf files ≡ None → read_refusal proof_limit files proof ≡ o → lrat_refusal cnf proof files ≡ o
 unfolding lrat_refusal
-then_of cnf proof files o none e = ap (λ (u : Option FileRefusal). or_else u (read_refusal proof_limit files proof)) none ∙ e
+then_of cnf proof files o none e = ap (λ (u : Option FileRefusal). option_or u (read_refusal proof_limit files proof)) none ∙ e
 
 pub formula_stopped : (held : Option Files) (cnf proof : List ℕ) (stop : Stop) → IfSome held (λ files. ReadsFormula cnf files (Err stop)) → Answers IsJudging (IsLratRefusal cnf proof) (IsJudged cnf proof) held (Err stop)
 formula_stopped None cnf proof (stops.Refused r) told = tt

@@ -28,7 +28,8 @@ use Rattle.cnf_commands.specs.Solves.{IsSatisfiable, IsUnsatisfiable, IsSolveRef
 use Rattle.cnf_commands.specs.Lrats.{IsRefuted}
 use Rattle.cnf_commands.specs.Lrats.{lrat_refusal}
 use Rattle.run_files.specs.Limits.{proof_limit}
-use Rattle.run_files.specs.Refusals.{bytes_at, read_refusal, refusal_of, refusal_within, or_else}
+use Rattle.run_files.specs.Refusals.{bytes_at, read_refusal, refusal_of, refusal_within}
+use Rattle.std.specs.Option.{option_or}
 use Rattle.cnf_commands.specs.Solves.{found_status, name_refusal, solve_refusal, IsFound, IsSolved, IsSolveRefusal}
 use Rattle.cnf_commands.proofs.FormulaVariables.{formula_is_good}
 
@@ -37,11 +38,11 @@ use Rattle.cnf_commands.proofs.FormulaVariables.{formula_is_good}
 refused_none : (o : Option FileRefusal) (r : FileRefusal) → o ≡ None → o ≡ Some r → ⊥
 refused_none o r e f = absurd (cc)
 
-first_none : (o s : Option FileRefusal) → or_else o s ≡ None → o ≡ None
+first_none : (o s : Option FileRefusal) → option_or o s ≡ None → o ≡ None
 first_none None s e = refl
 first_none (Some r) s e = absurd (cc)
 
-second_none : (o s : Option FileRefusal) → or_else o s ≡ None → s ≡ None
+second_none : (o s : Option FileRefusal) → option_or o s ≡ None → s ≡ None
 second_none None s e = e
 second_none (Some r) s e = absurd (cc)
 
@@ -64,7 +65,7 @@ kept : (files : Files) (name other bytes : List ℕ) → bytes_eq name other ≡
 kept files name other bytes e = rw e refl
 
 same_refusal : (cnf : List ℕ) (before after : Files) → after cnf ≡ before cnf → cnf_refusal cnf after ≡ cnf_refusal cnf before
-same_refusal cnf before after same = ap (λ (o : Option (List ℕ)). or_else (refusal_within cnf_limit cnf o) (formula_refusal cnf (reading (unwrap_or o [])))) same
+same_refusal cnf before after same = ap (λ (o : Option (List ℕ)). option_or (refusal_within cnf_limit cnf o) (formula_refusal cnf (reading (unwrap_or o [])))) same
 
 short_enough : (name text : List ℕ) → length text ≤ proof_limit → refusal_within proof_limit name (Some text) ≡ None
 short_enough name text short =
@@ -109,7 +110,7 @@ module _ (words : SolveWords) (files : Files) (d : Done) (done : IsSolved words 
   held_after =
       let formula = same_refusal words.formula files after formula_kept ∙ first_none (cnf_refusal words.formula files) (name_refusal words) done.held in
       let proof = ap (refusal_within proof_limit words.proof) proof_written ∙ short_enough words.proof (log_text done.log) done.short in
-      ap (λ (o : Option FileRefusal). or_else o (read_refusal proof_limit after words.proof)) formula ∙ proof
+      ap (λ (o : Option FileRefusal). option_or o (read_refusal proof_limit after words.proof)) formula ∙ proof
 
   found_is : (found : Found) → done.found ≡ found → IsFound done.formula words.conflicts done.log found
   found_is found is = subst (IsFound done.formula words.conflicts done.log) is done.is_found

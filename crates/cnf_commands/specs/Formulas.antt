@@ -10,7 +10,8 @@ use Rattle.run_files.specs.declared.outcome.FileRefusal.{FileRefusal}
 use Rattle.run_files.specs.declared.outcome.Reason.TheVariants as reasons
 use Rattle.run_files.specs.declared.outcome.Stop.{Stop}
 use Rattle.run_files.specs.Answers.{Gives}
-use Rattle.run_files.specs.Refusals.{bytes_at, refusal_of, read_refusal, or_else}
+use Rattle.run_files.specs.Refusals.{bytes_at, refusal_of, read_refusal}
+use Rattle.std.specs.Option.{option_or}
 
 -- how many bytes a formula may have
 abbrev pub cnf_limit : ℕ
@@ -30,7 +31,7 @@ formula_refusal cnf (Err fault) = faulty cnf fault
 
 -- the first refusal of a formula's file: it is missing or too long, or its first fault
 abbrev pub cnf_refusal : List ℕ → Files → Option FileRefusal
-cnf_refusal cnf files = or_else (read_refusal cnf_limit files cnf) (formula_refusal cnf (reading (bytes_at files cnf)))
+cnf_refusal cnf files = option_or (read_refusal cnf_limit files cnf) (formula_refusal cnf (reading (bytes_at files cnf)))
 
 -- what reading the formula answers
 abbrev pub ReadsFormula : List ℕ → Files → Result Formula Stop → Type 0

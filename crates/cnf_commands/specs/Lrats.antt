@@ -20,13 +20,14 @@ use Rattle.run_files.specs.declared.judgements.Judgement.TheVariants as judgemen
 use Rattle.run_files.specs.declared.outcome.Done.{Done}
 use Rattle.run_files.specs.declared.outcome.FileRefusal.{FileRefusal}
 use Rattle.run_files.specs.Limits.{proof_limit}
-use Rattle.run_files.specs.Refusals.{bytes_at, read_refusal, or_else}
+use Rattle.run_files.specs.Refusals.{bytes_at, read_refusal}
+use Rattle.std.specs.Option.{option_or}
 use Rattle.cnf_commands.specs.Formulas.{cnf_refusal}
 use Rattle.run_files.specs.Judgements.{judgement_status, judgement_text}
 
 -- the formula first, and then the proof
 unfoldable pub lrat_refusal : List ℕ → List ℕ → Files → Option FileRefusal
-lrat_refusal cnf proof files = or_else (cnf_refusal cnf files) (read_refusal proof_limit files proof)
+lrat_refusal cnf proof files = option_or (cnf_refusal cnf files) (read_refusal proof_limit files proof)
 
 -- it is the one or the other
 abbrev pub IsLratRefusal : List ℕ → List ℕ → Files → FileRefusal → Type 0

@@ -21,7 +21,8 @@ use Rattle.command_words.specs.declared.commands.SolveWords.{SolveWords}
 use Rattle.run_files.specs.declared.outcome.Done.{Done}
 use Rattle.run_files.specs.declared.outcome.FileRefusal.{FileRefusal}
 use Rattle.run_files.specs.Limits.{proof_limit}
-use Rattle.run_files.specs.Refusals.{bytes_at, refusal_of, or_else}
+use Rattle.run_files.specs.Refusals.{bytes_at, refusal_of}
+use Rattle.std.specs.Option.{option_or}
 use Rattle.cnf_commands.specs.Formulas.{cnf_refusal}
 use Rattle.cnf_commands.specs.Lrats.{IsRefuted}
 
@@ -31,7 +32,7 @@ name_refusal words = if bytes_eq words.proof words.formula then Some (refusal_of
 
 -- the first refusal: that of the formula's file, and then that of the proof's name
 abbrev pub solve_refusal : SolveWords → Files → Option FileRefusal
-solve_refusal words files = or_else (cnf_refusal words.formula files) (name_refusal words)
+solve_refusal words files = option_or (cnf_refusal words.formula files) (name_refusal words)
 
 -- it is the one or the other
 abbrev pub IsSolveRefusal : SolveWords → Files → FileRefusal → Type 0

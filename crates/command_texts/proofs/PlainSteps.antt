@@ -11,7 +11,7 @@ use Rattle.arc_base.proofs.AddressTexts.{address_of-address_text}
 use Rattle.ios_words.specs.declared.kinds.BlockKind.{BlockKind}
 use Rattle.ios_words.specs.declared.kinds.WordFault.{WordFault}
 use Rattle.ios_words.specs.Language.{inert, rows}
-use Rattle.ios_words.specs.Numbers.{length_from, list_kind, mask, mask_length, mask_of_address, area_of, number_in, or_else, wildcard_length}
+use Rattle.ios_words.specs.Numbers.{length_from, list_kind, mask, mask_length, mask_of_address, area_of, number_in, wildcard_length}
 use Rattle.ios_words.specs.Prefixes.{holding}
 use Rattle.ios_words.specs.Readings.{State, after_word, read_parts, then_do}
 use Rattle.ios_words.specs.Rows.{Piece, Rule}
@@ -49,7 +49,7 @@ number-step low high taken n rest v least most small =
 
 pub area-step : (taken area : ℕ) (rest : List (List ℕ)) (v : Values) → area < 2 ^ 32 → after_word (taken + 1) rest (with_value (λ a. record v { area = a }) (area_of (decimal area))) ≡ Ok (at (taken + 1) rest (record v { area = area }))
 area-step taken area rest v small =
-    ap (λ o. after_word (taken + 1) rest (with_value (λ a. record v { area = a }) (or_else o (address_of (decimal area))))) (ranged-decimal 0 (2 ^ 32 - 1) area (omega arith) (omega arith) (omega arith))
+    ap (λ o. after_word (taken + 1) rest (with_value (λ a. record v { area = a }) (option_or o (address_of (decimal area))))) (ranged-decimal 0 (2 ^ 32 - 1) area (omega arith) (omega arith) (omega arith))
 
 pub kind-step : (taken : ℕ) (word : List ℕ) (extended : Bool) (rest : List (List ℕ)) (v : Values) → list_kind (number_of word) ≡ Some extended → after_word (taken + 1) rest (with_value (λ e. record v { text = word; extended = e }) (list_kind (number_of word))) ≡ Ok (at (taken + 1) rest (record v { text = word; extended = extended }))
 kind-step taken word extended rest v is = ap (λ o. after_word (taken + 1) rest (with_value (λ e. record v { text = word; extended = e }) o)) is

@@ -17,7 +17,8 @@ use Rattle.ios_words.specs.declared.rows.Form.TheVariants as forms
 use Rattle.ios_words.specs.Forms.{IsFrom, IsStandard, IsExtended, IsListNumber, AreLengths, IsOrder}
 use Rattle.ios_words.specs.Names.{is_name, is_face_name}
 use Rattle.ios_words.specs.Prefixes.{holding, whole}
-use Rattle.ios_words.specs.Numbers.{is_from, ranged, number_in, length_from, mask_of_address, mask_length, mask_ones, masks, wildcard_length, or_else, area_of, is_standard, is_extended, list_kind}
+use Rattle.ios_words.specs.Numbers.{is_from, ranged, number_in, length_from, mask_of_address, mask_length, mask_ones, masks, wildcard_length, area_of, is_standard, is_extended, list_kind}
+use Rattle.std.specs.Option.{option_or}
 use Rattle.ios_words.specs.Readings.{State, begins, begins_entry, after_word, next_word, place, this_word, permits, verdict, passed, then_do, stands_alone, alone, any, width, side, as_source, ports, step, read_parts, finish_words, finish, start, read}
 use Rattle.ios_words.specs.Rows.{Piece, Word, Verdict, Place, Bracket, Flag, EntryNumber, Protocol, Source, Destination, Ports, Anything, Rule}
 use Rattle.ios_words.specs.ServiceRanges.{services_of}
@@ -210,7 +211,7 @@ address-small w a e =
     let (octets, dotted, is) = address_of-some w a e in
     subst (λ (n : ℕ). n < 2 ^ 32) is (subst (λ (bytes : List ℕ). from_be_bytes w32 bytes < 2 ^ 32) (sym dotted.value) (four_bytes dotted.a dotted.b dotted.c dotted.d dotted.fit))
 
-area-small : (w : List ℕ) (a : ℕ) (o : Option ℕ) → number_in 0 (2 ^ 32 - 1) w ≡ o → or_else o (address_of w) ≡ Some a → a < 2 ^ 32
+area-small : (w : List ℕ) (a : ℕ) (o : Option ℕ) → number_in 0 (2 ^ 32 - 1) w ≡ o → option_or o (address_of w) ≡ Some a → a < 2 ^ 32
 area-small w a None is e = address-small w a e
 area-small w a (Some n) is e = let most : n ≤ 2 ^ 32 - 1 = (ranged-some 0 (2 ^ 32 - 1) (number_of w) n is).1 in subst (λ (m : ℕ). m < 2 ^ 32) (same_number n a e) (omega arith)
 

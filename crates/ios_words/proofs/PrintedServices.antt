@@ -5,12 +5,12 @@ use Rattle.std.proofs.lemmas.Nat.{div-add-mod'}
 use Rattle.std.proofs.lemmas.Option.{none-some, same_Some}
 use Rattle.std.proofs.Math.Nat.{mod-lt}
 use Rattle.std.specs.List.{find, list_all}
-use Rattle.std.specs.Option.{option_map, option_map_or}
+use Rattle.std.specs.Option.{option_map, option_map_or, option_or}
 use Rattle.std.specs.Str.{bytes_eq}
 use Rattle.ios_words.specs.declared.commands.PacketText.{PacketText}
 use Rattle.ios_words.specs.declared.rows.Form.TheVariants.{Port, FirstPort, LastPort}
 use Rattle.ios_words.specs.declared.services.Services.{Services}
-use Rattle.ios_words.specs.Numbers.{ranged, is_from, number_in, or_else}
+use Rattle.ios_words.specs.Numbers.{ranged, is_from, number_in}
 use Rattle.ios_words.specs.Readings.{State, after_word, then_do, place, ports, step}
 use Rattle.ios_words.specs.Rows.{Protocol, Ports}
 use Rattle.ios_words.specs.ServiceRanges.{all, of_ports, of_protocol, services_of}
@@ -73,17 +73,17 @@ protocol_text-read n some few = by (find (λ row. row.0 == n) protocol_names) re
         let both = found-both (λ row. row.0 == n) reads_back protocol_names row is refl in
         let parts = and_parts _ _ both.1 in
         let number : number_named protocol_names row.1 ≡ Some n = some-one row.0 (number_named protocol_names row.1) parts.1 ∙ ap Some (eqb-true row.0 n both.0) in
-        cond-false (bytes_eq row.1 (codes "ip")) _ _ (not-true _ parts.0) ∙ ap (λ o. option_map of_protocol (or_else o (number_in 1 255 row.1))) number
+        cond-false (bytes_eq row.1 (codes "ip")) _ _ (not-true _ parts.0) ∙ ap (λ o. option_map of_protocol (option_or o (number_in 1 255 row.1))) number
     by None is =
         let small : n < 2 ^ 64 = omega arith in
         cond-false (bytes_eq (decimal n) (codes "ip")) _ _ (decimal-word n 105 (codes "p") small (omega arith))
-        ∙ ap (λ o. option_map of_protocol (or_else o (number_in 1 255 (decimal n)))) (no-name protocol_names n small refl)
+        ∙ ap (λ o. option_map of_protocol (option_or o (number_in 1 255 (decimal n)))) (no-name protocol_names n small refl)
         ∙ ap (option_map of_protocol) (ranged-decimal 1 255 n some few small)
 
 port-read : (number p : ℕ) → p ≤ 65535 → port_of number (decimal p) ≡ Some p
 port-read number p most =
     let small : p < 2 ^ 64 = omega arith in
-    ap (λ o. or_else o (number_in 0 65535 (decimal p))) (no-name (port_names number) p small (ports-high number)) ∙ ranged-decimal 0 65535 p (omega arith) most small
+    ap (λ o. option_or o (number_in 0 65535 (decimal p))) (no-name (port_names number) p small (ports-high number)) ∙ ranged-decimal 0 65535 p (omega arith) most small
 
 -- a port, and the first and the last of some, where the protocol is known
 one-read : (taken n p : ℕ) (v : Values) → protocol v.services.low ≡ n → p ≤ 65535 → place Port (at taken (decimal p ∷ []) v) ≡ Ok (at (taken + 1) [] (record v { services = of_ports n p p }))

@@ -1,7 +1,7 @@
 -- A last word that ends with a carriage return is a word of a row that says nothing.
 use Rattle.std.proofs.Common.{◌≡◌, ℕ, ◌+◌, ◌-◌, ◌^◌, ◌<◌, ◌==◌, ◌&&◌, ◌||◌, ◌⊎◌, inl, inr, not, Bool, true, false, cond, Option, Some, None, List, [], ◌∷◌, ◌++◌, filter, refl, sym, ap, subst, ◌∙◌, arith, ⊎_elim, Result, Ok, Err}
 use Rattle.std.specs.Prelude.{is_ok, find, bytes_eq, nat_lt, if◌then◌else◌}
-use Rattle.std.specs.Option.{option_map_or}
+use Rattle.std.specs.Option.{option_map_or, option_or}
 use Rattle.std.specs.List.{list_all, list_any, slice_split, onto_first}
 use Rattle.std.proofs.lemmas.Bool.{cases_Bool, and_parts, cond-true, cond-false, true≢false, false≢true}
 use Rattle.std.proofs.lemmas.List.Splits.{slice_split-cons_yes, slice_split-cons_no}
@@ -33,7 +33,7 @@ use Rattle.ios_words.specs.Rows.{Piece, Word, Place, Anything, Rule}
 use Rattle.ios_words.specs.Values.{Values, values_with, with_value, with_length, tested, class_prefix}
 use Rattle.ios_words.specs.Meanings.{give}
 use Rattle.ios_words.specs.Names.{is_name, is_face_name}
-use Rattle.ios_words.specs.Numbers.{number_in, ranged, mask_of_address, wildcard_of_address, area_of, or_else}
+use Rattle.ios_words.specs.Numbers.{number_in, ranged, mask_of_address, wildcard_of_address, area_of}
 use Rattle.ios_words.specs.Returns.{ReturnsSayNothing, HeadsHaveNoReturn, heads_face_or_process}
 use Rattle.ios_words.proofs.PlainWords.{name-plain, face-plain, decimal-plain, address-plain}
 
@@ -178,7 +178,7 @@ form-refuses forms.Address vals v x known h = none-refuses (λ a. record vals { 
 form-refuses forms.Network vals v x known h = none-refuses (λ p. record vals { to = p }) (class_prefix (address_of (returned v))) x (ap class_prefix (no-address v)) h
 form-refuses (forms.Mask least) vals v x known h = err-ok Amiss x (ap (λ o. with_length vals (mask_of_address least o)) (sym (no-address v)) ∙ h)
 form-refuses forms.Wildcard vals v x known h = err-ok Amiss x (ap (λ o. with_length vals (wildcard_of_address o)) (sym (no-address v)) ∙ h)
-form-refuses forms.Area vals v x known h = none-refuses (λ a. record vals { area = a }) (area_of (returned v)) x ((let n = no-number v in let a = no-address v in λ i. or_else (ranged 0 (2 ^ 32 - 1) (n i)) (a i))) h
+form-refuses forms.Area vals v x known h = none-refuses (λ a. record vals { area = a }) (area_of (returned v)) x ((let n = no-number v in let a = no-address v in λ i. option_or (ranged 0 (2 ^ 32 - 1) (n i)) (a i))) h
 form-refuses _ vals v x known h = absurd (false≢true known)
 
 abbrev words-of : Result State WordFault → List (List ℕ)

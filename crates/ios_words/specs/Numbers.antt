@@ -1,5 +1,6 @@
 -- Numbers, masks and areas as router files write them.
 use Rattle.std.specs.Prelude.{ℕ, ◌-◌, ◌^◌, ◌==◌, ◌&&◌, ◌||◌, nat_le, Bool, true, false, List, map, position, Option, Some, None, Result, Ok, Err, if◌then◌else◌}
+use Rattle.std.specs.Option.{option_or}
 use Rattle.std.specs.List.{range_with_len}
 use Rattle.arc_base.specs.PrefixText.{number_of, address_of}
 use Rattle.ios_words.specs.declared.kinds.Flaw.{Flaw}
@@ -53,14 +54,9 @@ wildcard_of_address (Some addr) = length_from 0 (mask_ones (2 ^ 32 - 1 - addr))
 abbrev pub wildcard_length : List ℕ → Result ℕ Flaw
 wildcard_length word = wildcard_of_address (address_of word)
 
--- the first that is there
-abbrev pub or_else : {A : Type 0} → Option A → Option A → Option A
-or_else (Some a) other = Some a
-or_else None other = other
-
 -- the area that a word writes, as a number of 32 bits or as an address
 abbrev pub area_of : List ℕ → Option ℕ
-area_of word = or_else (number_in 0 (2 ^ 32 - 1) word) (address_of word)
+area_of word = option_or (number_in 0 (2 ^ 32 - 1) word) (address_of word)
 
 -- the length of a network by its address's first byte: classes A, B and C
 abbrev pub class_length : ℕ → Option ℕ

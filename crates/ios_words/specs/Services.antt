@@ -1,10 +1,10 @@
 -- Protocols and destination ports, which make services: a service is the protocol's number times 65,536, plus the port. Only TCP
 -- (protocol 6) and UDP (17) have ports.
 use Rattle.std.specs.Prelude.{ℕ, ◌/◌, ◌%◌, ◌==◌, ◌&&◌, ◌||◌, nat_le, Bool, List, [], ◌∷◌, codes, decimal, find, Option, IsTrue, if◌then◌else◌}
-use Rattle.std.specs.Option.{option_map, option_map_or}
+use Rattle.std.specs.Option.{option_map, option_map_or, option_or}
 use Rattle.std.specs.Str.{bytes_eq}
 use Rattle.ios_words.specs.declared.commands.PacketText.{PacketText}
-use Rattle.ios_words.specs.Numbers.{number_in, or_else}
+use Rattle.ios_words.specs.Numbers.{number_in}
 
 -- the protocol of a service, and its destination port
 abbrev pub protocol : ℕ → ℕ
@@ -44,11 +44,11 @@ number_named rows word = option_map (λ row. row.0) (find (λ row. bytes_eq word
 
 -- the protocol that a word writes: a name, or a number from 1 to 255
 abbrev pub protocol_of : List ℕ → Option ℕ
-protocol_of word = or_else (number_named protocol_names word) (number_in 1 255 word)
+protocol_of word = option_or (number_named protocol_names word) (number_in 1 255 word)
 
 -- the port of a protocol that a word writes: one of the protocol's names, or a number from 0 to 65535
 abbrev pub port_of : ℕ → List ℕ → Option ℕ
-port_of number word = or_else (number_named (port_names number) word) (number_in 0 65535 word)
+port_of number word = option_or (number_named (port_names number) word) (number_in 0 65535 word)
 
 -- whether the protocol has ports
 abbrev pub has_ports : ℕ → Bool

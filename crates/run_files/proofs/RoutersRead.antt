@@ -10,7 +10,8 @@ use Rattle.run_files.specs.declared.outcome.Stop.TheVariants.{Refused, Memory, F
 use Rattle.run_files.specs.Reading.{ReadsFile, ReadsRouters}
 use Rattle.run_files.specs.declared.limits.Limits.{Limits}
 use Rattle.run_files.specs.Limits.{router_limit}
-use Rattle.run_files.specs.Refusals.{bytes_at, read_refusal, first_refusal, or_else, routers_refusal}
+use Rattle.run_files.specs.Refusals.{bytes_at, read_refusal, first_refusal, routers_refusal}
+use Rattle.std.specs.Option.{option_or}
 
 map_after : (f : List ℕ → List ℕ) (names : List (List ℕ)) (name : List ℕ) → map f (names ++ name ∷ []) ≡ map f names ++ f name ∷ []
 map_after f [] name = refl
@@ -32,11 +33,11 @@ pub record ReadSoFar (limits : Limits) (names contents : List (List ℕ)) (i roo
   pub read : contents ≡ map (bytes_at files) (take i names)
 
 module _ (limits : Limits) (names contents : List (List ℕ)) (i room : ℕ) (name : List ℕ) (within : i < length names) (is : name ≡ get_or names i name) (files : Files) (before : ReadSoFar limits names contents i room files) where
-  here : routers_refusal limits files names ≡ or_else (read_refusal (min (router_limit limits) room) files name) (first_refusal (router_limit limits) (room - length (bytes_at files name)) files (drop (i + 1) names))
+  here : routers_refusal limits files names ≡ option_or (read_refusal (min (router_limit limits) room) files name) (first_refusal (router_limit limits) (room - length (bytes_at files name)) files (drop (i + 1) names))
   here = before.rest ∙ ap (first_refusal (router_limit limits) room files) (from_here names i name within is)
 
   refused_here : (r : FileRefusal) → read_refusal (min (router_limit limits) room) files name ≡ Some r → routers_refusal limits files names ≡ Some r
-  refused_here r read = here ∙ ap (λ (o : Option FileRefusal). or_else o (first_refusal (router_limit limits) (room - length (bytes_at files name)) files (drop (i + 1) names))) read
+  refused_here r read = here ∙ ap (λ (o : Option FileRefusal). option_or o (first_refusal (router_limit limits) (room - length (bytes_at files name)) files (drop (i + 1) names))) read
 
   pub stopped : (stop : Stop) → ReadsFile (min (router_limit limits) room) files name (Err stop) → ReadsRouters limits files names (Err stop)
   stopped (Refused r) read = refused_here r read
@@ -46,7 +47,7 @@ module _ (limits : Limits) (names contents : List (List ℕ)) (i room : ℕ) (na
   pub goes_on : (v : Vec ℕ Global) → ReadsFile (min (router_limit limits) room) files name (Ok v) → ReadSoFar limits names (contents ++ v.items ∷ []) (i + 1) (room - length v.items) files
   goes_on v read = record {
     rest = here
-        ∙ ap (λ (o : Option FileRefusal). or_else o (first_refusal (router_limit limits) (room - length (bytes_at files name)) files (drop (i + 1) names))) read.0
+        ∙ ap (λ (o : Option FileRefusal). option_or o (first_refusal (router_limit limits) (room - length (bytes_at files name)) files (drop (i + 1) names))) read.0
         ∙ ap (λ (b : List ℕ). first_refusal (router_limit limits) (room - length b) files (drop (i + 1) names)) (sym read.1);
     read = next_read files names contents v.items i name within is before.read read.1;
   }

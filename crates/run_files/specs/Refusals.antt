@@ -1,5 +1,6 @@
 -- Refusals: those of files that are read, and the line that tells one.
 use Rattle.std.specs.Prelude.{ℕ, ◌-◌, List, [], ◌∷◌, ◌++◌, length, min, Option, Some, None, unwrap_or, nat_lt, codes, decimal, if◌then◌else◌}
+use Rattle.std.specs.Option.{option_or}
 use Rattle.arc_base.specs.declared.refusal.Kind.{Kind}
 use Rattle.arc_base.specs.declared.refusal.Kind.TheVariants as kinds
 use Rattle.arc_base.specs.ReasonWords.{kind_words}
@@ -26,16 +27,11 @@ refusal_within limit name (Some bytes) = if nat_lt limit (length bytes) then Som
 abbrev pub read_refusal : ℕ → Files → List ℕ → Option FileRefusal
 read_refusal limit files name = refusal_within limit name (files name)
 
--- the first refusal, and the second where there is no first
-abbrev pub or_else : Option FileRefusal → Option FileRefusal → Option FileRefusal
-or_else (Some r) s = Some r
-or_else None s = s
-
 -- the first refusal of router files in order, where each may have so many bytes, and all together so many
 abbrev pub first_refusal : ℕ → ℕ → Files → List (List ℕ) → Option FileRefusal
 first_refusal most room files [] = None
 first_refusal most room files (name ∷ names) =
-    or_else (read_refusal (min most room) files name) (first_refusal most (room - length (bytes_at files name)) files names)
+    option_or (read_refusal (min most room) files name) (first_refusal most (room - length (bytes_at files name)) files names)
 
 -- the first refusal of router files under these limits
 abbrev pub routers_refusal : Limits → Files → List (List ℕ) → Option FileRefusal

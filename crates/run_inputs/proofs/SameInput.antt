@@ -12,7 +12,8 @@ use Rattle.run_files.specs.declared.outcome.FileRefusal.{FileRefusal}
 use Rattle.run_files.specs.declared.limits.Limits.{Limits}
 use Rattle.run_inputs.specs.Inputs.{HoldTheSame, HoldsInput}
 use Rattle.run_files.specs.Limits.{document_limit, entries_limit, router_limit, routers_limit}
-use Rattle.run_files.specs.Refusals.{bytes_at, read_refusal, refusal_within, first_refusal, or_else}
+use Rattle.run_files.specs.Refusals.{bytes_at, read_refusal, refusal_within, first_refusal}
+use Rattle.std.specs.Option.{option_or}
 
 module _ (before after : Files) where
   abbrev Same : List ℕ → Type 0
@@ -27,9 +28,9 @@ module _ (before after : Files) where
   same_first : (most room : ℕ) (names : List (List ℕ)) → AllByRecursion Same names → first_refusal most room after names ≡ first_refusal most room before names
   same_first most room [] same = refl
   same_first most room (name ∷ names) same =
-      ap (λ (o : Option FileRefusal). or_else o (first_refusal most (room - length (bytes_at after name)) after names)) (same_refusal (min most room) name same.0)
-      ∙ ap (λ (b : List ℕ). or_else (read_refusal (min most room) before name) (first_refusal most (room - length b) after names)) (same_bytes name same.0)
-      ∙ ap (or_else (read_refusal (min most room) before name)) (same_first most (room - length (bytes_at before name)) names same.1)
+      ap (λ (o : Option FileRefusal). option_or o (first_refusal most (room - length (bytes_at after name)) after names)) (same_refusal (min most room) name same.0)
+      ∙ ap (λ (b : List ℕ). option_or (read_refusal (min most room) before name) (first_refusal most (room - length b) after names)) (same_bytes name same.0)
+      ∙ ap (option_or (read_refusal (min most room) before name)) (same_first most (room - length (bytes_at before name)) names same.1)
 
   same_contents : (names : List (List ℕ)) → AllByRecursion Same names → map (bytes_at after) names ≡ map (bytes_at before) names
   same_contents [] same = refl
