@@ -9,7 +9,8 @@ use Rattle.std.proofs.lemmas.List.Concat.{flat_map-append}
 use Rattle.arc_base.specs.declared.place.Link.{Link}
 use Rattle.arc_base.proofs.Items.{Contains-head, Contains-map, from_map, from_piece, from_filter, AllPairs-among, AllPairs-map, AllPairs-none, AllPairs-append}
 use Rattle.graph_flow.specs.declared.arcs.Arc.{Arc}
-use Rattle.graph_flow.specs.Paths.{Path, nodes_of, AreDifferent}
+use Rattle.graph_flow.specs.Paths.{Path, nodes_of}
+use Rattle.arc_base.specs.Lists.{AreDistinct}
 use Rattle.condition_formula.specs.declared.condition.Condition.{Condition}
 use Rattle.condition_formula.specs.declared.network.ConditionArc.{ConditionArc}
 use Rattle.condition_formula.specs.declared.network.Question.{Question}
@@ -53,7 +54,7 @@ unused a v h =
 
 -- the arcs of a way make the clauses of a family true
 pub family_true : (a chosen : ℕ → Bool) (nodes links edits : ℕ) (q : Question) (used : ℕ → ℕ) (way : List Arc) → IsSound nodes links edits q → Agrees a chosen edits → q.source ≢ q.target →
-    Path (routed_arcs chosen q) q.source way q.target → AreDifferent (nodes_of q.source way) → Follows a q used way → Fulfils a (family_parts q nodes used)
+    Path (routed_arcs chosen q) q.source way q.target → AreDistinct (nodes_of q.source way) → Follows a q used way → Fulfils a (family_parts q nodes used)
 family_true a chosen nodes links edits q used way sound g apart path once is =
     let arcs = routed_arcs chosen q in
     let s = q.source in

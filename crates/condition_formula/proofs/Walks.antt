@@ -4,7 +4,8 @@ use Rattle.std.proofs.lemmas.Bool.{cases_lt}
 use Rattle.arc_base.specs.declared.place.Link.{Link}
 use Rattle.arc_base.proofs.Items.{Contains-head, Contains-tail, Contains-cases, Contains-none, Contains-map, AllPairs-rest, AllPairs-first}
 use Rattle.graph_flow.specs.declared.arcs.Arc.{Arc}
-use Rattle.graph_flow.specs.Paths.{Path, nodes_of, links_of, AreDifferent, IsPath, AreDisjointPaths}
+use Rattle.graph_flow.specs.Paths.{Path, nodes_of, links_of, IsPath, AreDisjointPaths}
+use Rattle.arc_base.specs.Lists.{AreDistinct}
 use Rattle.graph_flow.specs.Laws.{HavePaths}
 use Rattle.condition_formula.proofs.Distinct.{same_item, piece_differs, pieces_apart}
 
@@ -69,11 +70,11 @@ before arcs u v (b ∷ way) p arc m =
     ]
 
 -- no arc leads back to the first node
-pub not_back : (u : ℕ) (way : List Arc) → AreDifferent (nodes_of u way) → (arc : Arc) → Contains way arc → arc.head ≡ u → ⊥
+pub not_back : (u : ℕ) (way : List Arc) → AreDistinct (nodes_of u way) → (arc : Arc) → Contains way arc → arc.head ≡ u → ⊥
 not_back u way d arc m e = AllPairs-first (λ (x y : ℕ). x ≢ y) u arc.head (heads way) d (head_in way arc m) (sym e)
 
 -- no arc leads on from the last node
-pub not_on : (arcs : List Arc) (u v : ℕ) (way : List Arc) → Path arcs u way v → AreDifferent (nodes_of u way) → (arc : Arc) → Contains way arc → arc.tail ≡ v → ⊥
+pub not_on : (arcs : List Arc) (u v : ℕ) (way : List Arc) → Path arcs u way v → AreDistinct (nodes_of u way) → (arc : Arc) → Contains way arc → arc.tail ≡ v → ⊥
 not_on arcs u v [] p d arc m e = absurd (Contains-none arc m)
 not_on arcs u v (b ∷ way) p d arc m e =
     elim (Contains-cases b arc way m) [
@@ -87,11 +88,11 @@ not_on arcs u v (b ∷ way) p d arc m e =
     ]
 
 -- two arcs into one node are one
-pub one_into : (u : ℕ) (way : List Arc) → AreDifferent (nodes_of u way) → (x y : Arc) → Contains way x → Contains way y → x.head ≡ y.head → x ≡ y
+pub one_into : (u : ℕ) (way : List Arc) → AreDistinct (nodes_of u way) → (x y : Arc) → Contains way x → Contains way y → x.head ≡ y.head → x ≡ y
 one_into u way d x y m n e = same_item (λ (arc : Arc). arc.head) way x y (AllPairs-rest (λ (a b : ℕ). a ≢ b) u (heads way) d) m n e
 
 -- an arc after the first does not leave the first node
-leaves_first : (arcs : List Arc) (u v : ℕ) (b : Arc) (way : List Arc) → Path arcs b.head way v → AreDifferent (nodes_of u (b ∷ way)) → (arc : Arc) → Contains way arc → arc.tail ≡ u → ⊥
+leaves_first : (arcs : List Arc) (u v : ℕ) (b : Arc) (way : List Arc) → Path arcs b.head way v → AreDistinct (nodes_of u (b ∷ way)) → (arc : Arc) → Contains way arc → arc.tail ≡ u → ⊥
 leaves_first arcs u v b way p d arc m e =
     elim (before arcs b.head v way p arc m) [
       | inl first ↦ not_back u (b ∷ way) d b (Contains-head b way) (sym first ∙ e)
@@ -99,7 +100,7 @@ leaves_first arcs u v b way p d arc m e =
     ]
 
 -- two arcs out of one node are one
-pub one_out_of : (arcs : List Arc) (u v : ℕ) (way : List Arc) → Path arcs u way v → AreDifferent (nodes_of u way) → (x y : Arc) → Contains way x → Contains way y → x.tail ≡ y.tail → x ≡ y
+pub one_out_of : (arcs : List Arc) (u v : ℕ) (way : List Arc) → Path arcs u way v → AreDistinct (nodes_of u way) → (x y : Arc) → Contains way x → Contains way y → x.tail ≡ y.tail → x ≡ y
 one_out_of arcs u v [] p d x y m n e = absurd (Contains-none x m)
 one_out_of arcs u v (b ∷ way) p d x y m n e =
     elim (Contains-cases b x way m) [
@@ -117,7 +118,7 @@ one_out_of arcs u v (b ∷ way) p d x y m n e =
 pub record Ways (arcs : List Arc) (s t many : ℕ) : Type 0 where
   pub way : ℕ → List Arc
   pub leads : (f : ℕ) → f < many → Path arcs s (way f) t
-  pub once : (f : ℕ) → f < many → AreDifferent (nodes_of s (way f))
+  pub once : (f : ℕ) → f < many → AreDistinct (nodes_of s (way f))
   pub own_links : (f : ℕ) → f < many → (x y : Arc) → Contains (way f) x → Contains (way f) y → x.link ≡ y.link → x ≡ y
   pub apart : (f g : ℕ) → f < g → g < many → (x y : Arc) → Contains (way f) x → Contains (way g) y → x.link ≡ y.link → ⊥
 
@@ -131,7 +132,7 @@ unfolding way_by
 by_leads arcs s t paths each f l (inl m) = (each f [] m).leads
 by_leads arcs s t paths each f l (inr past) = absurd (omega arith)
 
-by_once : (arcs : List Arc) (s t : ℕ) (paths : List (List Link)) (each : All (λ path. IsPath arcs s path t) paths) (f : ℕ) → f < length paths → (r : (f < length paths) ⊎ (length paths ≤ f)) → AreDifferent (nodes_of s (way_by arcs s t paths each f r))
+by_once : (arcs : List Arc) (s t : ℕ) (paths : List (List Link)) (each : All (λ path. IsPath arcs s path t) paths) (f : ℕ) → f < length paths → (r : (f < length paths) ⊎ (length paths ≤ f)) → AreDistinct (nodes_of s (way_by arcs s t paths each f r))
 unfolding way_by
 by_once arcs s t paths each f l (inl m) = (each f [] m).once
 by_once arcs s t paths each f l (inr past) = absurd (omega arith)
@@ -155,7 +156,7 @@ ways_of arcs s t many have =
       leads = λ f l. by_leads arcs s t paths right.each f (omega (arith, right.count)) (cases_lt f (length paths));
       once = λ f l. by_once arcs s t paths right.each f (omega (arith, right.count)) (cases_lt f (length paths));
       own_links = λ f l x y m n e. same_item (λ (arc : Arc). arc.link) (way f) x y
-          (subst (λ (ks : List Link). AreDifferent ks) (sym (is f l)) (piece_differs paths f right.disjoint (omega (arith, right.count)))) m n e;
+          (subst (λ (ks : List Link). AreDistinct ks) (sym (is f l)) (piece_differs paths f right.disjoint (omega (arith, right.count)))) m n e;
       apart = λ f g less l x y m n e. pieces_apart paths f g x.link right.disjoint less (omega (arith, right.count)) (in_path f (omega arith) x m)
           (subst (λ (k : Link). Contains (get_or paths g []) k) (sym e) (in_path g l y n));
     }

@@ -8,7 +8,7 @@ use Rattle.std.proofs.lemmas.List.Kept.{AllPairs-cons}
 use Rattle.arc_base.proofs.Items as items
 use Rattle.ios_config.specs.declared.settings.Config.{Config}
 use Rattle.ios_config.specs.declared.settings.FaceText.{FaceText}
-use Rattle.net_build.specs.Names.{AreDistinct}
+use Rattle.arc_base.specs.Lists.{AreDistinct}
 use Rattle.net_build.specs.Sites.{Site, FullName, sites_of, sites, full_name, full_names}
 use Rattle.net_build.specs.Sites as build
 use Rattle.net_build.proofs.Distinct.{one_place}

@@ -10,7 +10,8 @@ use Rattle.std.proofs.lemmas.List.Quantifiers.{all_pairs_push}
 use Rattle.std.proofs.lemmas.List.Elements.{All-contains, All-push, All-weaker, All-nil, filter_map-append, Contains-get_or, Contains-append_cases}
 use Rattle.arc_base.specs.declared.place.Link.{Link}
 use Rattle.graph_flow.specs.declared.arcs.Arc.{Arc}
-use Rattle.graph_flow.specs.Paths.{Path, Leads, Digraph, IsGraph, Joins, MayShare, nodes_of, links_of, all_links, AreDifferent, IsPath, AreDisjointPaths}
+use Rattle.graph_flow.specs.Paths.{Path, Leads, Digraph, IsGraph, Joins, MayShare, nodes_of, links_of, all_links, IsPath, AreDisjointPaths}
+use Rattle.arc_base.specs.Lists.{AreDistinct}
 use Rattle.graph_flow.specs.Sides.{Separates, Leaves}
 use Rattle.graph_flow.specs.Flows.{Units, unit_at, unit_from, unit_to, leaving, entering, IsFlow}
 use Rattle.graph_flow.specs.Answers.{first_link, AreInOrder}
@@ -197,7 +198,7 @@ begins-with units first t (arc ∷ way) apart p =
     let same : arc.link.0 ≡ first.link.0 = first-only units first arc p.0 p.1 in (same, (arc.link, Contains-here arc.link (links_of way), same))
 
 takes-way : (g : Digraph) (units : Units) (first : Arc) (t : ℕ) (way : List Arc) → IsGraph g → first.tail ≢ t → IsFlow g.arcs first.tail t (leaving units first.tail) units →
-    unit_at units first.link.0 ≡ Some first → Path (passable units first) first.tail way t → AreDifferent (nodes_of first.tail way) →
+    unit_at units first.link.0 ≡ Some first → Path (passable units first) first.tail way t → AreDistinct (nodes_of first.tail way) →
     TakesPath g.arcs first t units (links_of way) (cleared units (links_of way))
 takes-way g units first t way is apart flow at p once =
     let on : OnArcs g.arcs units = record { is_arc = flow.is_arc; of_link = flow.of_link } in
@@ -252,7 +253,7 @@ pub record IsTaking (arcs : List Arc) (s t : ℕ) (units : Units) (left : Units)
   pub flow : IsFlow arcs s t (leaving left s) left
   pub count : length paths + leaving left s ≡ leaving units s
   pub each : All (λ path. IsPath arcs s path t) paths
-  pub disjoint : AreDifferent (all_links paths)
+  pub disjoint : AreDistinct (all_links paths)
   pub gone : (k : Link) → Contains (all_links paths) k → unit_at left k.0 ≡ None
   pub order : AreInOrder paths
   pub below : All (λ path. first_link path < link) paths
@@ -303,7 +304,7 @@ taking-takes arcs s t units left paths link first path rest taking number from t
       flow = subst (λ (n : ℕ). IsFlow arcs n t (leaving rest n) rest) from took.flow;
       count = omega (arith, taking.count, fewer, length-append paths (path ∷ []));
       each = All-push (λ p. IsPath arcs s p t) paths path taking.each (subst (λ (n : ℕ). IsPath arcs n path t) from took.path);
-      disjoint = subst (λ (ks : List Link). AreDifferent ks) (sym all)
+      disjoint = subst (λ (ks : List Link). AreDistinct ks) (sym all)
           (AllPairs-append (λ (k l : Link). k ≢ l) (all_links paths) path taking.disjoint took.different (λ k l m n e.
           let none : unit_at left l.0 ≡ None = subst (λ (x : Link). unit_at left x.0 ≡ None) e (taking.gone k m) in
           false≢true (sym (ap is_some none) ∙ took.units_on l n)));

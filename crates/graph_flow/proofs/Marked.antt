@@ -9,7 +9,8 @@ use Rattle.arc_base.specs.declared.place.Link.{Link}
 use Rattle.graph_flow.specs.declared.arcs.Arc.{Arc}
 use Rattle.graph_flow.specs.declared.search.Mark.{Mark}
 use Rattle.graph_flow.specs.declared.search.Mark.TheVariants.{Unseen, Start, After}
-use Rattle.graph_flow.specs.Paths.{Path, Leads, nodes_of, links_of, AreDifferent, IsPath}
+use Rattle.graph_flow.specs.Paths.{Path, Leads, nodes_of, links_of, IsPath}
+use Rattle.arc_base.specs.Lists.{AreDistinct}
 use Rattle.graph_flow.specs.Residual.{residual}
 use Rattle.graph_flow.specs.Marks.{is_seen, depth_of, mark_at, way_by, way_to, path_by, paths_by, IsAfter, AreSteps, IsSpread}
 use Rattle.graph_flow.proofs.Lists.{AllPairs-nil, AllPairs-cons}
@@ -24,13 +25,13 @@ mark-cases (After arc depth) = inr (inr (arc, depth, refl))
 -- the way by which a node was reached leads there, and its nodes have lower depths one before the other
 pub record Reached (arcs : List Arc) (s : ℕ) (marks : List Mark) (node depth : ℕ) : Type 0 where
   pub leads : Path arcs s (way_by marks depth (mark_at marks node)) node
-  pub once : AreDifferent (nodes_of s (way_by marks depth (mark_at marks node)))
+  pub once : AreDistinct (nodes_of s (way_by marks depth (mark_at marks node)))
   pub low : All (λ x. depth_of (mark_at marks x) ≤ depth) (nodes_of s (way_by marks depth (mark_at marks node)))
 
 -- a way, whatever its spelling
 record On (arcs : List Arc) (s : ℕ) (marks : List Mark) (node depth : ℕ) (way : List Arc) : Type 0 where
   leads : Path arcs s way node
-  once : AreDifferent (nodes_of s way)
+  once : AreDistinct (nodes_of s way)
   low : All (λ x. depth_of (mark_at marks x) ≤ depth) (nodes_of s way)
 
 on-reached : (arcs : List Arc) (s : ℕ) (marks : List Mark) (node depth : ℕ) → On arcs s marks node depth (way_by marks depth (mark_at marks node)) → Reached arcs s marks node depth
@@ -73,7 +74,7 @@ reached arcs s marks spread (suc depth) node seen d =
             let last : On arcs s marks node (suc depth) (way_by marks depth (mark_at marks arc.tail) ++ arc ∷ []) = record {
               leads = subst (λ (n : ℕ). Path arcs s (way_by marks depth (mark_at marks arc.tail) ++ arc ∷ []) n) after.head
                   (Path-snoc arcs s (way_by marks depth (mark_at marks arc.tail)) arc before.leads (spread.over node arc steps e));
-              once = subst (λ (xs : List ℕ). AreDifferent xs) nodes_are
+              once = subst (λ (xs : List ℕ). AreDistinct xs) nodes_are
                   (all_pairs_push (λ x y. x ≢ y) (nodes_of s (way_by marks depth (mark_at marks arc.tail))) arc.head before.once (λ k x l same.
                   let low : depth_of (mark_at marks (get_or (nodes_of s (way_by marks depth (mark_at marks arc.tail))) k x)) ≤ depth = before.low k x l in
                   let same_depth : depth_of (mark_at marks (get_or (nodes_of s (way_by marks depth (mark_at marks arc.tail))) k x)) ≡ depth_of (mark_at marks arc.head) = ap (λ (n : ℕ). depth_of (mark_at marks n)) same in

@@ -6,7 +6,8 @@ use Rattle.std.proofs.lemmas.List.{get_or_past, get_or-replicate, length-replica
 use Rattle.std.proofs.lemmas.List.Elements.{All-contains, All-cons, All-nil, All-head, All-tail, filter_passes, Contains-append_left, Contains-append_right}
 use Rattle.arc_base.specs.declared.place.Link.{Link}
 use Rattle.graph_flow.specs.declared.arcs.Arc.{Arc}
-use Rattle.graph_flow.specs.Paths.{Path, Leads, Digraph, IsGraph, nodes_of, links_of, all_links, AreDifferent, IsPath, AreDisjointPaths}
+use Rattle.graph_flow.specs.Paths.{Path, Leads, Digraph, IsGraph, nodes_of, links_of, all_links, IsPath, AreDisjointPaths}
+use Rattle.arc_base.specs.Lists.{AreDistinct}
 use Rattle.graph_flow.specs.Sides.{Separates, Leaves, AreLeftOver}
 use Rattle.graph_flow.specs.Flows.{Units, unit_at, unit_from, unit_to, leaving, entering, only_at, IsFlow, links_out}
 use Rattle.graph_flow.specs.Residual.{residual, sent}
@@ -123,7 +124,7 @@ in_all_links (p ∷ paths) path k m n =
     ]
 
 -- paths that share no link, each with a link of a list, are no more than its links
-hit : (paths : List (List Link)) (links : List Link) → All (λ (path : List Link). (k : Link) × Contains path k × Contains links k) paths → AreDifferent (all_links paths) → length paths ≤ length links
+hit : (paths : List (List Link)) (links : List Link) → All (λ (path : List Link). (k : Link) × Contains path k × Contains links k) paths → AreDistinct (all_links paths) → length paths ≤ length links
 hit [] links each d = omega arith
 hit (path ∷ paths) links each d =
     let k = All-head (λ (p : List Link). (k : Link) × Contains p k × Contains links k) path paths each in

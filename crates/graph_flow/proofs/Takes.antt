@@ -5,7 +5,8 @@ use Rattle.std.proofs.lemmas.List.{get_or_past, set_past}
 use Rattle.std.proofs.lemmas.List.Elements.{All-contains, All-cons, All-nil, All-head, All-tail, All-map, Contains-append_cases}
 use Rattle.arc_base.specs.declared.place.Link.{Link}
 use Rattle.graph_flow.specs.declared.arcs.Arc.{Arc}
-use Rattle.graph_flow.specs.Paths.{Path, Digraph, IsGraph, nodes_of, links_of, all_links, AreDifferent, IsPath, AreDisjointPaths}
+use Rattle.graph_flow.specs.Paths.{Path, Digraph, IsGraph, nodes_of, links_of, all_links, IsPath, AreDisjointPaths}
+use Rattle.arc_base.specs.Lists.{AreDistinct}
 use Rattle.graph_flow.specs.Sides.{Separates}
 use Rattle.graph_flow.specs.Flows.{Units, unit_at, leaving, entering, only_at, IsFlow}
 use Rattle.graph_flow.specs.Residual.{reversed, cleared}
@@ -103,10 +104,10 @@ unit_of_carried arcs units on arc m = let at = carried-at units arc m in ap (λ 
 
 -- a way over arcs that carry units, which passes no node twice, is laden
 pub laden : (arcs over : List Arc) (units : Units) → OnArcs arcs units → ((arc : Arc) → Contains over arc → Contains (carried units) arc) →
-    (u v : ℕ) (way : List Arc) → Path over u way v → AreDifferent (nodes_of u way) → IsLaden units way
+    (u v : ℕ) (way : List Arc) → Path over u way v → AreDistinct (nodes_of u way) → IsLaden units way
 laden arcs over units on sub u v [] p d = record { units_on = All-nil (λ (b : Arc). unit_at units b.link.0 ≡ Some b); apart = AllPairs-nil (λ (a b : Arc). b.link.0 ≡ a.link.0 → ⊥) }
 laden arcs over units on sub u v (arc ∷ way) p d =
-    let tail_d : AreDifferent (nodes_of arc.head way) = AllPairs-tail (λ x y. x ≢ y) u (nodes_of arc.head way) d in
+    let tail_d : AreDistinct (nodes_of arc.head way) = AllPairs-tail (λ x y. x ≢ y) u (nodes_of arc.head way) d in
     let rest : IsLaden units way = laden arcs over units on sub arc.head v way p.2 tail_d in
     let here_on : unit_at units arc.link.0 ≡ Some arc = unit_of_carried arcs units on arc (sub arc p.0) in
     record {
@@ -129,7 +130,7 @@ taken arcs over units s t many flow way laden p =
     }
 
 -- the links of a laden way differ
-pub laden-different : (way : List Arc) → AllPairs (λ (a b : Arc). b.link.0 ≡ a.link.0 → ⊥) way → AreDifferent (links_of way)
+pub laden-different : (way : List Arc) → AllPairs (λ (a b : Arc). b.link.0 ≡ a.link.0 → ⊥) way → AreDistinct (links_of way)
 laden-different [] apart = AllPairs-nil (λ (k l : Link). k ≢ l)
 laden-different (arc ∷ way) apart =
     AllPairs-cons (λ (k l : Link). k ≢ l) arc.link (links_of way)

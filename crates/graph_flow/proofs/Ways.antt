@@ -5,7 +5,8 @@ use Rattle.std.proofs.lemmas.Bool.{cases_eq, cases_Bool, eq-eqb, eqb-true, or_ca
 use Rattle.std.proofs.lemmas.List.Elements.{All-contains, All-head, All-tail, Contains-append_left, Contains-append_right, Contains-append_cases}
 use Rattle.std.proofs.lemmas.List.{map_push}
 use Rattle.graph_flow.specs.declared.arcs.Arc.{Arc}
-use Rattle.graph_flow.specs.Paths.{Path, Leads, nodes_of, AreDifferent}
+use Rattle.graph_flow.specs.Paths.{Path, Leads, nodes_of}
+use Rattle.arc_base.specs.Lists.{AreDistinct}
 use Rattle.graph_flow.proofs.Lists.{Contains-here, Contains-there, Contains-none, Contains-cases, AllPairs-nil, AllPairs-cons, AllPairs-head, AllPairs-tail, All-from_members}
 
 pub Path-append : (arcs : List Arc) (u v w : ℕ) (xs ys : List Arc) → Path arcs u xs v → Path arcs v ys w → Path arcs u (xs ++ ys) w
@@ -57,10 +58,10 @@ stays_inside arcs P closed u v (arc ∷ way) p h = stays_inside arcs P closed ar
 pub record Simple (arcs : List Arc) (u v : ℕ) : Type 0 where
   pub way : List Arc
   pub leads : Path arcs u way v
-  pub once : AreDifferent (nodes_of u way)
+  pub once : AreDistinct (nodes_of u way)
 
 -- from each of its nodes the rest of such a way leads on
-rest_from : (arcs : List Arc) (u v : ℕ) (way : List Arc) → Path arcs u way v → AreDifferent (nodes_of u way) → (x : ℕ) → Contains (nodes_of u way) x → Simple arcs x v
+rest_from : (arcs : List Arc) (u v : ℕ) (way : List Arc) → Path arcs u way v → AreDistinct (nodes_of u way) → (x : ℕ) → Contains (nodes_of u way) x → Simple arcs x v
 rest_from arcs u v [] p d x m =
     elim (Contains-cases u [] x m) [
       | inl e ↦ subst (λ (n : ℕ). Simple arcs n v) e (record { way = []; leads = p; once = d })

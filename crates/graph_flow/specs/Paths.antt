@@ -2,6 +2,7 @@
 use Rattle.std.specs.Prelude.{◌≡◌, ◌≢◌, ℕ, ◌<◌, List, [], ◌∷◌, length, map, All, AllPairs, Contains}
 use Rattle.std.specs.List.{flat_map}
 use Rattle.arc_base.specs.declared.place.Link.{Link}
+use Rattle.arc_base.specs.Lists.{AreDistinct}
 use Rattle.graph_flow.specs.declared.arcs.Arc.{Arc}
 
 -- how many nodes there are, numbered from 0, and the arcs between them
@@ -42,16 +43,12 @@ links_of way = map (λ arc. arc.link) way
 abbrev pub nodes_of : ℕ → List Arc → List ℕ
 nodes_of u way = u ∷ map (λ arc. arc.head) way
 
--- no item stands twice
-abbrev pub AreDifferent : {X : Type 0} → List X → Type 0
-AreDifferent xs = AllPairs (λ x y. x ≢ y) xs
-
 -- the links are those of a path from u to v that passes no node twice
 pub record IsPath (arcs : List Arc) (u : ℕ) (links : List Link) (v : ℕ) : Type 0 where
   pub way : List Arc
   pub of_links : links_of way ≡ links
   pub leads : Path arcs u way v
-  pub once : AreDifferent (nodes_of u way)
+  pub once : AreDistinct (nodes_of u way)
 
 -- the links of all the paths, one path after the other
 abbrev pub all_links : List (List Link) → List Link
@@ -61,4 +58,4 @@ all_links paths = flat_map (λ path. path) paths
 pub record AreDisjointPaths (arcs : List Arc) (s t many : ℕ) (paths : List (List Link)) : Type 0 where
   pub count : length paths ≡ many
   pub each : All (λ path. IsPath arcs s path t) paths
-  pub disjoint : AreDifferent (all_links paths)
+  pub disjoint : AreDistinct (all_links paths)

@@ -2,7 +2,8 @@
 use Rattle.std.specs.Prelude.{ℕ, ◌≡◌, ◌+◌, Contains, IsSome, ◌==◌, ◌||◌, Bool, if◌then◌else◌, List, slice_set, filter, filter_map, Option, Some, None, [], ◌∷◌, ◌++◌, slice_index_or, not}
 use Rattle.arc_base.specs.declared.place.Link.{Link}
 use Rattle.graph_flow.specs.declared.arcs.Arc.{Arc}
-use Rattle.graph_flow.specs.Paths.{IsPath, AreDifferent}
+use Rattle.graph_flow.specs.Paths.{IsPath}
+use Rattle.arc_base.specs.Lists.{AreDistinct}
 use Rattle.graph_flow.specs.Answers.{first_link}
 use Rattle.graph_flow.specs.Flows.{Units, unit_at, leaving, IsFlow}
 
@@ -78,7 +79,7 @@ cleared units (link ∷ links) = cleared (slice_set units link.0 None) links
 pub record TakesPath (arcs : List Arc) (first : Arc) (t : ℕ) (units : Units) (links : List Link) (rest : Units) : Type 0 where
   pub path : IsPath arcs first.tail links t
   pub begins : first_link links ≡ first.link.0
-  pub different : AreDifferent links
+  pub different : AreDistinct links
   pub gone : unit_at rest first.link.0 ≡ None
   pub units_on : (link : Link) → Contains links link → IsSome (unit_at units link.0)
   pub rest_is : rest ≡ cleared units links

@@ -14,7 +14,7 @@ use Rattle.net_model.specs.Validity.{AreLinksApart}
 use Rattle.net_model.proofs.Arcs.{one_item}
 use Rattle.ios_config.specs.declared.settings.Config.{Config}
 use Rattle.net_build.specs.Forms.{IsWellFormed}
-use Rattle.net_build.specs.Names.{AreDistinct}
+use Rattle.arc_base.specs.Lists.{AreDistinct}
 use Rattle.net_build.specs.Lists.{packet_list_key}
 use Rattle.net_build.specs.Sites.{FullName, sites, full_name, full_names, a_end, b_end, two_ends, ends_of}
 use Rattle.net_build.specs.Rows.{IsFaceRow, IsLinkRow, AreBaseRows}

@@ -4,7 +4,7 @@ use Rattle.std.specs.Prelude.{map}
 use Rattle.net_model.specs.declared.lists.PacketList.{PacketList}
 use Rattle.net_model.specs.declared.lists.RouteList.{RouteList}
 use Rattle.ios_config.specs.declared.settings.Config.{Config}
-use Rattle.net_build.specs.Names.{AreDistinct}
+use Rattle.arc_base.specs.Lists.{AreDistinct}
 use Rattle.net_build.specs.Lists.{ArePacketLists, AreRouteLists, packet_list_key, route_list_key}
 use Rattle.arc_base.proofs.Items.{AllPairs-map}
 use Rattle.net_build.proofs.ValidLists.{names_differ}

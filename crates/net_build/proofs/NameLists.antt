@@ -9,7 +9,8 @@ use Rattle.arc_base.proofs.Items.{Contains-cases, Contains-none}
 use Rattle.ios_config.specs.declared.settings.Config.{Config}
 use Rattle.ios_config.specs.declared.settings.FaceText.{FaceText}
 use Rattle.net_build.specs.Sites.{FullName, sites, sites_of, host_name, full_name, full_names}
-use Rattle.net_build.specs.Names.{AreDistinct, file_names}
+use Rattle.net_build.specs.Names.{file_names}
+use Rattle.arc_base.specs.Lists.{AreDistinct}
 use Rattle.net_build.proofs.Distinct.{AllPairs-front, AreDistinct-twice, AreDistinct-push}
 
 -- a list around one of its items

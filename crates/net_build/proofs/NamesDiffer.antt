@@ -5,7 +5,8 @@ use Rattle.std.specs.List.{flat_map}
 use Rattle.ios_config.specs.declared.settings.Config.{Config}
 use Rattle.ios_config.specs.declared.settings.FaceText.{FaceText}
 use Rattle.net_build.specs.Sites.{FullName, full_names, host_name}
-use Rattle.net_build.specs.Names.{AreDistinct, file_names}
+use Rattle.net_build.specs.Names.{file_names}
+use Rattle.arc_base.specs.Lists.{AreDistinct}
 use Rattle.net_build.proofs.NameLists.{full_names-by_file}
 use Rattle.arc_base.proofs.Items.{from_map, from_piece, AllPairs-map, AllPairs-append}
 

@@ -10,7 +10,7 @@ use Rattle.std.proofs.lemmas.Slice.Eq.{bytes_eq-Decides}
 use Rattle.std.proofs.lemmas.List.{map-append, length-map, take_all}
 use Rattle.indexmap.specs.IndexSet.{insert_key}
 use Rattle.ios_config.proofs.StandLists.{any_seen}
-use Rattle.net_build.specs.Names.{AreDistinct}
+use Rattle.arc_base.specs.Lists.{AreDistinct}
 use Rattle.net_build.specs.Lists.{keys_at}
 use Rattle.net_build.proofs.NameLists.{mapped_more, mapped_twice}
 

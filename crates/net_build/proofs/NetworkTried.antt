@@ -18,7 +18,7 @@ use Rattle.net_model.specs.Forwarding.{HasEnds}
 use Rattle.net_model.proofs.Hosts.{some_host, one_host}
 use Rattle.ios_config.specs.declared.settings.Config.{Config}
 use Rattle.net_build.specs.Forms.{IsWellFormed}
-use Rattle.net_build.specs.Names.{AreDistinct}
+use Rattle.arc_base.specs.Lists.{AreDistinct}
 use Rattle.net_build.specs.Sites.{full_names}
 use Rattle.net_build.specs.Rows.{AreRows}
 use Rattle.net_build.specs.Claims.{ClearBelow}

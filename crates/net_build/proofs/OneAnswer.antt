@@ -17,7 +17,7 @@ use Rattle.ios_config.specs.Configs.{IsConfigOf, IsRefused}
 use Rattle.ios_config.proofs.Unique.{config_one}
 use Rattle.ios_config.proofs.OneAnswer.{refusal_one, refused_alone}
 use Rattle.net_build.specs.Forms.{IsWellFormed}
-use Rattle.net_build.specs.Names.{AreDistinct}
+use Rattle.arc_base.specs.Lists.{AreDistinct}
 use Rattle.net_build.specs.Networks.{Says, IsFaulty, IsFirstFaulty, IsNetworkWithin, IsFirstRefusalWithin}
 use Rattle.net_build.specs.Order.{tries, RefusesWithin, IsFirstOf}
 use Rattle.net_build.specs.Rows.{AreRows}

@@ -15,7 +15,7 @@ use Rattle.net_model.specs.Validity.{AreApart}
 use Rattle.ios_config.specs.declared.settings.Given.{Given}
 use Rattle.ios_config.specs.declared.settings.Config.{Config}
 use Rattle.ios_config.specs.declared.settings.FaceText.{FaceText}
-use Rattle.net_build.specs.Names.{AreDistinct}
+use Rattle.arc_base.specs.Lists.{AreDistinct}
 use Rattle.net_build.specs.Settings.{address_of, value}
 use Rattle.net_build.specs.Sites.{Site, sites, full_names}
 use Rattle.net_build.specs.Reasons.{IsBefore, IsClear, IsFirst}

@@ -18,7 +18,7 @@ use Rattle.ios_config.specs.declared.settings.Config.{Config}
 use Rattle.ios_config.specs.declared.settings.FaceText.{FaceText}
 use Rattle.net_build.specs.Settings.{lines_of}
 use Rattle.net_build.specs.Sites.{Site, FullName, sites_of, sites, host_name, full_name, full_names, a_end, b_end, ends_of, AreJoined}
-use Rattle.net_build.specs.Names.{AreDistinct}
+use Rattle.arc_base.specs.Lists.{AreDistinct}
 use Rattle.net_build.specs.Lists.{packet_list_key}
 use Rattle.net_build.specs.Rows.{IsFaceRow, IsLinkRow, AreBaseRows}
 use Rattle.net_build.specs.Reasons.{IsClear, IsFirst, InFiles, TriedAlone}

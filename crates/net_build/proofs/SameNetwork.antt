@@ -14,7 +14,7 @@ use Rattle.net_model.specs.declared.rows.Network.{Network}
 use Rattle.net_model.specs.declared.rows.Protocol.{Protocol}
 use Rattle.net_model.specs.declared.rows.Protocol.TheVariants.{Ospf, Bgp}
 use Rattle.ios_config.specs.declared.settings.Config.{Config}
-use Rattle.net_build.specs.Names.{AreDistinct}
+use Rattle.arc_base.specs.Lists.{AreDistinct}
 use Rattle.net_build.specs.Sites.{full_names}
 use Rattle.net_build.specs.Lists.{route_list_key}
 use Rattle.net_build.specs.Rows.{IsSession, IsSessionBefore, AreSessions, AreRows}

@@ -21,7 +21,7 @@ use Rattle.net_model.specs.declared.rows.RouterRow.{RouterRow}
 use Rattle.net_model.specs.declared.rows.Network.{Network}
 use Rattle.net_model.specs.declared.rows.Protocol.{Protocol}
 use Rattle.ios_config.specs.declared.settings.Config.{Config}
-use Rattle.net_build.specs.Names.{AreDistinct}
+use Rattle.arc_base.specs.Lists.{AreDistinct}
 use Rattle.net_build.specs.Settings.{IsPrefixAt, lines_of, value}
 use Rattle.net_build.specs.Sites.{Site, FullName, sites, full_name, full_names, a_end, b_end, ends_of}
 use Rattle.net_build.specs.Ordered.{IsNameBefore}

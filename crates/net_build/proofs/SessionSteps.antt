@@ -13,7 +13,7 @@ use Rattle.net_model.specs.declared.rows.Network.{Network}
 use Rattle.net_model.specs.declared.rows.SessionRow.{SessionRow}
 use Rattle.net_model.specs.Routing.{tail_end, head_end}
 use Rattle.ios_config.specs.declared.settings.Config.{Config}
-use Rattle.net_build.specs.Names.{AreDistinct}
+use Rattle.arc_base.specs.Lists.{AreDistinct}
 use Rattle.net_build.specs.Settings.{lines_of}
 use Rattle.net_build.specs.Neighbors.{remote_of, is_down, filter_of}
 use Rattle.net_build.specs.Sites.{Site, sites, ends_of}

@@ -8,7 +8,7 @@ use Rattle.ios_config.specs.declared.settings.Config.{Config}
 use Rattle.ios_config.specs.declared.settings.FaceText.{FaceText}
 use Rattle.net_build.specs.Forms.{IsWellFormed, IsWellFormedFace}
 use Rattle.net_build.specs.Sites.{Site, host_name, sites_of, sites, full_name, full_names}
-use Rattle.net_build.specs.Names.{AreDistinct}
+use Rattle.arc_base.specs.Lists.{AreDistinct}
 use Rattle.net_build.proofs.Distinct.{Contains-at, one_place}
 use Rattle.arc_base.proofs.Items.{from_map, from_piece, Contains-cases, Contains-none}
 

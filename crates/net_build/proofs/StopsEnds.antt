@@ -14,7 +14,7 @@ use Rattle.ios_config.specs.declared.settings.Config.{Config}
 use Rattle.ios_config.specs.declared.settings.Given.{Given}
 use Rattle.net_build.specs.Settings.{value}
 use Rattle.net_build.specs.Sites.{Site, sites, full_names, ends_of}
-use Rattle.net_build.specs.Names.{AreDistinct}
+use Rattle.arc_base.specs.Lists.{AreDistinct}
 use Rattle.net_build.specs.Lists.{IsPlaceAmong, packet_list_key}
 use Rattle.net_build.specs.Rows.{IsFaceRow, AreRows}
 use Rattle.net_build.specs.Reasons.{IsClear, IsFirst}

@@ -20,7 +20,7 @@ use Rattle.ios_config.specs.declared.settings.Given.{Given}
 use Rattle.ios_config.specs.declared.settings.Config.{Config}
 use Rattle.ios_config.specs.declared.settings.FaceText.{FaceText}
 use Rattle.net_build.specs.Forms.{IsWellFormed, IsWellFormedFace}
-use Rattle.net_build.specs.Names.{AreDistinct}
+use Rattle.arc_base.specs.Lists.{AreDistinct}
 use Rattle.net_build.specs.Settings.{lines_of, address_of, value, cost_of, cost_at, reference_of, bandwidth_of}
 use Rattle.net_build.specs.Sites.{Site, FullName, sites, full_name, full_names, host_name, a_end, b_end, two_ends, ends_of}
 use Rattle.net_build.specs.Lists.{packet_list_key, IsPlaceAmong}

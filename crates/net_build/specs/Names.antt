@@ -4,10 +4,6 @@ use denote.Ref.{Bor}
 use Rattle.ios_config.specs.declared.settings.Config.{Config}
 use Rattle.net_build.specs.Sites.{FullName, host_name}
 
--- no item stands twice
-abbrev pub AreDistinct : {X : Type 0} → List X → Type 0
-AreDistinct xs = AllPairs (λ x y. x ≢ y) xs
-
 -- the names that a list of keys refers to
 abbrev pub names_at : List (Bor (List ℕ) × Bor (List ℕ)) → List FullName
 names_at keys = map (λ key. (key.0.now, key.1.now)) keys

@@ -7,7 +7,7 @@ use Rattle.net_model.specs.declared.rows.SessionRow.{SessionRow}
 use Rattle.net_model.specs.declared.rows.LinkRow.{LinkRow}
 use Rattle.net_model.specs.declared.rows.Network.{Network}
 use Rattle.ios_config.specs.declared.settings.Config.{Config}
-use Rattle.net_build.specs.Names.{AreDistinct}
+use Rattle.arc_base.specs.Lists.{AreDistinct}
 use Rattle.net_build.specs.Lists.{route_list_key}
 use Rattle.net_build.specs.Reasons.{IsClear}
 use Rattle.net_build.specs.Linking.{RefusesLinkFace}

@@ -2,7 +2,7 @@
 ghost use Rattle.std.specs.Prelude.{◌≡◌, ◌≤◌, ◌↔◌, length, None, IsTrue, option_map, slice_get};
 ghost use Rattle.net_build.specs.Settings.{is_point_to_point};
 ghost use Rattle.net_build.specs.Sites.{full_names, sites};
-ghost use Rattle.net_build.specs.Names.{AreDistinct};
+ghost use Rattle.arc_base.specs.Lists.{AreDistinct};
 ghost use Rattle.arc_base.specs.declared.refusal.Kind.TheVariants as kinds;
 ghost use Rattle.net_model.specs.declared.policies.Document.{Document};
 ghost use Rattle.net_build.specs.Reasons.{TriedAlone, InFiles, InDocument};

@@ -1,7 +1,8 @@
 //! The full names of interfaces, in indexes that hold them by reference.
 ghost use Rattle.std.specs.Prelude.{◌≡◌, ℕ, ◌<◌, ◌≤◌, ◌^◌, [], ◌∷◌, ◌++◌, Contains, IfOk, MatchBool, MatchOption, Some, length, slice_get, OnOk, IsTrue, ◌↔◌};
 ghost use Rattle.net_build.specs.Sites.{full_names, host_name};
-ghost use Rattle.net_build.specs.Names.{AreDistinct, names_at, file_names};
+ghost use Rattle.net_build.specs.Names.{names_at, file_names};
+ghost use Rattle.arc_base.specs.Lists.{AreDistinct};
 
 use arc_base::{List, Memory};
 use indexmap::IndexSet;

@@ -5,7 +5,7 @@ ghost use Rattle.net_model.specs.Validity.{AreLinksApart};
 ghost use Rattle.net_model.specs.declared.policies.Document.{Document};
 ghost use Rattle.net_build.specs.Claims.{AreLinkedOrApart, AreOfPartners, ArePartners, AreClaimsOf, ClearBelow, claim_of};
 ghost use Rattle.std.specs.Option.{option_map_or};
-ghost use Rattle.net_build.specs.Names.{AreDistinct};
+ghost use Rattle.arc_base.specs.Lists.{AreDistinct};
 ghost use Rattle.net_build.specs.Sites.{full_names, sites};
 ghost use Rattle.net_build.specs.Reasons.{TriedAlone};
 ghost use Rattle.net_build.specs.Rows.{AreRows};

@@ -11,7 +11,7 @@ ghost use Rattle.arc_base.specs.declared.refusal.Kind.TheVariants as kinds;
 ghost use Rattle.ios_config.specs.Least.{FindsLeast};
 ghost use Rattle.net_build.specs.Reasons.{TriedAlone, InFiles};
 ghost use Rattle.net_build.specs.Rows.{AreBaseRows};
-ghost use Rattle.net_build.specs.Names.{AreDistinct};
+ghost use Rattle.arc_base.specs.Lists.{AreDistinct};
 ghost use Rattle.net_build.specs.Sites.{full_names};
 ghost use Rattle.net_build.specs.FarEnds.{FindsOnly, LeadsTo, LinkLeadsTo, AddsFarEnd, IsListed, IsReached, gives_remote};
 ghost use Rattle.net_build.specs.Peers.{NamesOther, RefusesNeighbor, RefusesNetwork, IsConnectedAt, TellsUnconnected};

@@ -1,7 +1,7 @@
 //! Where the lists of a router stand among the rows of the network.
 ghost use Rattle.std.specs.Prelude.{◌≡◌, ◌<◌, ◌^◌, map, option_map, length, IfOk, Some};
 ghost use Rattle.std.specs.Option.{option_copied};
-ghost use Rattle.net_build.specs.Names.{AreDistinct};
+ghost use Rattle.arc_base.specs.Lists.{AreDistinct};
 ghost use Rattle.net_build.specs.Lists.{IsPlaceAmong, keys_at, packet_list_key, route_list_key};
 
 use arc_base::{List, ListId, Memory, Name};

@@ -5,7 +5,7 @@ ghost use Rattle.net_model.specs.declared.rows.SessionRow.{SessionRow};
 ghost use Rattle.net_model.specs.declared.rows.Protocol.TheVariants as protocols;
 ghost use Rattle.net_build.specs.Settings.{lines_of};
 ghost use Rattle.net_build.specs.Neighbors.{remote_of};
-ghost use Rattle.net_build.specs.Names.{AreDistinct};
+ghost use Rattle.arc_base.specs.Lists.{AreDistinct};
 ghost use Rattle.net_build.specs.Lists.{keys_at, route_list_key};
 ghost use Rattle.net_build.specs.Reasons.{IsClear};
 ghost use Rattle.net_build.specs.Linking.{RefusesLinkFace};

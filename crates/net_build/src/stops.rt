@@ -3,7 +3,7 @@ ghost use Rattle.std.specs.Prelude.{◌≡◌, ◌↔◌, ◌≤◌, IsTrue, Som
 ghost use Rattle.net_model.specs.declared.policies.Document.{Document};
 ghost use Rattle.net_build.specs.Reasons.{TriedAlone};
 ghost use Rattle.net_build.specs.Rows.{AreRows};
-ghost use Rattle.net_build.specs.Names.{AreDistinct};
+ghost use Rattle.arc_base.specs.Lists.{AreDistinct};
 ghost use Rattle.net_build.specs.Sites.{full_names};
 ghost use Rattle.net_model.specs.Routing.{tail_end, head_end};
 ghost use Rattle.net_build.specs.FarEnds.{FindsOnly};

@@ -13,7 +13,7 @@ use Rattle.ios_config.specs.declared.settings.Config.{Config}
 use Rattle.ios_config.specs.declared.settings.ProcessText.{ProcessText}
 use Rattle.net_build.specs.Forms.{IsWellFormed}
 use Rattle.net_build.specs.Lists.{packet_list_key, route_list_key, ArePacketLists, AreRouteLists}
-use Rattle.net_build.specs.Names.{AreDistinct}
+use Rattle.arc_base.specs.Lists.{AreDistinct}
 use Rattle.net_build.specs.Networks.{Says, IsNetworkOf}
 use Rattle.net_build.specs.Order.{tries, Refuses, AreClear}
 use Rattle.net_build.specs.Reasons.{IsClear}

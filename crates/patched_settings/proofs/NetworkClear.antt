@@ -19,7 +19,7 @@ use Rattle.net_build.specs.Addressing.{Overlap, RefusesOverlap, HasEndpoints, Re
 use Rattle.net_build.specs.Kinds.{kind_of, is_serial}
 use Rattle.net_build.specs.Limits.{RefusesInterfaces}
 use Rattle.net_build.specs.Linking.{JoinsFree, RefusesLinkFace, FitsSubnets, RefusesLinkSubnets, HasTypeAt, TypesDiffer, RefusesTypes}
-use Rattle.net_build.specs.Names.{AreDistinct}
+use Rattle.arc_base.specs.Lists.{AreDistinct}
 use Rattle.net_build.specs.Reasons.{IsClear, InDocument}
 use Rattle.net_build.specs.Rows.{AreRows}
 use Rattle.net_build.specs.Settings.{is_point_to_point}

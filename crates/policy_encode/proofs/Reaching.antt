@@ -10,6 +10,7 @@ use Rattle.std.proofs.lemmas.List.FromFn.{length-map-range_with_len, get_or-map-
 use Rattle.std.proofs.lemmas.Option.{slice_get_within}
 use Rattle.arc_base.specs.declared.place.Link.{Link}
 use Rattle.arc_base.proofs.Items.{Contains-map, from_map, Contains-filter, from_filter, AllPairs-none}
+use Rattle.arc_base.specs.Lists.{AreDistinct}
 use Rattle.graph_flow.specs.declared.arcs.Arc as shown
 use Rattle.graph_flow.specs.Paths as graphs
 use Rattle.graph_flow.specs.Sides as cuts
@@ -108,7 +109,7 @@ module _ (net : Network) (valid : IsValid net) (ends : Ends) (whole : Class) (ar
     ]
 
     right_paths : AreReached chosen q (k + 1) → (paths : List (List Link)) → (source_router ends ≢ target_router ends → length paths ≡ k + 1) → (source_router ends ≡ target_router ends → length paths ≡ 0) →
-        All (λ links. graphs.IsPath (routed_arcs chosen q) q.source links q.target) paths → graphs.AreDifferent (graphs.all_links paths) → IsRightPaths net ends k whole (map path_of paths)
+        All (λ links. graphs.IsPath (routed_arcs chosen q) q.source links q.target) paths → AreDistinct (graphs.all_links paths) → IsRightPaths net ends k whole (map path_of paths)
     right_paths r paths apart together each once = record {
       clear = all_clear r;
       enters = λ p of_p. (let is : IsIn classes p = cover p of_p in (m.enter is.place is.class is.at p is.is_of).1 (r.ends is.place (low_of p is)).enter);
@@ -116,7 +117,7 @@ module _ (net : Network) (valid : IsValid net) (ends : Ends) (whole : Class) (ar
       apart = λ e. length-map paths path_of ∙ apart e;
       together = λ e. length-map paths path_of ∙ together e;
       are_paths = All-map (IsPath net ends) path_of paths (λ i d low. path_is (get_or paths i d) (each i d low));
-      once = subst graphs.AreDifferent (same_links paths) once;
+      once = subst AreDistinct (same_links paths) once;
     }
 
     -- what is reached under the edits is met

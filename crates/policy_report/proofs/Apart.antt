@@ -7,12 +7,9 @@ use Rattle.std.proofs.lemmas.Bool.{cases_lt, eqb-true, false≢true}
 use Rattle.std.proofs.lemmas.List.{get_or_default}
 use Rattle.std.proofs.lemmas.List.FromFn.{length-range_with_len, get_or-range_with_len}
 use Rattle.arc_base.proofs.Items.{Contains-head, Contains-tail, Contains-cases, Contains-none, from_piece, AllPairs-append, AllPairs-rest, AllPairs-first, AllPairs-among, AllPairs-map, AllPairs-none, AllPairs-single}
+use Rattle.arc_base.specs.Lists.{AreDistinct}
 use Rattle.edit_space.specs.Numbered.{if_number, of_number, by_number}
 use Rattle.edit_space.proofs.NewListFacts.{picked_from, pairs_picked}
-
--- no two of the items are the same
-abbrev pub AreDifferent : {X : Type 0} → List X → Type 0
-AreDifferent xs = AllPairs (λ x y. x ≢ y) xs
 
 -- an item of a list of one
 pub only_item : {X : Type 0} (x y : X) → Contains (x ∷ []) y → x ≡ y
@@ -35,7 +32,7 @@ items_apart {X} R xs turn all x y (i, l, e) (j, m, f) differ =
 
 -- pieces that share no item, each of different items
 pub pieces_apart : {X Y : Type 0} (f : X → List Y) (xs : List X) → AllPairs (λ x y. (a b : Y) → Contains (f x) a → Contains (f y) b → a ≢ b) xs →
-    ((x : X) → Contains xs x → AreDifferent (f x)) → AreDifferent (flat_map f xs)
+    ((x : X) → Contains xs x → AreDistinct (f x)) → AreDistinct (flat_map f xs)
 pieces_apart {X} {Y} f [] pairs each = AllPairs-none (λ (a : Y) (b : Y). a ≢ b)
 pieces_apart {X} {Y} f (x ∷ xs) pairs each =
     let R : X → X → Type 0 = λ x y. (a b : Y) → Contains (f x) a → Contains (f y) b → a ≢ b in
@@ -44,7 +41,7 @@ pieces_apart {X} {Y} f (x ∷ xs) pairs each =
     (λ a b in_a in_b. let r = from_piece f xs b in_b in AllPairs-first R x r.0 xs pairs r.1 a b in_a r.2)
 
 -- a map that takes no two things to one
-pub map_apart : {X Y : Type 0} (f : X → Y) → ((x y : X) → f x ≡ f y → x ≡ y) → (xs : List X) → AreDifferent xs → AreDifferent (map f xs)
+pub map_apart : {X Y : Type 0} (f : X → Y) → ((x y : X) → f x ≡ f y → x ≡ y) → (xs : List X) → AreDistinct xs → AreDistinct (map f xs)
 map_apart f one xs different =
     AllPairs-map (λ a b. a ≢ b) f xs (AllPairs-among (λ x y. x ≢ y) (λ x y. f x ≢ f y) xs (λ x y in_x in_y differ e. differ (one x y e)) different)
 
@@ -53,7 +50,7 @@ pub number_told : {X : Type 0} (n : ℕ) (thing : ℕ × X) (x : X) → if_numbe
 number_told n thing x e = let (test, same) = cond_some _ _ _ e in (eqb-true _ _ test, same)
 
 -- things put in order by their numbers
-pub numbers_apart : {X : Type 0} (count : ℕ) (things : List (ℕ × X)) → AllPairs (λ t u. t.1 ≢ u.1) things → AreDifferent (by_number count things)
+pub numbers_apart : {X : Type 0} (count : ℕ) (things : List (ℕ × X)) → AllPairs (λ t u. t.1 ≢ u.1) things → AreDistinct (by_number count things)
 numbers_apart {X} count things apart =
     pieces_apart (λ n. of_number n things) (range_with_len 0 count)
     (λ i j d l m a b in_a in_b same.
@@ -85,12 +82,12 @@ none_passes {X} p (x ∷ xs) a e there =
     neither false c e = (refl, e)
 
 -- things that are put at the end where they are not there yet
-pub once_apart : {X : Type 0} (same : X → X → Bool) → ((x : X) → same x x ≡ true) → (xs done : List X) → AreDifferent done →
-    AreDifferent (fold (λ all x. cond (list_any (same x) all) all (all ++ x ∷ [])) done xs)
+pub once_apart : {X : Type 0} (same : X → X → Bool) → ((x : X) → same x x ≡ true) → (xs done : List X) → AreDistinct done →
+    AreDistinct (fold (λ all x. cond (list_any (same x) all) all (all ++ x ∷ [])) done xs)
 once_apart same itself [] done different = different
 once_apart {X} same itself (x ∷ xs) done different = once_apart same itself xs (cond (list_any (same x) done) done (done ++ x ∷ [])) (by (list_any (same x) done) refl)
   where
-    by : (b : Bool) → list_any (same x) done ≡ b → AreDifferent (cond b done (done ++ x ∷ []))
+    by : (b : Bool) → list_any (same x) done ≡ b → AreDistinct (cond b done (done ++ x ∷ []))
     by true e = different
     by false e =
         AllPairs-append (λ a b. a ≢ b) done (x ∷ []) different (AllPairs-single (λ a b. a ≢ b) x)

@@ -29,7 +29,8 @@ use Rattle.edit_space.specs.Numbered.{placed, if_number, of_number, by_number}
 use Rattle.edit_space.specs.Writable.{is_writable}
 use Rattle.edit_space.specs.Sites.{route_list_site, neighbor_site, packet_list_site, takes_list, face_site, route_sites, packet_sites}
 use Rattle.edit_space.proofs.NewListFacts.{picked_from, pairs_picked, placed_apart, placed_is}
-use Rattle.policy_report.proofs.Apart.{AreDifferent, only_item, number_told, pieces_apart, map_apart, numbers_apart, once_apart}
+use Rattle.policy_report.proofs.Apart.{only_item, number_told, pieces_apart, map_apart, numbers_apart, once_apart}
+use Rattle.arc_base.specs.Lists.{AreDistinct}
 
 -- the row of the interface, of the list or of the session is there
 pub record HasSession (net : Network) (face : Face) : Type 0 where
@@ -200,17 +201,17 @@ module _ (net : Network) (valid : IsValid net) where
         | inr xb ↦ elim (edit_of_link m y in_y) [ inl ya ↦ apart.2 (same_face x y l.b m.a e xb ya) | inr yb ↦ apart.3 (same_face x y l.b m.b e xb yb) ]
       ]
 
-  edits_at_apart : (face : Face) → AreDifferent (edits_at net face)
+  edits_at_apart : (face : Face) → AreDistinct (edits_at net face)
   edits_at_apart face = by (has_session net.protocol net face)
     where
-      by : (b : Bool) → AreDifferent (if b then edits.Session face ∷ [] else [])
+      by : (b : Bool) → AreDistinct (if b then edits.Session face ∷ [] else [])
       by true = AllPairs-single (λ x y. x ≢ y) (edits.Session face)
       by false = AllPairs-none (λ x y. x ≢ y)
 
   link_there : (link : LinkRow) → Contains net.links link → (place : ℕ) × (slice_get net.links place ≡ Some link)
   link_there link (k, l, e) = (k, slice_get-get_or net.links k link l ∙ ap Some e)
 
-  link_edits_apart : (link : LinkRow) → Contains net.links link → AreDifferent (link_edits net link)
+  link_edits_apart : (link : LinkRow) → Contains net.links link → AreDistinct (link_edits net link)
   link_edits_apart link there =
       let at = link_there link there in
       let is = valid.links at.0 link at.1 in
@@ -223,7 +224,7 @@ module _ (net : Network) (valid : IsValid net) where
   abbrev session_list : List Edit
   session_list = flat_map (link_edits net) net.links
 
-  sessions_different : AreDifferent session_list
+  sessions_different : AreDistinct session_list
   sessions_different =
       pieces_apart (link_edits net) net.links
       (AllPairs-among AreLinksApart (λ l m. (x y : Edit) → Contains (link_edits net l) x → Contains (link_edits net m) y → x ≢ y) net.links
@@ -245,7 +246,7 @@ module _ (net : Network) (valid : IsValid net) where
 
   -- edits of things that differ at sites that differ
   sites_different : {T : Type 0} (edit : Site → T → Edit) → ((s t : Site) (p q : T) → edit s p ≡ edit t q → (s ≡ t) × (p ≡ q)) →
-      (sites : List Site) (things : List T) → AreDifferent sites → AreDifferent things → AreDifferent (flat_map (λ site. map (edit site) things) sites)
+      (sites : List Site) (things : List T) → AreDistinct sites → AreDistinct things → AreDistinct (flat_map (λ site. map (edit site) things) sites)
   sites_different {T} edit one sites things sites_apart things_apart =
       pieces_apart (λ site. map (edit site) things) sites
       (AllPairs-among (λ (s : Site) (t : Site). s ≢ t) (λ s t. (x y : Edit) → Contains (map (edit s) things) x → Contains (map (edit t) things) y → x ≢ y) sites
@@ -325,7 +326,7 @@ module _ (net : Network) (valid : IsValid net) where
     packet_kind_of x there = let r = at_site packet_edit (packet_sites net) (writable_classes all) x there in sym (ap kind_of r.3) ∙ packet_kind r.0 r.2
 
     -- and no edit stands twice
-    pub edits_different : AreDifferent destinations → AreDifferent all → AreDifferent (all_edits net destinations all)
+    pub edits_different : AreDistinct destinations → AreDistinct all → AreDistinct (all_edits net destinations all)
     edits_different destinations_apart all_apart =
         AllPairs-append (λ x y. x ≢ y) (session_list ++ route_edits) packet_edits
         (AllPairs-append (λ x y. x ≢ y) session_list route_edits sessions_different
@@ -354,11 +355,11 @@ class_itself c =
 pub all_there : (net : Network) (doc : Document) (list : List Edit) → IsValid net → AreEdits net doc list → (x : Edit) → Contains list x → IsThere net x
 all_there net doc list valid are x there = edit_there net valid are.destinations are.classes x (subst (λ (l : List Edit). Contains l x) are.all there)
 
-pub all_different : (net : Network) (doc : Document) (list : List Edit) → IsValid net → AreEdits net doc list → AreDifferent list
+pub all_different : (net : Network) (doc : Document) (list : List Edit) → IsValid net → AreEdits net doc list → AreDistinct list
 all_different net doc list valid are =
-    let destinations_apart : AreDifferent are.destinations =
-    subst (λ (l : List Prefix). AreDifferent l) (sym are.destinations_are.once) (once_apart is_same prefix_itself are.destinations_are.hosts [] (AllPairs-none (λ x y. x ≢ y))) in
-    let classes_apart : AreDifferent are.classes =
-    subst (λ (l : List Class). AreDifferent l) (sym are.classes_are.once)
+    let destinations_apart : AreDistinct are.destinations =
+    subst (λ (l : List Prefix). AreDistinct l) (sym are.destinations_are.once) (once_apart is_same prefix_itself are.destinations_are.hosts [] (AllPairs-none (λ x y. x ≢ y))) in
+    let classes_apart : AreDistinct are.classes =
+    subst (λ (l : List Class). AreDistinct l) (sym are.classes_are.once)
     (once_apart classes.is_same class_itself (flat_map (λ l. l) are.classes_are.lists) [] (AllPairs-none (λ x y. x ≢ y))) in
-    subst (λ (l : List Edit). AreDifferent l) (sym are.all) (edits_different net valid are.destinations are.classes destinations_apart classes_apart)
+    subst (λ (l : List Edit). AreDistinct l) (sym are.all) (edits_different net valid are.destinations are.classes destinations_apart classes_apart)

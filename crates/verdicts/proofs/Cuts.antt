@@ -6,6 +6,7 @@ use Rattle.std.proofs.lemmas.List.{length-map}
 use Rattle.std.proofs.lemmas.List.Elements.{All-contains, All-map, Contains-get_or}
 use Rattle.arc_base.specs.declared.place.Link.{Link}
 use Rattle.arc_base.specs.declared.prefix.Prefix.{Prefix}
+use Rattle.arc_base.specs.Lists.{AreDistinct}
 use Rattle.graph_flow.specs.declared.arcs.Arc as shown
 use Rattle.graph_flow.specs.declared.arcs.LinkRow2.{LinkRow2}
 use Rattle.graph_flow.specs.Paths as graphs
@@ -37,7 +38,7 @@ good_paths net ends g is s t many from there rows paths order =
           (λ k d low. (let found : Found net ends IsAnyArc (path_of (get_or rows k d)) =
           found_path net ends IsAnyArc g is s t from there (get_or rows k d).links (each k d low) in
           found.is_path));
-      once = subst graphs.AreDifferent (all_links_same rows) paths.disjoint;
+      once = subst AreDistinct (all_links_same rows) paths.disjoint;
       in_order = subst AreInOrder (sym (links_same rows)) order;
     }
 

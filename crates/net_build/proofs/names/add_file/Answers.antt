@@ -1,6 +1,7 @@
 use Rattle.std.proofs.Common.{◌≡◌, ◌++◌, [], ◌∷◌, List, Bool, true, false, MatchBool, subst, sym}
 use Rattle.std.specs.Prelude.{map, Contains}
-use Rattle.net_build.specs.Names.{AreDistinct, names_at}
+use Rattle.net_build.specs.Names.{names_at}
+use Rattle.arc_base.specs.Lists.{AreDistinct}
 use Rattle.net_build.specs.Sites.{FullName, host_name}
 use Rattle.ios_config.specs.declared.settings.FaceText.{FaceText}
 use Rattle.net_build.proofs.NameLists.{mapped_more, mapped_twice}

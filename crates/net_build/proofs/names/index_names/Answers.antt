@@ -1,6 +1,7 @@
 use Rattle.std.proofs.Common.{◌≡◌, List, ap, subst, ◌∙◌, sym}
 use Rattle.std.specs.List.{flat_map}
-use Rattle.net_build.specs.Names.{AreDistinct, names_at, file_names}
+use Rattle.net_build.specs.Names.{names_at, file_names}
+use Rattle.arc_base.specs.Lists.{AreDistinct}
 use Rattle.net_build.specs.Sites.{FullName, full_names}
 use Rattle.net_build.proofs.NameLists.{pieces_front, full_names-by_file}
 use Rattle.arc_base.proofs.Items.{pieces_more, pieces_all}

@@ -3,7 +3,7 @@ use Rattle.std.specs.Prelude.{slice_get, map}
 use Rattle.std.proofs.lemmas.Option.{slice_get-get_or}
 use Rattle.ios_config.specs.declared.settings.Config.{Config}
 use Rattle.net_model.specs.declared.rows.SessionRow.{SessionRow}
-use Rattle.net_build.specs.Names.{AreDistinct}
+use Rattle.arc_base.specs.Lists.{AreDistinct}
 use Rattle.net_build.specs.Lists.{keys_at, route_list_key}
 use Rattle.net_build.specs.Ordered.{AreInOrder}
 use Rattle.net_build.specs.Rows.{IsSession, IsSessionBefore}
