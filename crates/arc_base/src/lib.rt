@@ -9,6 +9,7 @@ pub mod laws;
 mod list;
 mod memory;
 mod name;
+mod name_form;
 mod place;
 mod prefix;
 mod prefix_text;
@@ -23,6 +24,7 @@ pub use cut::cut_at;
 pub use list::List;
 pub use memory::Memory;
 pub use name::Name;
+pub use name_form::is_name;
 pub use place::{Face, Link, ListId, Router};
 pub use prefix::Prefix;
 pub use prefix_text::{

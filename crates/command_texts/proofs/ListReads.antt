@@ -13,7 +13,7 @@ use Rattle.ios_words.specs.declared.kinds.BlockKind.TheVariants as blocks
 use Rattle.ios_words.specs.Commands.{ReadBy, completes}
 use Rattle.ios_words.specs.Forms.{AreLengths, IsOrder}
 use Rattle.ios_words.specs.Language.{inert, rows}
-use Rattle.ios_words.specs.Names.{is_name}
+use Rattle.arc_base.specs.NameForms.{is_name}
 use Rattle.ios_words.specs.Numbers.{list_kind}
 use Rattle.ios_words.specs.Prefixes.{whole}
 use Rattle.ios_words.specs.Printed.{order_words, sequence_words, side_words, verdict_word}

@@ -19,7 +19,7 @@ use Rattle.ios_words.specs.declared.kinds.BlockKind.TheVariants as blocks
 use Rattle.ios_words.specs.Forms.{AreLengths, IsExtended, IsFrom, IsListNumber, IsOrder, IsStandard}
 use Rattle.ios_words.specs.Commands.{ReadBy}
 use Rattle.ios_words.specs.Language.{rows}
-use Rattle.ios_words.specs.Names.{is_name}
+use Rattle.arc_base.specs.NameForms.{is_name}
 use Rattle.ios_words.specs.Numbers.{is_extended, is_from, is_standard, list_kind, mask}
 use Rattle.ios_words.specs.Printed.{sequence_words, side_words, top_line, verdict_word}
 use Rattle.ios_words.specs.Prefixes.{whole}

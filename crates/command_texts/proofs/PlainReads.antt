@@ -11,7 +11,8 @@ use Rattle.ios_words.specs.declared.kinds.BlockKind.TheVariants as blocks
 use Rattle.ios_words.specs.Commands.{ReadBy, completes, is_extended_block}
 use Rattle.ios_words.specs.Forms.{IsFrom}
 use Rattle.ios_words.specs.Language.{rows}
-use Rattle.ios_words.specs.Names.{is_face_name, is_name}
+use Rattle.ios_words.specs.Names.{is_face_name}
+use Rattle.arc_base.specs.NameForms.{is_name}
 use Rattle.ios_words.specs.Numbers.{mask}
 use Rattle.ios_words.specs.Prefixes.{holding}
 use Rattle.ios_words.specs.Readings.{finish, match_words, matches}

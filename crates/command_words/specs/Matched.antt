@@ -1,7 +1,7 @@
 -- The command with the values that `clap` found.
 use Rattle.std.specs.Prelude.{List, Option, Some, None, option_and_then, bytes_eq, codes, if◌then◌else◌}
-use Rattle.clap.specs.Walk.{Row, Text, first_of}
 use Rattle.arc_base.specs.Options.{◌>>=◌}
+use Rattle.clap.specs.Walk.{Row, Text, first_of}
 use Rattle.command_words.specs.Commands.{bound_by, conflicts_by, down_by}
 use Rattle.command_words.specs.Values.{generate_of, nodes_of, prefers_of, repair_of, solve_of, trace_of}
 use Rattle.command_words.specs.declared.commands.Command.{Command}

@@ -1,9 +1,9 @@
 -- The values that words are read as.
-use Rattle.std.specs.Prelude.{ℕ, ◌==◌, ◌&&◌, ◌||◌, nat_le, Bool, List, [], ◌∷◌, length, Option, Some, None, if◌then◌else◌}
-use Rattle.std.specs.Char.{is_ascii_digit}
+use Rattle.std.specs.Prelude.{ℕ, ◌==◌, ◌&&◌, nat_le, List, [], ◌∷◌, length, Option, Some, None, if◌then◌else◌}
 use Rattle.std.specs.List.{list_all, slice_split}
 use Rattle.arc_base.specs.PrefixText.{prefix_of}
 use Rattle.arc_base.specs.Options.{◌>>=◌}
+use Rattle.arc_base.specs.NameForms.{is_name}
 use Rattle.cnf_types.specs.Numbers.{natural}
 use Rattle.command_words.specs.declared.commands.Command.{Command}
 use Rattle.command_words.specs.declared.commands.Command.TheVariants.{Generate, Nodes, Prefers, Repair, Solve, Trace}
@@ -56,22 +56,13 @@ price_bound word = number_within 0 512 word
 abbrev pub failed_routers : List ℕ → Option ℕ
 failed_routers word = number_within 0 16 word
 
--- whether a byte may stand in a router's name: a letter, a digit or one of - _ .
-abbrev pub is_name_byte : ℕ → Bool
-is_name_byte b =
-    is_ascii_digit b || (nat_le 65 b && nat_le b 90) || (nat_le 97 b && nat_le b 122) || (b == 45) || (b == 95) || (b == 46)
-
--- whether a word has the form of a router's name: 1 to 64 such bytes
-abbrev pub is_router_name : List ℕ → Bool
-is_router_name word = nat_le 1 (length word) && nat_le (length word) 64 && list_all is_name_byte word
-
 -- the words that commas join
 abbrev pub comma_words : List ℕ → List (List ℕ)
 comma_words text = slice_split (λ b. b == 44) text
 
 -- the names of routers that commas join, at most 256
 abbrev pub router_names : List ℕ → Option (List (List ℕ))
-router_names text = if nat_le (length (comma_words text)) 256 && list_all is_router_name (comma_words text) then Some (comma_words text) else None
+router_names text = if nat_le (length (comma_words text)) 256 && list_all is_name (comma_words text) then Some (comma_words text) else None
 
 -- a repair: the document, the suffix of changed files, the name of the certificate, the highest price and the limit of its search
 abbrev pub repair_of : List ℕ → List ℕ → List ℕ → Option ℕ → Option ℕ → Option Command

@@ -1,10 +1,11 @@
 //! The routers of a path, whose names commas join.
 ghost use Rattle.std.specs.Prelude.{◌≡◌, IfOk};
 ghost use Rattle.std.specs.List.{list_all};
-ghost use Rattle.command_words.specs.Values.{comma_words, is_name_byte, is_router_name, prefers_of, router_names};
+ghost use Rattle.arc_base.specs.NameForms.{is_name};
+ghost use Rattle.command_words.specs.Values.{comma_words, prefers_of, router_names};
 
 use crate::commands::{Command, PrefersWords};
-use arc_base::{List, Memory, Name, cut_at, read_prefix};
+use arc_base::{List, Memory, Name, cut_at, is_name, read_prefix};
 use std::alloc::Global;
 
 // The words that commas join.
@@ -21,40 +22,10 @@ fn comma_words(alloc: Global, text: &[u8]) -> Result<List<Name>, Memory>
     Ok(List::of(words)?)
 }
 
-fn is_name_byte(byte: u8) -> bool
-    ensures { result ≡ is_name_byte byte }
-{
-    byte.is_ascii_digit()
-        || (65 <= byte && byte <= 90)
-        || (97 <= byte && byte <= 122)
-        || byte == 45
-        || byte == 95
-        || byte == 46
-}
-
-fn are_name_bytes(word: &[u8]) -> bool
-    ensures { result ≡ list_all is_name_byte word.now }
-{
-    word.iter().all(|byte| is_name_byte(*byte))
-}
-
-// Whether a word has the form of a router's name.
-fn is_router_name(word: &[u8]) -> bool
-    ensures { result ≡ is_router_name word.now }
-{
-    if word.is_empty() {
-        return false;
-    }
-    if word.len() > 64 {
-        return false;
-    }
-    are_name_bytes(word)
-}
-
 fn are_router_names(words: &[Name]) -> bool
-    ensures { result ≡ list_all is_router_name words.now }
+    ensures { result ≡ list_all is_name words.now }
 {
-    words.iter().all(|word| is_router_name(word.bytes()))
+    words.iter().all(|word| is_name(word.bytes()))
 }
 
 // The names of routers that commas join, at most 256.

@@ -8,7 +8,8 @@ use Rattle.net_model.specs.declared.policies.Class.{Class}
 use Rattle.net_model.specs.declared.rows.Network.{Network}
 use Rattle.net_model.specs.Lists.{permits, route_permits}
 use Rattle.net_model.specs.Packets.{IsOf}
-use Rattle.net_model.specs.Validity.{IsName, IsValid}
+use Rattle.net_model.specs.Validity.{IsValid}
+use Rattle.arc_base.specs.NameForms.{IsName}
 use Rattle.edit_space.specs.declared.edit_kinds.Edit.{Edit}
 use Rattle.edit_space.specs.declared.edit_kinds.Edit.TheVariants as edits
 use Rattle.edit_space.specs.declared.new_lists.NewList.{NewList}

@@ -17,7 +17,8 @@ use Rattle.net_model.specs.declared.rows.LinkRow.{LinkRow}
 use Rattle.net_model.specs.declared.rows.RouterRow.{RouterRow}
 use Rattle.net_model.specs.declared.rows.SessionRow.{SessionRow}
 use Rattle.net_model.specs.declared.rows.Network.{Network}
-use Rattle.net_model.specs.Validity.{IsName, IsFaceName, EndsAt, IsLinkEnd, AreLinked, AreApart, AreLinksApart, AreSessionsApart, FitsProtocol, IsValid, IsValidFace, IsValidLink, IsValidSession, IsValidPacketList, IsValidRouteList}
+use Rattle.net_model.specs.Validity.{EndsAt, IsLinkEnd, AreLinked, AreApart, AreLinksApart, AreSessionsApart, FitsProtocol, IsValid, IsValidFace, IsValidLink, IsValidSession, IsValidPacketList, IsValidRouteList}
+use Rattle.arc_base.specs.NameForms.{IsName, IsFaceName}
 use Rattle.net_model.proofs.Readings.{item_at_place}
 use Rattle.edit_space.specs.declared.edit_kinds.Edit.{Edit}
 use Rattle.edit_space.specs.declared.new_lists.NewList.{NewList}

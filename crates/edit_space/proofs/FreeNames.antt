@@ -14,7 +14,7 @@ use Rattle.std.proofs.lemmas.List.Kept.{AllPairs-filter}
 use Rattle.std.proofs.lemmas.Map.Made.{length-le_from_is_member, IsDistinct-from_AllPairs}
 use Rattle.std.proofs.lemmas.Slice.Eq.{bytes_eq-Decides}
 use Rattle.arc_base.proofs.Items.{from_filter, from_map}
-use Rattle.net_model.specs.Validity.{IsName, is_name_byte}
+use Rattle.arc_base.specs.NameForms.{IsName, is_name_byte}
 use Rattle.edit_space.specs.NewLists.{new_name, is_among, free_names}
 use Rattle.edit_space.proofs.NameSets.{is_among_them, among_them}
 

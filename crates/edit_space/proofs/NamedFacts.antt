@@ -4,7 +4,8 @@ use Rattle.std.specs.Prelude.{AllPairs, Contains, slice_get, slice_index_or}
 use Rattle.std.proofs.lemmas.Bool.{eqb-true, cases_lt}
 use Rattle.std.proofs.lemmas.Option.{none-some, same_Some, slice_get_within, slice_get-get_or, get_or_from_slice_get}
 use Rattle.net_model.specs.declared.rows.Network.{Network}
-use Rattle.net_model.specs.Validity.{IsValid, IsName}
+use Rattle.net_model.specs.Validity.{IsValid}
+use Rattle.arc_base.specs.NameForms.{IsName}
 use Rattle.net_model.proofs.Readings.{place_of_item, item_at_place}
 use Rattle.edit_space.specs.declared.edit_kinds.Edit.{Edit}
 use Rattle.arc_base.specs.declared.place.Face.{Face}

@@ -4,7 +4,8 @@ use Rattle.std.specs.Prelude.{slice_get, slice_index, slice_index_or}
 use Rattle.std.specs.List.{filter_map, range_with_len}
 use Rattle.std.proofs.lemmas.List.{get_or_default}
 use Rattle.net_model.specs.declared.rows.Network.{Network}
-use Rattle.net_model.specs.Validity.{IsName, IsValid}
+use Rattle.net_model.specs.Validity.{IsValid}
+use Rattle.arc_base.specs.NameForms.{IsName}
 use Rattle.net_model.proofs.Readings.{item_at_place}
 use Rattle.std.proofs.lemmas.Option.{slice_get-get_or}
 use Rattle.edit_space.specs.declared.edit_kinds.Edit.{Edit}

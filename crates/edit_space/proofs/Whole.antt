@@ -2,7 +2,8 @@
 use Rattle.std.proofs.Common.{◌≡◌, ℕ, ◌<◌, ◌↔◌, List, length, map, sym, subst}
 use Rattle.std.specs.Prelude.{AllPairs, Contains}
 use Rattle.net_model.specs.declared.rows.Network.{Network}
-use Rattle.net_model.specs.Validity.{IsName, IsValid}
+use Rattle.net_model.specs.Validity.{IsValid}
+use Rattle.arc_base.specs.NameForms.{IsName}
 use Rattle.edit_space.specs.declared.edit_kinds.Edit.{Edit}
 use Rattle.edit_space.specs.declared.new_lists.NewList.{NewList}
 use Rattle.edit_space.specs.declared.new_lists.Named.{Named}

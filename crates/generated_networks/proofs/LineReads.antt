@@ -20,7 +20,8 @@ use Rattle.ios_words.specs.declared.kinds.BlockKind.TheVariants as blocks
 use Rattle.ios_words.specs.declared.kinds.WordFault.{WordFault}
 use Rattle.ios_words.specs.Commands.{is_extended_block, ReadBy}
 use Rattle.ios_words.specs.Language.{rows}
-use Rattle.ios_words.specs.Names.{is_name, is_face_name}
+use Rattle.ios_words.specs.Names.{is_face_name}
+use Rattle.arc_base.specs.NameForms.{is_name}
 use Rattle.ios_words.specs.Numbers.{mask_length, mask_of_address, masks, wildcard_length, wildcard_of_address, area_of}
 use Rattle.ios_words.specs.Prefixes.{holding, whole}
 use Rattle.ios_words.specs.Printed.{top_line}

@@ -8,7 +8,6 @@ use Rattle.graph_flow.specs.declared.arcs.Arc.{Arc}
 use Rattle.graph_flow.specs.declared.search.Mark.{Mark}
 use Rattle.graph_flow.specs.declared.search.Mark.TheVariants.{Unseen, Start, After}
 use Rattle.graph_flow.specs.Paths.{Digraph, IsGraph, nodes_of}
-use Rattle.arc_base.specs.Lists.{AreDistinct}
 use Rattle.graph_flow.specs.Sides.{Separates, IsLeastSide}
 use Rattle.graph_flow.specs.Flows.{Units, unit_at, leaving, entering, only_at, flagged, links_out, IsFlow, IsGreatest, EndsAt}
 use Rattle.graph_flow.specs.Residual.{residual, sent}

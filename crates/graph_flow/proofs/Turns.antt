@@ -7,7 +7,6 @@ use Rattle.std.proofs.lemmas.Bool.{cases_eq, eq-eqb, ne_eqb, cases_lt}
 use Rattle.std.proofs.lemmas.List.{get_or_past, set_past}
 use Rattle.graph_flow.specs.declared.arcs.Arc.{Arc}
 use Rattle.graph_flow.specs.Paths.{Path, Digraph, IsGraph, Joins, MayShare, nodes_of}
-use Rattle.arc_base.specs.Lists.{AreDistinct}
 use Rattle.graph_flow.specs.Flows.{Units, unit_at, unit_from, unit_to, leaving, entering, only_at, IsFlow}
 use Rattle.graph_flow.specs.Residual.{reversed, turned, turn, sent}
 use Rattle.graph_flow.proofs.Lists.{Contains-here, Contains-there, AllPairs-head, AllPairs-tail}

@@ -10,7 +10,7 @@ use Rattle.ios_words.specs.Commands.{completes, is_extended_block, line_words}
 use Rattle.ios_words.specs.Forms.{IsFrom, IsOrder, AreLengths, IsInForm, CommandsAreInForm, AddressesFit, AllAddressesFit}
 use Rattle.ios_words.specs.Language.{rows}
 use Rattle.ios_words.specs.Meanings.{give}
-use Rattle.ios_words.specs.Names.{is_name}
+use Rattle.arc_base.specs.NameForms.{is_name}
 use Rattle.ios_words.specs.Rows.{Rule}
 use Rattle.ios_words.specs.Values.{Values}
 use Rattle.ios_words.proofs.Known.{Known, nothing, learn_parts, Holds, read-holds}

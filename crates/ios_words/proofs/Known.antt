@@ -15,7 +15,8 @@ use Rattle.ios_words.specs.declared.rows.Form.{Form}
 use Rattle.ios_words.specs.declared.rows.Form.TheVariants.{Name, FaceName, Number, Address, Host, Network, Mask, Wildcard, Area, ListNumber, Order, Route, AtLeast, AtMost, Port, FirstPort, LastPort}
 use Rattle.ios_words.specs.declared.rows.Form.TheVariants as forms
 use Rattle.ios_words.specs.Forms.{IsFrom, IsStandard, IsExtended, IsListNumber, AreLengths, IsOrder}
-use Rattle.ios_words.specs.Names.{is_name, is_face_name}
+use Rattle.ios_words.specs.Names.{is_face_name}
+use Rattle.arc_base.specs.NameForms.{is_name}
 use Rattle.ios_words.specs.Prefixes.{holding, whole}
 use Rattle.ios_words.specs.Numbers.{is_from, ranged, number_in, length_from, mask_of_address, mask_length, mask_ones, masks, wildcard_length, area_of, is_standard, is_extended, list_kind}
 use Rattle.std.specs.Option.{option_or}

@@ -5,7 +5,8 @@ use Rattle.std.proofs.lemmas.Slice.Eq.{bytes_eq-Decides}
 use Rattle.std.specs.Char.{is_ascii_digit}
 use Rattle.std.specs.List.{list_all, list_any, AllByRecursion}
 use Rattle.ios_words.specs.declared.names.Before.TheVariants.{Start, Zero, Digit}
-use Rattle.ios_words.specs.Names.{is_name_byte, is_name, is_unit, face_kinds, is_of_kind, is_face_name, IsUnit, IsName, IsFaceName, NamesHaveTheirForm}
+use Rattle.ios_words.specs.Names.{is_unit, is_of_kind, is_face_name, NamesHaveTheirForm}
+use Rattle.arc_base.specs.NameForms.{is_name_byte, is_name, face_kinds, IsUnit, IsName, IsFaceName}
 use Rattle.ios_words.specs.Units.{complete}
 use Rattle.ios_words.proofs.Units.{complete-unit}
 

@@ -14,7 +14,8 @@ use Rattle.arc_base.specs.PrefixText.{address_text, prefix_text, number_of}
 use Rattle.arc_base.proofs.AddressTexts.{IsDotted-address_text}
 use Rattle.arc_base.proofs.NumberTexts.{number_of-some}
 use Rattle.ios_lines.specs.Written.{is_plain}
-use Rattle.ios_words.specs.Names.{is_name_byte, is_name, face_kinds, is_face_name, IsUnit}
+use Rattle.ios_words.specs.Names.{is_face_name}
+use Rattle.arc_base.specs.NameForms.{is_name_byte, is_name, face_kinds, IsUnit}
 use Rattle.ios_words.specs.Numbers.{list_kind}
 use Rattle.ios_words.proofs.NameForms.{names_formed}
 

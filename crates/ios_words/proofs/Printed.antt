@@ -19,7 +19,8 @@ use Rattle.ios_words.specs.Forms.{IsOrder}
 use Rattle.ios_words.specs.Language.{rows, fixed, inert}
 use Rattle.ios_words.specs.declared.rows.Meaning.TheVariants as means
 use Rattle.ios_words.specs.Meanings.{give}
-use Rattle.ios_words.specs.Names.{is_name, is_face_name}
+use Rattle.ios_words.specs.Names.{is_face_name}
+use Rattle.arc_base.specs.NameForms.{is_name}
 use Rattle.ios_words.specs.Numbers.{list_kind, number_in}
 use Rattle.ios_words.specs.Prefixes.{holding, whole}
 use Rattle.ios_words.specs.Printed.{passive_words, neighbor_words, neighbor_list_words, group_words, list_head_words, verdict_word, side_words, packet_words, entry_words, list_line_words, prefix_line_words, permit_all_words}

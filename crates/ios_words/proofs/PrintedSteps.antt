@@ -17,7 +17,8 @@ use Rattle.arc_base.proofs.NumberTexts.{number_of-decimal}
 use Rattle.arc_base.proofs.PrefixTexts.{prefix_cut}
 use Rattle.ios_words.specs.declared.kinds.Flaw.TheVariants.{Amiss}
 use Rattle.ios_words.specs.declared.rows.Form.TheVariants.{Name, FaceName, Address, ListNumber, Order, Route}
-use Rattle.ios_words.specs.Names.{is_name, is_face_name}
+use Rattle.ios_words.specs.Names.{is_face_name}
+use Rattle.arc_base.specs.NameForms.{is_name}
 use Rattle.ios_words.specs.Numbers.{is_from, ranged, number_in, list_kind, mask, masks, mask_ones, length_from, wildcard_of_address, wildcard_length}
 use Rattle.ios_words.specs.Prefixes.{holding}
 use Rattle.ios_words.specs.Printed.{verdict_word}

@@ -20,7 +20,7 @@ use Rattle.ios_words.specs.declared.rows.Meaning.TheVariants as means
 use Rattle.ios_words.specs.Commands.{completes, ReadBy}
 use Rattle.ios_words.specs.Language.{rows, fixed, inert}
 use Rattle.ios_words.specs.Meanings.{give}
-use Rattle.ios_words.specs.Names.{is_name}
+use Rattle.arc_base.specs.NameForms.{is_name}
 use Rattle.ios_words.specs.Numbers.{number_in}
 use Rattle.ios_words.specs.Readings.{State, begins_verdict, begins_entry, after, after_word, match_words, matches, place, then_do, step, read_parts, finish, start, read}
 use Rattle.ios_words.specs.Renumbered.{EntriesMayBeRenumbered, PrefixLinesMayBeRenumbered}

@@ -32,7 +32,8 @@ use Rattle.ios_words.specs.Readings.{State, read_parts, read, then_do, finish, f
 use Rattle.ios_words.specs.Rows.{Piece, Word, Place, Anything, Rule}
 use Rattle.ios_words.specs.Values.{Values, values_with, with_value, with_length, tested, class_prefix}
 use Rattle.ios_words.specs.Meanings.{give}
-use Rattle.ios_words.specs.Names.{is_name, is_face_name}
+use Rattle.ios_words.specs.Names.{is_face_name}
+use Rattle.arc_base.specs.NameForms.{is_name}
 use Rattle.ios_words.specs.Numbers.{number_in, ranged, mask_of_address, wildcard_of_address, area_of}
 use Rattle.ios_words.specs.Returns.{ReturnsSayNothing, HeadsHaveNoReturn, heads_face_or_process}
 use Rattle.ios_words.proofs.PlainWords.{name-plain, face-plain, decimal-plain, address-plain}

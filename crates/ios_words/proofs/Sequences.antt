@@ -10,7 +10,7 @@ use Rattle.ios_words.specs.declared.kinds.WordFault.{WordFault}
 use Rattle.ios_words.specs.declared.rows.Form.TheVariants.{Name, Order}
 use Rattle.ios_words.specs.declared.rows.Meaning.TheVariants as means
 use Rattle.ios_words.specs.Meanings.{give}
-use Rattle.ios_words.specs.Names.{is_name}
+use Rattle.arc_base.specs.NameForms.{is_name}
 use Rattle.ios_words.specs.Readings.{passed, place, after_word, then_do, read_parts, finish, read}
 use Rattle.ios_words.specs.Renumbered.{NumberedLinesHaveSequences}
 use Rattle.ios_words.specs.Rows.{Piece, Word, Place, Bracket, Rule}

@@ -6,7 +6,8 @@ use Rattle.ios_words.specs.declared.commands.Command.{Command}
 use Rattle.ios_words.specs.declared.commands.Command.TheVariants.{Hostname, Interface, RouterOspf, RouterBgp, ListBlock, ListLine, PrefixLine, Address, NoAddress, Shutdown, Bandwidth, Cost, Area, Point, Group, Covers, Passive, Reference, RouterId, RemoteAs, NeighborDown, NeighborList, Tells, Entry, Inert}
 use Rattle.ios_words.specs.declared.kinds.BlockKind.{BlockKind}
 use Rattle.ios_words.specs.Commands.{Reads}
-use Rattle.ios_words.specs.Names.{is_name, is_face_name}
+use Rattle.ios_words.specs.Names.{is_face_name}
+use Rattle.arc_base.specs.NameForms.{is_name}
 
 -- the number is from the first to the second
 abbrev pub IsFrom : ℕ → ℕ → ℕ → Type 0

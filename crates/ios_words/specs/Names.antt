@@ -1,17 +1,9 @@
 -- Names as router files write them.
-use Rattle.std.specs.Prelude.{ℕ, ◌==◌, ◌&&◌, ◌||◌, nat_le, Bool, false, not, List, [], ◌∷◌, length, drop, codes, take, ◌≡◌, ◌≤◌, ◌⊎◌, ◌++◌, IsTrue, Contains}
+use Rattle.std.specs.Prelude.{ℕ, ◌==◌, ◌&&◌, ◌||◌, nat_le, Bool, false, not, List, [], ◌∷◌, length, drop, take, IsTrue}
 use Rattle.std.specs.Char.{is_ascii_digit}
-use Rattle.std.specs.List.{list_all, list_any, slice_split, AllByRecursion}
+use Rattle.std.specs.List.{list_all, list_any, slice_split}
 use Rattle.std.specs.Str.{bytes_eq}
-
--- whether a byte may stand in a name: a letter, a digit or one of - _ .
-abbrev pub is_name_byte : ℕ → Bool
-is_name_byte b =
-    is_ascii_digit b || (nat_le 65 b && nat_le b 90) || (nat_le 97 b && nat_le b 122) || (b == 45) || (b == 95) || (b == 46)
-
--- whether a word is a name: 1 to 64 letters, digits and marks
-abbrev pub is_name : List ℕ → Bool
-is_name word = nat_le 1 (length word) && nat_le (length word) 64 && list_all is_name_byte word
+use Rattle.arc_base.specs.NameForms.{is_name, IsName, IsFaceName, face_kinds}
 
 -- whether a text is a number of any length: digits, with no zero before another digit
 abbrev pub is_numeral : List ℕ → Bool
@@ -22,11 +14,6 @@ is_numeral (b ∷ rest) = is_ascii_digit b && list_all is_ascii_digit rest && (n
 abbrev pub is_unit : List ℕ → Bool
 is_unit text = list_all is_numeral (slice_split (λ b. b == 47) text)
 
--- the kinds of interface, with which their names begin
-abbrev pub face_kinds : List (List ℕ)
-face_kinds =
-    codes "Ethernet" ∷ codes "FastEthernet" ∷ codes "GigabitEthernet" ∷ codes "TenGigabitEthernet" ∷ codes "Serial" ∷ codes "Loopback" ∷ []
-
 -- whether a word is this kind and then numbers joined by slashes
 abbrev pub is_of_kind : List ℕ → List ℕ → Bool
 is_of_kind word kind = bytes_eq (take (length kind) word) kind && is_unit (drop (length kind) word)
@@ -34,27 +21,6 @@ is_of_kind word kind = bytes_eq (take (length kind) word) kind && is_unit (drop 
 -- whether a word is the name of an interface: a kind and its numbers, at most 64 bytes in all
 abbrev pub is_face_name : List ℕ → Bool
 is_face_name word = nat_le (length word) 64 && list_any (is_of_kind word) face_kinds
-
--- the bytes are decimal numbers joined by slashes
-abbrev pub IsUnit : List ℕ → Type 0
-IsUnit [] = ⊥
-IsUnit (b ∷ []) = IsTrue (is_ascii_digit b)
-IsUnit (b ∷ c ∷ bs) = IsTrue (is_ascii_digit b) × (IsUnit (c ∷ bs) ⊎ ((c ≡ 47) × IsUnit bs))
-
--- the bytes are a name: 1 to 64 letters, digits and marks
-pub record IsName (name : List ℕ) : Type 0 where
-  pub some : 1 ≤ length name
-  pub few : length name ≤ 64
-  pub bytes : AllByRecursion (λ b. IsTrue (is_name_byte b)) name
-
--- the bytes are the name of an interface: one of these kinds and its number, at most 64 bytes in all
-pub record IsFaceName (name : List ℕ) : Type 0 where
-  pub kind : List ℕ
-  pub unit : List ℕ
-  pub known : Contains face_kinds kind
-  pub numbers : IsUnit unit
-  pub joined : name ≡ kind ++ unit
-  pub few : length name ≤ 64
 
 -- a word that passes the test of a name is one
 abbrev pub NamesHaveTheirForm : Type 0

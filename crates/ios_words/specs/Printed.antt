@@ -13,7 +13,8 @@ use Rattle.ios_words.specs.declared.kinds.BlockKind.TheVariants as blocks
 use Rattle.ios_words.specs.Commands.{is_extended_block, ReadBy}
 use Rattle.ios_words.specs.Forms.{IsOrder}
 use Rattle.ios_words.specs.Language.{rows}
-use Rattle.ios_words.specs.Names.{is_name, is_face_name}
+use Rattle.ios_words.specs.Names.{is_face_name}
+use Rattle.arc_base.specs.NameForms.{is_name}
 use Rattle.ios_words.specs.Numbers.{list_kind}
 use Rattle.ios_words.specs.Prefixes.{whole}
 use Rattle.ios_words.specs.Services.{IsWritable, protocol_word, port_words}

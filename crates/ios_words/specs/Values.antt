@@ -8,7 +8,8 @@ use Rattle.ios_words.specs.declared.kinds.Flaw.TheVariants.{Amiss}
 use Rattle.ios_words.specs.declared.rows.Form.{Form}
 use Rattle.ios_words.specs.declared.rows.Form.TheVariants.{Name, FaceName, Number, Address, Host, Network, Mask, Wildcard, Area, ListNumber, Order, Route, AtLeast, AtMost, Protocol, Port, FirstPort, LastPort}
 use Rattle.ios_words.specs.declared.services.Services.{Services}
-use Rattle.ios_words.specs.Names.{is_name, is_face_name}
+use Rattle.ios_words.specs.Names.{is_face_name}
+use Rattle.arc_base.specs.NameForms.{is_name}
 use Rattle.ios_words.specs.Numbers.{ranged, number_in, mask_length, wildcard_length, area_of, class_length, list_kind}
 use Rattle.ios_words.specs.Prefixes.{holding, whole}
 use Rattle.ios_words.specs.ServiceRanges.{all, of_ports, services_of}

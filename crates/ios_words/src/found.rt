@@ -1,13 +1,13 @@
 //! What the words of a line gave so far.
 
 use crate::kinds::Flaw;
-use crate::names::{is_face_name, is_name};
+use crate::names::is_face_name;
 use crate::numbers::{area_of, is_from, list_kind, mask_length, number_in, wildcard_length};
 use crate::prefixes::{class_prefix, holding, route_of};
 use crate::protocols::{port_of, services_of};
 use crate::rows::Form;
 use crate::services::Services;
-use arc_base::{Prefix, read_address};
+use arc_base::{Prefix, is_name, read_address};
 
 /// What the words of a line gave so far.
 #[derive(Clone, Copy, Debug)]

@@ -1,42 +1,13 @@
 //! Names as router files write them.
 ghost use Rattle.std.specs.Prelude.{◌≡◌};
 ghost use Rattle.std.specs.Char.{is_ascii_digit};
-ghost use Rattle.std.specs.List.{list_all, list_any};
-ghost use Rattle.ios_words.specs.Names.{is_name_byte, is_name, is_unit, is_of_kind, is_face_name, face_kinds};
+ghost use Rattle.std.specs.List.{list_any};
+ghost use Rattle.ios_words.specs.Names.{is_unit, is_of_kind, is_face_name};
+ghost use Rattle.arc_base.specs.NameForms.{face_kinds};
 ghost use Rattle.ios_words.specs.Units.{next, ends};
 
 /// The most bytes that a name has.
 const MOST_BYTES: usize = 64;
-
-/// Whether a word has the form of a name: 1 to 64 letters, digits, `-`, `_` and `.`.
-pub(crate) fn is_name(word: &[u8]) -> bool
-    ensures { result ≡ is_name word.now }
-{
-    if word.is_empty() {
-        return false;
-    }
-    if word.len() > MOST_BYTES {
-        return false;
-    }
-    are_name_bytes(word)
-}
-
-fn are_name_bytes(word: &[u8]) -> bool
-    ensures { result ≡ list_all is_name_byte word.now }
-{
-    word.iter().all(|byte| is_name_byte(*byte))
-}
-
-fn is_name_byte(byte: u8) -> bool
-    ensures { result ≡ is_name_byte byte }
-{
-    byte.is_ascii_digit()
-        || (65 <= byte && byte <= 90)
-        || (97 <= byte && byte <= 122)
-        || byte == 45
-        || byte == 95
-        || byte == 46
-}
 
 /// Whether a word is the name of an interface: a known kind and its numbers, at most 64 bytes in all.
 pub(crate) fn is_face_name(word: &[u8]) -> bool

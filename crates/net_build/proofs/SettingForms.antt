@@ -4,12 +4,11 @@ use Rattle.std.specs.Prelude.{Contains, IfSome, IsTrue, option_and_then, is_some
 use Rattle.std.specs.List.{find}
 use Rattle.std.proofs.lemmas.List.{length-reverse, get_or-reverse}
 use Rattle.std.proofs.lemmas.Option.{none-some, same_Some}
-use Rattle.net_model.specs.Validity.{IsName, IsFaceName, IsUnit}
+use Rattle.arc_base.specs.NameForms.{IsName, IsFaceName, is_name}
 use Rattle.ios_words.specs.declared.commands.Command.{Command}
 use Rattle.ios_words.specs.declared.commands.Command.TheVariants as commands
 use Rattle.ios_words.specs.Forms.{IsFrom, IsInForm}
-use Rattle.ios_words.specs.Names.{is_name, is_face_name}
-use Rattle.ios_words.specs.Names as words
+use Rattle.ios_words.specs.Names.{is_face_name}
 use Rattle.ios_words.proofs.NameForms.{names_formed}
 use Rattle.ios_config.specs.declared.commands.FileCommand.{FileCommand}
 use Rattle.ios_config.specs.declared.settings.Given.{Given}
@@ -20,18 +19,11 @@ use Rattle.net_build.specs.Forms.{IsWellFormedFace, BindsName}
 use Rattle.arc_base.proofs.Items.{Contains-cases, Contains-none}
 
 -- names that pass their tests have their forms
-unit_form : (bytes : List ℕ) → words.IsUnit bytes → IsUnit bytes
-unit_form [] is = absurd is
-unit_form (b ∷ []) is = is
-unit_form (b ∷ c ∷ bytes) is = (is.0, elim is.1 [ inl more ↦ inl (unit_form (c ∷ bytes) more) | inr next ↦ inr (next.0, unit_form bytes next.1) ])
-
 name_form : (name : List ℕ) → IsTrue (is_name name) → IsName name
-name_form name passes = let w = (names_formed name).0 passes in record { some = w.some; few = w.few; bytes = w.bytes }
+name_form name = (names_formed name).0
 
 pub face_name_form : (name : List ℕ) → IsTrue (is_face_name name) → IsFaceName name
-face_name_form name passes =
-    let w = (names_formed name).1 passes in
-    record { kind = w.kind; unit = w.unit; known = w.known; numbers = unit_form w.unit w.numbers; joined = w.joined; few = w.few }
+face_name_form name = (names_formed name).1
 
 -- what a setting says, by its command
 none_some : {V : Type 0} (v : V) → None ≡ Some (Some v) → ⊥

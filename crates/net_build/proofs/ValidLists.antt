@@ -13,7 +13,8 @@ use Rattle.net_model.specs.declared.lists.RouteList.{RouteList}
 use Rattle.net_model.specs.declared.policies.Document.{Document}
 use Rattle.net_model.specs.declared.rows.RouterRow.{RouterRow}
 use Rattle.net_model.specs.declared.rows.Network.{Network}
-use Rattle.net_model.specs.Validity.{IsValidPacketList, IsValidRouteList, IsName}
+use Rattle.net_model.specs.Validity.{IsValidPacketList, IsValidRouteList}
+use Rattle.arc_base.specs.NameForms.{IsName}
 use Rattle.ios_words.specs.declared.commands.Command.{Command}
 use Rattle.ios_words.specs.declared.commands.Command.TheVariants as commands
 use Rattle.ios_config.specs.declared.settings.Given.{Given}

@@ -9,7 +9,8 @@ use Rattle.net_model.specs.declared.policies.Document.{Document}
 use Rattle.net_model.specs.declared.rows.FaceRow.{FaceRow}
 use Rattle.net_model.specs.declared.rows.RouterRow.{RouterRow}
 use Rattle.net_model.specs.declared.rows.Network.{Network}
-use Rattle.net_model.specs.Validity.{IsValid, AreLinked, AreApart, IsName}
+use Rattle.net_model.specs.Validity.{IsValid, AreLinked, AreApart}
+use Rattle.arc_base.specs.NameForms.{IsName}
 use Rattle.ios_config.specs.declared.settings.Config.{Config}
 use Rattle.ios_config.specs.declared.settings.Setting.{Setting}
 use Rattle.net_build.specs.Forms.{IsWellFormed}

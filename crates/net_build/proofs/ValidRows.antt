@@ -14,7 +14,8 @@ use Rattle.net_model.specs.declared.rows.FaceRow.{FaceRow}
 use Rattle.net_model.specs.declared.rows.LinkRow.{LinkRow}
 use Rattle.net_model.specs.declared.rows.Protocol.{Protocol}
 use Rattle.net_model.specs.declared.rows.Network.{Network}
-use Rattle.net_model.specs.Validity.{IsValidFace, IsValidLink, IsLinkEnd, IsPlace, IsFaceName}
+use Rattle.net_model.specs.Validity.{IsValidFace, IsValidLink, IsLinkEnd, IsPlace}
+use Rattle.arc_base.specs.NameForms.{IsFaceName}
 use Rattle.ios_words.specs.declared.commands.Command.{Command}
 use Rattle.ios_config.specs.declared.settings.Given.{Given}
 use Rattle.ios_config.specs.declared.settings.Config.{Config}

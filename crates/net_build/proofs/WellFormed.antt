@@ -4,7 +4,7 @@ use Rattle.std.specs.Prelude.{Contains, IfSome, All, option_map, unwrap_or, slic
 use Rattle.std.specs.List.{AllZip}
 use Rattle.std.proofs.lemmas.List.{get_or_default}
 use Rattle.std.proofs.lemmas.Option.{slice_get-get_or, slice_get_within, get_or_from_slice_get}
-use Rattle.net_model.specs.Validity.{IsName, IsFaceName}
+use Rattle.arc_base.specs.NameForms.{IsName, IsFaceName}
 use Rattle.ios_lines.specs.declared.line.Lines.{Lines}
 use Rattle.ios_words.specs.declared.commands.Command.{Command}
 use Rattle.ios_words.specs.Forms.{IsInForm}

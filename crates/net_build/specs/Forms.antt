@@ -1,6 +1,6 @@
 -- The forms of what a router file says: names of their form, numbers in their ranges, and no interface twice.
 use Rattle.std.specs.Prelude.{◌≢◌, ◌≤◌, IfSome, All, AllPairs}
-use Rattle.net_model.specs.Validity.{IsName, IsFaceName}
+use Rattle.arc_base.specs.NameForms.{IsName, IsFaceName}
 use Rattle.ios_words.specs.declared.commands.Command.{Command}
 use Rattle.ios_words.specs.declared.commands.Command.TheVariants as commands
 use Rattle.ios_config.specs.declared.settings.Config.{Config}

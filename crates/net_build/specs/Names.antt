@@ -1,5 +1,5 @@
 -- The full names of interfaces in an index, which holds them by reference.
-use Rattle.std.specs.Prelude.{◌≢◌, ℕ, List, map, AllPairs}
+use Rattle.std.specs.Prelude.{ℕ, List, map}
 use denote.Ref.{Bor}
 use Rattle.ios_config.specs.declared.settings.Config.{Config}
 use Rattle.net_build.specs.Sites.{FullName, host_name}

@@ -2,9 +2,9 @@
 use Rattle.std.specs.Prelude.{◌≡◌, ℕ, ◌+◌, ◌*◌, ◌^◌, ◌==◌, ◌&&◌, ◌||◌, ◌≤◌, ◌⊎◌, nat_le, nat_lt, Bool, true, false, List, codes, bytes_eq, Option, Some, None, option_and_then, if◌then◌else◌, refl, IsSomeAnd}
 use Rattle.std.specs.Option.{option_map_or}
 use Rattle.std.proofs.lemmas.Bool.{and_parts, leb-true, ltb-true}
+use Rattle.arc_base.specs.Options.{◌>>=◌}
 use Rattle.serde_json.specs.Data.{Data}
 use Rattle.serde_json.specs.Find.{get, as_number, as_u64, as_str}
-use Rattle.arc_base.specs.Options.{◌>>=◌}
 use Rattle.net_model.specs.declared.services.Service.{Service}
 use Rattle.net_model.specs.Services.{whole_service}
 

@@ -15,7 +15,8 @@ use Rattle.net_model.specs.declared.lists.RouteList.{RouteList}
 use Rattle.net_model.specs.declared.rows.FaceRow.{FaceRow}
 use Rattle.net_model.specs.declared.rows.LinkRow.{LinkRow}
 use Rattle.net_model.specs.declared.rows.RouterRow.{RouterRow}
-use Rattle.net_model.specs.Validity.{IsValid, AreLinksApart, AreSessionsApart, IsValidSession, IsValidPacketList, IsValidRouteList, IsValidFace, IsValidLink, IsFaceName, IsName, IsLinkEnd, EndsAt, AreLinked, AreApart}
+use Rattle.net_model.specs.Validity.{IsValid, AreLinksApart, AreSessionsApart, IsValidSession, IsValidPacketList, IsValidRouteList, IsValidFace, IsValidLink, IsLinkEnd, EndsAt, AreLinked, AreApart}
+use Rattle.arc_base.specs.NameForms.{IsFaceName, IsName}
 use Rattle.net_laws.specs.Examples.{users_1, users_2}
 use Rattle.net_laws.specs.Square.{users_3, users_4, subnet_1, subnet_2, subnet_3, subnet_4, face, user_face, link, router}
 use Rattle.net_examples.specs.Square.{even_square as square, end_1, end_2}

@@ -13,7 +13,8 @@ use Rattle.net_model.specs.declared.lists.RouteList.{RouteList}
 use Rattle.net_model.specs.declared.rows.FaceRow.{FaceRow}
 use Rattle.net_model.specs.declared.rows.LinkRow.{LinkRow}
 use Rattle.net_model.specs.declared.rows.RouterRow.{RouterRow}
-use Rattle.net_model.specs.Validity.{AreLinksApart, AreSessionsApart, IsValidSession, IsValidPacketList, IsValidRouteList, IsValidFace, IsValidLink, IsFaceName, IsName, IsLinkEnd, EndsAt, AreLinked, AreApart}
+use Rattle.net_model.specs.Validity.{AreLinksApart, AreSessionsApart, IsValidSession, IsValidPacketList, IsValidRouteList, IsValidFace, IsValidLink, IsLinkEnd, EndsAt, AreLinked, AreApart}
+use Rattle.arc_base.specs.NameForms.{IsFaceName, IsName}
 use Rattle.net_laws.specs.Examples.{two_routers, users_1, users_2, between, end_1, end_2, owner_2, owner_1, the_link, ExampleIsValid}
 
 read_is : {X : Type 0} (x y : X) → ◌≡◌ {A = Option X} (Some x) (Some y) → x ≡ y

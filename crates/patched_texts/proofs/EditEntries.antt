@@ -16,7 +16,7 @@ use Rattle.ios_lines.specs.declared.line.Lines.{Lines}
 use Rattle.ios_lines.specs.Written.{spaced}
 use Rattle.ios_words.specs.declared.kinds.BlockKind.TheVariants as kinds
 use Rattle.ios_words.specs.Forms.{IsOrder}
-use Rattle.ios_words.specs.Names.{is_name}
+use Rattle.arc_base.specs.NameForms.{is_name}
 use Rattle.ios_words.specs.Numbers.{list_kind}
 use Rattle.ios_words.specs.Printed.{top_line, entry_words, prefix_line_words, permit_all_words, list_head_words}
 use Rattle.ios_words.proofs.PrintedLines.{entry-line, list_head-line, prefix_line-line, permit_all-line, closing-line}

@@ -11,8 +11,8 @@ use Rattle.arc_base.proofs.Items.{AllPairs-first, AllPairs-rest, from_filter, fr
 use Rattle.net_model.proofs.Readings.{item_at_place}
 use Rattle.net_model.specs.declared.rows.Network.{Network}
 use Rattle.net_model.specs.declared.rows.RouterRow.{RouterRow}
-use Rattle.net_model.specs.Validity.{IsName, IsValid}
-use Rattle.ios_words.specs.Names.{is_name, is_name_byte}
+use Rattle.net_model.specs.Validity.{IsValid}
+use Rattle.arc_base.specs.NameForms.{IsName, is_name, is_name_byte}
 use Rattle.ios_config.specs.declared.settings.Config.{Config}
 use Rattle.ios_config.specs.declared.settings.ListText.{ListText}
 use Rattle.net_model.specs.declared.policies.Class.{Class}

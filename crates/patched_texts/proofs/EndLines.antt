@@ -14,7 +14,7 @@ use Rattle.net_model.specs.declared.rows.Protocol.TheVariants.{Ospf, Bgp}
 use Rattle.net_model.specs.Routing.{session_at}
 use Rattle.net_model.specs.Validity.{FitsProtocol}
 use Rattle.ios_lines.specs.Written.{spaced}
-use Rattle.ios_words.specs.Names.{is_name}
+use Rattle.arc_base.specs.NameForms.{is_name}
 use Rattle.ios_words.specs.Printed.{neighbor_list_words, group_words}
 use Rattle.ios_words.specs.declared.commands.Command.{Command}
 use Rattle.ios_words.specs.declared.commands.Command.TheVariants as commands

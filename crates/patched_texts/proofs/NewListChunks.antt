@@ -11,7 +11,7 @@ use Rattle.net_model.specs.declared.policies.Class.{Class}
 use Rattle.ios_lines.specs.Written.{spaced}
 use Rattle.ios_words.specs.Commands.{ReadBy}
 use Rattle.ios_words.specs.Language.{rows}
-use Rattle.ios_words.specs.Names.{is_name}
+use Rattle.arc_base.specs.NameForms.{is_name}
 use Rattle.ios_words.specs.Printed.{entry_words, list_head_words, permit_all_words, top_line}
 use Rattle.ios_words.specs.declared.commands.Command.TheVariants as commands
 use Rattle.ios_words.specs.declared.kinds.BlockKind.TheVariants as kinds

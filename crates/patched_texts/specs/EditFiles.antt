@@ -13,7 +13,7 @@ use Rattle.ios_lines.specs.declared.line.Lines.{Lines}
 use Rattle.ios_lines.specs.ChangeLaws.{CanBeCut}
 use Rattle.ios_lines.specs.Lines.{AreLinesOf}
 use Rattle.ios_lines.specs.Texts.{text_lines}
-use Rattle.ios_words.specs.Names.{is_name}
+use Rattle.arc_base.specs.NameForms.{is_name}
 use Rattle.ios_words.specs.Numbers.{list_kind}
 use Rattle.ios_config.specs.declared.commands.FileCommand.{FileCommand}
 use Rattle.ios_config.specs.declared.settings.FaceText.{FaceText}

@@ -23,7 +23,7 @@ use Rattle.ios_words.specs.declared.kinds.BlockKind.TheVariants as kinds
 use Rattle.ios_words.specs.Commands.{ReadBy}
 use Rattle.ios_words.specs.Forms.{IsOrder}
 use Rattle.ios_words.specs.Language.{rows}
-use Rattle.ios_words.specs.Names.{is_name}
+use Rattle.arc_base.specs.NameForms.{is_name}
 use Rattle.ios_words.specs.Numbers.{list_kind}
 use Rattle.ios_words.specs.Printed.{route_text}
 use Rattle.ios_config.specs.declared.commands.FileCommand.{FileCommand}

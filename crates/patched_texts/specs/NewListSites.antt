@@ -5,7 +5,7 @@ use Rattle.arc_base.specs.declared.prefix.Prefix.{Prefix}
 use Rattle.net_model.specs.declared.policies.Class.{Class}
 use Rattle.ios_lines.specs.Written.{spaced}
 use Rattle.ios_words.specs.declared.commands.Command.TheVariants as commands
-use Rattle.ios_words.specs.Names.{is_name}
+use Rattle.arc_base.specs.NameForms.{is_name}
 use Rattle.ios_words.specs.Printed.{permit_all_words, list_head_words, entry_words, top_line, route_text, all_routes}
 use Rattle.net_build.specs.Lists.{packet_text}
 use Rattle.edit_space.specs.After.{class_entry, every_packet}

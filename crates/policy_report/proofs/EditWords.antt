@@ -18,7 +18,8 @@ use Rattle.net_model.specs.declared.rows.RouterRow.{RouterRow}
 use Rattle.net_model.specs.declared.rows.SessionRow.{SessionRow}
 use Rattle.net_model.specs.declared.rows.Network.{Network}
 use Rattle.net_model.specs.Routing.{session_at}
-use Rattle.net_model.specs.Validity.{IsValid, IsName, IsFaceName, IsUnit, IsValidPacketList, IsValidRouteList, face_kinds}
+use Rattle.net_model.specs.Validity.{IsValid, IsValidPacketList, IsValidRouteList}
+use Rattle.arc_base.specs.NameForms.{IsName, IsFaceName, IsUnit, face_kinds}
 use Rattle.edit_space.specs.declared.edit_kinds.Edit.{Edit}
 use Rattle.edit_space.specs.declared.edit_kinds.Edit.TheVariants as edits
 use Rattle.policy_report.specs.Edits.{router_name, owner_name, face_name, neighbor_text, route_list_words, packet_list_words, edit_words, HasAddresses}

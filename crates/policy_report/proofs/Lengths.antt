@@ -19,7 +19,8 @@ use Rattle.net_model.specs.declared.verdicts.LinkPath.{LinkPath}
 use Rattle.net_model.specs.declared.verdicts.Verdict.{Verdict}
 use Rattle.net_model.specs.declared.verdicts.Verdict.TheVariants.{Closed, Paths, Walk, Denied, Cut, Refused}
 use Rattle.net_model.specs.declared.services.Service.{Service}
-use Rattle.net_model.specs.Validity.{IsValid, IsName}
+use Rattle.net_model.specs.Validity.{IsValid}
+use Rattle.arc_base.specs.NameForms.{IsName}
 use Rattle.policy_report.specs.Lengths.{IsShort, ReportsAreShort}
 use Rattle.policy_report.specs.Lines.{after_spaces, line}
 use Rattle.policy_report.specs.Reports.{kind_word, answer_word, link_words, side_words, class_words, packet_words, closed_line, path_line, refused_line, witness_lines, block_text, blocks_text}

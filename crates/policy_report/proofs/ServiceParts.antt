@@ -16,7 +16,7 @@ use Rattle.net_model.specs.declared.policies.Class.{Class}
 use Rattle.net_model.specs.declared.rows.RouterRow.{RouterRow}
 use Rattle.net_model.specs.declared.services.Service.{Service}
 use Rattle.net_model.specs.Services.{whole_service}
-use Rattle.net_model.specs.Validity.{IsName}
+use Rattle.arc_base.specs.NameForms.{IsName}
 use Rattle.policy_report.specs.Readings.{services_at, class_at, service_at, packet_at}
 use Rattle.policy_report.specs.Reports.{class_words, packet_words, link_words, side_words}
 use Rattle.policy_report.specs.ServiceWords.{service_text, service_word, range_word, is_whole, service_words, range_words, service_named, range_named}

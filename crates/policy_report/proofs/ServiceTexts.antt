@@ -12,7 +12,7 @@ use Rattle.arc_base.specs.PrefixText.{number_of}
 use Rattle.arc_base.proofs.NumberTexts.{number_of-some, number_of-decimal}
 use Rattle.net_model.specs.declared.services.Service.{Service}
 use Rattle.net_model.specs.Services.{whole_service}
-use Rattle.net_model.specs.Validity.{IsName, is_name_byte}
+use Rattle.arc_base.specs.NameForms.{IsName, is_name_byte}
 use Rattle.policy_report.specs.ServiceWords.{service_text, service_word, range_word, is_whole, service_of, range_from, after_colon, service_named, range_named, ServiceWordsAreExact, RangeWordsAreExact, NamesAreNoServices}
 use Rattle.policy_report.proofs.SameServices.{whole_is, range_back, range_ends}
 use Rattle.policy_report.proofs.Separators.{Lacks, written, decimal_lacks, joined_cut, no_cut, cut_joined}

@@ -10,7 +10,7 @@ use Rattle.arc_base.specs.declared.place.Link.{Link}
 use Rattle.arc_base.specs.declared.prefix.Prefix.{Prefix}
 use Rattle.arc_base.specs.PrefixText.{address_text, prefix_text}
 use Rattle.arc_base.proofs.AddressTexts.{IsDotted-address_text}
-use Rattle.net_model.specs.Validity.{IsName, is_name_byte}
+use Rattle.arc_base.specs.NameForms.{IsName, is_name_byte}
 use Rattle.net_model.specs.declared.rows.RouterRow.{RouterRow}
 use Rattle.policy_report.specs.Reports.{link_words, side_words}
 use Rattle.policy_report.proofs.Spaced.{IsWord, AreWords}

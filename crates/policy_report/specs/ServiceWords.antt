@@ -6,10 +6,10 @@ use Rattle.std.specs.Prelude.{◌≡◌, ◌≢◌, ℕ, ◌+◌, ◌*◌, ◌/�
 use Rattle.std.proofs.lemmas.Bool.{and_parts, leb-true, ltb-true}
 use Rattle.arc_base.specs.Cuts.{cut_at}
 use Rattle.arc_base.specs.PrefixText.{number_of}
-use Rattle.arc_base.specs.Options.{◌>>=◌}
 use Rattle.net_model.specs.declared.services.Service.{Service}
 use Rattle.net_model.specs.Services.{is_service_inside, whole_service}
-use Rattle.net_model.specs.Validity.{IsName}
+use Rattle.arc_base.specs.NameForms.{IsName}
+use Rattle.arc_base.specs.Options.{◌>>=◌}
 
 -- how a service is written: its protocol, a dot and its port
 abbrev pub service_text : ℕ → List ℕ

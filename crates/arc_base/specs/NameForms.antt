@@ -1,0 +1,41 @@
+-- The form of names: those of routers and lists, and those of interfaces.
+use Rattle.std.specs.Prelude.{◌≡◌, ℕ, ◌≤◌, ◌==◌, ◌&&◌, ◌||◌, ◌⊎◌, ◌++◌, nat_le, Bool, List, [], ◌∷◌, length, codes, IsTrue, Contains}
+use Rattle.std.specs.Char.{is_ascii_digit}
+use Rattle.std.specs.List.{list_all, AllByRecursion}
+
+-- whether a byte may stand in a name: a letter, a digit or one of - _ .
+abbrev pub is_name_byte : ℕ → Bool
+is_name_byte b =
+    is_ascii_digit b || (nat_le 65 b && nat_le b 90) || (nat_le 97 b && nat_le b 122) || (b == 45)
+    || (b == 95) || (b == 46)
+
+-- whether a word is a name: 1 to 64 letters, digits and marks
+abbrev pub is_name : List ℕ → Bool
+is_name word = nat_le 1 (length word) && nat_le (length word) 64 && list_all is_name_byte word
+
+-- the bytes are a name: 1 to 64 letters, digits and marks
+pub record IsName (name : List ℕ) : Type 0 where
+  pub some : 1 ≤ length name
+  pub few : length name ≤ 64
+  pub bytes : AllByRecursion (λ b. IsTrue (is_name_byte b)) name
+
+-- the bytes number an interface: decimal numbers joined by slashes
+abbrev pub IsUnit : List ℕ → Type 0
+IsUnit [] = ⊥
+IsUnit (b ∷ []) = IsTrue (is_ascii_digit b)
+IsUnit (b ∷ c ∷ bs) = IsTrue (is_ascii_digit b) × (IsUnit (c ∷ bs) ⊎ ((c ≡ 47) × IsUnit bs))
+
+-- the kinds of interface, with which their names begin
+abbrev pub face_kinds : List (List ℕ)
+face_kinds =
+    codes "Ethernet" ∷ codes "FastEthernet" ∷ codes "GigabitEthernet" ∷ codes "TenGigabitEthernet" ∷ codes "Serial"
+    ∷ codes "Loopback" ∷ []
+
+-- the bytes are the name of an interface: one of these kinds and its number, at most 64 bytes in all
+pub record IsFaceName (name : List ℕ) : Type 0 where
+  pub kind : List ℕ
+  pub unit : List ℕ
+  pub known : Contains face_kinds kind
+  pub numbers : IsUnit unit
+  pub joined : name ≡ kind ++ unit
+  pub few : length name ≤ 64

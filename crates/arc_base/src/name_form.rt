@@ -1,0 +1,37 @@
+//! The form of the names of routers and lists.
+ghost use Rattle.std.specs.Prelude.{◌≡◌};
+ghost use Rattle.std.specs.List.{list_all};
+ghost use Rattle.arc_base.specs.NameForms.{is_name, is_name_byte};
+
+/// The most bytes that a name has.
+const MOST_BYTES: usize = 64;
+
+/// Whether a word has the form of a name: 1 to 64 letters, digits, `-`, `_` and `.`.
+pub fn is_name(word: &[u8]) -> bool
+    ensures { result ≡ is_name word.now }
+{
+    if word.is_empty() {
+        return false;
+    }
+    if word.len() > MOST_BYTES {
+        return false;
+    }
+    are_name_bytes(word)
+}
+
+fn are_name_bytes(word: &[u8]) -> bool
+    ensures { result ≡ list_all is_name_byte word.now }
+{
+    word.iter().all(|byte| is_name_byte(*byte))
+}
+
+fn is_name_byte(byte: u8) -> bool
+    ensures { result ≡ is_name_byte byte }
+{
+    byte.is_ascii_digit()
+        || (65 <= byte && byte <= 90)
+        || (97 <= byte && byte <= 122)
+        || byte == 45
+        || byte == 95
+        || byte == 46
+}
