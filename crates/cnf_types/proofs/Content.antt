@@ -1,7 +1,8 @@
 -- The lines of a text that are no comments, one by one.
 use Rattle.std.proofs.Common.{◌≡◌, ℕ, suc, zero, ◌+◌, ◌<◌, ◌≤◌, ℤ, Bool, true, false, not, cond, List, [], ◌∷◌, ◌++◌, length, refl, ap, sym, ◌∙◌, append_assoc, Option, Some, None, IsFalse}
 use Rattle.std.specs.List.{list_any}
-use Rattle.cnf_types.specs.Words.{lines, words, without_return}
+use Rattle.cnf_types.specs.Words.{lines, without_return}
+use Rattle.arc_base.specs.Words.{words}
 use Rattle.cnf_types.specs.Dimacs.{content, is_comment, line_words, line_numbers, numbers, first_bad, is_bad, pieces}
 use Rattle.cnf_types.specs.declared.literal.Lit.{Lit}
 use Rattle.cnf_types.specs.declared.clauses.Clause.{Clause}

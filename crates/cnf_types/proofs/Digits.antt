@@ -5,7 +5,7 @@ use Rattle.std.specs.Char.{is_ascii_digit}
 use Rattle.std.specs.Str.{all_ascii_digits}
 use Rattle.std.proofs.lemmas.Bool.{and_cases, and_left, and_right, cond-false, leb-false, lt-leb, cases_Bool}
 use Rattle.std.proofs.lemmas.List.{drop_more}
-use Rattle.cnf_types.specs.Words.{is_filled}
+use Rattle.arc_base.specs.Words.{is_filled}
 use Rattle.cnf_types.specs.Numbers.{natural, value_after, with_digit, is_natural}
 
 -- more digits make no smaller number

@@ -8,7 +8,8 @@ use Rattle.std.proofs.lemmas.List.Quantifiers.{position-Some}
 use Rattle.std.proofs.lemmas.List.Splits.{slice_split_first, slice_split_none}
 use Rattle.std.proofs.lemmas.List.Sums.{fails_before_first, passes_at_first}
 use Rattle.std.proofs.lemmas.List.Elements.{All-from_get_or}
-use Rattle.cnf_types.specs.Words.{lines, words, is_line_feed, is_blank, is_filled}
+use Rattle.cnf_types.specs.Words.{lines, is_line_feed}
+use Rattle.arc_base.specs.Words.{words, is_blank, is_filled}
 
 -- what `position` says of the first place
 pub first_place : {X : Type 0} (p : X → Bool) (xs : List X) (i : ℕ) → position p xs ≡ Some i → (i ≡ position_or_len p xs) × (i < length xs)

@@ -11,7 +11,8 @@ use Rattle.cnf_types.specs.declared.faults.CnfFault.{CnfFault}
 use Rattle.cnf_types.specs.declared.faults.CnfFault.TheVariants.{BadHeader, BadNumber, Count, TooLarge, Memory}
 use Rattle.cnf_types.specs.declared.header.Header.{Header}
 use Rattle.cnf_types.specs.Literals.{literal}
-use Rattle.cnf_types.specs.Words.{lines, words, without_return}
+use Rattle.cnf_types.specs.Words.{lines, without_return}
+use Rattle.arc_base.specs.Words.{words}
 use Rattle.cnf_types.specs.Numbers.{natural, number}
 
 -- a line that begins with the letter c is a comment

@@ -2,7 +2,7 @@
 use Rattle.std.specs.Prelude.{ℕ, ◌+◌, ◌-◌, ◌*◌, ◌≤◌, ℤ, pos, negsuc, suc, zero, Bool, true, false, if◌then◌else◌, ◌==◌, ◌&&◌, nat_le, List, [], ◌∷◌, Option, Some, None, option_and_then, fold}
 use Rattle.std.specs.Option.{option_map}
 use Rattle.std.specs.Str.{all_ascii_digits}
-use Rattle.cnf_types.specs.Words.{is_filled}
+use Rattle.arc_base.specs.Words.{is_filled}
 
 -- the number with one more digit at its end
 abbrev pub with_digit : ℕ → ℕ → ℕ

@@ -1,6 +1,6 @@
 -- The lines of a text, and the words of a line.
-use Rattle.std.specs.Prelude.{ℕ, ◌-◌, Bool, true, false, if◌then◌else◌, ◌==◌, ◌||◌, not, List, [], ◌∷◌, length, take, filter, slice_index}
-use Rattle.std.specs.List.{onto_first, slice_split}
+use Rattle.std.specs.Prelude.{ℕ, ◌-◌, Bool, if◌then◌else◌, ◌==◌, not, List, [], ◌∷◌, length, take, slice_index}
+use Rattle.std.specs.List.{onto_first}
 
 -- a line feed ends a line
 abbrev pub is_line_feed : ℕ → Bool
@@ -14,15 +14,3 @@ lines (b ∷ bytes) = if is_line_feed b then [] ∷ lines bytes else onto_first 
 -- a line without the carriage return at its end, where it has one
 abbrev pub without_return : List ℕ → List ℕ
 without_return line = if slice_index line (length line - 1) == 13 then take (length line - 1) line else line
-
--- spaces and tabs separate words
-abbrev pub is_blank : ℕ → Bool
-is_blank b = (b == 32) || (b == 9)
-
-abbrev pub is_filled : List ℕ → Bool
-is_filled [] = false
-is_filled (b ∷ bytes) = true
-
--- the words of a line: the pieces between blanks, but for empty ones
-abbrev pub words : List ℕ → List (List ℕ)
-words line = filter is_filled (slice_split is_blank line)

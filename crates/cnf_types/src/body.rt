@@ -1,7 +1,8 @@
 //! The clauses of a DIMACS text, word by word and line by line.
 ghost use Rattle.std.specs.Prelude.{◌≡◌, ◌+◌, ◌-◌, ◌<◌, ◌≤◌, ◌^◌, ◌++◌, [], ◌∷◌, ℕ, ℤ, List as Items, length, IsFalse, IsTrue, IfOk, IfErr, IsSomeAnd, IsErrOf, OnOk, None, unsigned_abs};
 ghost use Rattle.std.specs.List.{list_any};
-ghost use Rattle.cnf_types.specs.Words.{lines, words};
+ghost use Rattle.cnf_types.specs.Words.{lines};
+ghost use Rattle.arc_base.specs.Words.{words};
 ghost use Rattle.cnf_types.specs.Numbers.{number};
 ghost use Rattle.cnf_types.specs.Dimacs.{is_bad, line_numbers, first_bad, content, numbers, pieces};
 ghost use Rattle.cnf_types.specs.Progress.{pieces_after, IsFirstBad};

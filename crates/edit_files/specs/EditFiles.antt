@@ -2,7 +2,8 @@
 use Rattle.std.specs.Prelude.{◌≡◌, ◌≢◌, ℕ, ◌+◌, ◌<◌, ◌==◌, Bool, false, not, Option, IsSome, List, All, AllPairs, map, take, length}
 use Rattle.std.specs.List.{filter, list_all, list_any, range_with_len}
 use Rattle.std.specs.Option.{option_map_or}
-use Rattle.cnf_types.specs.Words.{lines, without_return, is_blank}
+use Rattle.cnf_types.specs.Words.{lines, without_return}
+use Rattle.arc_base.specs.Words.{is_blank}
 use Rattle.net_model.specs.declared.rows.Network.{Network}
 use Rattle.edit_space.specs.declared.edit_kinds.Edit.{Edit}
 use Rattle.policy_report.specs.Edits.{edit_of}

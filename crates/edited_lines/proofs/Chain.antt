@@ -7,7 +7,7 @@ use Rattle.std.proofs.lemmas.List.Elements as elements
 use Rattle.arc_base.proofs.Items.{Contains-cases}
 use Rattle.ios_lines.specs.Kinds.{kind, kind_at, closes, is_inert, open_banner, IsInner, IsSingle, IsHead}
 use Rattle.ios_lines.specs.Views.{open_block}
-use Rattle.ios_lines.specs.Words.{words}
+use Rattle.arc_base.specs.Words.{words}
 use Rattle.ios_lines.proofs.Insertions.{open-low}
 use Rattle.ios_lines.proofs.ViewRows.{kind-next}
 use Rattle.ios_words.specs.declared.kinds.BlockKind.{BlockKind}

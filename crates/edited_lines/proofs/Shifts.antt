@@ -12,7 +12,7 @@ use Rattle.arc_base.proofs.Items.{from_filter, Contains-head}
 use Rattle.ios_lines.specs.Kinds.{kind, kind_at, after_line, is_inert, open_banner, IsHead}
 use Rattle.ios_lines.specs.Reading.{block_after}
 use Rattle.ios_lines.specs.Views.{Mark, mark_seen, seen, seen_in, open_block}
-use Rattle.ios_lines.specs.Words.{words}
+use Rattle.arc_base.specs.Words.{words}
 use Rattle.ios_lines.specs.Changes.{replaced, MayReplaceAt}
 use Rattle.ios_lines.specs.ChangeLaws.{IsPlaceOf}
 use Rattle.ios_lines.proofs.ChangedTexts.{seen-at, open-after, no-banner-line, place-of}

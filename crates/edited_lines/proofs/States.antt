@@ -9,7 +9,7 @@ use Rattle.arc_base.proofs.Items as items
 use Rattle.arc_base.proofs.Items.{Contains-cases, Contains-none}
 use Rattle.ios_lines.specs.Kinds.{kind, kind_at, closes, open_banner, IsInner, IsHead, IsSingle, IsClosing}
 use Rattle.ios_lines.specs.Views.{open_block}
-use Rattle.ios_lines.specs.Words.{words}
+use Rattle.arc_base.specs.Words.{words}
 use Rattle.ios_lines.specs.Changes.{inserted, moved, MayStandAt}
 use Rattle.ios_lines.proofs.ChangedTexts.{inner-may, top-may}
 use Rattle.ios_lines.proofs.Insertions.{moved-low, moved-high}

@@ -3,7 +3,7 @@
 use Rattle.std.specs.Prelude.{◌≡◌, ◌≢◌, ℕ, ◌+◌, ◌<◌, ◌==◌, ◌⊎◌, false, List, [], ◌∷◌, ◌++◌, map, Contains, MatchBool, if◌then◌else◌}
 use Rattle.std.specs.List.{AllByRecursion, flat_map}
 use Rattle.ios_lines.specs.Kinds.{kind, IsInner, IsHead, IsSingle, IsClosing}
-use Rattle.ios_lines.specs.Words.{words}
+use Rattle.arc_base.specs.Words.{words}
 use Rattle.ios_words.specs.declared.kinds.BlockKind.{BlockKind}
 use Rattle.ios_words.specs.declared.kinds.BlockKind.TheVariants as kinds
 use Rattle.ios_words.specs.declared.commands.Command.{Command}

@@ -15,7 +15,8 @@ use Rattle.cnf_types.specs.declared.literal.Lit.{Lit}
 use Rattle.cnf_types.specs.Dimacs.{after_header, closed, content, count, counted, ends_closed, first_bad, from_header, header, is_bad, is_comment, is_zero, judged, line_numbers, line_words, literal_of, numbers, pieces, reading, sized}
 use Rattle.cnf_types.specs.Literals.{is_positive, variable}
 use Rattle.cnf_types.specs.Numbers.{natural}
-use Rattle.cnf_types.specs.Words.{lines, without_return, words}
+use Rattle.cnf_types.specs.Words.{lines, without_return}
+use Rattle.arc_base.specs.Words.{words}
 use Rattle.cnf_types.proofs.Content.{bad_later, content_line, numbers_line}
 use Rattle.proof_log.specs.Texts.{before_spaces, literal_text}
 use Rattle.proof_log.proofs.Printed.{AreWords, IsInLine, decimal_plain, line_and_rest, natural_decimal, no_comment, plain_word, spaced_in_line, words_spaced}

@@ -11,7 +11,8 @@ use Rattle.cnf_types.specs.declared.literal.Lit.{Lit}
 use Rattle.cnf_types.specs.Dimacs.{is_bad, is_zero, line_numbers, literal_of}
 use Rattle.cnf_types.specs.Literals.{literal, is_positive, variable}
 use Rattle.cnf_types.specs.Numbers.{minus, natural, number}
-use Rattle.cnf_types.specs.Words.{is_blank, is_filled, without_return, words}
+use Rattle.cnf_types.specs.Words.{without_return}
+use Rattle.arc_base.specs.Words.{is_blank, is_filled, words}
 use Rattle.proof_log.specs.Texts.{literal_text}
 use Rattle.proof_log.proofs.Printed.{AreWords, IsInLine, IsPlain, IsWord, decimal_plain, minus_plain, natural_decimal, plain_word}
 use Rattle.formula_texts.specs.Texts.{IsOfVariables}

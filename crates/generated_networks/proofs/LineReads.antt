@@ -10,7 +10,7 @@ use Rattle.std.specs.Net.Text.{dotted_text}
 use Rattle.arc_base.specs.PrefixText.{address_of, address_text}
 use Rattle.arc_base.proofs.AddressTexts.{address_text-dotted, address_of-address_text, address_of-dotted}
 use Rattle.ios_lines.specs.Kinds.{IsInner, IsHead, IsSingle}
-use Rattle.ios_lines.specs.Words.{words}
+use Rattle.arc_base.specs.Words.{words}
 use Rattle.ios_lines.specs.Written.{spaced, is_plain, ArePlain, IsWritten}
 use Rattle.ios_lines.proofs.WrittenLines.{indented-written, top-written, indented-inner, top-kinds}
 use Rattle.ios_words.specs.declared.commands.Command.{Command}

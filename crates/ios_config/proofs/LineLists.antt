@@ -9,7 +9,6 @@ use Rattle.std.specs.List.{AllByRecursion}
 use Rattle.arc_base.proofs.Items.{from_filter}
 use Rattle.ios_lines.specs.declared.line.Lines.{Lines}
 use Rattle.ios_lines.specs.Texts.{text_lines}
-use Rattle.ios_lines.specs.Words.{words}
 use Rattle.ios_lines.specs.Kinds.{IsInner, is_head, is_inert, kind_at, open_banner}
 use Rattle.ios_lines.specs.Lines.{AreLinesOf}
 use Rattle.ios_lines.specs.Reading.{block_after}

@@ -9,7 +9,7 @@ use Rattle.arc_base.proofs.Items.{from_filter}
 use Rattle.ios_lines.specs.Kinds.{is_head, is_inert, kind, kind_at, kind_within, words_kind, is_mark, is_banner, is_indented, opens_block, single_heads}
 use Rattle.ios_lines.specs.Reading.{block_after, is_alone}
 use Rattle.ios_lines.specs.Views.{Mark, mark_seen, seen, seen_in, open_block}
-use Rattle.ios_lines.specs.Words.{words}
+use Rattle.arc_base.specs.Words.{words}
 use Rattle.ios_lines.proofs.ChangedTexts.{seen-at, place-of}
 use Rattle.ios_lines.proofs.Insertions.{length-seen}
 use Rattle.ios_lines.proofs.Orphans.{NotAlone, stand-all}

@@ -4,7 +4,7 @@ use Rattle.std.proofs.lemmas.Bool.{cond-true}
 use Rattle.std.proofs.lemmas.List.Elements.{filter-append, Contains-append_left, Contains-append_right}
 use Rattle.std.specs.List.{AllZip}
 use Rattle.arc_base.proofs.Items.{Contains-tail, from_filter}
-use Rattle.ios_lines.specs.Words.{words}
+use Rattle.arc_base.specs.Words.{words}
 use Rattle.ios_lines.specs.Views.{Mark}
 use Rattle.ios_lines.specs.Changes.{changed, replaced, mark_worded, Write, MayReplaceAt}
 use Rattle.ios_lines.proofs.ChangedTexts.{marks-change}

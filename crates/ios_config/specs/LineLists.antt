@@ -2,7 +2,7 @@
 use Rattle.std.specs.Prelude.{◌≡◌, ℕ, ◌+◌, ◌↔◌, false, List, [], ◌∷◌, ◌++◌, map, take, Contains}
 use Rattle.ios_lines.specs.declared.line.Lines.{Lines}
 use Rattle.ios_lines.specs.Texts.{text_lines}
-use Rattle.ios_lines.specs.Words.{words}
+use Rattle.arc_base.specs.Words.{words}
 use Rattle.ios_lines.specs.Blocks.{IsOrphan}
 use Rattle.ios_lines.specs.Kinds.{IsInner, IsHead, IsSingle, IsClosing}
 use Rattle.ios_lines.specs.Lines.{AreLinesOf}

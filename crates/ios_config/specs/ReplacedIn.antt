@@ -1,6 +1,6 @@
 -- The commands of a list of lines of which one is another.
 use Rattle.std.specs.Prelude.{◌≡◌, ℕ, ◌+◌, false, List, ◌∷◌, ◌++◌, slice_get, Some}
-use Rattle.ios_lines.specs.Words.{words}
+use Rattle.arc_base.specs.Words.{words}
 use Rattle.ios_lines.specs.Views.{Mark}
 use Rattle.ios_lines.specs.Changes.{replaced, MayReplaceAt}
 use Rattle.ios_words.specs.declared.kinds.BlockKind.{BlockKind}

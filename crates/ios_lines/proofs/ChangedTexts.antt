@@ -13,7 +13,7 @@ use Rattle.ios_lines.specs.declared.kind.Kind.TheVariants.{Blank, Comment, Remar
 use Rattle.ios_lines.specs.declared.line.Lines.{Lines}
 use Rattle.ios_lines.specs.Lines.{AreLinesOf}
 use Rattle.ios_lines.specs.Texts.{text_lines}
-use Rattle.ios_lines.specs.Words.{words}
+use Rattle.arc_base.specs.Words.{words}
 use Rattle.ios_lines.specs.Kinds.{after_line, closes, is_head, is_inert, kind, kind_at, kind_within, open_banner}
 use Rattle.ios_lines.specs.Blocks.{IsOrphan}
 use Rattle.ios_lines.specs.Reading.{block_after, is_alone}

@@ -7,7 +7,8 @@ use Rattle.arc_base.specs.declared.span.Span.{Span}
 use Rattle.ios_lines.specs.declared.kind.Kind.{Kind}
 use Rattle.ios_lines.specs.declared.line.Line.{Line}
 use Rattle.ios_lines.specs.Texts.{IsLine, Join, text_lines}
-use Rattle.ios_lines.specs.Words.{is_blank, AreBlank, IsNextWord, AreWords}
+use Rattle.ios_lines.specs.Words.{AreBlank, IsNextWord, AreWords}
+use Rattle.arc_base.specs.Words.{is_blank}
 use Rattle.ios_lines.specs.Kinds.{closes, kind_at}
 use Rattle.ios_lines.specs.Blocks.{Heads, IsOpen}
 use Rattle.ios_lines.specs.Lines.{IsRow}

@@ -9,7 +9,8 @@ use Rattle.ios_lines.specs.declared.kind.Kind.{Kind}
 use Rattle.ios_lines.specs.declared.kind.Kind.TheVariants.{Blank, Comment, Remark, Inner, Single, Head, Banner}
 use Rattle.ios_lines.specs.declared.line.Line.{Line}
 use Rattle.ios_lines.specs.Texts.{part, IsLine, Join, text_lines, bytes_of}
-use Rattle.ios_lines.specs.Words.{is_blank, words, AreWords}
+use Rattle.ios_lines.specs.Words.{AreWords}
+use Rattle.arc_base.specs.Words.{is_blank, words}
 use Rattle.ios_lines.specs.Kinds.{is_head, is_indented, is_inert, is_mark, kind, kind_at, words_kind, top_kind, is_banner, opens_block}
 use Rattle.ios_lines.specs.Reading.{block_after}
 use Rattle.ios_lines.specs.Views.{Mark, mark_of, marks_of, open_block}

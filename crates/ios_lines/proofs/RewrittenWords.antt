@@ -8,7 +8,8 @@ use Rattle.std.proofs.lemmas.Option.{same_Some, none-some}
 use Rattle.std.specs.List.{slice_split, onto_first}
 use Rattle.arc_base.specs.declared.span.Span.{Span}
 use Rattle.ios_lines.specs.Texts.{part}
-use Rattle.ios_lines.specs.Words.{is_blank, is_filled, words, AreFilled, IsNextWord, AreWords}
+use Rattle.ios_lines.specs.Words.{AreFilled, IsNextWord, AreWords}
+use Rattle.arc_base.specs.Words.{is_blank, is_filled, words}
 use Rattle.ios_lines.specs.Changes.{replaced}
 use Rattle.ios_lines.proofs.Slices.{slice-at, slice-cut, length-slice_range}
 use Rattle.ios_lines.proofs.WordCuts.{split-first}

@@ -8,7 +8,8 @@ use Rattle.ios_lines.specs.declared.kind.Kind.TheVariants.{Inner}
 use Rattle.ios_lines.specs.declared.line.Line.{Line}
 use Rattle.ios_lines.specs.declared.reading.Open.{Open}
 use Rattle.ios_lines.specs.Texts.{part, IsLine, text_lines}
-use Rattle.ios_lines.specs.Words.{words, AreWords}
+use Rattle.ios_lines.specs.Words.{AreWords}
+use Rattle.arc_base.specs.Words.{words}
 use Rattle.ios_lines.specs.Kinds.{after_line, kind_at, kind_within, is_head, is_inert, open_banner}
 use Rattle.ios_lines.specs.Blocks.{IsOpen, IsOrphan, IsFirstOrphan, IsUnclosed}
 use Rattle.ios_lines.specs.Lines.{HasOrphanAt}

@@ -4,7 +4,7 @@ use Rattle.ios_lines.specs.declared.banner.Delimiter.{Delimiter}
 use Rattle.ios_lines.specs.declared.line.Line.{Line}
 use Rattle.std.proofs.lemmas.List.Sums.{fold-append}
 use Rattle.ios_lines.specs.Texts.{part, bytes_of, text_lines}
-use Rattle.ios_lines.specs.Words.{words}
+use Rattle.arc_base.specs.Words.{words}
 use Rattle.ios_lines.specs.Kinds.{after_line, is_head, is_inert, kind_at, kind_within, open_banner}
 use Rattle.ios_lines.specs.Blocks.{IsOpen}
 use Rattle.ios_lines.specs.Lines.{IsRow}

@@ -6,7 +6,7 @@ use Rattle.std.proofs.lemmas.List.{drop_all}
 use Rattle.std.proofs.lemmas.List.Recursion.{is_position_or_len}
 use Rattle.std.proofs.lemmas.List.Quantifiers.{position-Some}
 use Rattle.std.specs.List.{position, position_or_len, slice_split, onto_first}
-use Rattle.ios_lines.specs.Words.{is_blank, is_filled, words}
+use Rattle.arc_base.specs.Words.{is_blank, is_filled, words}
 use Rattle.ios_lines.specs.Banners.{skip, after_word}
 
 -- how many items stand before the first that passes

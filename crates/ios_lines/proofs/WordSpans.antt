@@ -5,7 +5,8 @@ use Rattle.std.proofs.lemmas.Bool.{cond-true, cond-false}
 use Rattle.std.proofs.lemmas.List.Elements.{All-nil, All-cons}
 use Rattle.arc_base.specs.declared.span.Span.{Span}
 use Rattle.ios_lines.specs.Texts.{part, LiesIn}
-use Rattle.ios_lines.specs.Words.{is_blank, words, AreBlank, AreWords}
+use Rattle.ios_lines.specs.Words.{AreBlank, AreWords}
+use Rattle.arc_base.specs.Words.{is_blank, words}
 use Rattle.ios_lines.proofs.Slices.{slice-at, length-slice_range, slice-cut}
 use Rattle.ios_lines.proofs.WordCuts.{front, first-here, words-blank}
 

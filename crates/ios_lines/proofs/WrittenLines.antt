@@ -4,7 +4,7 @@ use Rattle.std.proofs.lemmas.Bool.{and_parts, and_from, ltb-true, leb-true, le-l
 use Rattle.std.proofs.lemmas.List.Folds.{list_all-append}
 use Rattle.std.specs.List.{list_all}
 use Rattle.ios_lines.specs.Kinds.{is_indented, words_kind}
-use Rattle.ios_lines.specs.Words.{is_blank, words}
+use Rattle.arc_base.specs.Words.{is_blank, words}
 use Rattle.ios_lines.specs.Ended.{IsFree, HasNoReturn}
 use Rattle.ios_lines.specs.Written.{is_plain, ArePlain, spaced, IndentedLinesAreWritten, TopLinesAreWritten, IndentedLinesAreInner, TopLinesHaveTheirKind}
 use Rattle.ios_lines.proofs.WordCuts.{words-blank}

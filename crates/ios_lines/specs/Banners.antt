@@ -3,7 +3,7 @@ use Rattle.std.specs.Prelude.{ℕ, ◌==◌, ◌&&◌, Bool, false, if◌then◌
 use Rattle.std.specs.List.{list_any, zip}
 use Rattle.ios_lines.specs.declared.banner.Delimiter.{Delimiter}
 use Rattle.ios_lines.specs.declared.banner.Delimiter.TheVariants.{Pair, Byte, Missing}
-use Rattle.ios_lines.specs.Words.{is_blank}
+use Rattle.arc_base.specs.Words.{is_blank}
 
 -- the bytes from the first on that does not pass
 abbrev pub skip : (ℕ → Bool) → List ℕ → List ℕ

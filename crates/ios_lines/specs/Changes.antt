@@ -2,7 +2,7 @@
 use Rattle.std.specs.Prelude.{◌≡◌, ◌≢◌, ℕ, zero, suc, ◌+◌, ◌<◌, ◌≤◌, List, [], ◌∷◌, ◌++◌, length, take, drop, map, None, if◌then◌else◌, nat_le, IsTrue}
 use Rattle.ios_lines.specs.declared.kind.Kind.TheVariants.{Inner, Banner}
 use Rattle.ios_lines.specs.Kinds.{closes, kind, kind_at, open_banner}
-use Rattle.ios_lines.specs.Words.{words}
+use Rattle.arc_base.specs.Words.{words}
 use Rattle.ios_lines.specs.Views.{mark_seen, Seen, Mark, open_block, seen_in}
 
 -- the list with an item put before the item at a place, or at its end

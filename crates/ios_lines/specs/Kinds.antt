@@ -6,7 +6,7 @@ use Rattle.ios_lines.specs.declared.banner.Delimiter.{Delimiter}
 use Rattle.ios_lines.specs.declared.kind.Kind.{Kind}
 use Rattle.ios_lines.specs.declared.kind.Kind.TheVariants.{Blank, Comment, Remark, Inner, Single, Head, Banner}
 use Rattle.ios_lines.specs.Banners.{banner_text, begun, stands}
-use Rattle.ios_lines.specs.Words.{is_blank, words}
+use Rattle.arc_base.specs.Words.{is_blank, words}
 
 -- the line begins with a blank
 abbrev pub is_indented : List ℕ → Bool

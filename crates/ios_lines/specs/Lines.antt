@@ -5,7 +5,8 @@ use Rattle.ios_lines.specs.declared.line.Lines.{Lines}
 use Rattle.ios_lines.specs.declared.cutting.LineFault.{LineFault}
 use Rattle.ios_lines.specs.declared.cutting.LineFault.TheVariants.{Orphan, OpenBanner, Memory}
 use Rattle.ios_lines.specs.Texts.{part, HasWordsIn, Join, bytes_of, text_lines}
-use Rattle.ios_lines.specs.Words.{words, AreWords}
+use Rattle.ios_lines.specs.Words.{AreWords}
+use Rattle.arc_base.specs.Words.{words}
 use Rattle.ios_lines.specs.Kinds.{kind_at, is_head, is_inert}
 use Rattle.ios_lines.specs.Blocks.{IsOpen, IsFirstOrphan, IsUnclosed}
 

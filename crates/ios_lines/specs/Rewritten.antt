@@ -4,7 +4,7 @@ use Rattle.arc_base.specs.declared.span.Span.{Span}
 use Rattle.ios_lines.specs.declared.line.Line.{Line}
 use Rattle.ios_lines.specs.declared.line.Lines.{Lines}
 use Rattle.ios_lines.specs.Texts.{part, text_lines}
-use Rattle.ios_lines.specs.Words.{words}
+use Rattle.arc_base.specs.Words.{words}
 use Rattle.ios_lines.specs.Kinds.{is_mark}
 use Rattle.ios_lines.specs.Lines.{AreLinesOf}
 use Rattle.ios_lines.specs.Ended.{IsFree, HasNoReturn}

@@ -5,7 +5,7 @@ use Rattle.ios_lines.specs.declared.kind.Kind.{Kind}
 use Rattle.ios_lines.specs.declared.line.Line.{Line}
 use Rattle.ios_lines.specs.declared.line.Lines.{Lines}
 use Rattle.ios_lines.specs.Texts.{part}
-use Rattle.ios_lines.specs.Words.{words}
+use Rattle.arc_base.specs.Words.{words}
 use Rattle.ios_lines.specs.Kinds.{after_line, is_head, is_inert, kind_within}
 use Rattle.ios_lines.specs.Reading.{block_after}
 

@@ -1,20 +1,7 @@
 -- The words of a line, which blanks part.
-use Rattle.std.specs.Prelude.{ℕ, ◌==◌, ◌||◌, ◌<◌, ◌≤◌, Bool, true, false, List, [], ◌∷◌, filter, slice_index, IsTrue, IsFalse}
-use Rattle.std.specs.List.{slice_split}
+use Rattle.std.specs.Prelude.{ℕ, ◌<◌, ◌≤◌, List, [], ◌∷◌, slice_index, IsTrue, IsFalse}
 use Rattle.arc_base.specs.declared.span.Span.{Span}
-
--- a space or a tab
-abbrev pub is_blank : ℕ → Bool
-is_blank b = (b == 32) || (b == 9)
-
--- some bytes
-abbrev pub is_filled : List ℕ → Bool
-is_filled [] = false
-is_filled (b ∷ bytes) = true
-
--- the words of a line: what stands between its blanks
-abbrev pub words : List ℕ → List (List ℕ)
-words line = filter is_filled (slice_split is_blank line)
+use Rattle.arc_base.specs.Words.{is_blank}
 
 -- the bytes between two places are all blank
 abbrev pub AreBlank : List ℕ → ℕ → ℕ → Type 0

@@ -3,7 +3,7 @@ use Rattle.std.specs.Prelude.{◌≡◌, ℕ, ◌&&◌, nat_lt, Bool, if◌then�
 use Rattle.std.specs.List.{AllByRecursion, list_all}
 use Rattle.ios_lines.specs.declared.kind.Kind.TheVariants.{Comment}
 use Rattle.ios_lines.specs.Kinds.{is_mark, kind, top_kind, IsInner}
-use Rattle.ios_lines.specs.Words.{words}
+use Rattle.arc_base.specs.Words.{words}
 use Rattle.ios_lines.specs.Ended.{IsFree, HasNoReturn}
 
 -- whether a word has some bytes, and each is above the space

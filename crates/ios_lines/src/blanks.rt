@@ -3,7 +3,7 @@ ghost use Rattle.std.specs.Prelude.{◌≡◌, ◌↔◌, ◌∷◌, IsTrue, [],
 ghost use Rattle.std.specs.List.{position};
 ghost use Rattle.ios_lines.specs.Banners.{after_word, skip};
 ghost use Rattle.ios_lines.specs.Kinds.{is_indented, is_mark};
-ghost use Rattle.ios_lines.specs.Words.{is_blank, words};
+ghost use Rattle.arc_base.specs.Words.{is_blank, words};
 
 /// Whether a byte stands between words.
 pub(crate) fn is_blank(byte: u8) -> bool

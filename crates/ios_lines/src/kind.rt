@@ -3,7 +3,7 @@ ghost use Rattle.std.specs.Prelude.{◌≡◌, ◌∷◌, [], codes};
 ghost use Rattle.std.specs.List.{starts_with};
 ghost use Rattle.std.specs.Str.{bytes_eq};
 ghost use Rattle.ios_lines.specs.Kinds.{after_line, is_head, is_inert, kind, kind_within, opens_block, top_kind};
-ghost use Rattle.ios_lines.specs.Words.{words};
+ghost use Rattle.arc_base.specs.Words.{words};
 
 use crate::banner::{Delimiter, begun, stands};
 use crate::blanks::{first_word, is_indented, is_mark};

@@ -1,7 +1,8 @@
 //! The words of a line.
 ghost use Rattle.std.specs.Prelude.{◌≡◌, ◌<◌, ◌≤◌, ◌^◌, length, map, slice_index, slice_range, IsTrue, IsFalse, IfOk, MatchOption};
 ghost use Rattle.ios_lines.specs.Texts.{part};
-ghost use Rattle.ios_lines.specs.Words.{is_blank, words, AreBlank, AreFilled, AreWords, IsNextWord};
+ghost use Rattle.ios_lines.specs.Words.{AreBlank, AreFilled, AreWords, IsNextWord};
+ghost use Rattle.arc_base.specs.Words.{is_blank, words};
 
 use crate::blanks::is_blank;
 use arc_base::{List, Memory, Span};

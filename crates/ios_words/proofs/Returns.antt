@@ -13,7 +13,7 @@ use Rattle.arc_base.proofs.NumberTexts.{number_of-none}
 use Rattle.arc_base.proofs.AddressTexts.{address_of-some, address_text-dotted}
 use Rattle.ios_lines.specs.Written.{is_plain}
 use Rattle.std.specs.Int.{w32, from_be_bytes}
-use Rattle.ios_lines.specs.Words.{is_blank, is_filled, words}
+use Rattle.arc_base.specs.Words.{is_blank, is_filled, words}
 use Rattle.ios_words.specs.declared.commands.Command.{Command}
 use Rattle.ios_words.specs.declared.commands.Command.TheVariants as commands
 use Rattle.ios_words.specs.declared.kinds.BlockKind.{BlockKind}

@@ -11,7 +11,8 @@ use Rattle.ios_lines.specs.declared.line.Line.{Line}
 use Rattle.ios_lines.specs.declared.line.Lines.{Lines}
 use Rattle.ios_lines.specs.Blocks.{IsOrphan, IsFirstOrphan}
 use Rattle.ios_lines.specs.Texts.{part, HasWordsIn, IsLine, Join, bytes_of, text_lines}
-use Rattle.ios_lines.specs.Words.{is_blank, AreWords}
+use Rattle.ios_lines.specs.Words.{AreWords}
+use Rattle.arc_base.specs.Words.{is_blank}
 use Rattle.ios_lines.specs.Kinds.{after_line, kind_within, is_head, is_inert}
 use Rattle.ios_lines.specs.Lines.{IsRow, AreLinesOf, HasOrphanAt}
 use Rattle.ios_lines.specs.Reading.{block_after, first_after, is_alone, Stands}

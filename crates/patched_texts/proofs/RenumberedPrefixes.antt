@@ -10,7 +10,7 @@ use Rattle.ios_config.specs.Groups as groups
 use Rattle.ios_lines.specs.Kinds.{kind}
 use Rattle.ios_lines.specs.Rewritten.{rewritten, IsRewritten}
 use Rattle.ios_lines.specs.Texts.{part, text_lines}
-use Rattle.ios_lines.specs.Words.{words}
+use Rattle.arc_base.specs.Words.{words}
 use Rattle.ios_lines.specs.Written.{is_plain}
 use Rattle.ios_lines.proofs.Replacements.{kind-there}
 use Rattle.ios_lines.proofs.RewrittenLines.{a-word-replaced}

@@ -6,7 +6,7 @@ use Rattle.std.proofs.lemmas.Option.{same_Some, slice_get-map}
 use Rattle.ios_lines.specs.Kinds.{is_banner, is_head, is_indented, is_inert, is_mark, kind, kind_at, opens_block, top_kind, words_kind}
 use Rattle.ios_lines.specs.Reading.{block_after}
 use Rattle.ios_lines.specs.Views.{Mark, mark_seen, open_block, seen, seen_in}
-use Rattle.ios_lines.specs.Words.{words}
+use Rattle.arc_base.specs.Words.{words}
 use Rattle.ios_lines.proofs.ChangedTexts.{open-after, seen-at}
 use Rattle.ios_lines.proofs.Replacements.{kind-there}
 use Rattle.ios_words.proofs.Returns.{last-word, with_return, without_return}

@@ -9,7 +9,7 @@ use Rattle.std.specs.Prelude.{◌≡◌, ◌⊎◌, ℕ, ◌+◌, ◌-◌, ◌==
 use Rattle.arc_base.specs.declared.certificate.CertKind.{CertKind}
 use Rattle.arc_base.specs.declared.certificate.CertKind.TheVariants.{Form, NoClaim, Edit, Policy, NotYes, NoEnd, Memory}
 use Rattle.arc_base.specs.Options.{◌>>=◌}
-use Rattle.cnf_types.specs.Words.{words}
+use Rattle.arc_base.specs.Words.{words}
 use Rattle.edit_space.specs.declared.edit_kinds.Edit as edits
 use Rattle.net_model.specs.declared.policies.Document.{Document}
 use Rattle.net_model.specs.declared.policies.Policy as policies

@@ -1,6 +1,6 @@
 //! The reader of a certificate, line by line.
 ghost use Rattle.std.specs.Prelude.{◌≡◌, ◌<◌, [], IfSome, if◌then◌else◌};
-ghost use Rattle.cnf_types.specs.Words.{words};
+ghost use Rattle.arc_base.specs.Words.{words};
 ghost use Rattle.policy_report.specs.Readings.{answer_of, line_words};
 ghost use Rattle.policy_report.specs.Steps.{standing, start, next_line, fails, goes, goes_on, is_edit, is_of, is_yes, may_stand, closed, logs, head, answered, edited, editing, logging, proving, between, within, step, IsRead, IsSurelyRead};
 

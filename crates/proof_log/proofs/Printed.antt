@@ -11,7 +11,8 @@ use Rattle.std.proofs.lemmas.Bool.{and_from, and_left, le-leb, cond-true, cond-f
 use Rattle.std.proofs.lemmas.List.Splits.{slice_split_at, slice_split_none}
 use Rattle.std.proofs.lemmas.List.Elements.{All-cons, All-nil, All-append, All-weaker, All-from_get_or, All-head, All-tail}
 use Rattle.cnf_types.specs.Numbers.{natural, is_natural, number, minus, value_after, with_digit}
-use Rattle.cnf_types.specs.Words.{lines, words, without_return, is_filled, is_blank, is_line_feed}
+use Rattle.cnf_types.specs.Words.{lines, without_return, is_line_feed}
+use Rattle.arc_base.specs.Words.{words, is_filled, is_blank}
 use Rattle.cnf_types.specs.Dimacs.{is_comment}
 use Rattle.proof_log.specs.declared.numbers.Sign.{Sign}
 use Rattle.proof_log.specs.declared.numbers.Sign.TheVariants.{Adds, Drops, Bounds}

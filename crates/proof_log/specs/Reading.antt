@@ -4,7 +4,8 @@ use Rattle.std.specs.List.{list_any, list_all, slice_split}
 use Rattle.std.specs.Str.{bytes_eq}
 use Rattle.cnf_types.specs.Numbers.{number}
 use Rattle.cnf_types.specs.Dimacs.{is_comment, line_words, is_zero, literal_of}
-use Rattle.cnf_types.specs.Words.{words, without_return, is_filled}
+use Rattle.cnf_types.specs.Words.{without_return}
+use Rattle.arc_base.specs.Words.{is_filled}
 use Rattle.proof_log.specs.declared.numbers.Sign.{Sign}
 use Rattle.proof_log.specs.declared.numbers.Sign.TheVariants.{Adds, Drops, Bounds}
 use Rattle.proof_log.specs.declared.steps.Step.{Step}

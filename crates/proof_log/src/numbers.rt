@@ -1,7 +1,7 @@
 //! The numbers of a line of a proof log.
 ghost use Rattle.std.specs.Prelude.{◌≡◌, ◌<◌, ◌≤◌, ◌^◌, ◌-◌, ◌||◌, [], ◌∷◌, ℕ, length, ◌++◌, IsTrue, IsFalse, IfOk, OnOk, IsErrOf, IfNone, IfSome};
 ghost use Rattle.std.specs.List.{list_any, slice_split};
-ghost use Rattle.cnf_types.specs.Words.{words};
+ghost use Rattle.arc_base.specs.Words.{words};
 ghost use Rattle.cnf_types.specs.Dimacs.{is_zero};
 ghost use Rattle.proof_log.specs.Reading.{is_bad, log_number, number_words, numbers, sign, sign_of};
 

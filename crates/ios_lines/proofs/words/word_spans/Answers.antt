@@ -1,7 +1,8 @@
 use Rattle.std.proofs.Common.{[], subst, append-nil}
 use Rattle.std.proofs.Common.{map, ◌≡◌, slice_range}
 use Rattle.ios_lines.specs.Texts.{part}
-use Rattle.ios_lines.specs.Words.{words, AreWords}
+use Rattle.ios_lines.specs.Words.{AreWords}
+use Rattle.arc_base.specs.Words.{words}
 use Rattle.ios_lines.proofs.WordSpans.{of_value, spans-words}
 use Rattle.ios_lines.proofs.words.word_spans.Goals as goal
 

@@ -1,6 +1,6 @@
 use Rattle.std.proofs.Common.{◌≡◌, ◌++◌, length}
 use Rattle.std.specs.List.{list_any}
-use Rattle.cnf_types.specs.Words.{words}
+use Rattle.arc_base.specs.Words.{words}
 use Rattle.proof_log.specs.Reading.{is_bad, numbers}
 use Rattle.proof_log.proofs.numbers.push_numbers.Given as goal
 

@@ -1,5 +1,5 @@
 use Rattle.std.proofs.Common.{sym, ap, ◌∙◌}
-use Rattle.cnf_types.specs.Words.{words}
+use Rattle.arc_base.specs.Words.{words}
 use Rattle.proof_log.specs.Reading.{number_words, formed}
 use Rattle.proof_log.proofs.Forms.{reads_step}
 use Rattle.proof_log.proofs.Within.{same_within}

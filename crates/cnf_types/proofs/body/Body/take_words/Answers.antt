@@ -1,5 +1,4 @@
 use Rattle.std.proofs.Common.{◌++◌, List, ℤ}
-use Rattle.cnf_types.specs.Words.{words}
 use Rattle.cnf_types.proofs.body.Body.take_words.Goals as goal
 
 pub returns-clause-pieces : goal.returns-clause-pieces

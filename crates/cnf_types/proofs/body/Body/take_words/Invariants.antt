@@ -1,6 +1,6 @@
 use Rattle.std.proofs.Common.{◌≡◌, ◌+◌, ◌≤◌, ◌++◌, List, ℤ, length}
 use Rattle.std.specs.List.{list_any}
-use Rattle.cnf_types.specs.Words.{words}
+use Rattle.arc_base.specs.Words.{words}
 use Rattle.cnf_types.specs.Dimacs.{is_bad, line_numbers}
 use Rattle.cnf_types.specs.Progress.{pieces_after}
 use Rattle.cnf_types.proofs.body.Body.take_words.Given as goal
