@@ -1,4 +1,4 @@
--- The lines of a text, and the words of a line.
+-- The lines of a text.
 use Rattle.std.specs.Prelude.{ℕ, ◌-◌, Bool, if◌then◌else◌, ◌==◌, not, List, [], ◌∷◌, length, take, slice_index}
 use Rattle.std.specs.List.{onto_first}
 
