@@ -17,7 +17,7 @@ use Rattle.net_model.specs.Forwarding.{Ends, source_router, target_router}
 use Rattle.net_model.specs.Packets.{subject}
 use Rattle.net_model.specs.Witnesses.{IsRight, IsRightFor, IsRightPaths}
 use Rattle.verdicts.specs.Fixed.{IsFixed, IsFixedFor}
-use Rattle.verdicts.specs.Judged.{HasFewFailures}
+use Rattle.net_model.specs.Policies.{HasFewFailures}
 use Rattle.arc_repair.specs.Answers.{ShowsFew}
 
 -- one side for each class

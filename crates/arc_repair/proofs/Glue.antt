@@ -1,10 +1,6 @@
 -- What the functions of a repair hand on to each other.
 use Rattle.std.proofs.Common.{◌≡◌, ◌≤◌, ℕ, inl, inr, Bool, List, length, sym, subst}
-use Rattle.std.specs.Prelude.{All}
 use Rattle.net_model.specs.declared.policies.Document.{Document}
-use Rattle.net_model.specs.declared.policies.Policy.{Policy}
-use Rattle.net_model.specs.declared.policies.PolicyKind.{PolicyKind}
-use Rattle.net_model.specs.declared.policies.PolicyKind.TheVariants.{Blocked, Through, Reach}
 use Rattle.net_model.specs.declared.rows.Network.{Network}
 use Rattle.net_model.specs.Validity.{IsValid}
 use Rattle.edit_space.specs.declared.edit_kinds.Edit.{Edit}
@@ -13,18 +9,9 @@ use Rattle.edit_space.specs.declared.edit_kinds.EditFault.TheVariants.{Memory}
 use Rattle.edit_space.specs.Determined.{EditListsAreOne}
 use Rattle.edit_space.specs.EditLists.{AreEdits, HasFewClasses}
 use Rattle.policy_encode.specs.Formulas as encoded
-use Rattle.verdicts.specs.Judged as judged
 use Rattle.arc_repair.specs.declared.answer.Answer.{Answer}
 use Rattle.arc_repair.specs.Answers.{IsUntouched, IsRepairFault}
 use Rattle.arc_repair.specs.Repairs.{Mends, none_of}
-
-few_failures : (kind : PolicyKind) → judged.HasFewFailures kind → encoded.HasFewFailures kind
-few_failures Blocked few = tt
-few_failures Through few = tt
-few_failures (Reach k) few = few
-
-pub all_few_failures : (policies : List Policy) → All (λ policy. judged.HasFewFailures policy.kind) policies → All (λ policy. encoded.HasFewFailures policy.kind) policies
-all_few_failures policies few k d l = few_failures _ (few k d l)
 
 module _ (one : EditListsAreOne) (net : Network) (doc : Document) (list : List Edit) (valid : IsValid net) (are : AreEdits net doc list) where
   -- what holds of one list of the edits holds of each

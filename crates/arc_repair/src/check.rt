@@ -33,7 +33,7 @@ impl Check {
     ghost use Rattle.edit_space.specs.declared.edit_kinds.Edit.{Edit as AnyEdit};
     ghost use Rattle.edit_space.specs.EditLists.{AreEdits};
     ghost use Rattle.proof_check.specs.Knowledge.{step_fault, after, IsFirst};
-    ghost use Rattle.verdicts.specs.Judged.{HasFewFailures};
+    ghost use Rattle.net_model.specs.Policies.{HasFewFailures};
     ghost use Rattle.arc_repair.specs.Answers.{IsRepairFault};
     ghost use Rattle.arc_repair.specs.Checks.{HasFlags, IsMade, knowledge};
     ghost use Rattle.arc_repair.specs.Claims.{claim_bound};

@@ -3,12 +3,11 @@ ghost use Rattle.std.specs.Prelude.{◌≡◌, length, All, IfOk, IfSome, IsNone
 ghost use Rattle.std.specs.List.{AllZip};
 ghost use Rattle.net_model.specs.Forwarding.{HasEnds};
 ghost use Rattle.net_model.specs.Packets.{subject};
-ghost use Rattle.net_model.specs.Policies.{Meets};
+ghost use Rattle.net_model.specs.Policies.{Meets, HasFewFailures};
 ghost use Rattle.net_model.specs.Validity.{IsValid};
 ghost use Rattle.net_model.specs.Witnesses.{is_yes};
 ghost use Rattle.edit_space.specs.Determined.{IsCountable};
 ghost use Rattle.edit_space.specs.EditLists.{AreEdits, HasFewClasses};
-ghost use Rattle.verdicts.specs.Judged.{HasFewFailures};
 ghost use Rattle.arc_repair.specs.Answers.{ShowsFew};
 ghost use Rattle.arc_repair.specs.Claims.{IsRightYes};
 ghost use Rattle.arc_repair.specs.Repairs.{Mends};

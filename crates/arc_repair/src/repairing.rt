@@ -10,7 +10,7 @@ ghost use Rattle.edit_space.specs.Determined.{IsCountable};
 ghost use Rattle.edit_space.specs.EditLists.{AreEdits, HasFewClasses};
 ghost use Rattle.price_descent.specs.Outcomes.{found_steps};
 ghost use Rattle.proof_log.specs.Texts.{HasLine};
-ghost use Rattle.verdicts.specs.Judged.{HasFewFailures};
+ghost use Rattle.net_model.specs.Policies.{HasFewFailures};
 ghost use Rattle.arc_repair.specs.declared.answer.Answer.TheVariants.{Done};
 ghost use Rattle.arc_repair.specs.Answers.{AnswersFew, IsAnswer, answer_steps, IsUntouched, KeepsLimits, IsRepairFault};
 ghost use Rattle.arc_repair.specs.Repairs.{Mends, none_of};

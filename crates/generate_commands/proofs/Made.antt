@@ -1,5 +1,5 @@
 -- What is known of the document and the files that are made.
-use Rattle.std.proofs.Common.{◌≡◌, ◌≢◌, ℕ, zero, suc, ◌+◌, ◌<◌, ◌≤◌, List, [], ◌∷◌, ◌++◌, length, get_or, map, length-append, sym, ap, subst, arith}
+use Rattle.std.proofs.Common.{◌≡◌, ◌≢◌, ℕ, zero, suc, ◌+◌, ◌<◌, ◌≤◌, List, [], ◌∷◌, ◌++◌, length, map, length-append, sym, ap, subst, arith}
 use Rattle.std.specs.Prelude.{All, AllPairs, codes, decimal}
 use Rattle.std.specs.List.{AllZip, range_with_len}
 use Rattle.std.proofs.lemmas.Fmt.{decimal_injective, length-decimal-le}
@@ -8,12 +8,9 @@ use Rattle.std.proofs.lemmas.List.Elements.{All-append, All-cons, All-nil}
 use Rattle.std.proofs.lemmas.List.FromFn.{length-map-range_with_len}
 use Rattle.std.proofs.lemmas.List.Kept.{AllPairs-cons}
 use Rattle.net_model.specs.declared.policies.Policy.{Policy}
-use Rattle.net_model.specs.declared.policies.PolicyKind.{PolicyKind}
-use Rattle.net_model.specs.declared.policies.PolicyKind.TheVariants.{Blocked, Through, Reach}
 use Rattle.net_model.specs.declared.policies.Weights.{Weights}
-use Rattle.net_doc.specs.Documents as documents
 use Rattle.net_doc.specs.Documents.{IsFileName, IsWeight, IsWellFormed}
-use Rattle.verdicts.specs.Judged.{HasFewFailures}
+use Rattle.net_model.specs.Policies.{HasFewFailures}
 use Rattle.net_gen.specs.Plans.{numbers}
 use Rattle.net_gen.specs.RouterFiles.{file_name}
 use Rattle.net_gen.specs.Generated.{Asked, asked, asked_around, Asks, IsGenerated}
@@ -83,14 +80,6 @@ differ_from a zero few = λ i j d low within. absurd (omega (arith, within))
 differ_from a (suc k) few =
     AllPairs-cons (λ r s. r ≢ s) (file_name a) (map file_name (range_with_len (a + 1) k)) (others_from a (a + 1) k (omega arith) (omega (arith, few))) (differ_from (a + 1) k (omega (arith, few)))
 
-doc_few : (policies : List Policy) → All HasFew policies → All (λ policy. documents.HasFewFailures policy.kind) policies
-doc_few policies few = λ k d within. go (get_or policies k d).kind (few k d within)
-  where
-    go : (kind : PolicyKind) → HasFewFailures kind → documents.HasFewFailures kind
-    go Blocked h = tt
-    go Through h = tt
-    go (Reach failures) h = h
-
 is_one : (w : ℕ) → w ≡ 1 → IsWeight w
 is_one w is = record { low = omega (arith, is); high = omega (arith, is) }
 
@@ -107,7 +96,7 @@ well_formed n made within links policies =
       few_routers = omega (arith, long, same, within.few);
       few_links = links;
       few_policies = policies;
-      few_failures = doc_few made.doc.policies (few_failures n made within.is);
+      few_failures = few_failures n made within.is;
       list = is_one made.doc.weights.list (ap (λ (w : Weights). w.list) is.weights);
       filter = is_one made.doc.weights.filter (ap (λ (w : Weights). w.filter) is.weights);
       session = is_one made.doc.weights.session (ap (λ (w : Weights). w.session) is.weights);

@@ -4,7 +4,7 @@ ghost use Rattle.net_model.specs.Forwarding.{HasEnds};
 ghost use Rattle.net_model.specs.Packets.{subject};
 ghost use Rattle.net_model.specs.Validity.{IsValid};
 ghost use Rattle.net_build.specs.Networks.{IsBuiltWithin};
-ghost use Rattle.verdicts.specs.Judged.{HasFewFailures};
+ghost use Rattle.net_model.specs.Policies.{HasFewFailures};
 ghost use Rattle.arc_repair.specs.Answers.{IsRepairFault};
 ghost use Rattle.run_files.specs.Answers.{Gives, HasStopCause};
 ghost use Rattle.repair_commands.specs.Steps.{StopsFor};

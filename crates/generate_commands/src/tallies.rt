@@ -6,7 +6,7 @@ ghost use Rattle.net_model.specs.Packets.{subject};
 ghost use Rattle.net_model.specs.Validity.{IsValid};
 ghost use Rattle.net_model.specs.Witnesses.{IsRight};
 ghost use Rattle.edit_space.specs.EditLists.{HasFewClasses};
-ghost use Rattle.verdicts.specs.Judged.{HasFewFailures};
+ghost use Rattle.net_model.specs.Policies.{HasFewFailures};
 ghost use Rattle.generate_commands.specs.Tallies.{one_more, tally_of};
 
 use arc_base::{List, Memory};

@@ -12,7 +12,8 @@ use Rattle.net_doc.specs.declared.fault.Refusal.{Refusal}
 use Rattle.net_doc.specs.declared.drafts.PolicyText.{PolicyText}
 use Rattle.net_doc.specs.declared.drafts.Draft.{Draft}
 use Rattle.net_doc.specs.Members.{all_of}
-use Rattle.net_doc.specs.Documents.{policy_of, failures_refusal, policies_refusal, limit_refusal, HasFewFailures}
+use Rattle.net_doc.specs.Documents.{policy_of, failures_refusal, policies_refusal, limit_refusal}
+use Rattle.net_model.specs.Policies.{HasFewFailures}
 use Rattle.net_doc.specs.Drafts.{kind_meant, policy_meant, document_meant}
 use Rattle.net_doc.proofs.Readings.{all_of-next}
 use Rattle.net_doc.proofs.Forms.{all_few, counts_within}

@@ -22,7 +22,8 @@ use Rattle.net_model.specs.declared.policies.Document.{Document}
 use Rattle.net_doc.specs.declared.fault.NetFault.{NetFault}
 use Rattle.net_doc.specs.declared.fault.Refusal.{Refusal}
 use Rattle.net_doc.specs.Members.{all_of, list_under, or_default}
-use Rattle.net_doc.specs.Documents.{router_of, routers_of, links_of, policies_of, weight_from, weight_under, weights_from, weights_of, unit_weights, version_of, document_from, document_of, form_refusal, over, failures_refusal, policies_refusal, limit_refusal, within_limits, limited, reading, IsFileName, IsWeight, HasFewFailures, IsWellFormed}
+use Rattle.net_doc.specs.Documents.{router_of, routers_of, links_of, policies_of, weight_from, weight_under, weights_from, weights_of, unit_weights, version_of, document_from, document_of, form_refusal, over, failures_refusal, policies_refusal, limit_refusal, within_limits, limited, reading, IsFileName, IsWeight, IsWellFormed}
+use Rattle.net_model.specs.Policies.{HasFewFailures}
 use Rattle.net_doc.proofs.Names.{AllPairs-different}
 
 -- where each form that reads has a property, so have all items

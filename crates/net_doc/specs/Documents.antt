@@ -20,6 +20,7 @@ use Rattle.net_model.specs.declared.policies.Policy.{Policy}
 use Rattle.net_model.specs.declared.policies.Weights.{Weights}
 use Rattle.net_model.specs.declared.policies.Document.{Document}
 use Rattle.net_model.specs.Services.{whole_service}
+use Rattle.net_model.specs.Policies.{HasFewFailures}
 use Rattle.net_doc.specs.declared.fault.Refusal.{Refusal}
 use Rattle.net_doc.specs.declared.fault.NetFault.{NetFault}
 use Rattle.net_doc.specs.declared.fault.NetFault.TheVariants.{Refused, Memory}
@@ -211,12 +212,6 @@ ReadsDocument bytes (Err Memory) = Unit {0}
 pub record IsFileName (name : List ℕ) : Type 0 where
   pub some : 1 ≤ length name
   pub few : length name ≤ 1024
-
--- a policy speaks of at most 16 failures
-abbrev pub HasFewFailures : PolicyKind → Type 0
-HasFewFailures Blocked = Unit {0}
-HasFewFailures Through = Unit {0}
-HasFewFailures (Reach failures) = failures ≤ 16
 
 -- a weight is from 1 to 16
 pub record IsWeight (weight : ℕ) : Type 0 where

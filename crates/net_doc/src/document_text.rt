@@ -1,6 +1,7 @@
 ghost use Rattle.std.specs.Prelude.{◌≡◌, ◌≤◌, None, length, map, option_map, All, IfOk, IfErr};
 ghost use Rattle.serde_json.specs.View.{view};
-ghost use Rattle.net_doc.specs.Documents.{ReadsDocument, IsWellFormed, HasFewFailures, document_from, document_of, version_of, limit_refusal, reading};
+ghost use Rattle.net_doc.specs.Documents.{ReadsDocument, IsWellFormed, document_from, document_of, version_of, limit_refusal, reading};
+ghost use Rattle.net_model.specs.Policies.{HasFewFailures};
 ghost use Rattle.net_doc.specs.Drafts.{kind_meant, policy_meant, document_meant};
 
 use crate::drafts::{Draft, KindText, PolicyText};

@@ -1,9 +1,7 @@
 -- The repair formula of a network, a document and a list of edits, and why there is none.
-use Rattle.std.specs.Prelude.{◌≡◌, ℕ, ◌≤◌, List}
+use Rattle.std.specs.Prelude.{◌≡◌, ℕ, List}
 use Rattle.arc_base.specs.declared.refusal.LimitKind.TheVariants as limits
 use Rattle.net_model.specs.declared.policies.Document.{Document}
-use Rattle.net_model.specs.declared.policies.PolicyKind.{PolicyKind}
-use Rattle.net_model.specs.declared.policies.PolicyKind.TheVariants.{Blocked, Through, Reach}
 use Rattle.net_model.specs.declared.rows.Network.{Network}
 use Rattle.cnf_types.specs.declared.literal.Lit.{Lit}
 use Rattle.cnf_types.specs.declared.clauses.Formula.{Formula}
@@ -44,9 +42,3 @@ IsFaultOf net doc list bound (Limit limits.Variables count) = PassesVariables ne
 IsFaultOf net doc list bound (Limit limits.Literals count) = PassesLiterals net doc list bound count
 IsFaultOf net doc list bound (Limit other count) = ⊥
 IsFaultOf net doc list bound Memory = Unit {0}
-
--- a policy speaks of at most 16 failures
-abbrev pub HasFewFailures : PolicyKind → Type 0
-HasFewFailures Blocked = Unit {0}
-HasFewFailures Through = Unit {0}
-HasFewFailures (Reach failures) = failures ≤ 16

@@ -8,7 +8,8 @@ ghost use Rattle.edit_space.specs.declared.edit_kinds.Edit.{Edit as AnyEdit};
 ghost use Rattle.edit_space.specs.EditLists.{AreEdits, HasFewClasses};
 ghost use Rattle.edit_space.specs.Prices.{weight};
 ghost use Rattle.policy_encode.specs.Finding.{IsIndexOf};
-ghost use Rattle.policy_encode.specs.Formulas.{HasFewFailures, IsRepairFormula, IsWithin, IsFaultOf};
+ghost use Rattle.policy_encode.specs.Formulas.{IsRepairFormula, IsWithin, IsFaultOf};
+ghost use Rattle.net_model.specs.Policies.{HasFewFailures};
 ghost use Rattle.policy_encode.specs.Questions.{IsQuestion, AreConditions};
 
 use crate::adding::push;

@@ -7,7 +7,7 @@ ghost use Rattle.net_model.specs.Forwarding.{HasHost, HasEnds, IsHostOf};
 ghost use Rattle.net_model.specs.Packets.{subject};
 ghost use Rattle.traffic_classes.specs.Classes.{AreClasses};
 ghost use Rattle.policy_encode.specs.Answers.{class_ends};
-ghost use Rattle.policy_encode.specs.Formulas.{HasFewFailures};
+ghost use Rattle.net_model.specs.Policies.{HasFewFailures};
 ghost use Rattle.policy_encode.specs.Questions.{demand_of, IsQuestion};
 ghost use Rattle.policy_encode.specs.Finding.{IsIndexOf};
 

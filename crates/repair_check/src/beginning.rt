@@ -5,7 +5,7 @@ ghost use Rattle.net_model.specs.Packets.{subject};
 ghost use Rattle.net_model.specs.Validity.{IsValid};
 ghost use Rattle.edit_space.specs.EditLists.{AreEdits, HasFewClasses};
 ghost use Rattle.policy_encode.specs.Formulas.{IsFaultOf, IsWithin};
-ghost use Rattle.verdicts.specs.Judged.{HasFewFailures};
+ghost use Rattle.net_model.specs.Policies.{HasFewFailures};
 ghost use Rattle.arc_repair.specs.Checks.{IsMispriced};
 ghost use Rattle.arc_repair.specs.Repairs.{none_of};
 ghost use Rattle.price_descent.specs.Outcomes.{least_below};

@@ -5,7 +5,7 @@ ghost use Rattle.net_model.specs.Packets.{subject};
 ghost use Rattle.net_model.specs.Validity.{IsValid};
 ghost use Rattle.edit_space.specs.Determined.{IsCountable};
 ghost use Rattle.edit_space.specs.EditLists.{AreEdits, HasFewClasses};
-ghost use Rattle.verdicts.specs.Judged.{HasFewFailures};
+ghost use Rattle.net_model.specs.Policies.{HasFewFailures};
 ghost use Rattle.repair_check.specs.Certifies.{IsCertified, IsCounted, IsCountFault, text_answers};
 ghost use Rattle.repair_check.specs.Outcomes.{IsOutcome, rejected};
 ghost use Rattle.policy_report.specs.Steps.{standing, step};

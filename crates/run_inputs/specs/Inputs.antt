@@ -9,7 +9,7 @@ use Rattle.net_doc.specs.Documents.{ReadsDocument}
 use Rattle.net_model.specs.Packets.{subject}
 use Rattle.net_model.specs.Forwarding.{HasEnds}
 use Rattle.net_model.specs.Validity.{IsValid}
-use Rattle.verdicts.specs.Judged.{HasFewFailures}
+use Rattle.net_model.specs.Policies.{HasFewFailures}
 use Rattle.net_build.specs.Networks.{IsBuiltWithin, IsNetworkWithin, IsFirstRefusalWithin}
 use Rattle.run_files.specs.declared.outcome.FileRefusal.{FileRefusal}
 use Rattle.run_files.specs.declared.outcome.Reason.TheVariants as reasons

@@ -1,8 +1,8 @@
 -- Which policies can be judged, and what is found of their classes.
-use Rattle.std.specs.Prelude.{ℕ, ◌<◌, ◌≤◌, List, All}
+use Rattle.std.specs.Prelude.{ℕ, ◌<◌, List, All}
 use Rattle.net_model.specs.declared.policies.Class.{Class}
 use Rattle.net_model.specs.declared.policies.PolicyKind.{PolicyKind}
-use Rattle.net_model.specs.declared.policies.PolicyKind.TheVariants.{Through, Reach}
+use Rattle.net_model.specs.declared.policies.PolicyKind.TheVariants.{Through}
 use Rattle.net_model.specs.declared.rows.Network.{Network}
 use Rattle.net_model.specs.declared.verdicts.Verdict.{Verdict}
 use Rattle.net_model.specs.declared.verdicts.Verdict.TheVariants.{Walk}
@@ -16,11 +16,6 @@ use Rattle.verdicts.specs.declared.fault.JudgeFault.TheVariants.{TooMany, Memory
 use Rattle.verdicts.specs.declared.blocking.ClassAnswer.{ClassAnswer}
 use Rattle.verdicts.specs.declared.blocking.ClassAnswer.TheVariants as answers
 use Rattle.verdicts.specs.Fixed.{IsFirstAfter, HasClosedSide, IsLeastClosed, IsFixedBlocking, IsFixedReach, IsFixedFor}
-
--- a policy of this kind speaks of at most 16 failures
-abbrev pub HasFewFailures : PolicyKind → Type 0
-HasFewFailures (Reach k) = k ≤ 16
-HasFewFailures _ = Unit {0}
 
 -- a fault of too many classes names a number that the fact holds of, and that is above 4,096
 abbrev pub CountsMore : (ℕ → Type 0) → JudgeFault → Type 0

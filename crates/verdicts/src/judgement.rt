@@ -9,7 +9,8 @@ ghost use Rattle.class_graph.specs.Hosts.{IsHostPair, HasHostPair};
 ghost use Rattle.traffic_classes.specs.Classes.{AreClasses, HasClasses};
 ghost use Rattle.traffic_classes.specs.Parts.{MakeUp};
 ghost use Rattle.verdicts.specs.Fixed.{IsFixed};
-ghost use Rattle.verdicts.specs.Judged.{HasFewFailures, CountsMore, AreAllUniform, IsVerdict};
+ghost use Rattle.verdicts.specs.Judged.{CountsMore, AreAllUniform, IsVerdict};
+ghost use Rattle.net_model.specs.Policies.{HasFewFailures};
 
 use crate::blocking::judge_blocking;
 use crate::fault::JudgeFault;

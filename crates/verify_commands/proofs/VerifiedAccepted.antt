@@ -19,7 +19,7 @@ use Rattle.net_model.specs.declared.verdicts.Verdict.TheVariants.{Closed, Paths,
 use Rattle.net_model.specs.Forwarding.{Ends, source_router, target_router}
 use Rattle.net_model.specs.Packets.{subject}
 use Rattle.net_model.specs.Witnesses.{IsRight, IsRightFor, IsRightPaths}
-use Rattle.net_doc.specs.Documents.{HasFewFailures}
+use Rattle.net_model.specs.Policies.{HasFewFailures}
 use Rattle.net_doc.proofs.Forms.{well_formed}
 use Rattle.verdicts.specs.Fixed.{IsFixedFor}
 use Rattle.policy_report.specs.Reports.{witness_lines, closed_line, path_line, report_text}

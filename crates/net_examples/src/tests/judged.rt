@@ -1,7 +1,7 @@
 ghost use Rattle.std.specs.Prelude.{◌≡◌, ◌∷◌, [], IfOk};
 ghost use Rattle.net_model.specs.Services.{whole_service};
 ghost use Rattle.net_examples.specs.TwoRouters.{between_users};
-ghost use Rattle.verdicts.specs.Judged.{HasFewFailures};
+ghost use Rattle.net_model.specs.Policies.{HasFewFailures};
 
 use crate::two_routers::{between_users, two_routers};
 use arc_base::{Link, List, Memory};

@@ -13,14 +13,14 @@ use Rattle.arc_repair.specs.declared.answer.Answer.TheVariants.{Done}
 use Rattle.arc_repair.specs.Answers.{answer_steps, AnswersFew, IsAnswer, IsRepairFault, IsUntouched, KeepsLimits, ShowsFew}
 use Rattle.arc_repair.specs.Repairs.{Mends}
 use Rattle.arc_repair.specs.Search.{AreYesAfter}
-use Rattle.arc_repair.proofs.Glue.{all_few_failures, formula_fault, never_mended, of_each, out_of_memory, untouched}
+use Rattle.arc_repair.proofs.Glue.{formula_fault, never_mended, of_each, out_of_memory, untouched}
 use Rattle.arc_repair.proofs.Repaired.{untouched_done}
 use Rattle.arc_repair.proofs.Untouched.{none_for_each}
 use Rattle.arc_repair.proofs.Yeses.{never_some}
 use Rattle.arc_repair.proofs.repairing.repair.Goals as goal
 
 pub encode-requires-clause-failures : goal.encode-requires-clause-failures
-encode-requires-clause-failures c = all_few_failures c.args.doc.now.policies c.requires.failures
+encode-requires-clause-failures c = c.requires.failures
 
 pub returns-in_err-list-clause-fault : goal.returns-in_err-list-clause-fault
 returns-in_err-list-clause-fault c =

@@ -1,6 +1,6 @@
 use Rattle.std.proofs.Common.{◌≡◌, ◌∙◌, sym, ap, subst, List, length, get_or, arith, ◌<◌}
 use Rattle.net_doc.specs.declared.drafts.PolicyText.{PolicyText}
-use Rattle.net_doc.specs.Documents.{HasFewFailures}
+use Rattle.net_model.specs.Policies.{HasFewFailures}
 use Rattle.net_doc.specs.Drafts.{kind_meant}
 use Rattle.net_doc.proofs.Drafted.{few_at}
 use Rattle.net_doc.proofs.document_text.meant.Goals as goal

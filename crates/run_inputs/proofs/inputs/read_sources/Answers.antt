@@ -1,6 +1,5 @@
 use Rattle.std.proofs.Common.{ℕ, rules, subst}
 use Rattle.net_build.specs.Networks.{IsBuiltWithin, IsFirstRefusalWithin}
-use Rattle.run_inputs.proofs.ClassesCounted.{all_few}
 use Rattle.run_inputs.proofs.FilesRead.{network_refused, sources_read}
 use Rattle.run_inputs.proofs.inputs.read_sources.Goals as goal
 
@@ -8,7 +7,7 @@ pub returns-in-Ok-clause-fit : goal.returns-in-Ok-clause-fit
 returns-in-Ok-clause-fit g c = record {
   valid = c.in-Ok.ensures.valid;
   ends = c.in-Ok.ensures.ends;
-  failures = all_few c.args.doc.now.policies c.requires.few_failures;
+  failures = c.requires.few_failures;
 }
 
 pub returns-in-Ok-clause-told : goal.returns-in-Ok-clause-told

@@ -7,14 +7,14 @@ use Rattle.arc_repair.specs.Answers.{IsRepairFault}
 use Rattle.arc_repair.specs.Checks.{IsBegun, IsDefect}
 use Rattle.arc_repair.specs.Claims.{claim_bound}
 use Rattle.arc_repair.proofs.ClaimDefects.{beyond, flags_of, none_wrong, this_wrong}
-use Rattle.arc_repair.proofs.Glue.{all_few_failures, formula_fault, of_each, out_of_memory}
+use Rattle.arc_repair.proofs.Glue.{formula_fault, of_each, out_of_memory}
 use Rattle.arc_repair.proofs.check.Check.make.Goals as goal
 
 pub returns-then-bound-gt512-clause-made : goal.returns-then-bound-gt512-clause-made
 returns-then-bound-gt512-clause-made c = λ other others. beyond c.args.net.now c.args.doc.now other c.args.claim.now (omega (arith, c.bound_of-bound.ensures, c.if-bound-gt512.true))
 
 pub encode-requires-clause-failures : goal.encode-requires-clause-failures
-encode-requires-clause-failures c = all_few_failures c.args.doc.now.policies c.requires.failures
+encode-requires-clause-failures c = c.requires.failures
 
 pub returns-in_err-list-clause-fault : goal.returns-in_err-list-clause-fault
 returns-in_err-list-clause-fault c =

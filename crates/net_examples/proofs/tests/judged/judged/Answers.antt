@@ -5,7 +5,7 @@ use Rattle.net_model.specs.declared.policies.Policy.{Policy}
 use Rattle.net_model.specs.Packets.{subject}
 use Rattle.net_model.specs.Forwarding.{HasEnds}
 use Rattle.net_model.specs.Services.{whole_service}
-use Rattle.verdicts.specs.Judged.{HasFewFailures}
+use Rattle.net_model.specs.Policies.{HasFewFailures}
 use Rattle.net_examples.specs.TwoRouters.{between_users}
 use Rattle.net_examples.proofs.tests.judged.judged.Goals as goal
 
