@@ -7,14 +7,12 @@ use Rattle.cnf_types.specs.declared.clauses.Formula.{Formula}
 use Rattle.cnf_types.specs.Dimacs.{reading}
 use Rattle.cnf_types.specs.Formulas.{Satisfies}
 use Rattle.cnf_types.specs.Words.{lines}
-use Rattle.proof_check.specs.declared.faults.StepFault.{StepFault}
-use Rattle.proof_check.specs.declared.faults.StepFault.TheVariants as steps
 use Rattle.proof_check.specs.declared.rejections.Rejection.{Rejection}
 use Rattle.proof_check.specs.declared.rejections.Rejection.TheVariants as rejections
 use Rattle.proof_check.specs.declared.rejections.Outcome.{Outcome}
 use Rattle.proof_check.specs.declared.rejections.Outcome.TheVariants.{Accepted, Rejected}
 use Rattle.proof_check.specs.Knowledge.{start}
-use Rattle.proof_check.specs.Outcomes.{log_outcome, IsRefutation}
+use Rattle.proof_check.specs.Outcomes.{log_outcome, IsRefutation, fault_kind}
 use Rattle.run_files.specs.declared.judgements.Judgement.{Judgement}
 use Rattle.run_files.specs.declared.judgements.Judgement.TheVariants as judgements
 use Rattle.run_files.specs.declared.outcome.Done.{Done}
@@ -32,17 +30,6 @@ lrat_refusal cnf proof files = option_or (cnf_refusal cnf files) (read_refusal p
 -- it is the one or the other
 abbrev pub IsLratRefusal : List ℕ → List ℕ → Files → FileRefusal → Type 0
 IsLratRefusal cnf proof files r = lrat_refusal cnf proof files ≡ Some r
-
--- the kind of reason for which a step is not accepted
-abbrev pub fault_kind : StepFault → CertKind
-fault_kind steps.IdNotRising = kinds.IdNotRising
-fault_kind (steps.NegativeHint place) = kinds.NegativeHint
-fault_kind (steps.UnknownId place) = kinds.UnknownId
-fault_kind (steps.HintNotUnit place) = kinds.HintNotUnit
-fault_kind steps.NoConflict = kinds.NoConflict
-fault_kind steps.BoundTooLow = kinds.BoundTooLow
-fault_kind steps.BoundTooHigh = kinds.BoundTooHigh
-fault_kind steps.Memory = kinds.Memory
 
 -- the kind of reason for which a line is rejected
 abbrev pub rejection_kind : Rejection → CertKind

@@ -1,31 +1,15 @@
 //! The command `lrat CNF PROOF`.
 ghost use Rattle.std.specs.Prelude.{◌≡◌};
-ghost use Rattle.cnf_commands.specs.Lrats.{fault_kind, judgement_of, rejection_kind, IsJudged, IsLratRefusal};
+ghost use Rattle.cnf_commands.specs.Lrats.{judgement_of, rejection_kind, IsJudged, IsLratRefusal};
 ghost use Rattle.run_files.specs.Answers.{Answers, IsJudging, OnlyReads};
 
 use crate::formulas::read_formula;
 use crate::proof_lines::judge_proof;
 use arc_base::{CertKind, Name};
 use arc_outside::Store;
-use proof_check::{Outcome, Rejection, StepFault};
+use proof_check::{Outcome, Rejection, fault_kind};
 use run_files::{Done, Judgement, PROOF_LIMIT, Stop, told, try_file};
 use std::alloc::Global;
-
-// The kind of reason for which a step is not accepted.
-fn fault_kind(fault: StepFault) -> CertKind
-    ensures { result ≡ fault_kind fault }
-{
-    match fault {
-        StepFault::IdNotRising => CertKind::IdNotRising,
-        StepFault::NegativeHint(_) => CertKind::NegativeHint,
-        StepFault::UnknownId(_) => CertKind::UnknownId,
-        StepFault::HintNotUnit(_) => CertKind::HintNotUnit,
-        StepFault::NoConflict => CertKind::NoConflict,
-        StepFault::BoundTooLow => CertKind::BoundTooLow,
-        StepFault::BoundTooHigh => CertKind::BoundTooHigh,
-        StepFault::Memory => CertKind::Memory,
-    }
-}
 
 // The kind of reason for which a line is rejected.
 fn rejection_kind(rejection: Rejection) -> CertKind

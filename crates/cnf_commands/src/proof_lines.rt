@@ -1,7 +1,6 @@
 //! The judgement of a proof whose lines are read one by one.
-ghost use Rattle.std.specs.Prelude.{◌≡◌, ◌^◌, ◌<◌, [], IfOk, IfSome, IsNone};
-ghost use Rattle.proof_log.specs.Reading.{reading};
-ghost use Rattle.proof_check.specs.Outcomes.{line_rejection, line_after, log_outcome};
+ghost use Rattle.std.specs.Prelude.{◌≡◌, ◌^◌, ◌<◌, [], IfSome};
+ghost use Rattle.proof_check.specs.Outcomes.{log_outcome};
 ghost use Rattle.proof_check.specs.View.{known};
 ghost use Rattle.run_files.specs.Answers.{OnlyReads};
 ghost use Rattle.cnf_commands.specs.ProofLines.{JudgesProof};
@@ -9,31 +8,9 @@ ghost use Rattle.cnf_commands.specs.ProofLines.{JudgesProof};
 use arc_base::{List, Memory, Name};
 use arc_outside::{Pieces, Store};
 use cnf_types::Formula;
-use proof_check::{Checker, Outcome, Rejection, StepFault};
-use proof_log::{LineKind, step};
+use proof_check::{Checker, Outcome, Rejection, judge_line};
 use run_files::{Stop, next_line};
 use std::alloc::Global;
-
-// Judges a line, and takes its step where that is accepted.
-fn judge_line(
-    alloc: Global,
-    checker: &mut Checker,
-    line: &[u8],
-) -> Result<Option<Rejection>, Memory>
-    ensures rejection { IfOk result (λ r. r ≡ line_rejection (reading line.now) (known checker.old)) }
-    ensures after { IfOk result (λ r. IsNone r → known checker.new ≡ line_after (reading line.now) (known checker.old)) }
-{
-    match step(alloc, line) {
-        Ok(None) => Ok(None),
-        Ok(Some(step)) => match checker.step(&step) {
-            Ok(()) => Ok(None),
-            Err(StepFault::Memory) => Err(Memory),
-            Err(fault) => Ok(Some(Rejection::Fault(fault))),
-        },
-        Err(LineKind::Memory) => Err(Memory),
-        Err(_) => Ok(Some(Rejection::Form)),
-    }
-}
 
 // What is left to say after the last line.
 fn last_word(checker: &Checker, number: u64) -> Outcome

@@ -1,11 +1,15 @@
 -- What the text of a proof is judged to.
 use Rattle.std.specs.Prelude.{ℕ, ◌+◌, if◌then◌else◌, List, [], ◌∷◌, Option, Some, None, Result, Ok, Err, IsSomeAnd}
 use Rattle.std.specs.Option.{option_map}
+use Rattle.arc_base.specs.declared.certificate.CertKind.{CertKind}
+use Rattle.arc_base.specs.declared.certificate.CertKind.TheVariants as kinds
 use Rattle.cnf_types.specs.declared.clauses.Formula.{Formula}
 use Rattle.cnf_types.specs.Words.{lines}
 use Rattle.proof_log.specs.declared.steps.Step.{Step}
 use Rattle.proof_log.specs.declared.reading.LineKind.{LineKind}
 use Rattle.proof_log.specs.Reading.{reading}
+use Rattle.proof_check.specs.declared.faults.StepFault.{StepFault}
+use Rattle.proof_check.specs.declared.faults.StepFault.TheVariants as faults
 use Rattle.proof_check.specs.declared.rejections.Rejection.{Rejection}
 use Rattle.proof_check.specs.declared.rejections.Rejection.TheVariants.{Form, Fault, NotRefuted}
 use Rattle.proof_check.specs.declared.rejections.Outcome.{Outcome}
@@ -26,6 +30,17 @@ steps_of (line ∷ ls) = with_line (reading line) (steps_of ls)
 -- the text is an accepted log for the formula that adds the empty clause
 abbrev pub IsRefutation : Formula → List ℕ → Type 0
 IsRefutation f proof = IsSomeAnd (steps_of (lines proof)) (λ steps. IsAccepted (start f None []) steps × IsRefuting steps)
+
+-- the kind of reason for which a step is not accepted
+abbrev pub fault_kind : StepFault → CertKind
+fault_kind faults.IdNotRising = kinds.IdNotRising
+fault_kind (faults.NegativeHint place) = kinds.NegativeHint
+fault_kind (faults.UnknownId place) = kinds.UnknownId
+fault_kind (faults.HintNotUnit place) = kinds.HintNotUnit
+fault_kind faults.NoConflict = kinds.NoConflict
+fault_kind faults.BoundTooLow = kinds.BoundTooLow
+fault_kind faults.BoundTooHigh = kinds.BoundTooHigh
+fault_kind faults.Memory = kinds.Memory
 
 -- why a line is rejected
 abbrev pub line_rejection : Result (Option Step) LineKind → Knowledge → Option Rejection

@@ -4,19 +4,35 @@ ghost use Rattle.cnf_types.specs.Words.{lines};
 ghost use Rattle.cnf_types.specs.Formulas.{Satisfies};
 ghost use Rattle.proof_log.specs.Reading.{reading};
 ghost use Rattle.proof_check.specs.Knowledge.{start};
-ghost use Rattle.proof_check.specs.Outcomes.{line_rejection, line_after, log_outcome, IsRefutation};
+ghost use Rattle.proof_check.specs.Outcomes.{fault_kind, line_rejection, line_after, log_outcome, IsRefutation};
 ghost use Rattle.proof_check.specs.View.{known};
 
 use crate::checker::Checker;
 use crate::faults::StepFault;
 use crate::rejections::{Outcome, Rejection};
-use arc_base::{List, Memory};
+use arc_base::{CertKind, List, Memory};
 use cnf_types::{Formula, first_line};
 use proof_log::{LineKind, step};
 use std::alloc::Global;
 
+/// The kind of reason for which a step is not accepted, without its place.
+pub fn fault_kind(fault: StepFault) -> CertKind
+    ensures { result ≡ fault_kind fault }
+{
+    match fault {
+        StepFault::IdNotRising => CertKind::IdNotRising,
+        StepFault::NegativeHint(_) => CertKind::NegativeHint,
+        StepFault::UnknownId(_) => CertKind::UnknownId,
+        StepFault::HintNotUnit(_) => CertKind::HintNotUnit,
+        StepFault::NoConflict => CertKind::NoConflict,
+        StepFault::BoundTooLow => CertKind::BoundTooLow,
+        StepFault::BoundTooHigh => CertKind::BoundTooHigh,
+        StepFault::Memory => CertKind::Memory,
+    }
+}
+
 /// Judges a line, and takes its step where that is accepted.
-fn judge_line(
+pub fn judge_line(
     alloc: Global,
     checker: &mut Checker,
     line: &[u8],

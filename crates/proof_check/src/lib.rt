@@ -15,7 +15,7 @@ mod rejections;
 
 pub use checker::Checker;
 pub use faults::StepFault;
-pub use judging::check_log;
+pub use judging::{check_log, fault_kind, judge_line};
 pub use rejections::{Outcome, Rejection};
 
 #[cfg(test)]

@@ -14,7 +14,8 @@ use Rattle.policy_report.specs.declared.got.Got.TheVariants.{End}
 use Rattle.policy_report.specs.Recertifying.{Told, told_answer}
 use Rattle.report_check.specs.declared.outcome.Outcome.{Outcome}
 use Rattle.report_check.specs.declared.outcome.Outcome.TheVariants.{Accepted, Rejected}
-use Rattle.repair_check.specs.Outcomes.{Answers, IsEnded, IsLogOutcome, fault_kind, rejected}
+use Rattle.repair_check.specs.Outcomes.{Answers, IsEnded, IsLogOutcome, rejected}
+use Rattle.proof_check.specs.Outcomes.{fault_kind}
 
 -- the outcome is to accept exactly where this holds
 abbrev pub AcceptsIf : Outcome → Type 0 → Type 0

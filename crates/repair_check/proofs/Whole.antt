@@ -18,7 +18,8 @@ use Rattle.policy_report.specs.Rereading.{IsWhole}
 use Rattle.report_check.specs.declared.outcome.Outcome.{Outcome}
 use Rattle.report_check.specs.declared.outcome.Outcome.TheVariants.{Accepted, Rejected}
 use Rattle.arc_repair.specs.Repairs.{none_of}
-use Rattle.repair_check.specs.Outcomes.{Answers, IsAnswerOutcome, IsBlocksOutcome, IsEditsEnd, IsEditsOutcome, IsEnded, IsHeadOutcome, IsLogOutcome, IsReadyOutcome, fault_kind, is_edit_kind, rejected}
+use Rattle.repair_check.specs.Outcomes.{Answers, IsAnswerOutcome, IsBlocksOutcome, IsEditsEnd, IsEditsOutcome, IsEnded, IsHeadOutcome, IsLogOutcome, IsReadyOutcome, is_edit_kind, rejected}
+use Rattle.proof_check.specs.Outcomes.{fault_kind}
 
 not_accepted : (fault : CertFault) → Accepted ≡ Rejected fault → ⊥
 not_accepted fault e = absurd (cc)

@@ -16,9 +16,8 @@ use Rattle.edit_space.specs.After.{IsAfter}
 use Rattle.edit_space.specs.Prices.{chosen_of}
 use Rattle.policy_encode.specs.Formulas.{IsRepairFormula}
 use Rattle.price_descent.specs.Outcomes.{least_below}
-use Rattle.proof_check.specs.declared.faults.StepFault.{StepFault}
-use Rattle.proof_check.specs.declared.faults.StepFault.TheVariants as steps
 use Rattle.proof_check.specs.Knowledge.{Knowledge, after, start, step_fault}
+use Rattle.proof_check.specs.Outcomes.{fault_kind}
 use Rattle.policy_report.specs.declared.got.Got.{Got}
 use Rattle.policy_report.specs.declared.got.Got.TheVariants.{More, Head, Verdict, Edit, Step, End}
 use Rattle.policy_report.specs.declared.got.CertForm.TheVariants.{Repaired, NoRepair}
@@ -35,17 +34,6 @@ use Rattle.arc_repair.specs.Repairs.{none_of}
 -- the line with this number is rejected for this
 abbrev pub rejected : ℕ → CertKind → Outcome
 rejected number kind = Rejected (record { line = number; kind = kind })
-
--- the kind of a step's fault
-abbrev pub fault_kind : StepFault → CertKind
-fault_kind steps.IdNotRising = kinds.IdNotRising
-fault_kind (steps.NegativeHint place) = kinds.NegativeHint
-fault_kind (steps.UnknownId place) = kinds.UnknownId
-fault_kind (steps.HintNotUnit place) = kinds.HintNotUnit
-fault_kind steps.NoConflict = kinds.NoConflict
-fault_kind steps.BoundTooLow = kinds.BoundTooLow
-fault_kind steps.BoundTooHigh = kinds.BoundTooHigh
-fault_kind steps.Memory = kinds.Memory
 
 -- the line is rejected as the line of an edit
 abbrev pub is_edit_kind : CertKind → Bool

@@ -4,7 +4,7 @@ ghost use Rattle.net_model.specs.Forwarding.{HasEnds};
 ghost use Rattle.net_model.specs.Packets.{subject};
 ghost use Rattle.net_model.specs.Validity.{IsValid};
 ghost use Rattle.report_check.specs.Outcomes.{IsRightAt};
-ghost use Rattle.repair_check.specs.Outcomes.{fault_kind, is_edit_kind};
+ghost use Rattle.repair_check.specs.Outcomes.{is_edit_kind};
 ghost use Rattle.repair_check.specs.Phases.{EndsEdits, IsJudgeable, IsReadyWithin, LeadsTo};
 
 use crate::beginning::{end_edits, rejected};
@@ -13,27 +13,11 @@ use arc_base::{CertKind, List, Memory};
 use edit_space::Edit;
 use net_model::{Document, Network, Policy, Verdict};
 use policy_report::{CertFault, Got};
-use proof_check::{Checker, StepFault};
+use proof_check::{Checker, fault_kind};
 use proof_log::Step;
 use report_check::Outcome;
 use std::alloc::Global;
 use witness_check::accepts;
-
-// The kind of a step's fault.
-fn fault_kind(fault: StepFault) -> CertKind
-    ensures { result ≡ fault_kind fault }
-{
-    match fault {
-        StepFault::IdNotRising => CertKind::IdNotRising,
-        StepFault::NegativeHint(_place) => CertKind::NegativeHint,
-        StepFault::UnknownId(_place) => CertKind::UnknownId,
-        StepFault::HintNotUnit(_place) => CertKind::HintNotUnit,
-        StepFault::NoConflict => CertKind::NoConflict,
-        StepFault::BoundTooLow => CertKind::BoundTooLow,
-        StepFault::BoundTooHigh => CertKind::BoundTooHigh,
-        StepFault::Memory => CertKind::Memory,
-    }
-}
 
 // Whether a line is rejected as that of an edit.
 fn is_edit_kind(kind: CertKind) -> bool
