@@ -63,4 +63,3 @@ mod Gathered
 mod ConnectedSubnets
 mod IndexLines
 pub mod SessionPackets
-pub mod SameService

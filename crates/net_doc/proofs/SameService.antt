@@ -1,18 +1,9 @@
 -- Ranges of services with the same ends are the same.
 use Rattle.std.proofs.Common.{◌≡◌, ℕ, ◌^◌, ◌<◌, ◌≤◌, ◌↔◌, Bool, true, false, Option, Some, None, IsSome, IfSome, refl, sym, ap, ◌∙◌, lt-ltb, le-leb, true≢false}
 use Rattle.std.proofs.lemmas.Bool.{and_from, and_parts, leb-true, ltb-true}
-use denote.Struct.Props.{props}
 use Rattle.net_model.specs.declared.services.Service.{Service}
+use Rattle.net_model.proofs.SameService.{same_facts}
 use Rattle.net_doc.specs.Services.{are_ends, range_if, range_from}
-
--- the facts of a range do not tell it from another
-same_facts : (s : Service) (o : s.low ≤ s.high) (i : s.high < 2 ^ 24) → s ≡ record { low = s.low; high = s.high; ordered = o; in_range = i }
-same_facts s o i =
-    let ordered : IsProp (s.low ≤ s.high) = hlevel props in
-    let in_range : IsProp (s.high < 2 ^ 24) = hlevel props in
-    let F : s.low ≤ s.high → Service = λ z. record { low = s.low; high = s.high; ordered = z; in_range = s.in_range } in
-    let G : s.high < 2 ^ 24 → Service = λ z. record { low = s.low; high = s.high; ordered = o; in_range = z } in
-    ap F (ordered s.ordered o) ∙ ap G (in_range s.in_range i)
 
 if_ends : (s : Service) (test : Bool) (e : are_ends s.low s.high ≡ test) → test ≡ true → range_if s.low s.high test e ≡ Some s
 if_ends s false e h = absurd (true≢false (sym h))

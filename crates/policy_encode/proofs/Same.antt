@@ -3,7 +3,7 @@ use Rattle.std.proofs.Common.{◌≡◌, ℕ, ◌&&◌, true, nat_eq, refl}
 use Rattle.std.proofs.lemmas.Bool.{and_parts, and_from, eqb-true, eq-eqb}
 use Rattle.arc_base.proofs.SamePrefix.{same_prefix}
 use Rattle.net_model.specs.declared.policies.Class.{Class}
-use Rattle.traffic_classes.proofs.ServiceCuts.{same_service}
+use Rattle.net_model.proofs.SameService.{same_service}
 use Rattle.edit_space.specs.declared.edit_kinds.Edit.{Edit}
 use Rattle.edit_space.specs.declared.edit_kinds.Edit.TheVariants.{Session, RouteList, RouteNew, PacketList, PacketNew}
 use Rattle.policy_encode.specs.Turning.{Key, key_of, same_key, is_same}

@@ -1,26 +1,11 @@
 -- Ranges of services with the same ends are the same, and what two ends make.
 use Rattle.std.proofs.Common.{◌≡◌, ℕ, ◌^◌, ◌<◌, ◌≤◌, ◌&&◌, nat_lt, nat_le, Bool, true, false, Option, Some, None, IsSome, IfSome, ◌↔◌, refl, sym, ap, subst, ◌∙◌, arith, lt-ltb, le-leb, true≢false}
-use denote.Struct.Props.{props}
 use Rattle.std.proofs.lemmas.Bool.{and_from, and_parts, leb-true}
 use Rattle.std.proofs.lemmas.Option.{none-some, same_Some}
 use Rattle.net_model.specs.declared.services.Service.{Service}
+use Rattle.net_model.proofs.SameService.{same_service}
 use Rattle.net_model.specs.Services.{whole_service}
 use Rattle.policy_report.specs.ServiceWords.{is_whole, range_if, range_from}
-
--- the facts of a range do not tell it from another
-same_facts : (s : Service) (o : s.low ≤ s.high) (r : s.high < 2 ^ 24) → s ≡ record { low = s.low; high = s.high; ordered = o; in_range = r }
-same_facts s o r =
-    let ordered : IsProp (s.low ≤ s.high) = hlevel props in
-    let in_range : IsProp (s.high < 2 ^ 24) = hlevel props in
-    let F : s.low ≤ s.high → Service = λ z. record { low = s.low; high = s.high; ordered = z; in_range = s.in_range } in
-    let G : s.high < 2 ^ 24 → Service = λ z. record { low = s.low; high = s.high; ordered = o; in_range = z } in
-    ap F (ordered s.ordered o) ∙ ap G (in_range s.in_range r)
-
-pub same_range : (s t : Service) → s.low ≡ t.low → s.high ≡ t.high → s ≡ t
-same_range s t lows highs =
-    let P : ℕ → Type 0 = λ h. (o : s.low ≤ h) (r : h < 2 ^ 24) → s ≡ record { low = s.low; high = h; ordered = o; in_range = r } in
-    let Q : ℕ → Type 0 = λ l. (o : l ≤ t.high) (r : t.high < 2 ^ 24) → s ≡ record { low = l; high = t.high; ordered = o; in_range = r } in
-    subst Q lows (subst P highs (same_facts s)) t.ordered t.in_range
 
 -- the range that has each service is that of all
 pub whole_is : (s : Service) → is_whole s ≡ true → s ≡ whole_service
@@ -29,7 +14,7 @@ whole_is s e =
     let below : s.low ≤ 0 = leb-true _ _ low in
     let above : 16777215 ≤ s.high = leb-true _ _ high in
     let small : s.high < 2 ^ 24 = s.in_range in
-    same_range s whole_service (omega arith) (omega arith)
+    same_service s whole_service (omega arith) (omega arith)
 
 -- the ends of a range pass the test
 are_ends : (s : Service) → (nat_le s.low s.high && nat_lt s.high 16777216) ≡ true
@@ -37,7 +22,7 @@ are_ends s = and_from _ _ (le-leb _ _ s.ordered) (lt-ltb _ _ s.in_range)
 
 if_ends : (s : Service) (test : Bool) (e : (nat_le s.low s.high && nat_lt s.high 16777216) ≡ test) → test ≡ true → range_if s.low s.high test e ≡ Some s
 if_ends s false e h = absurd (true≢false (sym h))
-if_ends s true e h = ap Some (same_range _ s refl refl)
+if_ends s true e h = ap Some (same_service _ s refl refl)
 
 -- the ends of a range give it back
 pub range_back : (s : Service) → range_from s.low s.high ≡ Some s

@@ -6,7 +6,7 @@ use Rattle.std.proofs.lemmas.Bool.{false≢true}
 use Rattle.std.proofs.lemmas.Bool.Decides.{Decides-and, Decides-eqb}
 use Rattle.arc_base.proofs.SamePrefix.{same_prefix}
 use Rattle.net_model.specs.declared.policies.Class.{Class}
-use Rattle.traffic_classes.proofs.ServiceCuts.{same_service}
+use Rattle.net_model.proofs.SameService.{same_service}
 use Rattle.traffic_classes.specs.AllClasses.{Key, key_of, same_key, is_same, with_class}
 
 abbrev Numbers : Class → Class → Type 0

@@ -1,27 +1,12 @@
 -- Where marks cut a range of services: exactly where one of them begins or has just ended.
-use Rattle.std.proofs.Common.{◌≡◌, ℕ, zero, suc, ◌+◌, ◌-◌, ◌<◌, ◌≤◌, ◌⊎◌, inl, inr, Bool, true, false, List, IsTrue, refl, sym, ◌∙◌, ap, subst, arith}
-use Rattle.std.specs.Prelude.{Contains, ◌≢◌, ◌^◌}
+use Rattle.std.proofs.Common.{◌≡◌, ℕ, zero, suc, ◌+◌, ◌-◌, ◌<◌, ◌≤◌, ◌⊎◌, inl, inr, Bool, true, false, List, IsTrue, refl, sym, ◌∙◌, ap, arith}
+use Rattle.std.specs.Prelude.{Contains, ◌≢◌}
 use Rattle.std.proofs.lemmas.Bool.Decides.{leb_tells}
-use denote.Struct.Props.{props}
 use Rattle.net_model.specs.declared.services.Service.{Service}
 use Rattle.net_model.specs.Services.{serves, Serves, IsServiceInside}
 use Rattle.net_model.proofs.ServiceRanges.{bounds, serve, first-serves}
+use Rattle.net_model.proofs.SameService.{same_service}
 use Rattle.traffic_classes.specs.ServiceLeaves.{IsCut, IsCutAt}
-
--- ranges with the same ends are the same
-same_facts : (s : Service) (o : s.low ≤ s.high) (r : s.high < 2 ^ 24) → s ≡ record { low = s.low; high = s.high; ordered = o; in_range = r }
-same_facts s o r =
-    let ordered : IsProp (s.low ≤ s.high) = hlevel props in
-    let in_range : IsProp (s.high < 2 ^ 24) = hlevel props in
-    let F : s.low ≤ s.high → Service = λ z. record { low = s.low; high = s.high; ordered = z; in_range = s.in_range } in
-    let G : s.high < 2 ^ 24 → Service = λ z. record { low = s.low; high = s.high; ordered = o; in_range = z } in
-    ap F (ordered s.ordered o) ∙ ap G (in_range s.in_range r)
-
-pub same_service : (s t : Service) → s.low ≡ t.low → s.high ≡ t.high → s ≡ t
-same_service s t at_low at_high =
-    let P : ℕ → Type 0 = λ h. (o : s.low ≤ h) (r : h < 2 ^ 24) → s ≡ record { low = s.low; high = h; ordered = o; in_range = r } in
-    let Q : ℕ → Type 0 = λ l. (o : l ≤ t.high) (r : t.high < 2 ^ 24) → s ≡ record { low = l; high = t.high; ordered = o; in_range = r } in
-    subst Q at_low (subst P at_high (same_facts s)) t.ordered t.in_range
 
 pub last-serves : (s : Service) → Serves s s.high
 last-serves s = let p : s.low ≤ s.high = s.ordered in serve s s.high p (omega arith)

@@ -16,7 +16,8 @@ use Rattle.net_model.proofs.ServiceRanges.{bounds, serve}
 use Rattle.traffic_classes.specs.ServiceLeaves.{IsCut, AreServiceLeaves, IsCutAt}
 use Rattle.traffic_classes.specs.ServiceParts.{inner_ends, RiseBetween, ArePartsBetween}
 use Rattle.traffic_classes.proofs.Rising.{same_rising}
-use Rattle.traffic_classes.proofs.ServiceCuts.{same_service, cut_place}
+use Rattle.traffic_classes.proofs.ServiceCuts.{cut_place}
+use Rattle.net_model.proofs.SameService.{same_service}
 use Rattle.traffic_classes.proofs.ServiceJoins.{joined, single}
 
 -- the list has the cuts of the whole, each once and in rising order

@@ -1,6 +1,6 @@
 use Rattle.std.proofs.Common.{ap}
 use Rattle.net_model.specs.declared.services.Service.{Service}
-use Rattle.net_build.proofs.SameService.{same_facts}
+use Rattle.net_model.proofs.SameService.{same_facts}
 use Rattle.net_build.proofs.lists.entry_of.Goals as goal
 
 pub returns : goal.returns

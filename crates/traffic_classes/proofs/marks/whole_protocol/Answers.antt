@@ -1,5 +1,5 @@
 use Rattle.std.proofs.Common.{refl}
-use Rattle.traffic_classes.proofs.ServiceCuts.{same_service}
+use Rattle.net_model.proofs.SameService.{same_service}
 use Rattle.traffic_classes.proofs.marks.whole_protocol.Goals as goal
 
 pub returns : goal.returns
