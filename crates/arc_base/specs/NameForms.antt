@@ -1,7 +1,11 @@
--- The form of names: those of routers and lists, and those of interfaces.
-use Rattle.std.specs.Prelude.{◌≡◌, ℕ, ◌≤◌, ◌==◌, ◌&&◌, ◌||◌, ◌⊎◌, ◌++◌, nat_le, Bool, List, [], ◌∷◌, length, codes, IsTrue, Contains}
+-- The form of names, those of routers and lists and those of interfaces, and their order.
+use Rattle.std.specs.Prelude.{◌≡◌, ℕ, ◌≤◌, ◌==◌, ◌&&◌, ◌||◌, ◌⊎◌, ◌++◌, nat_le, Bool, List, [], ◌∷◌, length, map, codes, IsTrue, Contains}
 use Rattle.std.specs.Char.{is_ascii_digit}
 use Rattle.std.specs.List.{list_all, AllByRecursion}
+use Rattle.std.specs.Cmp.Lexicographic.{slice_cmp}
+use Rattle.std.specs.Ordering.{nat_cmp}
+use Rattle.std.specs.declared.cmp.Ordering.TheVariants.{Less}
+use denote.Ref.{Bor}
 
 -- whether a byte may stand in a name: a letter, a digit or one of - _ .
 abbrev pub is_name_byte : ℕ → Bool
@@ -39,3 +43,11 @@ pub record IsFaceName (name : List ℕ) : Type 0 where
   pub numbers : IsUnit unit
   pub joined : name ≡ kind ++ unit
   pub few : length name ≤ 64
+
+-- the name comes before the other in byte order
+abbrev pub IsNameBefore : List ℕ → List ℕ → Type 0
+IsNameBefore x y = slice_cmp nat_cmp x y ≡ Less
+
+-- the names that a list of references refers to
+abbrev pub texts_at : List (Bor (List ℕ)) → List (List ℕ)
+texts_at keys = map (λ key. key.now) keys

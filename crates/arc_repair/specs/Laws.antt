@@ -8,7 +8,8 @@ use Rattle.edit_space.specs.declared.claims.Claim.{Claim}
 use Rattle.edit_space.specs.declared.edit_kinds.Edit.{Edit}
 use Rattle.edit_space.specs.Determined.{IsCountable}
 use Rattle.edit_space.specs.EditLists.{AreEdits}
-use Rattle.edit_space.specs.Ordered.{IsNameBefore, IsKeyBefore}
+use Rattle.edit_space.specs.Ordered.{IsKeyBefore}
+use Rattle.arc_base.specs.NameForms.{IsNameBefore}
 use Rattle.proof_check.specs.Logs.{after_all, IsAccepted}
 use Rattle.proof_log.specs.declared.steps.Step.{Step}
 use Rattle.arc_repair.specs.declared.check.Check.{Check}

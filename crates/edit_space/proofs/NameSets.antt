@@ -19,8 +19,8 @@ use Rattle.std.proofs.lemmas.Slice.Eq.{bytes_eq-Decides}
 use denote.Ref.{Bor}
 use Rattle.arc_base.proofs.Items.{Contains-head, Contains-tail, Contains-cases, Contains-none, AllPairs-map}
 use Rattle.edit_space.specs.NewLists.{new_name, is_among}
-use Rattle.edit_space.specs.Ordered.{IsNameBefore}
-use Rattle.edit_space.specs.Working.{texts_at, AreJoined}
+use Rattle.arc_base.specs.NameForms.{IsNameBefore, texts_at}
+use Rattle.edit_space.specs.Working.{AreJoined}
 
 abbrev pub text_order : Bor (List ℕ) → Bor (List ℕ) → Ordering
 text_order x y = slice_cmp nat_cmp x.now y.now

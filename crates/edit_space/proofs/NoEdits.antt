@@ -21,7 +21,7 @@ use Rattle.edit_space.specs.After.{PacketListMoves, RouteListMoves, StaysBound, 
 use Rattle.edit_space.specs.Laws.{NoEditsChangeNothing, NoEditsCostNothing}
 use Rattle.edit_space.specs.NewLists.{new_route_list, new_packet_list, new_lists, new_lists_of, new_names_of, free_names, names_of, IsNewList}
 use Rattle.edit_space.specs.Numbered.{placed, of_number}
-use Rattle.edit_space.specs.Ordered.{IsNameBefore}
+use Rattle.arc_base.specs.NameForms.{IsNameBefore}
 use Rattle.edit_space.proofs.NamedFacts.{one_item}
 
 pub none_cost : NoEditsCostNothing

@@ -21,7 +21,8 @@ use Rattle.edit_space.specs.Changes.{new_classes, new_prefixes}
 use Rattle.edit_space.specs.Determined.{IsCountable, AfterIsOne}
 use Rattle.edit_space.specs.NewLists.{IsNewList}
 use Rattle.edit_space.specs.Numbered.{is_empty, EachRow}
-use Rattle.edit_space.specs.Ordered.{Key, IsNameBefore, IsKeyBefore}
+use Rattle.edit_space.specs.Ordered.{Key, IsKeyBefore}
+use Rattle.arc_base.specs.NameForms.{IsNameBefore}
 use Rattle.edit_space.proofs.Keys.{not_before_itself}
 use Rattle.edit_space.proofs.NamedFacts.{one_place, one_name, packet_router, route_router}
 use Rattle.edit_space.proofs.SomeNames.{names_made, named_made}

@@ -23,7 +23,8 @@ use Rattle.edit_space.specs.declared.new_lists.NewList.TheVariants.{Route, Packe
 use Rattle.edit_space.specs.Numbered.{is_empty, EachRow}
 use Rattle.edit_space.specs.Changes.{turns_session, list_prefixes, new_prefixes, list_classes, new_classes}
 use Rattle.edit_space.specs.NewLists.{new_names_of, IsNewList}
-use Rattle.edit_space.specs.Ordered.{IsNameBefore, IsKeyBefore}
+use Rattle.edit_space.specs.Ordered.{IsKeyBefore}
+use Rattle.arc_base.specs.NameForms.{IsNameBefore}
 
 -- the prefix of all addresses
 abbrev pub any : Prefix

@@ -18,7 +18,8 @@ use Rattle.edit_space.specs.declared.edit_kinds.Edit.{Edit}
 use Rattle.edit_space.specs.declared.edit_kinds.Edit.TheVariants as edits
 use Rattle.edit_space.specs.Changes.{list_classes, new_classes}
 use Rattle.edit_space.specs.EditLists.{AreEdits}
-use Rattle.edit_space.specs.Ordered.{IsNameBefore, IsKeyBefore}
+use Rattle.edit_space.specs.Ordered.{IsKeyBefore}
+use Rattle.arc_base.specs.NameForms.{IsNameBefore}
 use Rattle.edit_space.specs.After.{with_prefixes, with_classes, IsAfter}
 use Rattle.edit_space.specs.Prices.{price_of, chosen_of}
 use Rattle.edit_space.specs.Writable.{is_writable}

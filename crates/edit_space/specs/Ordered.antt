@@ -1,12 +1,6 @@
 -- The order of names and of lists.
 use Rattle.std.specs.Prelude.{◌≡◌, ℕ, ◌<◌, ◌⊎◌, List}
-use Rattle.std.specs.Cmp.Lexicographic.{slice_cmp}
-use Rattle.std.specs.Ordering.{nat_cmp}
-use Rattle.std.specs.declared.cmp.Ordering.TheVariants.{Less}
-
--- the name comes before the other in byte order
-abbrev pub IsNameBefore : List ℕ → List ℕ → Type 0
-IsNameBefore x y = slice_cmp nat_cmp x y ≡ Less
+use Rattle.arc_base.specs.NameForms.{IsNameBefore}
 
 -- a list by its router and its name
 abbrev pub Key : Type 0

@@ -5,7 +5,6 @@ use Rattle.std.specs.Option.{option_and_then}
 use Rattle.std.specs.Cmp.Lexicographic.{slice_cmp}
 use Rattle.std.specs.Ordering.{nat_cmp, ordering_then}
 use Rattle.std.specs.declared.cmp.Ordering.{Ordering}
-use denote.Ref.{Bor}
 use Rattle.arc_base.specs.declared.place.Face.{Face}
 use Rattle.arc_base.specs.declared.place.ListId.{ListId}
 use Rattle.net_model.specs.declared.lists.PacketList.{PacketList}
@@ -38,10 +37,6 @@ pub record AreChanges (net : Network) (changes : Changes) : Type 0 where
   pub new_routes : Tells (length net.faces) (new_prefixes changes.edits.items) changes.new_routes.items
   pub packet_lists : Tells (length net.packet_lists) (list_classes changes.edits.items) changes.packet_lists.items
   pub new_packets : Tells (length net.faces) (new_classes changes.edits.items) changes.new_packets.items
-
--- the names that a set holds by reference
-abbrev pub texts_at : List (Bor (List ℕ)) → List (List ℕ)
-texts_at keys = map (λ key. key.now) keys
 
 -- the names of the one list, or of the other
 abbrev pub AreJoined : List (List ℕ) → List (List ℕ) → List (List ℕ) → Type 0

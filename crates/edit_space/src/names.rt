@@ -2,8 +2,8 @@
 ghost use Rattle.std.specs.Prelude.{◌≡◌, ◌<◌, ◌^◌, AllPairs, IfOk, OnOk, length, map, take, filter, not};
 ghost use Rattle.std.specs.List.{range_with_len};
 ghost use Rattle.edit_space.specs.NewLists.{new_name, is_among, free_names};
-ghost use Rattle.edit_space.specs.Ordered.{IsNameBefore};
-ghost use Rattle.edit_space.specs.Working.{texts_at, AreJoined};
+ghost use Rattle.arc_base.specs.NameForms.{IsNameBefore, texts_at};
+ghost use Rattle.edit_space.specs.Working.{AreJoined};
 
 use arc_base::{List, Memory, Name, push_number};
 use std::alloc::Global;

@@ -5,7 +5,8 @@ use Rattle.std.specs.Cmp.Lexicographic.{nat_list_cmp_total}
 use Rattle.std.specs.Ordering.{ordering_reverse}
 use Rattle.std.specs.declared.cmp.Ordering.{Ordering}
 use Rattle.std.specs.declared.cmp.Ordering.TheVariants.{Less, Greater}
-use Rattle.net_build.specs.Ordered.{AreInOrder, IsNameBefore, IsPairBefore}
+use Rattle.net_build.specs.Ordered.{AreInOrder, IsPairBefore}
+use Rattle.arc_base.specs.NameForms.{IsNameBefore}
 use Rattle.arc_base.proofs.Items.{Contains-head, Contains-tail, Contains-cases, Contains-none}
 use Rattle.net_build.proofs.Distinct.{AllPairs-back, AllPairs-between}
 

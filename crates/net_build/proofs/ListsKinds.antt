@@ -4,7 +4,8 @@ use Rattle.std.specs.Prelude.{slice_get}
 use Rattle.net_model.specs.declared.lists.PacketList.{PacketList}
 use Rattle.net_model.specs.declared.lists.RouteList.{RouteList}
 use Rattle.ios_config.specs.declared.settings.Config.{Config}
-use Rattle.net_build.specs.Ordered.{AreInOrder, IsNameBefore, IsPairBefore}
+use Rattle.net_build.specs.Ordered.{AreInOrder, IsPairBefore}
+use Rattle.arc_base.specs.NameForms.{IsNameBefore}
 use Rattle.net_build.specs.Lists.{IsBoundPacketList, IsBoundRouteList, IsPacketListRow, IsRouteListRow, packet_list_named, route_list_named, ArePacketLists, AreRouteLists, if_defined, packet_row, route_row, packet_row_at, route_row_at}
 use Rattle.net_build.specs.ListTables.{AddsPacketRows, AddsRouteRows}
 use Rattle.net_build.proofs.ListsRows.{option_parts, rows_none, rows_more, rows_all}

@@ -11,8 +11,9 @@ use Rattle.std.proofs.lemmas.List.{take_all, append_assoc, append-nil}
 use Rattle.std.proofs.lemmas.Map.Keys.{Less-from_sorted}
 use Rattle.std.proofs.lemmas.Map.Lookups.{exact_bytes}
 use denote.Ref.{Bor}
-use Rattle.net_build.specs.Ordered.{AreInOrder, IsNameBefore}
-use Rattle.net_build.specs.ListTables.{texts_at, Adds}
+use Rattle.net_build.specs.Ordered.{AreInOrder}
+use Rattle.arc_base.specs.NameForms.{IsNameBefore, texts_at}
+use Rattle.net_build.specs.ListTables.{Adds}
 use Rattle.net_build.proofs.Anys.{Any-none, Any-before, Any-now, Any-either}
 use Rattle.arc_base.proofs.Items.{Contains-head, Contains-tail, Contains-cases, Contains-none, AllPairs-map}
 

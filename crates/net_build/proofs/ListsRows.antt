@@ -10,8 +10,8 @@ use Rattle.std.proofs.lemmas.List.Kept.{AllPairs-cons}
 use Rattle.std.proofs.lemmas.Option.{none-some, same_Some, slice_get_within, slice_get-get_or}
 use denote.Ref.{Bor}
 use Rattle.ios_config.specs.declared.settings.Config.{Config}
-use Rattle.net_build.specs.Ordered.{AreInOrder, IsNameBefore, IsPairBefore}
-use Rattle.net_build.specs.ListTables.{texts_at}
+use Rattle.net_build.specs.Ordered.{AreInOrder, IsPairBefore}
+use Rattle.arc_base.specs.NameForms.{IsNameBefore, texts_at}
 use Rattle.arc_base.proofs.Items.{Contains-head, Contains-tail, Contains-cases, Contains-none, All-from, AllPairs-append, AllPairs-rest, AllPairs-first}
 
 pub option_parts : {X Y : Type 0} (f : X → Y) (o : Option X) (y : Y) → option_map f o ≡ Some y → (x : X) × (o ≡ Some x) × (f x ≡ y)

@@ -24,7 +24,7 @@ use Rattle.ios_config.specs.declared.settings.Config.{Config}
 use Rattle.arc_base.specs.Lists.{AreDistinct}
 use Rattle.net_build.specs.Settings.{IsPrefixAt, lines_of, value}
 use Rattle.net_build.specs.Sites.{Site, FullName, sites, full_name, full_names, a_end, b_end, ends_of}
-use Rattle.net_build.specs.Ordered.{IsNameBefore}
+use Rattle.arc_base.specs.NameForms.{IsNameBefore}
 use Rattle.net_build.specs.Lists.{IsPlaceAmong, IsListName, IsPacketListRow, IsRouteListRow, packet_list_key}
 use Rattle.net_build.specs.Rows.{IsRouterRow, IsSubnet, TellsHost, IsFaceRow, IsLinkRow, AreBaseRows}
 use Rattle.net_build.proofs.Distinct.{Contains-at, one_place}

@@ -14,7 +14,7 @@ use Rattle.net_model.specs.declared.policies.Document.{Document}
 use Rattle.net_model.specs.declared.rows.RouterRow.{RouterRow}
 use Rattle.net_model.specs.declared.rows.Network.{Network}
 use Rattle.net_model.specs.Validity.{IsValidPacketList, IsValidRouteList}
-use Rattle.arc_base.specs.NameForms.{IsName}
+use Rattle.arc_base.specs.NameForms.{IsName, IsNameBefore}
 use Rattle.ios_words.specs.declared.commands.Command.{Command}
 use Rattle.ios_words.specs.declared.commands.Command.TheVariants as commands
 use Rattle.ios_config.specs.declared.settings.Given.{Given}
@@ -22,7 +22,7 @@ use Rattle.ios_config.specs.declared.settings.Config.{Config}
 use Rattle.net_build.specs.Forms.{IsWellFormed, IsWellFormedFace, BindsName}
 use Rattle.net_build.specs.Settings.{lines_of, value}
 use Rattle.net_build.specs.Neighbors.{says_filter}
-use Rattle.net_build.specs.Ordered.{IsNameBefore, IsPairBefore}
+use Rattle.net_build.specs.Ordered.{IsPairBefore}
 use Rattle.net_build.specs.Lists.{IsBoundPacketList, IsBoundRouteList, IsListName, IsPacketListRow, IsRouteListRow}
 use Rattle.net_build.specs.Rows.{IsRouterRow}
 use Rattle.net_build.proofs.Distinct.{Contains-at}

@@ -1,5 +1,5 @@
 -- The tables from which the rows of lists are made: names, and lists by their names, held by reference.
-use Rattle.std.specs.Prelude.{◌≡◌, ℕ, ◌↔◌, ◌⊎◌, ◌&&◌, Bool, Option, Some, None, List, ◌++◌, Contains, map, option_map, bytes_eq, if◌then◌else◌}
+use Rattle.std.specs.Prelude.{◌≡◌, ℕ, ◌↔◌, ◌⊎◌, ◌&&◌, Bool, Option, Some, None, List, ◌++◌, Contains, option_map, bytes_eq, if◌then◌else◌}
 use Rattle.std.specs.List.{filter_map}
 use Rattle.std.specs.Cmp.Lexicographic.{slice_cmp}
 use Rattle.std.specs.Ordering.{nat_cmp}
@@ -11,12 +11,9 @@ use Rattle.ios_words.specs.declared.commands.Command.{Command}
 use Rattle.ios_words.specs.declared.commands.Command.TheVariants as commands
 use Rattle.ios_config.specs.declared.settings.Config.{Config}
 use Rattle.ios_config.specs.declared.settings.ListText.{ListText}
-use Rattle.net_build.specs.Ordered.{AreInOrder, IsNameBefore}
+use Rattle.net_build.specs.Ordered.{AreInOrder}
+use Rattle.arc_base.specs.NameForms.{IsNameBefore, texts_at}
 use Rattle.net_build.specs.Lists.{is_of_kind, packet_row_at, route_row_at, IsBoundPacketList, IsBoundRouteList}
-
--- the names that a set holds by reference
-abbrev pub texts_at : List (Bor (List ℕ)) → List (List ℕ)
-texts_at keys = map (λ key. key.now) keys
 
 -- the names with this property were added to those that were there
 abbrev pub Adds : (List ℕ → Type 0) → List (Bor (List ℕ)) → List (Bor (List ℕ)) → Type 0

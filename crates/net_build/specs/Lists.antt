@@ -18,7 +18,8 @@ use Rattle.ios_config.specs.declared.settings.ListKind.{ListKind}
 use Rattle.ios_config.specs.declared.settings.ListKind.TheVariants.{Extended, Standard, Prefix}
 use Rattle.net_build.specs.Settings.{value, lines_of}
 use Rattle.net_build.specs.Neighbors.{filter_of}
-use Rattle.net_build.specs.Ordered.{AreInOrder, IsNameBefore, IsPairBefore}
+use Rattle.net_build.specs.Ordered.{AreInOrder, IsPairBefore}
+use Rattle.arc_base.specs.NameForms.{IsNameBefore}
 
 -- whether a list of this kind is a packet list
 abbrev pub is_packet_kind : ListKind → Bool

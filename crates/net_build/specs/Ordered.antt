@@ -1,17 +1,10 @@
 -- Lists that hold just the things with a property, in an order.
 use Rattle.std.specs.Prelude.{◌≡◌, ◌↔◌, ℕ, ◌<◌, ◌⊎◌, List, AllPairs, Contains}
-use Rattle.std.specs.Cmp.Lexicographic.{slice_cmp}
-use Rattle.std.specs.Ordering.{nat_cmp}
-use Rattle.std.specs.declared.cmp.Ordering.TheVariants.{Less}
 
 -- the list is in this order, and holds just the things that have the property
 pub record AreInOrder {X : Type 0} (IsBefore : X → X → Type 0) (P : X → Type 0) (xs : List X) : Type 0 where
   pub order : AllPairs IsBefore xs
   pub just : (x : X) → Contains xs x ↔ P x
-
--- the name comes before the other in byte order
-abbrev pub IsNameBefore : List ℕ → List ℕ → Type 0
-IsNameBefore x y = slice_cmp nat_cmp x y ≡ Less
 
 -- the pair comes before the other: by its first number, and then by what says so of the second parts
 abbrev pub IsPairBefore : {X : Type 0} → (X → X → Type 0) → ℕ × X → ℕ × X → Type 0

@@ -2,8 +2,8 @@
 ghost use Rattle.std.specs.Prelude.{◌≡◌, ◌≤◌, ◌<◌, ◌^◌, ◌-◌, ◌++◌, ℕ, List, Any, IfOk, OnOk, option_map, length, AllPairs};
 ghost use Rattle.std.specs.Option.{option_copied, option_or, option_to_list};
 ghost use Rattle.net_build.specs.Lists.{AreListNames, ArePacketLists, AreRouteLists, is_packet_kind, is_extended_kind, entry_of, packet_entry, route_entry, packet_entries, route_entries, is_of_kind, list_named, if_defined, packet_row, route_row};
-ghost use Rattle.net_build.specs.Ordered.{IsNameBefore};
-ghost use Rattle.net_build.specs.ListTables.{texts_at, Adds, list_at, list_if, AddsPacketRows, AddsRouteRows};
+ghost use Rattle.arc_base.specs.NameForms.{IsNameBefore, texts_at};
+ghost use Rattle.net_build.specs.ListTables.{Adds, list_at, list_if, AddsPacketRows, AddsRouteRows};
 
 use crate::bound_lists::{Names, add_bound_packet, add_bound_route};
 use arc_base::{List, Memory, Name, Router};

@@ -15,7 +15,7 @@ use Rattle.net_build.specs.Networks.{IsNetworkWithin}
 use Rattle.net_build.specs.Rows.{IsRouterRow}
 use Rattle.edit_space.specs.declared.edit_kinds.Edit.{Edit}
 use Rattle.edit_space.specs.After.{IsAfter}
-use Rattle.edit_space.specs.Ordered.{IsNameBefore}
+use Rattle.arc_base.specs.NameForms.{IsNameBefore}
 use Rattle.edit_space.specs.Prices.{chosen_of}
 use Rattle.edit_space.proofs.NoEdits.{none_change}
 use Rattle.arc_repair.specs.Repairs.{Mends, none_of}

@@ -1,4 +1,4 @@
-use Rattle.edit_space.specs.Working.{texts_at}
+use Rattle.arc_base.specs.NameForms.{texts_at}
 use Rattle.edit_space.proofs.NameSets.{joined_none, joined_more, joined_all}
 use Rattle.edit_space.proofs.names.add_names.Goals as goal
 

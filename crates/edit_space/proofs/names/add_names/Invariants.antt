@@ -1,5 +1,6 @@
 use Rattle.std.proofs.Common.{take}
-use Rattle.edit_space.specs.Working.{texts_at, AreJoined}
+use Rattle.edit_space.specs.Working.{AreJoined}
+use Rattle.arc_base.specs.NameForms.{texts_at}
 use Rattle.edit_space.proofs.names.add_names.Given as goal
 
 abbrev pub invariant-loop-name : goal.invariant-loop-name

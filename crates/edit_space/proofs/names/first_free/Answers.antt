@@ -1,7 +1,7 @@
 use Rattle.std.proofs.Common.{◌≡◌, ◌∙◌, ℕ, Bool, List, [], ◌∷◌, ◌++◌, length, take, filter, not, sym, ap, arith, length-append}
 use Rattle.std.proofs.lemmas.Result.{IfOk-weaker}
 use Rattle.edit_space.specs.NewLists.{is_among}
-use Rattle.edit_space.specs.Working.{texts_at}
+use Rattle.arc_base.specs.NameForms.{texts_at}
 use Rattle.edit_space.proofs.NameSets.{joined_first, taken_is_among}
 use Rattle.edit_space.proofs.FreeNames.{candidate_taken, candidate_free, all_tried, enough_found}
 use Rattle.edit_space.proofs.names.first_free.Goals as goal

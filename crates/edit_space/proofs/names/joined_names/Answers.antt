@@ -1,6 +1,7 @@
 use Rattle.std.proofs.Common.{◌≡◌, ℕ, List, ap, subst, sym}
 use Rattle.std.proofs.lemmas.Result.{IfOk-weaker}
-use Rattle.edit_space.specs.Working.{texts_at, AreJoined}
+use Rattle.edit_space.specs.Working.{AreJoined}
+use Rattle.arc_base.specs.NameForms.{texts_at}
 use Rattle.edit_space.proofs.NameSets.{joined_both}
 use Rattle.edit_space.proofs.names.joined_names.Goals as goal
 

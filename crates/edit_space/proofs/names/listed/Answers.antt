@@ -3,8 +3,7 @@ use Rattle.std.specs.Prelude.{AllPairs}
 use Rattle.std.proofs.lemmas.Result.{IfOk-weaker}
 use Rattle.std.specs.Map.Iter.{deref}
 use Rattle.std.proofs.lemmas.Map.Iter.{rest_all}
-use Rattle.edit_space.specs.Ordered.{IsNameBefore}
-use Rattle.edit_space.specs.Working.{texts_at}
+use Rattle.arc_base.specs.NameForms.{IsNameBefore, texts_at}
 use Rattle.edit_space.proofs.NameSets.{listed_all, in_byte_order}
 use Rattle.edit_space.proofs.names.listed.Goals as goal
 

@@ -1,5 +1,5 @@
 use Rattle.std.proofs.Common.{◌≡◌, ◌++◌}
-use Rattle.edit_space.specs.Working.{texts_at}
+use Rattle.arc_base.specs.NameForms.{texts_at}
 use Rattle.edit_space.proofs.names.listed.Given as goal
 
 abbrev pub invariant-loop-name : goal.invariant-loop-name

@@ -9,7 +9,7 @@ use Rattle.ios_config.specs.declared.settings.Given.{Given}
 use Rattle.net_build.specs.Settings.{lines_of}
 use Rattle.net_build.specs.Neighbors.{filter_of}
 use Rattle.net_build.specs.Lists.{IsBoundRouteList}
-use Rattle.net_build.specs.ListTables.{texts_at}
+use Rattle.arc_base.specs.NameForms.{texts_at}
 use Rattle.net_build.proofs.ListsNames.{adds_same, adds_inserted, left_start, left_more, left_none}
 use Rattle.net_build.proofs.ListsTables.{at_some_key, from_some_key}
 use Rattle.net_build.proofs.bound_lists.add_bound_route.Goals as goal

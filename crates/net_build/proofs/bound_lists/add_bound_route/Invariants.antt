@@ -1,4 +1,4 @@
-use Rattle.net_build.specs.ListTables.{texts_at}
+use Rattle.arc_base.specs.NameForms.{texts_at}
 use Rattle.net_build.proofs.ListsNames.{AddsLeft}
 use Rattle.net_build.proofs.bound_lists.add_bound_route.Given as goal
 

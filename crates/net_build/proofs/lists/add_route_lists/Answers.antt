@@ -9,7 +9,8 @@ use denote.Ref.{Bor}
 use Rattle.net_model.specs.declared.lists.RouteList.{RouteList}
 use Rattle.ios_config.specs.declared.settings.ListText.{ListText}
 use Rattle.net_build.specs.Lists.{IsBoundRouteList, if_defined, route_row, route_row_at}
-use Rattle.net_build.specs.ListTables.{texts_at, list_at}
+use Rattle.net_build.specs.ListTables.{list_at}
+use Rattle.arc_base.specs.NameForms.{texts_at}
 use Rattle.net_build.proofs.ListsNames.{in_byte_order, just_added}
 use Rattle.net_build.proofs.ListsRows.{rows_left}
 use Rattle.net_build.proofs.lists.add_route_lists.Goals as goal

@@ -1,7 +1,7 @@
 use Rattle.std.proofs.Common.{◌≡◌, ◌++◌}
 use Rattle.std.specs.List.{filter_map}
 use Rattle.net_build.specs.Lists.{route_row_at}
-use Rattle.net_build.specs.ListTables.{texts_at}
+use Rattle.arc_base.specs.NameForms.{texts_at}
 use Rattle.net_build.proofs.lists.add_route_lists.Given as goal
 
 abbrev pub invariant-loop-name : goal.invariant-loop-name

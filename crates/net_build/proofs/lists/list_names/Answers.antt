@@ -3,9 +3,8 @@ use Rattle.std.specs.Prelude.{Any, AllPairs}
 use Rattle.std.proofs.lemmas.Result.{IfOk-weaker}
 use denote.Ref.{Bor}
 use Rattle.ios_config.specs.declared.settings.ListText.{ListText}
-use Rattle.net_build.specs.Ordered.{IsNameBefore}
+use Rattle.arc_base.specs.NameForms.{IsNameBefore, texts_at}
 use Rattle.net_build.specs.Lists.{IsBoundPacketList, IsBoundRouteList, IsListName, AreListNames}
-use Rattle.net_build.specs.ListTables.{texts_at}
 use Rattle.net_build.proofs.ListsNames.{adds_then, just_added}
 use Rattle.net_build.proofs.lists.list_names.Goals as goal
 

@@ -3,8 +3,7 @@ use Rattle.std.specs.Prelude.{AllPairs}
 use Rattle.std.specs.Map.Iter.{deref}
 use Rattle.std.proofs.lemmas.Map.Iter.{rest_more, rest_all}
 use denote.Ref.{Bor}
-use Rattle.net_build.specs.Ordered.{IsNameBefore}
-use Rattle.net_build.specs.ListTables.{texts_at}
+use Rattle.arc_base.specs.NameForms.{IsNameBefore, texts_at}
 use Rattle.net_build.proofs.ListsNames.{listed_more, listed_all, in_byte_order}
 use Rattle.net_build.proofs.lists.listed.Goals as goal
 

@@ -1,5 +1,5 @@
 use Rattle.std.proofs.Common.{◌≡◌, ◌++◌}
-use Rattle.net_build.specs.ListTables.{texts_at}
+use Rattle.arc_base.specs.NameForms.{texts_at}
 use Rattle.net_build.proofs.lists.listed.Given as goal
 
 abbrev pub invariant-loop-name : goal.invariant-loop-name
