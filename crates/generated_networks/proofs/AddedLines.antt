@@ -4,6 +4,7 @@ use Rattle.std.specs.List.{AllByRecursion}
 use Rattle.std.proofs.lemmas.Bool.{cond-true, le-leb}
 use Rattle.std.proofs.lemmas.List.{take_all, drop_all, length_push}
 use Rattle.arc_base.proofs.Items as items
+use Rattle.arc_base.proofs.Zips.{AllByRecursion-append}
 use Rattle.ios_lines.specs.Changes.{inserted, moved, MayStandAt}
 use Rattle.ios_lines.specs.Kinds.{after_line, kind, kind_within, opened, open_banner, IsHead, IsSingle, IsClosing}
 use Rattle.ios_lines.specs.Reading.{block_after}
@@ -32,10 +33,6 @@ pub record AreRead (lines : List (List ℕ)) (cs : List FileCommand) (block : �
   pub inside : open_block lines ≡ block
   pub low : AllByRecursion (IsLow (length lines)) cs
   pub plain : AllByRecursion IsPlain lines
-
-pub all-append : {X : Type 0} (P : X → Type 0) (xs ys : List X) → AllByRecursion P xs → AllByRecursion P ys → AllByRecursion P (xs ++ ys)
-all-append P [] ys one two = two
-all-append P (x ∷ xs) ys one two = (one.0, all-append P xs ys one.1 two)
 
 pub all-weaker : {X : Type 0} (P Q : X → Type 0) → ((x : X) → P x → Q x) → (xs : List X) → AllByRecursion P xs → AllByRecursion Q xs
 all-weaker P Q weaker [] all = tt
@@ -98,10 +95,10 @@ module _ (lines : List (List ℕ)) (cs : List FileCommand) (block : ℕ) (r : Ar
   low-now = subst (λ n. AllByRecursion (IsLow n) cs) (sym (length_push lines line)) (low-more (length lines) cs r.low)
 
   low-with : (c : FileCommand) → IsLow (length lines + 1) c → AllByRecursion (IsLow (length (lines ++ line ∷ []))) (cs ++ c ∷ [])
-  low-with c low = all-append (IsLow (length (lines ++ line ∷ []))) cs (c ∷ []) low-now (subst (λ n. IsLow n c) (sym (length_push lines line)) low, tt)
+  low-with c low = AllByRecursion-append (IsLow (length (lines ++ line ∷ []))) cs (c ∷ []) low-now (subst (λ n. IsLow n c) (sym (length_push lines line)) low, tt)
 
   plain-now : IsPlain line → AllByRecursion IsPlain (lines ++ line ∷ [])
-  plain-now plain = all-append IsPlain lines (line ∷ []) r.plain (plain, tt)
+  plain-now plain = AllByRecursion-append IsPlain lines (line ∷ []) r.plain (plain, tt)
 
   one-more : (c : FileCommand) → AreCommandsIn (inserted (length lines) line lines) (with_command (length lines) c cs) → AreCommandsIn (lines ++ line ∷ []) (cs ++ c ∷ [])
   one-more c are = subst (λ ls. AreCommandsIn ls (cs ++ c ∷ [])) (inserted-last lines line) (subst (λ ds. AreCommandsIn (inserted (length lines) line lines) ds) (with-last (length lines) c cs r.low) are)

@@ -29,7 +29,7 @@ use Rattle.net_gen.specs.RouterFiles.{host_name, face_name}
 use Rattle.net_gen.specs.Generated.{link_text, IsHostNetwork, Asked, asked, asked_around, Asks}
 use Rattle.generated_networks.proofs.Faces.{site_at, has-site}
 use Rattle.generated_networks.proofs.FilesClear.{protocol-is}
-use Rattle.generated_networks.proofs.Items.{zip-left, zip-right}
+use Rattle.arc_base.proofs.Zips.{AllZip-left, AllZip-right}
 use Rattle.generated_networks.proofs.LineReads.{address}
 use Rattle.generated_networks.proofs.LinksClear.{all_links, block_of, prefix-facts, earlier-end}
 use Rattle.generated_networks.proofs.Once.{face-name-one}
@@ -96,7 +96,7 @@ host-place n doc net router rows some few links low high =
     let site = site_at n router (host_face router) in
     let there = has-site n router (host_face router) low high (items.Contains-head (host_face router) (link_faces n router 5 (links_of n router))) in
     let place = at_Contains (sites (all_settings n)) site there in
-    let row = zip-right (IsFaceRow net.protocol (ends_of doc.links) (map packet_list_key net.packet_lists)) (sites (all_settings n)) net.faces rows.base.faces place.0 site place.1 in
+    let row = AllZip-right (IsFaceRow net.protocol (ends_of doc.links) (map packet_list_key net.packet_lists)) (sites (all_settings n)) net.faces rows.base.faces place.0 site place.1 in
     let ospf : net.protocol ≡ Ospf = rows.base.protocol ∙ protocol-is n (omega arith) in
     let subnet : IsSubnet (host_address_of net.protocol (host_face router)) row.0.host = row.2.host.elsewhere (λ end. no-end n router few (subst (λ (ls : List LinkText). Contains (ends_of ls) (full_name site)) links end)) in
     record {
@@ -125,7 +125,7 @@ pub endpoint-clear : (n : ℕ) (doc : Document) → 6 ≤ n → n ≤ 40 → doc
 endpoint-clear n doc some few links policies r refused =
     let bad = refused.refuses in
     let net = refused.net in
-    let ask = zip-left Asks (asked n) doc.policies policies bad.place bad.item bad.at_place in
+    let ask = AllZip-left Asks (asked n) doc.policies policies bad.place bad.item bad.at_place in
     let a = ask.0 in
     let between = asked-apart n a some (item-at (asked n) bad.place a ask.1) in
     let source = host-place n doc net a.source refused.rows some few links between.source_low between.source_high in

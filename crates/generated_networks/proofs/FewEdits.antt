@@ -33,7 +33,7 @@ use Rattle.generated_networks.specs.Limits.{GeneratedNetworksHaveFewEdits}
 use Rattle.generated_networks.proofs.Degrees.{degree}
 use Rattle.generated_networks.proofs.FewClasses.{AreEven, one-class, few-classes, few-first, told-few}
 use Rattle.generated_networks.proofs.FilesClear.{length-faces}
-use Rattle.generated_networks.proofs.Items.{zip-left, zip-length}
+use Rattle.arc_base.proofs.Zips.{AllZip-left, AllZip-length}
 use Rattle.generated_networks.proofs.Networks.{have-plan, have-policies}
 use Rattle.generated_networks.proofs.Plans.{count-few}
 use Rattle.generated_networks.proofs.Said.{links_of, settings_of, all_settings, files-say}
@@ -87,7 +87,7 @@ few-sites n a (suc m) i some =
 
 few-faces : (n : ℕ) (doc : Document) (net : Network) → AreRows doc (all_settings n) net → 2 ≤ n → length net.faces ≤ 4 * n
 few-faces n doc net rows some =
-    let zipped : length (sites (all_settings n)) ≡ length net.faces = zip-length (IsFaceRow net.protocol (ends_of doc.links) (map packet_list_key net.packet_lists)) (sites (all_settings n)) net.faces rows.base.faces in
+    let zipped : length (sites (all_settings n)) ≡ length net.faces = AllZip-length (IsFaceRow net.protocol (ends_of doc.links) (map packet_list_key net.packet_lists)) (sites (all_settings n)) net.faces rows.base.faces in
     let all : length (sites (all_settings n)) ≤ 4 * n = few-sites n 1 n 0 some in
     omega arith
 
@@ -155,9 +155,9 @@ few-edits n doc net list some few faces links no-packets no-lists no-sessions cl
 
 even : (doc : Document) (n : ℕ) → AllZip Asks (asked n) doc.policies → AreEven doc.policies
 even doc n asks = record {
-  from = λ p there. let at = at_Contains doc.policies p there in let ask = zip-left Asks (asked n) doc.policies asks at.0 p at.1 in ask.2.from.len;
-  to = λ p there. let at = at_Contains doc.policies p there in let ask = zip-left Asks (asked n) doc.policies asks at.0 p at.1 in ask.2.to.len;
-  service = λ p there. let at = at_Contains doc.policies p there in let ask = zip-left Asks (asked n) doc.policies asks at.0 p at.1 in ask.2.service;
+  from = λ p there. let at = at_Contains doc.policies p there in let ask = AllZip-left Asks (asked n) doc.policies asks at.0 p at.1 in ask.2.from.len;
+  to = λ p there. let at = at_Contains doc.policies p there in let ask = AllZip-left Asks (asked n) doc.policies asks at.0 p at.1 in ask.2.to.len;
+  service = λ p there. let at = at_Contains doc.policies p there in let ask = AllZip-left Asks (asked n) doc.policies asks at.0 p at.1 in ask.2.service;
 }
 
 no-limit : (n : ℕ) (net : Network) (doc : Document) → n ≤ 40 → ((count : ℕ) → FirstHaveMore net doc.policies count → count ≤ n + 1) → ((list : List Edit) → AreEdits net doc list → length list ≤ 8192) → (fault : EditFault) → NamesLimit net doc fault → fault ≡ Memory

@@ -25,7 +25,7 @@ use Rattle.net_gen.specs.Plans.{numbers, link_count, a_router, b_router, has_end
 use Rattle.net_gen.specs.Generated.{link_text}
 use Rattle.generated_networks.proofs.Faces.{site-is, end_name, has-end-name, link-site}
 use Rattle.generated_networks.proofs.Files.{end_of}
-use Rattle.generated_networks.proofs.Items.{zip-left}
+use Rattle.arc_base.proofs.Zips.{AllZip-left}
 use Rattle.generated_networks.proofs.LineReads.{address}
 use Rattle.generated_networks.proofs.Once.{face-name-one, host-name-one}
 use Rattle.generated_networks.proofs.Plans.{in-range, mapped-at, port-few, port-one, a-has, b-has, two-ends, count-few}
@@ -135,7 +135,7 @@ pub record IsLinkFace (n router link : ℕ) (row : FaceRow) : Type 0 where
 module _ (n : ℕ) (doc : Document) (net : Network) (rows : AreRows doc (all_settings n) net) (few : n ≤ 40) where
   -- the interface of a row, and what the row says of it
   pub site-of-row : (k : ℕ) (f : FaceRow) → slice_get net.faces k ≡ Some f → (site : Site) × (slice_get (sites (all_settings n)) k ≡ Some site) × IsFaceRow net.protocol (ends_of doc.links) (map packet_list_key net.packet_lists) site f
-  site-of-row k f at = zip-left (IsFaceRow net.protocol (ends_of doc.links) (map packet_list_key net.packet_lists)) (sites (all_settings n)) net.faces rows.base.faces k f at
+  site-of-row k f at = AllZip-left (IsFaceRow net.protocol (ends_of doc.links) (map packet_list_key net.packet_lists)) (sites (all_settings n)) net.faces rows.base.faces k f at
 
   named-row : (k router link : ℕ) (f : FaceRow) → router ≤ n → 1 ≤ link → link ≤ link_count n → has_end n router link ≡ true → slice_get (full_names (all_settings n)) k ≡ Some (end_name n router link) → slice_get net.faces k ≡ Some f → IsLinkFace n router link f
   named-row k router link f high some most has named at =
@@ -169,7 +169,7 @@ pub subnets-clear : (n : ℕ) (doc : Document) → 6 ≤ n → n ≤ 40 → doc.
 subnets-clear n doc some few links r refused =
     let net = refused.net in
     let bad = refused.refuses in
-    let text = zip-left (IsLinkRow (full_names (all_settings n))) doc.links net.links refused.rows.base.links bad.place bad.item bad.at_place in
+    let text = AllZip-left (IsLinkRow (full_names (all_settings n))) doc.links net.links refused.rows.base.links bad.place bad.item bad.at_place in
     let there : slice_get (all_links n) bad.place ≡ Some text.0 = subst (λ (ls : List LinkText). slice_get ls bad.place ≡ Some text.0) links text.1 in
     let at = mapped-at (link_text n) 1 (link_count n) bad.place text.0 there in
     bad.offends (fits n doc net refused.rows few bad.place bad.item some at.0 (subst (λ (t : LinkText). IsLinkRow (full_names (all_settings n)) t bad.item) (sym at.1) text.2))

@@ -28,7 +28,7 @@ use Rattle.net_gen.proofs.Lengths.{asked_length}
 use Rattle.generated_networks.specs.Laws.{GeneratedFilesAreNotRefused, GeneratedNetworksHaveTheirPlan, GeneratedDocumentsHaveTheirPolicies}
 use Rattle.generated_networks.proofs.EndpointsClear.{endpoint-clear}
 use Rattle.generated_networks.proofs.FilesClear.{hostname-clear, protocol-is, protocol-clear, areas-clear, as-clear, down-clear, neighbor-clear, network-clear, interfaces-clear, entries-clear, stops-clear, adjacency-clear}
-use Rattle.generated_networks.proofs.Items.{zip-length}
+use Rattle.arc_base.proofs.Zips.{AllZip-length}
 use Rattle.generated_networks.proofs.LinksClear.{all_links, faces-clear, subnets-clear}
 use Rattle.generated_networks.proofs.Planned.{joins, has-host}
 use Rattle.generated_networks.proofs.Plans.{mapped-at}
@@ -98,8 +98,8 @@ have-plan n most generated net g is =
     let base = rows.base in
     let ospf : net.protocol ≡ Ospf = base.protocol ∙ protocol-is n (omega arith) in
     let long : length (all_settings n) ≡ n = length-map (numbers n) (settings_of n) ∙ length-range_with_len 1 n in
-    let zipped = zip-length (IsRouterRow net.protocol) (all_settings n) net.routers base.routers in
-    let joined = zip-length (IsLinkRow (full_names (all_settings n))) doc.links net.links base.links in
+    let zipped = AllZip-length (IsRouterRow net.protocol) (all_settings n) net.routers base.routers in
+    let joined = AllZip-length (IsLinkRow (full_names (all_settings n))) doc.links net.links base.links in
     let counted : length doc.links ≡ link_count n = ap length g.is.doc.links ∙ length-map (numbers (link_count n)) _ ∙ length-range_with_len 1 (link_count n) in
     record {
       protocol = ospf;
@@ -114,4 +114,4 @@ have-plan n most generated net g is =
     }
 
 pub have-policies : GeneratedDocumentsHaveTheirPolicies
-have-policies n generated g = sym (zip-length Asks (asked n) generated.doc.policies g.is.doc.policies) ∙ asked_length n
+have-policies n generated g = sym (AllZip-length Asks (asked n) generated.doc.policies g.is.doc.policies) ∙ asked_length n

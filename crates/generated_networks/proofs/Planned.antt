@@ -29,7 +29,8 @@ use Rattle.generated_networks.proofs.EndpointsClear.{host-place}
 use Rattle.generated_networks.proofs.Faces.{site-is, end_name, link-site, site_at}
 use Rattle.generated_networks.proofs.Files.{end_of}
 use Rattle.generated_networks.proofs.FilesClear.{protocol-is}
-use Rattle.generated_networks.proofs.Items.{any-of, zip-left, zip-right}
+use Rattle.generated_networks.proofs.Items.{any-of}
+use Rattle.arc_base.proofs.Zips.{AllZip-left, AllZip-right}
 use Rattle.generated_networks.proofs.LineReads.{address}
 use Rattle.generated_networks.proofs.LinksClear.{all_links, prefix-facts, site-of-row}
 use Rattle.generated_networks.proofs.Plans.{mapped-at, a-has, b-has, two-ends, count-few}
@@ -62,7 +63,7 @@ module _ (n : ℕ) (doc : Document) (net : Network) (rows : AreRows doc (all_set
   end-is : (router link end place : ℕ) → router ≤ n → 1 ≤ link → link ≤ link_count n → has_end n router link ≡ true → end_of n router link ≡ end → end < 4 → slice_get (full_names (all_settings n)) place ≡ Some (end_name n router link) → IsEndAt n net router link end place
   end-is router link end place high low most has is-end small named =
       let site = mapped-from full_name (slice_get (sites (all_settings n)) place) (end_name n router link) (sym (slice_get-map full_name (sites (all_settings n)) place) ∙ named) in
-      let row = zip-right (IsFaceRow net.protocol (ends_of doc.links) (map packet_list_key net.packet_lists)) (sites (all_settings n)) net.faces rows.base.faces place site.0 site.1 in
+      let row = AllZip-right (IsFaceRow net.protocol (ends_of doc.links) (map packet_list_key net.packet_lists)) (sites (all_settings n)) net.faces rows.base.faces place site.0 site.1 in
       let facts = row.2 in
       let h = site-is n place site.0 site.1 in
       let over = link-site n router link site.0 few h high low most has site.2 in
@@ -89,7 +90,7 @@ module _ (n : ℕ) (doc : Document) (net : Network) (rows : AreRows doc (all_set
 
   pub joins : (place : ℕ) (row : LinkRow) → slice_get net.links place ≡ Some row → JoinsRouters n net (place + 1) row
   joins place row at =
-      let text = zip-left (IsLinkRow (full_names (all_settings n))) doc.links net.links rows.base.links place row at in
+      let text = AllZip-left (IsLinkRow (full_names (all_settings n))) doc.links net.links rows.base.links place row at in
       let there : slice_get (all_links n) place ≡ Some text.0 = subst (λ (ls : List LinkText). slice_get ls place ≡ Some text.0) links text.1 in
       let item = mapped-at (link_text n) 1 (link_count n) place text.0 there in
       let low : place < link_count n = item.0 in

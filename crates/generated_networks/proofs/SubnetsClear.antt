@@ -23,7 +23,8 @@ use Rattle.net_gen.specs.RouterFiles.{host_name, face_name}
 use Rattle.net_gen.specs.Generated.{link_text}
 use Rattle.generated_networks.proofs.Faces.{IsOverLink, HasSite, site-is, end_name, name-of, names-apart, one-site}
 use Rattle.generated_networks.proofs.Files.{end_of}
-use Rattle.generated_networks.proofs.Items.{any-of, zip-right}
+use Rattle.generated_networks.proofs.Items.{any-of}
+use Rattle.arc_base.proofs.Zips.{AllZip-right}
 use Rattle.generated_networks.proofs.LineReads.{address}
 use Rattle.generated_networks.proofs.LinksClear.{all_links, block_of, prefix-facts, site-of-row}
 use Rattle.generated_networks.proofs.Plans.{at-mapped, ends-are, count-few}
@@ -81,7 +82,7 @@ module _ (n : ℕ) (doc : Document) (net : Network) (rows : AreRows doc (all_set
       let k = link - 1 in
       let number : 1 + k ≡ link = omega arith in
       let there : slice_get doc.links k ≡ Some (link_text n (1 + k)) = subst (λ (ls : List LinkText). slice_get ls k ≡ Some (link_text n (1 + k))) (sym links) (at-mapped (link_text n) 1 (link_count n) k (omega arith)) in
-      let row = zip-right (IsLinkRow (full_names (all_settings n))) doc.links net.links rows.base.links k (link_text n (1 + k)) there in
+      let row = AllZip-right (IsLinkRow (full_names (all_settings n))) doc.links net.links rows.base.links k (link_text n (1 + k)) there in
       let is : IsLinkRow (full_names (all_settings n)) (link_text n link) row.0 = subst (λ (l : ℕ). IsLinkRow (full_names (all_settings n)) (link_text n l) row.0) number row.2 in
       any-of (λ (l : LinkRow). EndsAt l i × EndsAt l j) net.links row.0 (Contains-at net.links k row.0 row.1) (end-at row.0 i r link is r-has at-i, end-at row.0 j s link is s-has at-j)
 

@@ -4,7 +4,6 @@ mod Leasts
 mod Firsts
 mod LimitsKept
 pub mod AskingMore
-mod Zips
 mod OwnProcesses
 mod Named
 mod Lasts

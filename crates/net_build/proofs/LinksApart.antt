@@ -26,7 +26,7 @@ use Rattle.net_build.proofs.Distinct.{Contains-at}
 use Rattle.net_build.proofs.HostNames.{earlier, hosts_differ}
 use Rattle.net_build.proofs.NamesDiffer.{full_names_distinct}
 use Rattle.arc_base.proofs.Items.{Contains-head, Contains-tail, Contains-piece}
-use Rattle.net_build.proofs.Zips.{AllZip-left, AllZip-length}
+use Rattle.arc_base.proofs.Zips.{AllZip-left, AllZip-length}
 
 -- where no name of a router is refused, the full names are distinct
 pub names_distinct : (configs : List Config) → IsClear (RefusesHostname configs) → All IsWellFormed configs → AreDistinct (full_names configs)

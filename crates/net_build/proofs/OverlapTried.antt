@@ -22,7 +22,7 @@ use Rattle.net_build.specs.Reasons.{IsBefore, IsClear, IsFirst}
 use Rattle.net_build.specs.Rows.{IsFaceRow, IsSubnet, AreRows}
 use Rattle.net_build.specs.Addressing.{OverlapsEarlier, RefusesOverlap}
 use Rattle.net_build.proofs.SameNetwork.{same_rows}
-use Rattle.net_build.proofs.Zips.{AllZip-left}
+use Rattle.arc_base.proofs.Zips.{AllZip-left}
 
 -- interfaces that are not apart have subnets
 has_subnet : (f g : FaceRow) → ¬ AreApart f g → IsSome g.subnet

@@ -28,7 +28,7 @@ use Rattle.net_build.proofs.PeersEnds.{others_same}
 use Rattle.net_build.proofs.Distinct.{Contains-at, at_Contains, one_place}
 use Rattle.arc_base.proofs.Items.{Contains-map, Contains-piece}
 use Rattle.net_build.proofs.SiteFacts.{IsSiteOf, site_of, name_at_site}
-use Rattle.net_build.proofs.Zips.{AllZip-left, AllZip-right}
+use Rattle.arc_base.proofs.Zips.{AllZip-left, AllZip-right}
 
 -- reasons that are the same for each item make the same refusals
 module _ {X : Type 0} (kind : Kind) (P Q : ℕ → X → ℕ → Type 0) (items : List X)

@@ -17,7 +17,7 @@ use Rattle.net_build.specs.Rows.{IsLinkRow, IsSessionOf}
 use Rattle.net_build.specs.Sessions.{AreFilesOf}
 use Rattle.arc_base.proofs.Items.{Contains-head, Contains-tail}
 use Rattle.net_build.proofs.LinksApart.{joins_free, free}
-use Rattle.net_build.proofs.Zips.{AllZip-left}
+use Rattle.arc_base.proofs.Zips.{AllZip-left}
 use Rattle.net_build.proofs.SpotSites.{site_file}
 
 -- the name of the one end of the link or of the other

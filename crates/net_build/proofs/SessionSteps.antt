@@ -22,7 +22,7 @@ use Rattle.net_build.specs.Ordered.{AreInOrder}
 use Rattle.net_build.specs.Rows.{IsFaceRow, IsConfigured, IsSessionOf, IsSession, IsSessionBefore}
 use Rattle.net_build.specs.Sessions.{IsSessionOver, AddsOne, AreFilesOf, end_place, IsSessionTo, AreSessionsTo}
 use Rattle.arc_base.proofs.Items.{Contains-cases, Contains-head, Contains-none}
-use Rattle.net_build.proofs.Zips.{AllZip-left, AllZip-right}
+use Rattle.arc_base.proofs.Zips.{AllZip-left, AllZip-right}
 use Rattle.net_build.proofs.SameRows.{one_list_place}
 use Rattle.net_build.proofs.SpotSites.{site_file}
 use Rattle.net_build.proofs.SessionEnds.{one_end, one_near, two_routers}

@@ -21,7 +21,7 @@ use Rattle.net_build.specs.Reasons.{IsClear, IsFirst}
 use Rattle.net_build.specs.Stops.{RefusesListStopsSession}
 use Rattle.net_build.specs.FarEnds.{FindsOnly}
 use Rattle.net_build.specs.Stopping.{list_line, StopsBetween, IsRefusalAt, StopsAt, StopsAtSome}
-use Rattle.net_build.proofs.Zips.{AllZip-left}
+use Rattle.arc_base.proofs.Zips.{AllZip-left}
 use Rattle.net_build.proofs.SameNetwork.{same_rows}
 
 -- the refusal at a place

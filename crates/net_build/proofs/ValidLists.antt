@@ -27,7 +27,7 @@ use Rattle.net_build.specs.Lists.{IsBoundPacketList, IsBoundRouteList, IsListNam
 use Rattle.net_build.specs.Rows.{IsRouterRow}
 use Rattle.net_build.proofs.Distinct.{Contains-at}
 use Rattle.net_build.proofs.ValidRows.{AreKnown}
-use Rattle.net_build.proofs.Zips.{AllZip-right}
+use Rattle.arc_base.proofs.Zips.{AllZip-right}
 
 -- no name comes before itself
 compare_same : (n : ℕ) → nat_cmp n n ≡ Equal

@@ -22,7 +22,7 @@ use Rattle.net_build.proofs.LinksApart.{links_apart}
 use Rattle.net_build.proofs.ValidRows.{AreKnown, valid_face, valid_link, few_faces, faces_named_apart}
 use Rattle.net_build.proofs.ValidLists.{packet_lists, route_lists, packet_lists_apart, route_lists_apart}
 use Rattle.net_build.proofs.ValidSessions.{sessions_valid, sessions_apart, fits_protocol}
-use Rattle.net_build.proofs.Zips.{AllZip-left, AllZip-length}
+use Rattle.arc_base.proofs.Zips.{AllZip-left, AllZip-length}
 
 module _ (doc : Document) (configs : List Config) (net : Network) (k : AreKnown doc configs net) (named : All IsNamed configs) (hosts_differ : AllPairs (λ f g. host_name f ≢ host_name g) configs) (rows : AreRows doc configs net) where
   router_at : (i : ℕ) (row : RouterRow) → slice_get net.routers i ≡ Some row → (config : Config) × (slice_get configs i ≡ Some config) × IsRouterRow net.protocol config row

@@ -33,7 +33,7 @@ use Rattle.net_build.proofs.FewFaces.{counts, few_sites, sum_zip}
 use Rattle.arc_base.proofs.Items.{Contains-head, Contains-tail, Contains-piece}
 use Rattle.net_build.proofs.LinksApart.{joins_free, one_name}
 use Rattle.net_build.proofs.SiteFacts.{site_of, name_at_site, same_router, same_site, well_formed_at}
-use Rattle.net_build.proofs.Zips.{AllZip-left, AllZip-right, AllZip-length}
+use Rattle.arc_base.proofs.Zips.{AllZip-left, AllZip-right, AllZip-length}
 
 -- what is known of the rows of the network once the links are tried
 pub record AreKnown (doc : Document) (configs : List Config) (net : Network) : Type 0 where

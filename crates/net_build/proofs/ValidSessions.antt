@@ -27,7 +27,7 @@ use Rattle.net_build.specs.Rows.{IsSubnet, IsSessionOf, IsSession, AreSessions}
 use Rattle.net_build.proofs.Distinct.{Contains-at}
 use Rattle.net_build.proofs.ValidRows.{AreKnown, site_at}
 use Rattle.net_build.proofs.LinksApart.{links_apart}
-use Rattle.net_build.proofs.Zips.{AllZip-right, AllZip-length}
+use Rattle.arc_base.proofs.Zips.{AllZip-right, AllZip-length}
 
 -- an end of a link at either side
 ends_at : (row : LinkRow) (from_a : Bool) → EndsAt row (tail_end row from_a).0

@@ -25,7 +25,7 @@ use Rattle.ios_config.specs.Values.{last_setting, hostname}
 use Rattle.net_build.specs.Forms.{IsWellFormedFace, BindsName, IsWellFormed}
 use Rattle.ios_config.proofs.PartLists.{distinct_fresh}
 use Rattle.arc_base.proofs.Items.{from_filter, from_map, from_piece, Contains-none}
-use Rattle.net_build.proofs.Zips.{AllZip-left}
+use Rattle.arc_base.proofs.Zips.{AllZip-left}
 use Rattle.net_build.proofs.FacesApart.{piece_head, faces_apart}
 use Rattle.net_build.proofs.SettingForms.{face_name_form, face_form, binds_form, hostname_form, setting_form, process_lines}
 

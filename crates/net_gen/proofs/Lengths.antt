@@ -1,7 +1,7 @@
 -- How long the texts of a generated network are, and how many of each there are.
 use Rattle.std.proofs.Common.{◌≡◌, ℕ, zero, suc, ◌+◌, ◌*◌, ◌^◌, ◌<◌, ◌≤◌, Bool, true, false, cond, List, [], ◌∷◌, ◌++◌, length, length-append, refl, ◌∙◌, ap, arith}
 use Rattle.std.specs.Prelude.{map, filter, All, codes, decimal, ◌==◌, if◌then◌else◌}
-use Rattle.std.specs.List.{flat_map, range_with_len, AllZip}
+use Rattle.std.specs.List.{flat_map, range_with_len}
 use Rattle.std.proofs.lemmas.Fmt.{length-decimal-le}
 use Rattle.std.proofs.lemmas.List.FromFn.{length-range_with_len, length-map-range_with_len}
 use Rattle.std.proofs.lemmas.List.Elements.{All-cons}
@@ -127,12 +127,6 @@ texts_short n few = texts_from n 1 n few (omega (arith, few))
 -- so it has fewer than 2^32
 pub texts_length : (n : ℕ) → n ≤ 40 → All (λ (text : List ℕ). length text < 2 ^ 32) (router_texts n)
 texts_length n few = λ i d l. omega (arith, texts_short n few i d l)
-
-pub AllZip-length : {X Y : Type 0} (R : X → Y → Type 0) (xs : List X) (ys : List Y) → AllZip R xs ys → length xs ≡ length ys
-AllZip-length R [] [] h = refl
-AllZip-length R [] (y ∷ ys) h = absurd h
-AllZip-length R (x ∷ xs) [] h = absurd h
-AllZip-length R (x ∷ xs) (y ∷ ys) h = ap suc (AllZip-length R xs ys h.1)
 
 -- as many policies as routers, and one more
 pub asked_length : (n : ℕ) → length (asked n) ≡ n + 1

@@ -37,7 +37,8 @@ use Rattle.arc_base.specs.declared.prefix.Prefix.{Prefix}
 use Rattle.patched_settings.specs.Premises.{AreFitting}
 use Rattle.patched_settings.specs.SettingsAfter.{face_with, AreSettingsAfter, AreAllSettingsAfter}
 use Rattle.patched_settings.proofs.NewNames.{name_is_new, numbered}
-use Rattle.patched_settings.proofs.Pairs.{maps_agree, zip_right, zip_left}
+use Rattle.patched_settings.proofs.Pairs.{maps_agree}
+use Rattle.arc_base.proofs.Zips.{AllZip-right, AllZip-left}
 use Rattle.patched_settings.proofs.Sites.{IsSiteAfter, site_after}
 
 -- the files have this network, and these are its edits and the settings after them
@@ -129,16 +130,16 @@ module _ (doc : Document) (net : Network) (old new : List Config) (chosen : List
   file_was router d at = let r = row_was (AreSettingsAfter net chosen) old new g.settings router d at in record { config = r.0; at = r.1; after = r.2 }
 
   pub router_row : (router : ℕ) (c : Config) → slice_get old router ≡ Some c → (row : RouterRow) × (slice_get net.routers router ≡ Some row) × IsRouterRow net.protocol c row
-  router_row router c at = zip_right (IsRouterRow net.protocol) old net.routers g.rows.base.routers router c at
+  router_row router c at = AllZip-right (IsRouterRow net.protocol) old net.routers g.rows.base.routers router c at
 
   abbrev pub IsRowOf : Site → FaceRow → Type 0
   IsRowOf s row = IsFaceRow net.protocol (ends_of doc.links) (map packet_list_key net.packet_lists) s row
 
   pub face_row : (k : ℕ) (s : Site) → slice_get (sites old) k ≡ Some s → (row : FaceRow) × (slice_get net.faces k ≡ Some row) × IsRowOf s row
-  face_row k s at = zip_right IsRowOf (sites old) net.faces g.rows.base.faces k s at
+  face_row k s at = AllZip-right IsRowOf (sites old) net.faces g.rows.base.faces k s at
 
   pub face_site : (k : ℕ) (row : FaceRow) → slice_get net.faces k ≡ Some row → (s : Site) × (slice_get (sites old) k ≡ Some s) × IsRowOf s row
-  face_site k row at = zip_left IsRowOf (sites old) net.faces g.rows.base.faces k row at
+  face_site k row at = AllZip-left IsRowOf (sites old) net.faces g.rows.base.faces k row at
 
   -- the names that a file gives or binds are none of new lists
   pub in_names : (router : ℕ) (c : Config) (name : List ℕ) → slice_get old router ≡ Some c → IsListName c name → Contains (names_of net router) name
@@ -177,11 +178,11 @@ module _ (doc : Document) (net : Network) (old new : List Config) (chosen : List
     pub face_text_now : (f : FaceText) → Contains c.faces f → (h : FaceText) × Contains d.faces h × IsSiteAfter net chosen (record { router = router; config = c; face = f }) (record { router = router; config = d; face = h })
     face_text_now f there =
         let p = place_of_item c.faces f there in
-        let r = zip_right (λ (f h : FaceText). bare_face h ≡ face_with net chosen router (bare_face f)) c.faces d.faces side_by_side p.0 f p.1 in
+        let r = AllZip-right (λ (f h : FaceText). bare_face h ≡ face_with net chosen router (bare_face f)) c.faces d.faces side_by_side p.0 f p.1 in
         (r.0, item_at_place d.faces p.0 r.0 r.1, site_after net chosen router c d after f r.0 r.2)
 
     pub face_text_was : (h : FaceText) → Contains d.faces h → (f : FaceText) × Contains c.faces f × IsSiteAfter net chosen (record { router = router; config = c; face = f }) (record { router = router; config = d; face = h })
     face_text_was h there =
         let p = place_of_item d.faces h there in
-        let r = zip_left (λ (f h : FaceText). bare_face h ≡ face_with net chosen router (bare_face f)) c.faces d.faces side_by_side p.0 h p.1 in
+        let r = AllZip-left (λ (f h : FaceText). bare_face h ≡ face_with net chosen router (bare_face f)) c.faces d.faces side_by_side p.0 h p.1 in
         (r.0, item_at_place c.faces p.0 r.0 r.1, site_after net chosen router c d after r.0 h r.2)

@@ -37,7 +37,8 @@ use Rattle.patched_settings.proofs.Edited.{AreEdited, FileWas, file_was, face_te
 use Rattle.patched_settings.proofs.FaceRows.{any_was}
 use Rattle.patched_settings.proofs.Lines.{IsAdded, ProcessAfter, process_after, host_stays, same_said}
 use Rattle.patched_settings.proofs.PacketLists.{any_of, of_any}
-use Rattle.patched_settings.proofs.Pairs.{maps_agree, zip_left}
+use Rattle.patched_settings.proofs.Pairs.{maps_agree}
+use Rattle.arc_base.proofs.Zips.{AllZip-left}
 use Rattle.patched_settings.proofs.SessionFacts.{pair_at}
 use Rattle.patched_settings.proofs.Sites.{given_of_value}
 
@@ -200,7 +201,7 @@ module _ (doc : Document) (net : Network) (old new : List Config) (chosen : List
       second_not : (p : ProcessText) → process_of was.config ≡ Some p → (o : Option ProcessText) → slice_get bad.item.process 1 ≡ o → IsSomeAnd o (λ second. bad.number ≡ second.head) → ⊥
       second_not p e None at h = h
       second_not p e (Some q) at h =
-          let first = zip_left (λ (p q : ProcessText). bare_process q ≡ process_with net chosen bad.place (bare_process p)) was.config.process bad.item.process pairs 1 q at in
+          let first = AllZip-left (λ (p q : ProcessText). bare_process q ≡ process_with net chosen bad.place (bare_process p)) was.config.process bad.item.process pairs 1 q at in
           mixes_not p e first.0.head (inl (subst (λ (o : Option ProcessText). IsSomeAnd o (λ second. first.0.head ≡ second.head)) (sym first.1) refl))
 
       other_area : (p q : ProcessText) → process_of was.config ≡ Some p → p.number ≡ q.number → (f h : FaceText) → Contains was.config.faces f → value h.area ≡ value f.area → NamesOtherProcess q bad.number h → ⊥
@@ -224,7 +225,7 @@ module _ (doc : Document) (net : Network) (old new : List Config) (chosen : List
       by (Some q) en (inr (inr runs)) (Some p) eo h =
           let a = of_any (RunsOther (protocol_of new) bad.number) bad.item.process runs in
           let at = place_of_item bad.item.process a.0 a.1 in
-          let first = zip_left (λ (p q : ProcessText). bare_process q ≡ process_with net chosen bad.place (bare_process p)) was.config.process bad.item.process pairs at.0 a.0 at.1 in
+          let first = AllZip-left (λ (p q : ProcessText). bare_process q ≡ process_with net chosen bad.place (bare_process p)) was.config.process bad.item.process pairs at.0 a.0 at.1 in
           let kind : a.0.kind ≡ first.0.kind = ap (λ (x : ProcessText). x.kind) first.2 in
           mixes_not p eo first.0.head (inr (inr (any_of (RunsOther (protocol_of old) first.0.head) was.config.process first.0 (item_at_place was.config.process at.0 first.0 first.1)
           (refl, λ same. a.2.1 (ap protocol_of_kind kind ∙ same ∙ sym protocol_stays)))))

@@ -4,6 +4,7 @@ use Rattle.std.specs.Prelude.{Contains, slice_get}
 use Rattle.std.specs.List.{AllZip, filter_map, last_or, cons_option}
 use Rattle.std.proofs.lemmas.Option.{none-some, same_Some}
 use Rattle.arc_base.proofs.Items.{Contains-head, Contains-tail, Contains-none}
+use Rattle.arc_base.proofs.Zips.{AllZip-right}
 
 abbrev rest : {X : Type 0} → List X → List X
 rest [] = []
@@ -19,12 +20,6 @@ maps_agree f g h [] [] e = tt
 maps_agree f g h [] (y ∷ ys) e = absurd (none-some (f y) (sym (ap first e)))
 maps_agree f g h (x ∷ xs) [] e = absurd (none-some (g (h x)) (ap first e))
 maps_agree f g h (x ∷ xs) (y ∷ ys) e = (same_Some (f y) (g (h x)) (ap first e), maps_agree f g h xs ys (ap rest e))
-
-pub zip_append : {X Y : Type 0} (R : X → Y → Type 0) (xs : List X) (ys : List Y) (us : List X) (vs : List Y) → AllZip R xs ys → AllZip R us vs → AllZip R (xs ++ us) (ys ++ vs)
-zip_append R [] [] us vs h k = k
-zip_append R [] (y ∷ ys) us vs h k = absurd h
-zip_append R (x ∷ xs) [] us vs h k = absurd h
-zip_append R (x ∷ xs) (y ∷ ys) us vs h k = (h.0, zip_append R xs ys us vs h.1 k)
 
 pub zip_length : {X Y : Type 0} (R : X → Y → Type 0) (xs : List X) (ys : List Y) → AllZip R xs ys → length ys ≡ length xs
 zip_length R [] [] h = refl
@@ -44,19 +39,6 @@ zip_weaker R S [] (y ∷ ys) f h = absurd h
 zip_weaker R S (x ∷ xs) [] f h = absurd h
 zip_weaker R S (x ∷ xs) (y ∷ ys) f h = (f x y h.0, zip_weaker R S xs ys f h.1)
 
--- each item of the one has one of the other
-pub zip_right : {X Y : Type 0} (R : X → Y → Type 0) (xs : List X) (ys : List Y) → AllZip R xs ys → (k : ℕ) (x : X) → slice_get xs k ≡ Some x → (y : Y) × (slice_get ys k ≡ Some y) × R x y
-zip_right R [] ys h k x e = absurd (none-some x e)
-zip_right R (x ∷ xs) [] h k z e = absurd h
-zip_right R (x ∷ xs) (y ∷ ys) h zero z e = (y, refl, subst (λ w. R w y) (same_Some x z e) h.0)
-zip_right R (x ∷ xs) (y ∷ ys) h (suc k) z e = zip_right R xs ys h.1 k z e
-
-pub zip_left : {X Y : Type 0} (R : X → Y → Type 0) (xs : List X) (ys : List Y) → AllZip R xs ys → (k : ℕ) (y : Y) → slice_get ys k ≡ Some y → (x : X) × (slice_get xs k ≡ Some x) × R x y
-zip_left R xs [] h k y e = absurd (none-some y e)
-zip_left R [] (y ∷ ys) h k z e = absurd h
-zip_left R (x ∷ xs) (y ∷ ys) h zero z e = (x, refl, subst (λ w. R x w) (same_Some y z e) h.0)
-zip_left R (x ∷ xs) (y ∷ ys) h (suc k) z e = zip_left R xs ys h.1 k z e
-
 -- a relation of all items at one place makes lists go together
 pub zip_from : {X Y : Type 0} (R : X → Y → Type 0) (xs : List X) (ys : List Y) → length ys ≡ length xs → ((k : ℕ) (x : X) (y : Y) → slice_get xs k ≡ Some x → slice_get ys k ≡ Some y → R x y) → AllZip R xs ys
 zip_from R [] [] e h = tt
@@ -66,7 +48,7 @@ zip_from R (x ∷ xs) (y ∷ ys) e h = (h zero x y refl refl, zip_from R xs ys (
 
 pub zip_at : {X Y : Type 0} (R : X → Y → Type 0) (xs : List X) (ys : List Y) → AllZip R xs ys → (k : ℕ) (x : X) (y : Y) → slice_get xs k ≡ Some x → slice_get ys k ≡ Some y → R x y
 zip_at R xs ys h k x y a b =
-    let r = zip_right R xs ys h k x a in
+    let r = AllZip-right R xs ys h k x a in
     subst (λ w. R x w) (same_Some r.0 y (sym r.1 ∙ b)) r.2
 
 -- the last item of two lists

@@ -42,7 +42,7 @@ use Rattle.patched_settings.proofs.FileClear.{offends_not}
 use Rattle.patched_settings.proofs.Lines.{IsAdded, commands_of, commands_after, turning_lines, filter_lines, host_stays, same_said}
 use Rattle.patched_settings.proofs.NewNames.{new_of_named}
 use Rattle.patched_settings.proofs.PacketLists.{any_of, of_any}
-use Rattle.patched_settings.proofs.Pairs.{zip_left}
+use Rattle.arc_base.proofs.Zips.{AllZip-left}
 use Rattle.patched_settings.proofs.Said.{filter_line_is, own_face_found}
 use Rattle.patched_settings.proofs.SessionFacts.{session_found}
 use Rattle.patched_settings.proofs.Sites.{address_stays, site_now, full_name_stays}
@@ -82,7 +82,7 @@ module _ (doc : Document) (net : Network) (old new : List Config) (chosen : List
   session_known router c at s row there at_row own =
       let o = (session_is doc net old new chosen g s there) in
       let so = o.session_of in
-      let text = zip_left (IsLinkRow (full_names old)) doc.links net.links g.rows.base.links o.link so.row so.at_link in
+      let text = AllZip-left (IsLinkRow (full_names old)) doc.links net.links g.rows.base.links o.link so.row so.at_link in
       let r = face_row doc net old new chosen g s.face.0 so.near so.at_near in
       let router_is : so.near.router ≡ router = sym r.2.router ∙ ap (λ (f : FaceRow). f.router.0) (same_Some r.0 row (sym r.1 ∙ at_row)) ∙ own in
       let file = site_of old s.face.0 so.near so.at_near in

@@ -15,7 +15,8 @@ use Rattle.edit_space.specs.declared.edit_kinds.Edit.{Edit}
 use Rattle.patched_settings.specs.Plain.{said}
 use Rattle.patched_settings.specs.Additions.{new_inbound}
 use Rattle.patched_settings.specs.SettingsAfter.{face_with, AreSettingsAfter, AreAllSettingsAfter}
-use Rattle.patched_settings.proofs.Pairs.{maps_agree, zip_length, zip_append, zip_maps, zip_weaker, zip_right, zip_left}
+use Rattle.patched_settings.proofs.Pairs.{maps_agree, zip_length, zip_maps, zip_weaker}
+use Rattle.arc_base.proofs.Zips.{AllZip-append, AllZip-right, AllZip-left}
 use Rattle.patched_settings.proofs.Lines.{host_stays}
 
 -- a value has no line
@@ -115,7 +116,7 @@ module _ (net : Network) (chosen : List Edit) where
   sites_from n [] (d ∷ ds) f = absurd (omega (arith, f.whole))
   sites_from n (c ∷ cs) [] f = absurd (omega (arith, f.whole))
   sites_from n (c ∷ cs) (d ∷ ds) f =
-      zip_append IsSiteAfter (sites_of (n, c)) (sites_of (n, d)) (flat_map sites_of (enumerate_from (n + 1) cs)) (flat_map sites_of (enumerate_from (n + 1) ds))
+      AllZip-append IsSiteAfter (sites_of (n, c)) (sites_of (n, d)) (flat_map sites_of (enumerate_from (n + 1) cs)) (flat_map sites_of (enumerate_from (n + 1) ds))
       (file_after n c d (files_first n c d cs ds f)) (sites_from (n + 1) cs ds (files_rest n c d cs ds f))
 
   module _ (old new : List Config) (all : AreAllSettingsAfter net chosen old new) where
@@ -144,7 +145,7 @@ module _ (net : Network) (chosen : List Edit) where
     full_names_stay = names_of_sites (sites old) (sites new) sites_after
 
     pub site_now : (k : ℕ) (s : Site) → slice_get (sites old) k ≡ Some s → (t : Site) × (slice_get (sites new) k ≡ Some t) × IsSiteAfter s t
-    site_now k s at = zip_right IsSiteAfter (sites old) (sites new) sites_after k s at
+    site_now k s at = AllZip-right IsSiteAfter (sites old) (sites new) sites_after k s at
 
     pub site_was : (k : ℕ) (t : Site) → slice_get (sites new) k ≡ Some t → (s : Site) × (slice_get (sites old) k ≡ Some s) × IsSiteAfter s t
-    site_was k t at = zip_left IsSiteAfter (sites old) (sites new) sites_after k t at
+    site_was k t at = AllZip-left IsSiteAfter (sites old) (sites new) sites_after k t at

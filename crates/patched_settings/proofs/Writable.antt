@@ -31,7 +31,7 @@ use Rattle.net_build.specs.Sites.{sites, ends_of}
 use Rattle.net_build.proofs.FacesApart.{piece_head}
 use Rattle.net_build.proofs.SiteFacts.{site_of}
 use Rattle.patched_settings.specs.Premises.{IsWritable}
-use Rattle.patched_settings.proofs.Pairs.{zip_left, zip_right}
+use Rattle.arc_base.proofs.Zips.{AllZip-left, AllZip-right}
 
 -- the interfaces of a file have names that pass the test of names
 face_tested : (text : List ℕ) (lines : Lines) (config : Config) → IsConfigOf text lines config → (f : FaceText) → Contains config.faces f → IsTrue (is_face_name f.name)
@@ -45,15 +45,15 @@ face_tested text lines config is f there =
     good : (c : FileCommand) → Contains is.commands c → IsInForm c.command
     good c in_all =
         let at = place_of_item is.commands c in_all in
-        let read = zip_left (IsReadAs text lines) (command_lines lines) is.commands is.read at.0 c at.1 in
+        let read = AllZip-left (IsReadAs text lines) (command_lines lines) is.commands is.read at.0 c at.1 in
         in_form text read.0.1 read.2.within c.command read.2.reads
 
 module _ (doc : Document) (files : List (List ℕ)) (net : Network) (is : IsNetworkOf doc files net) where
   faces_written : (place : ℕ) (row : FaceRow) → slice_get net.faces place ≡ Some row → IsTrue (is_face_name row.name)
   faces_written place row at =
-      let s = zip_left (IsFaceRow net.protocol (ends_of doc.links) (map packet_list_key net.packet_lists)) (sites is.configs) net.faces is.rows.base.faces place row at in
+      let s = AllZip-left (IsFaceRow net.protocol (ends_of doc.links) (map packet_list_key net.packet_lists)) (sites is.configs) net.faces is.rows.base.faces place row at in
       let file = site_of is.configs place s.0 s.1 in
-      let said = zip_left Says files is.configs is.said s.0.router s.0.config file.file_at in
+      let said = AllZip-left Says files is.configs is.said s.0.router s.0.config file.file_at in
       subst (λ (n : List ℕ). IsTrue (is_face_name n)) (sym s.2.name) (face_tested said.0 said.2.lines s.0.config said.2.is_config s.0.face file.listed)
 
   session_of : (s : SessionRow) → (p : Protocol) (ss : List SessionRow) → AreSessions p is.configs net.links (map route_list_key net.route_lists) ss → Contains ss s → IsSession is.configs net.links (map route_list_key net.route_lists) s
@@ -64,7 +64,7 @@ module _ (doc : Document) (files : List (List ℕ)) (net : Network) (is : IsNetw
   peers_written s there =
       let o = (session_of s net.protocol net.sessions is.rows.sessions there) in
       let so = o.session_of in
-      let row = zip_right (IsFaceRow net.protocol (ends_of doc.links) (map packet_list_key net.packet_lists)) (sites is.configs) net.faces is.rows.base.faces (head_end so.row o.from_a).0 so.far so.at_far in
+      let row = AllZip-right (IsFaceRow net.protocol (ends_of doc.links) (map packet_list_key net.packet_lists)) (sites is.configs) net.faces is.rows.base.faces (head_end so.row o.from_a).0 so.far so.at_far in
       by (address_of so.far.face) so.peer row.0.subnet row.2.subnet
     where
       by : (a : Option (ℕ × ℕ)) → option_map (λ (x : ℕ × ℕ). x.0) a ≡ Some s.peer → (subnet : Option Prefix) → IsSubnet a subnet → s.peer < 2 ^ 32

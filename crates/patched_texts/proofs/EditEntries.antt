@@ -60,10 +60,6 @@ pub all-of : {X : Type 0} (P : X → Type 0) (xs : List X) → AllByRecursion P 
 all-of P [] all x there = absurd (Contains-none x there)
 all-of P (y ∷ xs) all x there = ⊎_elim (λ same. subst P same all.0) (λ more. all-of P xs all.1 x more) (Contains-cases y x xs there)
 
-all-both : {X : Type 0} (P : X → Type 0) (xs ys : List X) → AllByRecursion P xs → AllByRecursion P ys → AllByRecursion P (xs ++ ys)
-all-both P [] ys one two = two
-all-both P (x ∷ xs) ys one two = (one.0, all-both P xs ys one.1 two)
-
 -- the number of an entry
 pub order-fits : (place : ListPlace) (step at high : ℕ) → 1 ≤ step * at → step * at ≤ high → IsOrder high (order_at place step at)
 order-fits place step at high low few = by place.numbered

@@ -6,6 +6,7 @@ use Rattle.std.proofs.lemmas.List.{length-map}
 use Rattle.std.proofs.lemmas.List.Concat.{flat_map-append}
 use Rattle.std.proofs.lemmas.List.Elements.{Contains-append_cases, Contains-append_left, Contains-append_right}
 use Rattle.arc_base.proofs.Items.{Contains-cases, Contains-none, Contains-head, Contains-tail}
+use Rattle.arc_base.proofs.Zips.{AllByRecursion-append}
 use Rattle.net_model.specs.declared.rows.Network.{Network}
 use Rattle.ios_lines.specs.declared.line.Line.{Line}
 use Rattle.ios_lines.specs.declared.line.Lines.{Lines}
@@ -113,10 +114,6 @@ all-mapped : {X Y : Type 0} (P : Y → Type 0) (h : X → Y) (xs : List X) → (
 all-mapped P h [] each = tt
 all-mapped P h (x ∷ xs) each = (each x (Contains-head x xs), all-mapped P h xs (λ y there. each y (Contains-tail x y xs there)))
 
-all-joined : {X : Type 0} (P : X → Type 0) (xs ys : List X) → AllByRecursion P xs → AllByRecursion P ys → AllByRecursion P (xs ++ ys)
-all-joined P [] ys one two = two
-all-joined P (x ∷ xs) ys one two = (one.0, all-joined P xs ys one.1 two)
-
 not-empty : {X : Type 0} (xs : List X) (x : X) (ys : List X) → xs ++ x ∷ ys ≡ [] → ⊥
 not-empty [] x ys e = absurd cc
 not-empty (a ∷ xs) x ys e = absurd cc
@@ -198,7 +195,7 @@ module _ (net : Network) (places : List Places) (chosen : List Edit) (router : �
     pub is-grown : (c : FileCommand) → Contains cs c → IsGrown grow_at c
     is-grown c has = record {
       own = subst (AllByRecursion (λ (v : FileCommand). part_of v ≡ part_of c)) (sym (grow-is c))
-          (all-joined (λ (v : FileCommand). part_of v ≡ part_of c) (map (in_block c.block) (entries_at net own chosen router c)) (says_other c (new_at c) ∷ map (in_block c.block) (after_at c))
+          (AllByRecursion-append (λ (v : FileCommand). part_of v ≡ part_of c) (map (in_block c.block) (entries_at net own chosen router c)) (says_other c (new_at c) ∷ map (in_block c.block) (after_at c))
           (all-mapped (λ (v : FileCommand). part_of v ≡ part_of c) (in_block c.block) (entries_at net own chosen router c) (λ w there. (entry-at net places chosen router text lines cs f c w has there).part)) (
             with-number-part c.block c.command (of_number c.line (numbers_at net own chosen router)),
             all-mapped (λ (v : FileCommand). part_of v ≡ part_of c) (in_block c.block) (after_at c)

@@ -37,7 +37,7 @@ use Rattle.patched_settings.specs.Additions.{named_lists}
 use Rattle.patched_settings.proofs.FileClear.{offends_not}
 use Rattle.patched_settings.proofs.NewNames.{new_of_named}
 use Rattle.patched_settings.proofs.PacketLists.{any_of}
-use Rattle.patched_settings.proofs.Pairs.{zip_left}
+use Rattle.arc_base.proofs.Zips.{AllZip-left}
 use Rattle.patched_texts.specs.EditFiles.{HasFace}
 use Rattle.patched_texts.proofs.EditRenumber.{at-enumerated}
 
@@ -64,7 +64,7 @@ module _ (doc : Document) (files : List (List ℕ)) (built : Built) (was : IsBui
   has-face chosen valid small cs set face name there =
       let new = new_of_named net valid small chosen router (Packet face, name) there in
       let f = of_packet_face net valid chosen router face name new in
-      let (s, at_site, row) = zip_left (λ (s : Site) (row : FaceRow). IsFaceRow net.protocol _ _ s row) (sites configs) net.faces was.network.rows.base.faces face.0 f.row f.at in
+      let (s, at_site, row) = AllZip-left (λ (s : Site) (row : FaceRow). IsFaceRow net.protocol _ _ s row) (sites configs) net.faces was.network.rows.base.faces face.0 f.row f.at in
       let (placed, in_all, in_sites) = from_piece sites_of (enumerate_from 0 configs) s (item_at_place (sites configs) face.0 s at_site) in
       let (t, in_faces, is) = from_map (λ (t : FaceText). record { router = placed.0; config = placed.1; face = t }) placed.1.faces s in_sites in
       let (k, number, get) = at-enumerated 0 configs placed in_all in

@@ -47,7 +47,7 @@ use Rattle.line_patcher.specs.NewListLines.{face_places, filter_lines}
 use Rattle.line_patcher.specs.SessionLines.{session_lines}
 use Rattle.patched_settings.specs.Additions.{named_lists, process_lines}
 use Rattle.patched_settings.proofs.NewNames.{zip_places}
-use Rattle.patched_settings.proofs.Pairs.{zip_left}
+use Rattle.arc_base.proofs.Zips.{AllZip-left}
 use Rattle.edited_lines.specs.Sites.{Written}
 use Rattle.patched_texts.specs.EditFiles.{IsEditedFile, HasFace}
 use Rattle.patched_texts.specs.EditSites.{as_written, class_table, prefix_table, entry_table, end_table, entries_at, group_written, process_written, written_at}
@@ -298,7 +298,7 @@ module _ (net : Network) (places : List Places) (chosen : List Edit) (router : �
       by : (k : ℕ) × (slice_get (process_lines net chosen router) k ≡ Some command) → (part_in block command ≡ groups.Block block) × IsQuiet command
       by at =
           let read = (process-lines-read net chosen router block f.writable f.fits named-names).0 in
-          let found = zip_left (λ (line : List ℕ) (x : Command). IsLineOf line (process_kind net.protocol) block x × IsQuiet x) (session_lines net chosen router ++ filter_lines net chosen router) (process_lines net chosen router) read at.0 command at.1 in
+          let found = AllZip-left (λ (line : List ℕ) (x : Command). IsLineOf line (process_kind net.protocol) block x × IsQuiet x) (session_lines net chosen router ++ filter_lines net chosen router) (process_lines net chosen router) read at.0 command at.1 in
           (found.2.0.part, found.2.1)
 
   pub block-own : (c : FileCommand) → Contains cs c → c.block ≢ 0 → part_of c ≡ groups.Block c.block

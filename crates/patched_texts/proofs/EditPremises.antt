@@ -28,7 +28,7 @@ use Rattle.net_build.specs.Places.{places_of}
 use Rattle.line_patcher.specs.Additions.{lines_after, lines_before, numbers_at}
 use Rattle.patched_settings.specs.Premises.{HasRoom}
 use Rattle.patched_settings.proofs.FittingEdits.{edits_fit}
-use Rattle.patched_settings.proofs.Pairs.{zip_right}
+use Rattle.arc_base.proofs.Zips.{AllZip-right}
 use Rattle.patched_settings.proofs.Writable.{network_written}
 use Rattle.patched_texts.specs.EditFiles.{HaveListLines, IsEditedFile}
 use Rattle.patched_texts.specs.EditSiteLaws.{CommandsHaveListLines, CommandsGrowByEdits, EditSitesAreGood, EditSitesAreThere, EditedFilesAreFiles, EditedFilesAreSited, EditedFilesHaveTheNetwork, EditedTextsCanBePatched, own_places}
@@ -67,7 +67,7 @@ module _ (have_lines : CommandsHaveListLines) (doc : Document) (files : List (Li
       let listed : HaveListLines cs = have_lines text lines cs are_lines stand in
       let at : slice_get was.network.configs router ≡ Some (config_of cs) = at_c ∙ ap (λ (c : Config). Some c) set in
       let process : OneProcess doc files built was router config at_c = one-process doc files built was router config at_c in
-      let (row, at_row, is_row) = zip_right (IsRouterRow net.protocol) was.network.configs net.routers was.network.rows.base.routers router config at_c in
+      let (row, at_row, is_row) = AllZip-right (IsRouterRow net.protocol) was.network.configs net.routers was.network.rows.base.routers router config at_c in
       record {
         valid = valid;
         writable = network_written doc files net was.network;

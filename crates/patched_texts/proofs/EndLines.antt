@@ -15,6 +15,7 @@ use Rattle.net_model.specs.Routing.{session_at}
 use Rattle.net_model.specs.Validity.{FitsProtocol}
 use Rattle.ios_lines.specs.Written.{spaced}
 use Rattle.arc_base.specs.NameForms.{is_name}
+use Rattle.arc_base.proofs.Zips.{AllByRecursion-append}
 use Rattle.ios_words.specs.Printed.{neighbor_list_words, group_words}
 use Rattle.ios_words.specs.declared.commands.Command.{Command}
 use Rattle.ios_words.specs.declared.commands.Command.TheVariants as commands
@@ -61,10 +62,6 @@ zip-both R [] [] us vs one two = two
 zip-both R [] (y ∷ ys) us vs one two = absurd one
 zip-both R (x ∷ xs) [] us vs one two = absurd one
 zip-both R (x ∷ xs) (y ∷ ys) us vs one two = (one.0, zip-both R xs ys us vs one.1 two)
-
-all-both : {X : Type 0} (P : X → Type 0) (xs ys : List X) → AllByRecursion P xs → AllByRecursion P ys → AllByRecursion P (xs ++ ys)
-all-both P [] ys one two = two
-all-both P (x ∷ xs) ys one two = (one.0, all-both P xs ys one.1 two)
 
 picked-fit : {E X : Type 0} (P : X → Type 0) (f : E → Option X) (es : List E) → ((e : E) (x : X) → Contains es e → f e ≡ Some x → P x) → AllByRecursion P (filter_map f es)
 picked-fit P f [] each = tt
@@ -116,7 +113,7 @@ module _ (net : Network) (writable : IsWritable net) (fits : FitsProtocol net.pr
 
   lines-fit : (chosen : List Edit) → AreNamed net chosen router → AllByRecursion IsFit (session_lines net chosen router ++ patched.filter_lines net chosen router)
   lines-fit chosen named =
-      all-both IsFit (session_lines net chosen router) (patched.filter_lines net chosen router) (sessions-fit net writable chosen router)
+      AllByRecursion-append IsFit (session_lines net chosen router) (patched.filter_lines net chosen router) (sessions-fit net writable chosen router)
       (picked-fit IsFit (λ (l : NewList × List ℕ). patched.filter_line net l.0 l.1) (named_lists net chosen router) (λ l line there e. filter-fit l.0 l.1 line (named l there) e))
 
 pub process-lines-read : ProcessLinesAreRead

@@ -21,7 +21,8 @@ use Rattle.edit_space.specs.declared.edit_kinds.Edit.{Edit}
 use Rattle.edit_space.proofs.SomeNames.{after_is_valid}
 use Rattle.patched_settings.specs.SettingsAfter.{AreSettingsAfter}
 use Rattle.patched_settings.proofs.Joined.{network_is_after}
-use Rattle.patched_settings.proofs.Pairs.{zip_left, zip_length}
+use Rattle.patched_settings.proofs.Pairs.{zip_length}
+use Rattle.arc_base.proofs.Zips.{AllZip-left}
 use Rattle.edited_lines.specs.Sites.{new_lines, new_commands}
 use Rattle.edited_lines.proofs.Chain.{edited-lines}
 use Rattle.edited_lines.proofs.Grown.{has-grown}
@@ -104,7 +105,7 @@ pub sited-files-have : SitedFilesHaveTheNetwork
 sited-files-have doc files new built was chosen after valid countable fits room sited patched is =
     files-have-network doc files new built.net was.network chosen after valid countable fits room (patched.whole ∙ sym (zip_length Says files was.network.configs was.network.said))
     (λ router config text at_c at_new.
-    let (old, at_old, says) = zip_left Says files was.network.configs was.network.said router config at_c in
+    let (old, at_old, says) = AllZip-left Says files was.network.configs was.network.said router config at_c in
     let facts = file-facts doc files new built was chosen patched router config old text at_c at_old at_new in
     sited-files-after built.net chosen router old text config says facts.lines _ _ _ facts.are facts.is (sited router config old says facts.lines at_c at_old facts.are))
     is

@@ -12,6 +12,7 @@ use Rattle.ios_lines.specs.Written.{spaced}
 use Rattle.ios_words.specs.Commands.{ReadBy}
 use Rattle.ios_words.specs.Language.{rows}
 use Rattle.arc_base.specs.NameForms.{is_name}
+use Rattle.arc_base.proofs.Zips.{AllByRecursion-append}
 use Rattle.ios_words.specs.Printed.{entry_words, list_head_words, permit_all_words, top_line}
 use Rattle.ios_words.specs.declared.commands.Command.TheVariants as commands
 use Rattle.ios_words.specs.declared.kinds.BlockKind.TheVariants as kinds
@@ -59,10 +60,6 @@ packet-parts : (key : ℕ) (classes : List Class) → AllByRecursion (λ (w : Wr
 packet-parts key [] = (refl, tt)
 packet-parts key (class ∷ classes) = (refl, packet-parts key classes)
 
-all-append : {X : Type 0} (P : X → Type 0) (xs ys : List X) → AllByRecursion P xs → AllByRecursion P ys → AllByRecursion P (xs ++ ys)
-all-append P [] ys one two = two
-all-append P (x ∷ xs) ys one two = (one.0, all-append P xs ys one.1 two)
-
 -- the blocks of new lists are of later numbers
 route-clear : (j : ℕ) (ws : List Written) → AllByRecursion (λ (w : Written). is_same (Block j) (part_in 0 w.command) ≡ false) ws → AllByRecursion (λ (v : FileCommand). is_same (Block j) (part_of v) ≡ false) (flat_map chunk_commands (map Single ws))
 route-clear j [] all = tt
@@ -86,7 +83,7 @@ lists-clear : (chosen : List Edit) (j key : ℕ) → j < key → (ns : List (New
 lists-clear chosen j key low [] = tt
 lists-clear chosen j key low (n ∷ ns) =
     subst (AllByRecursion (λ (v : FileCommand). is_same (Block j) (part_of v) ≡ false)) (sym (flat_map-append chunk_commands (new_chunks chosen key n.0 n.1) (list_chunks chosen (key + 1) ns)))
-    (all-append (λ (v : FileCommand). is_same (Block j) (part_of v) ≡ false) (flat_map chunk_commands (new_chunks chosen key n.0 n.1)) (flat_map chunk_commands (list_chunks chosen (key + 1) ns))
+    (AllByRecursion-append (λ (v : FileCommand). is_same (Block j) (part_of v) ≡ false) (flat_map chunk_commands (new_chunks chosen key n.0 n.1)) (flat_map chunk_commands (list_chunks chosen (key + 1) ns))
     (one-clear chosen j key (λ same. omega arith) n.0 n.1) (lists-clear chosen j (key + 1) (omega arith) ns))
 
 -- the chunks may be put there
@@ -135,7 +132,7 @@ new-chunks-good chosen number key later [] all high clear = tt
 new-chunks-good chosen number key later (n ∷ ns) all high clear =
     let rest = flat_map chunk_commands (list_chunks chosen (key + 1) ns) in
     chunks-append number later (new_chunks chosen key n.0 n.1) (list_chunks chosen (key + 1) ns)
-    (one-chunk chosen number key (rest ++ later) n.0 n.1 all.0 high (all-append (λ (v : FileCommand). is_same (Block key) (part_of v) ≡ false) rest later (lists-clear chosen key (key + 1) (omega arith) ns) (clear key (omega arith))))
+    (one-chunk chosen number key (rest ++ later) n.0 n.1 all.0 high (AllByRecursion-append (λ (v : FileCommand). is_same (Block key) (part_of v) ≡ false) rest later (lists-clear chosen key (key + 1) (omega arith) ns) (clear key (omega arith))))
     (new-chunks-good chosen number (key + 1) later ns all.1 (omega arith) (λ j low. clear j (omega arith)))
 
 -- their lines are those of the new lists

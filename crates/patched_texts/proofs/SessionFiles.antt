@@ -13,7 +13,7 @@ use Rattle.net_build.specs.declared.built.Places.{Places}
 use Rattle.net_build.specs.Networks.{IsBuilt}
 use Rattle.net_build.specs.Places.{places_of}
 use Rattle.edit_space.specs.declared.edit_kinds.Edit.{Edit}
-use Rattle.patched_settings.proofs.Pairs.{zip_right}
+use Rattle.arc_base.proofs.Zips.{AllZip-right}
 use Rattle.line_patcher.specs.SessionLines.{session_lines}
 use Rattle.line_patcher.specs.Patches.{ArePatched, patched_file}
 use Rattle.patched_texts.specs.Fits.{IsFit}
@@ -87,7 +87,7 @@ module _ (doc : Document) (files news : List (List ℕ)) (built : Built) (was : 
 
   pub file-facts : (router : ℕ) (config : Config) (old new : List ℕ) → slice_get was.network.configs router ≡ Some config → slice_get files router ≡ Some old → slice_get news router ≡ Some new → FileFacts router config old new
   file-facts router config old new at_c at_old at_new =
-      let (lines, at_lines, are) = zip_right AreLinesOf files built.lines was.lines router old at_old in
+      let (lines, at_lines, are) = AllZip-right AreLinesOf files built.lines was.lines router old at_old in
       let at_places : slice_get built.places router ≡ Some (places_of config) =
       ap (λ (ps : List Places). slice_get ps router) was.places ∙ slice_get-map places_of was.network.configs router ∙ ap (option_map places_of) at_c in
       record {

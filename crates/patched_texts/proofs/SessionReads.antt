@@ -31,7 +31,8 @@ use Rattle.edit_space.specs.declared.edit_kinds.Edit.{Edit}
 use Rattle.edit_space.specs.declared.edit_kinds.Edit.TheVariants as edits
 use Rattle.edit_space.specs.Numbered.{if_number}
 use Rattle.net_model.proofs.Readings.{item_at_place, place_of_item}
-use Rattle.patched_settings.proofs.Pairs.{maps_agree, zip_left}
+use Rattle.patched_settings.proofs.Pairs.{maps_agree}
+use Rattle.arc_base.proofs.Zips.{AllZip-left}
 use Rattle.patched_settings.proofs.PacketLists.{any_of, of_any}
 use Rattle.patched_settings.proofs.Untouched.{map_same}
 use Rattle.line_patcher.specs.SessionLines as patched
@@ -130,8 +131,8 @@ module _ (net : Network) (writable : IsWritable net) (router block : ℕ) where
 same_falls : (l m : ListText) → bare_list m ≡ bare_list l → (line : ℕ) → FallsAt m.entries line → (other : ℕ) × FallsAt l.entries other
 same_falls l m same line f =
     let all : AllZip (λ (g h : Given Command). bare_given h ≡ bare_given g) l.entries m.entries = bare_zip l.entries m.entries (ap (λ (x : ListText). x.entries) same) in
-    let first = zip_left (λ (g h : Given Command). bare_given h ≡ bare_given g) l.entries m.entries all f.place f.earlier f.at_place in
-    let second = zip_left (λ (g h : Given Command). bare_given h ≡ bare_given g) l.entries m.entries all (f.place + 1) f.later f.at_next in
+    let first = AllZip-left (λ (g h : Given Command). bare_given h ≡ bare_given g) l.entries m.entries all f.place f.earlier f.at_place in
+    let second = AllZip-left (λ (g h : Given Command). bare_given h ≡ bare_given g) l.entries m.entries all (f.place + 1) f.later f.at_next in
     let one : f.earlier.value ≡ first.0.value = ap (λ (g : Given Command). g.value) first.2 in
     let two : f.later.value ≡ second.0.value = ap (λ (g : Given Command). g.value) second.2 in (
       second.0.line,
@@ -153,6 +154,6 @@ pub rising_stays : (ls ms : List ListText) → map bare_list ms ≡ map bare_lis
 rising_stays ls ms same rise line bad =
     let b = of_any (λ (list : ListText). FallsAt list.entries line) ms bad in
     let at = place_of_item ms b.0 b.1 in
-    let first = zip_left (λ (l m : ListText). bare_list m ≡ bare_list l) ls ms (maps_agree_one bare_list ls ms same) at.0 b.0 at.1 in
+    let first = AllZip-left (λ (l m : ListText). bare_list m ≡ bare_list l) ls ms (maps_agree_one bare_list ls ms same) at.0 b.0 at.1 in
     let falls = same_falls first.0 b.0 first.2 line b.2 in
     rise falls.0 (any_of (λ (list : ListText). FallsAt list.entries falls.0) ls first.0 (item_at_place ls at.0 first.0 first.1) falls.1)

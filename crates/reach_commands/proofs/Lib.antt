@@ -7,6 +7,5 @@ pub mod NodesAnswered
 pub mod PrefersAnswered
 pub mod RecheckAnswered
 pub mod AddedPolicy
-pub mod Zipping
 pub mod RecheckedEach
 pub mod FewClasses

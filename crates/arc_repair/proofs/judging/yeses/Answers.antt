@@ -6,7 +6,8 @@ use Rattle.net_model.specs.declared.verdicts.Verdict.{Verdict}
 use Rattle.arc_repair.specs.Answers.{ShowsFew}
 use Rattle.arc_repair.specs.Claims.{IsRightYes}
 use Rattle.arc_repair.proofs.Few.{shows_few}
-use Rattle.arc_repair.proofs.Yeses.{at_place, zip_more, right_yes, never_many}
+use Rattle.arc_repair.proofs.Yeses.{right_yes, never_many}
+use Rattle.arc_base.proofs.Zips.{at_place, AllZip-next}
 use Rattle.arc_repair.proofs.judging.yeses.Goals as goal
 
 pub judge-requires-clause-ends : goal.judge-requires-clause-ends
@@ -25,7 +26,7 @@ loop-which-preserved c =
     let on = right_yes c.args.net.now (slice_get c.args.policies.now c.loop-which.which) c.in-Ok.verdict c.in-Ok.ensures.right (sym c.is_yes.ensures ∙ c.if-not-is_yes.false) in
     record {
       judged = subst (λ (vs : List Verdict). AllZip (IsRightYes c.args.net.now) (take (c.loop-which.which + 1) c.args.policies.now) vs) (sym pushed)
-          (zip_more (IsRightYes c.args.net.now) c.args.policies.now c.loop-which.verdicts c.loop-which.which c.in-Ok.verdict (omega arith) c.loop-which.invariant.judged on);
+          (AllZip-next (IsRightYes c.args.net.now) c.args.policies.now c.loop-which.verdicts c.loop-which.which c.in-Ok.verdict (omega arith) c.loop-which.invariant.judged on);
       few = subst (λ (vs : List Verdict). All ShowsFew vs) (sym pushed)
           (All-push ShowsFew c.loop-which.verdicts c.in-Ok.verdict c.loop-which.invariant.few
           (shows_few c.args.net.now c.args.policies.now c.loop-which.which c.in-Ok.verdict (omega arith) c.requires.failures c.in-Ok.ensures.right c.in-Ok.ensures.fixed));

@@ -2,7 +2,8 @@ use Rattle.std.proofs.Common.{arith, ◌≡◌, ◌++◌, ◌∷◌, [], ◌+◌
 use Rattle.std.specs.List.{AllZip}
 use Rattle.net_model.specs.declared.verdicts.Verdict.{Verdict}
 use Rattle.net_model.specs.Witnesses.{IsRight}
-use Rattle.arc_repair.proofs.Yeses.{at_place, zip_more, never_many}
+use Rattle.arc_repair.proofs.Yeses.{never_many}
+use Rattle.arc_base.proofs.Zips.{at_place, AllZip-next}
 use Rattle.generate_commands.proofs.Answered.{few_each}
 use Rattle.generate_commands.proofs.tallies.judge_all.Goals as goal
 
@@ -22,6 +23,6 @@ loop-which-preserved c =
     let pushed : c.push.new.self ≡ c.loop-which.verdicts ++ c.in-Ok.verdict ∷ [] = c.in_ok-push-in-Ok.ensures.ok in
     record {
       judged = subst (λ (vs : List Verdict). AllZip (IsRight c.args.net.now) (take (c.loop-which.which + 1) c.args.doc.now.policies) vs) (sym pushed)
-          (zip_more (IsRight c.args.net.now) c.args.doc.now.policies c.loop-which.verdicts c.loop-which.which c.in-Ok.verdict (omega arith) c.loop-which.invariant.judged c.in-Ok.ensures.right);
+          (AllZip-next (IsRight c.args.net.now) c.args.doc.now.policies c.loop-which.verdicts c.loop-which.which c.in-Ok.verdict (omega arith) c.loop-which.invariant.judged c.in-Ok.ensures.right);
       count = omega (arith, ap length pushed, length-append c.loop-which.verdicts (c.in-Ok.verdict ∷ []), c.loop-which.invariant.count);
     }

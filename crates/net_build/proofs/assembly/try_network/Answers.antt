@@ -7,7 +7,7 @@ use Rattle.net_build.specs.Order.{Overlap, LinkSubnets, ListStopsSession, Adjace
 use Rattle.net_build.proofs.LinksApart.{names_distinct, links_apart, sites_long, a_within, b_within}
 use Rattle.net_build.proofs.NetworkTried.{valid_network, subnets_tried, endpoints_tried}
 use Rattle.net_build.proofs.Tries.{first_fails, clear_before, one_decides}
-use Rattle.net_build.proofs.Zips.{AllZip-length}
+use Rattle.arc_base.proofs.Zips.{AllZip-length}
 use Rattle.net_build.proofs.assembly.try_network.Goals as goal
 
 abbrev Done : Unit {0} → Type 0

@@ -8,7 +8,7 @@ use Rattle.net_build.specs.Names.{names_at}
 use Rattle.net_build.specs.Sites.{Site}
 use Rattle.net_build.specs.Lists.{keys_at}
 use Rattle.net_build.specs.Rows.{IsFaceRow}
-use Rattle.net_build.proofs.Zips.{AllZip-mapped_more}
+use Rattle.arc_base.proofs.Zips.{AllZip-mapped_more}
 use Rattle.net_build.proofs.faces.add_face_rows.Goals as goal
 
 site_of : goal.In_ok-push → FaceText → Site

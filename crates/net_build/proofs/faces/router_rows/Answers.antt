@@ -1,7 +1,7 @@
 use Rattle.std.proofs.Common.{ap, length, arith}
 use Rattle.std.proofs.lemmas.List.{length_push}
 use Rattle.net_build.specs.Rows.{IsRouterRow}
-use Rattle.net_build.proofs.Zips.{AllZip-more}
+use Rattle.arc_base.proofs.Zips.{AllZip-more}
 use Rattle.net_build.proofs.faces.router_rows.Goals as goal
 
 pub loop-config-preserved : goal.loop-config-preserved

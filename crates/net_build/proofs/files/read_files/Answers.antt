@@ -1,7 +1,7 @@
 use Rattle.std.proofs.Common.{ℕ, List, [], ◌∷◌, ap, length, length-append, subst, arith}
 use Rattle.ios_lines.specs.Lines.{AreLinesOf}
 use Rattle.net_build.specs.Networks.{Says}
-use Rattle.net_build.proofs.Zips.{AllZip-more}
+use Rattle.arc_base.proofs.Zips.{AllZip-more}
 use Rattle.net_build.proofs.files.read_files.Goals as goal
 
 pub loop-place-preserved : goal.loop-place-preserved

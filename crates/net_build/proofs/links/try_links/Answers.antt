@@ -13,7 +13,7 @@ use Rattle.net_build.proofs.Cases.{at_true, at_false}
 use Rattle.net_build.proofs.Firsts.{tried_refused, first_item, none_more, none_all}
 use Rattle.net_build.proofs.LinkFaces.{IsNoLink, not_free, refused_link, clear_links}
 use Rattle.arc_base.proofs.Items.{pieces_more}
-use Rattle.net_build.proofs.Zips.{AllZip-more}
+use Rattle.arc_base.proofs.Zips.{AllZip-more}
 use Rattle.std.proofs.lemmas.List.{take_all}
 use Rattle.net_build.proofs.links.try_links.Goals as goal
 

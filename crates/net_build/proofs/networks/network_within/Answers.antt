@@ -12,7 +12,7 @@ use Rattle.net_build.proofs.AskingMore.{no_number_above}
 use Rattle.net_build.specs.Linking.{first_above}
 use Rattle.net_build.specs.Rows.{IsLinkRow}
 use Rattle.net_build.specs.Sites.{full_names}
-use Rattle.net_build.proofs.Zips.{AllZip-length}
+use Rattle.arc_base.proofs.Zips.{AllZip-length}
 use Rattle.net_build.proofs.networks.network_within.Goals as goal
 
 -- a refusal of a file by itself

@@ -4,7 +4,8 @@ use Rattle.std.proofs.lemmas.List.FromFn.{length-map-range_with_len}
 use Rattle.net_gen.specs.Plans.{link_count}
 use Rattle.net_gen.specs.RouterFiles.{file_name, router_lines, text_of}
 use Rattle.net_gen.specs.Generated.{Asks, asked, link_text}
-use Rattle.net_gen.proofs.Lengths.{texts_length, texts_short, AllZip-length, asked_length}
+use Rattle.net_gen.proofs.Lengths.{texts_length, texts_short, asked_length}
+use Rattle.arc_base.proofs.Zips.{AllZip-length}
 use Rattle.net_gen.proofs.generating.generate.Goals as goal
 
 pub returns-clause-files : goal.returns-clause-files

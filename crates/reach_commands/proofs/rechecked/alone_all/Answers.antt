@@ -4,7 +4,7 @@ use Rattle.std.specs.List.{AllZip}
 use Rattle.arc_base.specs.declared.place.Link.{Link}
 use Rattle.arc_recheck.specs.Singles.{IsAloneAnswer}
 use Rattle.run_inputs.proofs.ClassCounts.{never_many}
-use Rattle.reach_commands.proofs.Zipping.{at_place, zip_more}
+use Rattle.arc_base.proofs.Zips.{at_place, AllZip-next}
 use Rattle.reach_commands.proofs.rechecked.alone_all.Goals as goal
 
 pub alone-requires-clause-ends : goal.alone-requires-clause-ends
@@ -23,6 +23,6 @@ loop-which-preserved c =
     let pushed : c.push.new.self ≡ c.loop-which.found ++ c.in-Ok.links ∷ [] = c.in_ok-push-in-Ok.ensures.ok in
     record {
       answered = subst (λ (fs : List (Option (List Link))). AllZip (IsAloneAnswer c.args.input.now.net) (take (c.loop-which.which + 1) c.args.input.now.doc.policies) fs) (sym pushed)
-          (zip_more (IsAloneAnswer c.args.input.now.net) c.args.input.now.doc.policies c.loop-which.found c.loop-which.which c.in-Ok.links (omega arith) c.loop-which.invariant.answered c.in-Ok.ensures.answer);
+          (AllZip-next (IsAloneAnswer c.args.input.now.net) c.args.input.now.doc.policies c.loop-which.found c.loop-which.which c.in-Ok.links (omega arith) c.loop-which.invariant.answered c.in-Ok.ensures.answer);
       count = omega (arith, ap length pushed, length-append c.loop-which.found (c.in-Ok.links ∷ []), c.loop-which.invariant.count);
     }

@@ -3,7 +3,7 @@ use Rattle.std.specs.Prelude.{Option, IfSome, slice_get}
 use Rattle.net_model.specs.declared.verdicts.Verdict.{Verdict}
 use Rattle.arc_recheck.specs.Rechecks.{IsRechecked}
 use Rattle.run_inputs.proofs.ClassCounts.{never_many}
-use Rattle.reach_commands.proofs.Zipping.{at_place}
+use Rattle.arc_base.proofs.Zips.{at_place}
 use Rattle.reach_commands.proofs.RecheckedEach.{none_rechecked, one_more, all_rechecked, classes_anew}
 use Rattle.reach_commands.proofs.rechecked.recheck_all.Goals as goal
 

@@ -4,7 +4,7 @@ use Rattle.std.specs.List.{AllZip}
 use Rattle.arc_base.specs.declared.place.Router.{Router}
 use Rattle.reach_commands.specs.PreferRuns.{IsNamed}
 use Rattle.reach_commands.proofs.NamedRouters.{known_more, unknown_refused}
-use Rattle.reach_commands.proofs.Zipping.{zip_more}
+use Rattle.arc_base.proofs.Zips.{AllZip-next}
 use Rattle.reach_commands.proofs.routers.routers_named.Goals as goal
 
 pub loop-place-preserved : goal.loop-place-preserved
@@ -12,7 +12,7 @@ loop-place-preserved c =
     let pushed : c.push.new.self ≡ c.loop-place.wanted ++ c.in-Some.router ∷ [] = c.in_ok-push-in-Some.ensures.ok in
     record {
       named = subst (λ (ws : List Router). AllZip (IsNamed c.args.net.now) (take (c.loop-place.place + 1) c.args.names.now) ws) (sym pushed)
-          (zip_more (IsNamed c.args.net.now) c.args.names.now c.loop-place.wanted c.loop-place.place c.in-Some.router (omega arith) c.loop-place.invariant.named c.in-Some.ensures.some);
+          (AllZip-next (IsNamed c.args.net.now) c.args.names.now c.loop-place.wanted c.loop-place.place c.in-Some.router (omega arith) c.loop-place.invariant.named c.in-Some.ensures.some);
       known = known_more c.args.net.now c.args.names.now c.loop-place.place c.in-Some.router c.in-Some.ensures.some c.loop-place.invariant.known;
       count = omega (arith, ap length pushed, length-append c.loop-place.wanted (c.in-Some.router ∷ []), c.loop-place.invariant.count);
     }

@@ -4,7 +4,8 @@ use Rattle.std.specs.List.{AllZip}
 use Rattle.net_model.specs.declared.verdicts.Verdict.{Verdict}
 use Rattle.verify_commands.specs.Verifies.{IsVerdictOn}
 use Rattle.run_inputs.proofs.ClassCounts.{never_many}
-use Rattle.verify_commands.proofs.Judging.{at_place, zip_more, verdict_on}
+use Rattle.verify_commands.proofs.Judging.{verdict_on}
+use Rattle.arc_base.proofs.Zips.{at_place, AllZip-next}
 use Rattle.verify_commands.proofs.verifying.judge_all.Goals as goal
 
 pub judge-requires-clause-ends : goal.judge-requires-clause-ends
@@ -24,6 +25,6 @@ loop-which-preserved c =
     let on = verdict_on c.args.input.now.net c.args.input.now.doc.policies (slice_get c.args.input.now.doc.policies c.loop-which.which) c.in-Ok.verdict c.in-Ok.ensures.right c.in-Ok.ensures.fixed in
     record {
       judged = subst (λ (vs : List Verdict). AllZip (IsVerdictOn c.args.input.now.net c.args.input.now.doc.policies) (take (c.loop-which.which + 1) c.args.input.now.doc.policies) vs) (sym pushed)
-          (zip_more (IsVerdictOn c.args.input.now.net c.args.input.now.doc.policies) c.args.input.now.doc.policies c.loop-which.verdicts c.loop-which.which c.in-Ok.verdict (omega arith) c.loop-which.invariant.judged on);
+          (AllZip-next (IsVerdictOn c.args.input.now.net c.args.input.now.doc.policies) c.args.input.now.doc.policies c.loop-which.verdicts c.loop-which.which c.in-Ok.verdict (omega arith) c.loop-which.invariant.judged on);
       count = omega (arith, ap length pushed, length-append c.loop-which.verdicts (c.in-Ok.verdict ∷ []), c.loop-which.invariant.count);
     }
