@@ -4,7 +4,7 @@ use Rattle.arc_outside.specs.Files.{Files}
 use Rattle.command_words.specs.declared.commands.Command.{Command}
 use Rattle.command_words.specs.declared.commands.Command.TheVariants.{Verify, Trace, Repair, Check, Apply, Solve, Lrat, Generate, Nodes, Prefers, Recheck}
 use Rattle.apply_commands.specs.Applies.{TellsApply}
-use Rattle.check_commands.specs.Tells.{TellsAnyCheck}
+use Rattle.check_commands.specs.Tells.{TellsCheck}
 use Rattle.cnf_commands.specs.Lrats.{TellsRefutation}
 use Rattle.cnf_commands.specs.Solves.{TellsSolution}
 use Rattle.generate_commands.specs.Tells.{TellsGenerate}
@@ -34,7 +34,7 @@ Tells (Repair words) status before after = TellsRepair words status before after
 -- none within its bound is one, and then that is true; or where its first line is another than such a one has, and it is a report with
 -- one block for each policy of the document in order, each with a right verdict over the network of the files, and then each verdict
 -- is true. 1 exactly where they have a network and it is neither, and 5 exactly where they are refused.
-Tells (Check document certificate) status before after = TellsAnyCheck document certificate status before
+Tells (Check document certificate) status before after = TellsCheck document certificate status before
 -- `apply`: 0 exactly where the document and its router files have a network, the names of the copies are free, and each line of the
 -- edit file names an edit of it, no two the same; and then the router files that were left are the patches by these edits of those that
 -- were read, and have, read again, exactly the network after these edits. It is 5 exactly where something is refused, and then nothing

@@ -23,11 +23,11 @@ use Rattle.run_files.specs.Limits.{proof_limit}
 use Rattle.run_files.specs.Refusals.{bytes_at, read_refusal}
 use Rattle.run_inputs.specs.Inputs.{HoldsInput}
 use Rattle.run_inputs.proofs.Determined.{determined}
-use Rattle.verify_commands.specs.Checks.{IsCheckRefusal, TellsCheck, judgement_of}
+use Rattle.verify_commands.specs.Checks.{IsCheckRefusal, TellsReportCheck, judgement_of}
 use Rattle.verify_commands.proofs.Checked.{check_told}
 use Rattle.repair_commands.proofs.Counted.{within_or_passed}
 use Rattle.check_commands.specs.RepairChecks.{HoldsRepair, IsAnyChecked, IsAnyRefusal, IsRepairJudged, IsTextFault}
-use Rattle.check_commands.specs.Tells.{IsJudgeable, IsRepairAccepted, IsRepairRejected, TellsAnyCheck}
+use Rattle.check_commands.specs.Tells.{IsJudgeable, IsRepairAccepted, IsRepairRejected, TellsCheck}
 
 none_refused : (o : Option FileRefusal) (r : FileRefusal) → o ≡ None → o ≡ Some r → ⊥
 none_refused o r e f = absurd (cc)
@@ -111,7 +111,7 @@ module _ (document certificate : List ℕ) (files : Files) where
         let R : Network → Type 0 = λ n. IsCertified n other list (bytes_at files certificate) in
         subst R (nets done.doc done.net done.input other last j.input) (subst Q (docs done.doc done.net done.input other last j.input) (subst P same certified))
 
-    repair_told : (o : Judgement) → done.outcome ≡ o → TellsAnyCheck document certificate d.status files
+    repair_told : (o : Judgement) → done.outcome ≡ o → TellsCheck document certificate d.status files
     repair_told Accepted is =
         let zero' : d.status ≡ 0 = done.status ∙ ap (λ (o : Judgement). judgement_status (judgement_of o)) is in
         let certified = done.judged.accepted.0 is in
@@ -149,7 +149,7 @@ module _ (document certificate : List ℕ) (files : Files) where
 
   -- ---- any other text
 
-  report_told : (status : ℕ) → (HoldsRepair certificate files → ⊥) → TellsCheck document certificate status files → TellsAnyCheck document certificate status files
+  report_told : (status : ℕ) → (HoldsRepair certificate files → ⊥) → TellsReportCheck document certificate status files → TellsCheck document certificate status files
   report_told status differs t = record {
     accepted_exactly = (
       λ e. inr (differs, t.accepted_exactly.0 e),
@@ -172,11 +172,11 @@ module _ (document certificate : List ℕ) (files : Files) where
     nothing_else = t.nothing_else;
   }
 
-  told_done : (d : Done) → IsAnyChecked document certificate files d → TellsAnyCheck document certificate d.status files
+  told_done : (d : Done) → IsAnyChecked document certificate files d → TellsCheck document certificate d.status files
   told_done d (inl (holds, done)) = repair_told d holds done done.outcome refl
   told_done d (inr (differs, done)) = report_told d.status differs ((check_told document certificate).answered files d done)
 
-  told_refused : (r : FileRefusal) → IsAnyRefusal document certificate files r → TellsAnyCheck document certificate 5 files
+  told_refused : (r : FileRefusal) → IsAnyRefusal document certificate files r → TellsCheck document certificate 5 files
   told_refused r refused = record {
     accepted_exactly = (
       λ e. absurd (omega arith),
@@ -197,7 +197,7 @@ module _ (document certificate : List ℕ) (files : Files) where
   }
 
 pub any_check_told : (document certificate : List ℕ) → IsTold (IsAnyRefusal document certificate) (IsAnyChecked document certificate)
-    (λ status before after. TellsAnyCheck document certificate status before)
+    (λ status before after. TellsCheck document certificate status before)
 any_check_told document certificate = record {
   answered = λ files d done. told_done document certificate files d done;
   refused = told_refused document certificate;

@@ -58,7 +58,7 @@ pub record IsAnyUnchecked (document certificate : List ℕ) (files : Files) : Ty
   pub refused : IsAnyRefusal document certificate files refusal
 
 -- Which of the three it is, the status tells: 0 for accepted, 1 for rejected, and 5 for refused.
-pub record TellsAnyCheck (document certificate : List ℕ) (status : ℕ) (files : Files) : Type 0 where
+pub record TellsCheck (document certificate : List ℕ) (status : ℕ) (files : Files) : Type 0 where
   pub accepted_exactly : (status ≡ 0) ↔ IsAnyAccepted document certificate files
   pub rejected_exactly : (status ≡ 1) ↔ IsAnyRejected document certificate files
   pub refused_exactly : (status ≡ 5) ↔ IsAnyUnchecked document certificate files

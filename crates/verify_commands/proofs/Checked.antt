@@ -22,7 +22,7 @@ use Rattle.run_inputs.specs.Inputs.{HoldsDocument, HoldsInput, IsFit, ReadsFiles
 use Rattle.run_files.specs.Judgements.{judgement_status, judgement_text}
 use Rattle.run_files.specs.Limits.{proof_limit}
 use Rattle.run_inputs.proofs.Determined.{determined, judged_once}
-use Rattle.verify_commands.specs.Checks.{IsAccepted, IsChecked, IsCheckRefusal, IsRejected, IsTextChecked, IsUnchecked, RefusesInput, TellsCheck, judgement_of}
+use Rattle.verify_commands.specs.Checks.{IsAccepted, IsChecked, IsCheckRefusal, IsRejected, IsTextChecked, IsUnchecked, RefusesInput, TellsReportCheck, judgement_of}
 use Rattle.verify_commands.proofs.Verified.{all_true}
 use Rattle.run_files.specs.Refusals.{bytes_at, read_refusal}
 
@@ -106,7 +106,7 @@ module _ (document certificate : List ℕ) (files : Files) where
         | inr many ↦ (judged_once Judging document files).not_both doc net r input classes (inr many)
       ]
 
-  told_done : (d : Done) → (done : IsChecked document certificate files d) → (o : Judgement) → done.outcome ≡ o → TellsCheck document certificate d.status files
+  told_done : (d : Done) → (done : IsChecked document certificate files d) → (o : Judgement) → done.outcome ≡ o → TellsReportCheck document certificate d.status files
   told_done d done Accepted is =
       let zero' : d.status ≡ 0 = done.status ∙ ap (λ (o : Judgement). judgement_status (judgement_of o)) is in
       let report = done.accepted.0 is in
@@ -130,7 +130,7 @@ module _ (document certificate : List ℕ) (files : Files) where
       not_both : Rejected fault ≡ Accepted → ⊥
       not_both e = cc
 
-  told_refused : (r : FileRefusal) → IsCheckRefusal document certificate files r → TellsCheck document certificate 5 files
+  told_refused : (r : FileRefusal) → IsCheckRefusal document certificate files r → TellsReportCheck document certificate 5 files
   told_refused r refused =
       let says : IsUnchecked document certificate files = record { refusal = r; refused = refused } in
       record {
@@ -141,7 +141,7 @@ module _ (document certificate : List ℕ) (files : Files) where
       }
 
 pub check_told : (document certificate : List ℕ) → IsTold (IsCheckRefusal document certificate) (IsChecked document certificate)
-    (λ status before after. TellsCheck document certificate status before)
+    (λ status before after. TellsReportCheck document certificate status before)
 check_told document certificate = record {
   answered = λ files d done. told_done document certificate files d done done.outcome refl;
   refused = told_refused document certificate;

@@ -107,7 +107,7 @@ pub record IsUnchecked (document certificate : List ℕ) (files : Files) : Type 
   pub refused : IsCheckRefusal document certificate files refusal
 
 -- Which of the three it is, the status tells: 0 for accepted, 1 for rejected, and 5 for refused.
-pub record TellsCheck (document certificate : List ℕ) (status : ℕ) (files : Files) : Type 0 where
+pub record TellsReportCheck (document certificate : List ℕ) (status : ℕ) (files : Files) : Type 0 where
   pub accepted_exactly : (status ≡ 0) ↔ IsAccepted document certificate files
   pub rejected_exactly : (status ≡ 1) ↔ IsRejected document certificate files
   pub refused_exactly : (status ≡ 5) ↔ IsUnchecked document certificate files

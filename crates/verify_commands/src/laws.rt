@@ -7,7 +7,7 @@ ghost use Rattle.run_files.specs.declared.outcome.Done.{Done};
 ghost use Rattle.run_files.specs.declared.outcome.FileRefusal.{FileRefusal};
 ghost use Rattle.run_files.specs.Answers.{IsTold};
 ghost use Rattle.run_inputs.specs.Counts.{IsJudgingRefusal};
-ghost use Rattle.verify_commands.specs.Checks.{IsChecked, IsCheckRefusal, TellsCheck, VerifiedIsAccepted};
+ghost use Rattle.verify_commands.specs.Checks.{IsChecked, IsCheckRefusal, TellsReportCheck, VerifiedIsAccepted};
 ghost use Rattle.verify_commands.specs.Traces.{IsTraced, IsTraceRefusal, TellsTrace};
 ghost use Rattle.verify_commands.specs.Verifies.{IsVerified, TellsVerdicts};
 
@@ -26,7 +26,7 @@ pub fn trace_is_told()
 /// What the status of `check` tells.
 pub fn check_is_told()
     ensures { (document certificate : List ℕ) → IsTold (IsCheckRefusal document certificate) (IsChecked document certificate)
-        (λ status before after. TellsCheck document certificate status before) }
+        (λ status before after. TellsReportCheck document certificate status before) }
 {}
 
 /// The words and the files give at most one trace and at most one first refusal, and never both.
