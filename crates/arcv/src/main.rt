@@ -9,7 +9,7 @@ use crate::messages::explain;
 use arc_base::{List, Memory, Name};
 use arc_outside::{DiskStore, StdSink};
 use arc_run::run;
-use run_messages::Heard;
+use run_messages::Tee;
 use std::alloc::Global;
 use std::process::ExitCode;
 use std::{env, io};
@@ -38,7 +38,7 @@ fn main(rt: HostRuntime) -> ExitCode {
         return ExitCode::from(8);
     };
     let mut store = DiskStore::make(rt, alloc);
-    let mut out = Heard::make(alloc, StdSink::make(rt));
+    let mut out = Tee::make(alloc, StdSink::make(rt));
     let code = run(alloc, words.slice(), &mut store, &mut out).code;
     let _said = explain(&rt, words.slice(), code, &mut store, &out);
     ExitCode::from(code)

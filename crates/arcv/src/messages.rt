@@ -2,7 +2,7 @@
 
 use arc_base::Name;
 use arc_outside::{Deed, DiskStore, StdSink, read_all};
-use run_messages::{Heard, WrongWord, form_of, line_at, told_refusal, visible, wrong_word};
+use run_messages::{Tee, WrongWord, form_of, line_at, told_refusal, visible, wrong_word};
 use std::io::Write;
 use std::{env, fs, io, str};
 
@@ -98,7 +98,7 @@ pub fn explain(
     words: &[Name],
     code: u8,
     store: &mut DiskStore<HostRuntime>,
-    out: &Heard<StdSink<HostRuntime>>,
+    out: &Tee<StdSink<HostRuntime>>,
 ) -> io::Result<()> {
     match code {
         4 => explain_words(rt, words),

@@ -4,15 +4,15 @@
 #![tactic(auto)]
 
 mod commands;
-mod heard;
 mod lines;
 mod refusals;
 mod showing;
+mod tee;
 #[cfg(test)]
 mod tests;
 
 pub use commands::form_of;
-pub use heard::Heard;
 pub use lines::{WrongWord, line_at, wrong_word};
 pub use refusals::{Refused, told_refusal};
 pub use showing::visible;
+pub use tee::Tee;

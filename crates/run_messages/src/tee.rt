@@ -9,17 +9,17 @@ const KEPT: usize = 4096;
 
 /// A sink that puts all into another one, and keeps the front of it for messages, as far as there is memory for it.
 #[derive(Drop)]
-pub struct Heard<K: Drop> {
+pub struct Tee<K: Drop> {
     pub out: K,
     front: Vec<u8>,
 }
 
-impl<K: Drop> Heard<K> {
+impl<K: Drop> Tee<K> {
     /// A sink over this one, before anything is put.
     pub fn make(alloc: Global, out: K) -> Self
         ensures { result.out ≡ out }
     {
-        Heard {
+        Tee {
             out,
             front: Vec::new(alloc),
         }
@@ -37,7 +37,7 @@ fn keep(front: &mut Vec<u8>, bytes: &[u8]) {
     let _kept = front.extend_from_slice(kept);
 }
 
-impl<K: Sink + Drop> Sink for Heard<K> {
+impl<K: Sink + Drop> Sink for Tee<K> {
     ghost written = { λ s. K.written s.out };
 
     ghost faults = { λ s. K.faults s.out };
