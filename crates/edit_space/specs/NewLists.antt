@@ -1,6 +1,6 @@
 -- The new lists that edits make, and their names.
 use Rattle.std.specs.Prelude.{◌≡◌, ℕ, ◌+◌, Bool, not, Option, Some, None, option_map, List, [], ◌++◌, map, filter, take, length, slice_get, codes, decimal, bytes_eq, if◌then◌else◌}
-use Rattle.std.specs.List.{filter_map, list_any, range_with_len}
+use Rattle.std.specs.List.{filter_map, list_any, range_with_len, zip}
 use Rattle.std.specs.Option.{option_map_or}
 use Rattle.net_model.specs.declared.rows.FaceRow.{FaceRow}
 use Rattle.net_model.specs.declared.rows.SessionRow.{SessionRow}
@@ -49,6 +49,10 @@ names_of net router = option_map_or (λ r. r.names) (slice_get net.routers route
 -- the names of the new lists of a router, in the order of these lists
 abbrev pub new_names_of : Network → List Edit → ℕ → List (List ℕ)
 new_names_of net chosen router = free_names (names_of net router) (length (new_lists_of net chosen router))
+
+-- the new lists of the router, each with its name
+abbrev pub named_lists : Network → List Edit → ℕ → List (NewList × List ℕ)
+named_lists net chosen router = zip (new_lists_of net chosen router) (new_names_of net chosen router)
 
 -- this is a new list of the router, and this is its name: they stand at the same place
 pub record IsNewList (net : Network) (chosen : List Edit) (router : ℕ) (list : NewList) (name : List ℕ) : Type 0 where

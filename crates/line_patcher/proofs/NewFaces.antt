@@ -12,10 +12,9 @@ use Rattle.edit_space.specs.declared.edit_kinds.Edit.{Edit}
 use Rattle.edit_space.specs.declared.new_lists.NewList.{NewList}
 use Rattle.edit_space.specs.declared.new_lists.NewList.TheVariants.{Route, Packet}
 use Rattle.edit_space.specs.Changes.{new_prefixes, new_classes}
-use Rattle.edit_space.specs.NewLists.{new_route_list, new_packet_list, new_lists, new_lists_of, new_names_of}
+use Rattle.edit_space.specs.NewLists.{new_route_list, new_packet_list, new_lists, new_lists_of, new_names_of, named_lists}
 use Rattle.edit_space.specs.Numbered.{placed, if_number, is_empty}
 use Rattle.edit_space.proofs.NewListFacts.{picked_from, placed_is}
-use Rattle.line_patcher.specs.NewListLines.{named_lists}
 use Rattle.line_patcher.specs.Working.{face_of}
 
 -- the interface of a list lies in the network

@@ -1,6 +1,6 @@
 -- The lines of new lists, and those that bind them.
 use Rattle.std.specs.Prelude.{ℕ, ◌+◌, ◌*◌, true, false, Option, Some, None, List, [], ◌∷◌, ◌++◌, map, flat_map, length, codes, option_map, slice_get}
-use Rattle.std.specs.List.{filter_map, zip, enumerate_from}
+use Rattle.std.specs.List.{filter_map, enumerate_from}
 use Rattle.arc_base.specs.declared.prefix.Prefix.{Prefix}
 use Rattle.net_model.specs.declared.policies.Class.{Class}
 use Rattle.net_model.specs.declared.rows.Network.{Network}
@@ -15,7 +15,7 @@ use Rattle.edit_space.specs.declared.edit_kinds.Edit.{Edit}
 use Rattle.edit_space.specs.declared.new_lists.NewList.{NewList}
 use Rattle.edit_space.specs.declared.new_lists.NewList.TheVariants.{Route, Packet}
 use Rattle.edit_space.specs.Changes.{new_prefixes, new_classes}
-use Rattle.edit_space.specs.NewLists.{new_lists_of, new_names_of}
+use Rattle.edit_space.specs.NewLists.{named_lists}
 
 -- the line of a new route list that denies a prefix, at a place of the list that is counted from 1
 abbrev pub deny_line : List ℕ → ℕ × Prefix → List ℕ
@@ -39,10 +39,6 @@ new_packet_lines name classes =
 abbrev pub new_list_lines : List Edit → NewList → List ℕ → List (List ℕ)
 new_list_lines chosen (Route face) name = new_route_lines name (new_prefixes chosen face.0)
 new_list_lines chosen (Packet face) name = new_packet_lines name (new_classes chosen face.0)
-
--- the new lists of a router with their names, in the order of these names' numbers
-abbrev pub named_lists : Network → List Edit → ℕ → List (NewList × List ℕ)
-named_lists net chosen router = zip (new_lists_of net chosen router) (new_names_of net chosen router)
 
 -- the lines of all new lists of a router
 abbrev pub lines_of_new_lists : Network → List Edit → ℕ → List (List ℕ)

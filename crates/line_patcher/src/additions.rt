@@ -1,7 +1,7 @@
 //! What is put into one file, each thing with the number of a line.
 ghost use Rattle.std.specs.Prelude.{◌≡◌, ◌≤◌, ◌<◌, length, IfOk};
 ghost use Rattle.line_patcher.specs.Additions.{all_at, lines_before, lines_after, numbers_at};
-ghost use Rattle.line_patcher.specs.NewListLines.{named_lists};
+ghost use Rattle.edit_space.specs.NewLists.{named_lists};
 ghost use Rattle.line_patcher.specs.Working.{IsPlan};
 
 use crate::edited_lists::{new_numbers, push_packet_entries, push_route_entries};

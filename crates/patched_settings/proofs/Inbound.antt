@@ -14,11 +14,11 @@ use Rattle.edit_space.specs.declared.edit_kinds.Edit.{Edit}
 use Rattle.edit_space.specs.declared.new_lists.NewList.{NewList}
 use Rattle.edit_space.specs.declared.new_lists.NewList.TheVariants.{Route, Packet}
 use Rattle.edit_space.specs.Changes.{new_classes}
-use Rattle.edit_space.specs.NewLists.{IsNewList}
+use Rattle.edit_space.specs.NewLists.{IsNewList, named_lists}
 use Rattle.edit_space.specs.Numbered.{is_empty}
 use Rattle.edit_space.proofs.NamedFacts.{of_packet_face}
 use Rattle.edit_space.proofs.NewListFacts.{picked_from, picks}
-use Rattle.patched_settings.specs.Additions.{named_lists, list_for, new_inbound}
+use Rattle.patched_settings.specs.Additions.{list_for, new_inbound}
 use Rattle.patched_settings.proofs.NewNames.{one_name, new_of_named, named_of_new, packet_list_there}
 use Rattle.patched_settings.proofs.SessionFacts.{one_face}
 

@@ -27,7 +27,8 @@ use Rattle.edit_space.specs.declared.new_lists.NewList.{NewList}
 use Rattle.edit_space.specs.declared.new_lists.NewList.TheVariants as lists
 use Rattle.edit_space.proofs.NewListFacts.{picked_from}
 use Rattle.patched_settings.specs.Plain.{said}
-use Rattle.patched_settings.specs.Additions.{own_face, session_line, turning_line, named_lists, filter_line, process_lines}
+use Rattle.patched_settings.specs.Additions.{own_face, session_line, turning_line, filter_line, process_lines}
+use Rattle.edit_space.specs.NewLists.{named_lists}
 use Rattle.patched_settings.specs.SettingsAfter.{process_with, AreSettingsAfter}
 use Rattle.patched_settings.proofs.Pairs.{last_append, picked_of_values, picks_nothing}
 

@@ -31,10 +31,10 @@ use Rattle.net_build.proofs.SiteFacts.{site_of, name_at_site}
 use Rattle.edit_space.specs.declared.edit_kinds.Edit.{Edit}
 use Rattle.edit_space.specs.declared.edit_kinds.Edit.TheVariants as edits
 use Rattle.edit_space.specs.declared.new_lists.NewList.{NewList}
-use Rattle.edit_space.specs.NewLists.{IsNewList}
+use Rattle.edit_space.specs.NewLists.{IsNewList, named_lists}
 use Rattle.edit_space.proofs.NamedFacts.{of_route_face}
 use Rattle.edit_space.proofs.NewListFacts.{picked_from}
-use Rattle.patched_settings.specs.Additions.{own_face, session_line, turning_line, named_lists, filter_line}
+use Rattle.patched_settings.specs.Additions.{own_face, session_line, turning_line, filter_line}
 use Rattle.patched_settings.specs.SettingsAfter.{AreSettingsAfter}
 use Rattle.patched_settings.proofs.Edited.{AreEdited, FileWas, file_was, face_row, session_is, face_text_now}
 use Rattle.patched_settings.proofs.FaceRows.{any_was}

@@ -21,9 +21,8 @@ use Rattle.net_build.specs.Settings.{process_of}
 use Rattle.edit_space.specs.declared.edit_kinds.Edit.{Edit}
 use Rattle.edit_space.specs.declared.new_lists.NewList.{NewList}
 use Rattle.edit_space.specs.After.{IsAfter, IsRouterAfter}
-use Rattle.edit_space.specs.NewLists.{new_names_of, IsNewList}
+use Rattle.edit_space.specs.NewLists.{new_names_of, IsNewList, named_lists}
 use Rattle.edit_space.proofs.RowFacts.{row_was}
-use Rattle.patched_settings.specs.Additions.{named_lists}
 use Rattle.patched_settings.specs.Plain.{plain_list}
 use Rattle.patched_settings.specs.SettingsAfter.{list_with, new_list_text, new_list_texts, AreSettingsAfter}
 use Rattle.patched_settings.proofs.Edited.{AreEdited, file_was, router_row}

@@ -25,12 +25,12 @@ use Rattle.edit_space.specs.declared.edit_kinds.Edit.TheVariants as edits
 use Rattle.edit_space.specs.declared.new_lists.NewList.{NewList}
 use Rattle.edit_space.specs.declared.new_lists.NewList.TheVariants as lists
 use Rattle.edit_space.specs.Changes.{session_change, turns_session, new_prefixes}
-use Rattle.edit_space.specs.NewLists.{IsNewList}
+use Rattle.edit_space.specs.NewLists.{IsNewList, named_lists}
 use Rattle.edit_space.specs.Numbered.{is_empty}
 use Rattle.edit_space.specs.After.{turned_if, passive_after}
 use Rattle.edit_space.proofs.NamedFacts.{of_route_face}
 use Rattle.edit_space.proofs.NewListFacts.{picked_from, picks}
-use Rattle.patched_settings.specs.Additions.{own_face, session_line, turning_line, named_lists, filter_line}
+use Rattle.patched_settings.specs.Additions.{own_face, session_line, turning_line, filter_line}
 use Rattle.patched_settings.specs.SettingsAfter.{AreSettingsAfter}
 use Rattle.patched_settings.proofs.Pairs.{picks_nothing, last_is_one}
 use Rattle.patched_settings.proofs.Lines.{turning_lines, filter_lines, said_after}

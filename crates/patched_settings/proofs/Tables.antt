@@ -23,9 +23,9 @@ use Rattle.net_build.specs.Lists.{is_of_kind, is_packet_kind, list_named, packet
 use Rattle.edit_space.specs.Determined.{IsCountable}
 use Rattle.edit_space.specs.declared.edit_kinds.Edit.{Edit}
 use Rattle.edit_space.specs.declared.new_lists.NewList.{NewList}
-use Rattle.edit_space.specs.NewLists.{IsNewList}
+use Rattle.edit_space.specs.NewLists.{IsNewList, named_lists}
 use Rattle.patched_settings.specs.Plain.{said, without_number, plain_entry, plain_list}
-use Rattle.patched_settings.specs.Additions.{named_lists, new_list_kind, route_line, packet_line}
+use Rattle.patched_settings.specs.Additions.{new_list_kind, route_line, packet_line}
 use Rattle.patched_settings.specs.SettingsAfter.{list_with, new_list_text, new_list_texts, AreSettingsAfter}
 use Rattle.patched_settings.proofs.NewNames.{one_list, new_of_named, named_of_new}
 use Rattle.patched_settings.proofs.SessionFacts.{find_in, find_one}

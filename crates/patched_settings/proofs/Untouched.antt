@@ -18,7 +18,8 @@ use Rattle.net_build.specs.Lists.{packet_entries, route_entries}
 use Rattle.edit_space.specs.declared.edit_kinds.Edit.{Edit}
 use Rattle.edit_space.specs.declared.new_lists.NewList.{NewList}
 use Rattle.edit_space.specs.After.{opposite_route_entry, opposite_packet_entry}
-use Rattle.patched_settings.specs.Additions.{named_lists, list_for, new_inbound, prefix_for, class_for, front_lines, route_line, packet_line}
+use Rattle.patched_settings.specs.Additions.{list_for, new_inbound, prefix_for, class_for, front_lines, route_line, packet_line}
+use Rattle.edit_space.specs.NewLists.{named_lists}
 use Rattle.patched_settings.specs.Plain.{said, plain_list}
 use Rattle.patched_settings.specs.SettingsAfter.{face_with, list_with, new_list_text, new_list_texts, process_with, AreSettingsAfter}
 use Rattle.patched_settings.specs.Premises.{IsUntouched}

@@ -1,6 +1,6 @@
 -- What edits add to the file of a router: lines of its process, bindings, entries of lists, and new lists.
 use Rattle.std.specs.Prelude.{ℕ, ◌==◌, ◌&&◌, not, Option, Some, None, List, ◌++◌, map, bytes_eq, slice_get, option_map, option_and_then, if◌then◌else◌}
-use Rattle.std.specs.List.{filter_map, zip}
+use Rattle.std.specs.List.{filter_map}
 use Rattle.arc_base.specs.declared.prefix.Prefix.{Prefix}
 use Rattle.net_model.specs.declared.lists.PacketEntry.{PacketEntry}
 use Rattle.net_model.specs.declared.lists.RouteEntry.{RouteEntry}
@@ -25,7 +25,7 @@ use Rattle.edit_space.specs.declared.edit_kinds.Edit.TheVariants as edits
 use Rattle.edit_space.specs.declared.new_lists.NewList.{NewList}
 use Rattle.edit_space.specs.declared.new_lists.NewList.TheVariants as lists
 use Rattle.edit_space.specs.Changes.{new_prefixes, new_classes}
-use Rattle.edit_space.specs.NewLists.{new_lists_of, new_names_of}
+use Rattle.edit_space.specs.NewLists.{named_lists}
 use Rattle.edit_space.specs.After.{opposite_route_entry, opposite_packet_entry, new_route_entries, new_packet_entries}
 
 -- the interface at the place, if it is one of the router
@@ -45,10 +45,6 @@ abbrev pub turning_line : Network → ℕ → Edit → Option Command
 turning_line net router (edits.Session face) =
     option_and_then (session_line net.protocol net face.0) (own_face net router face.0)
 turning_line net router other = None
-
--- the new lists of the router, each with its name
-abbrev pub named_lists : Network → List Edit → ℕ → List (NewList × List ℕ)
-named_lists net chosen router = zip (new_lists_of net chosen router) (new_names_of net chosen router)
 
 -- the line that binds the new list of this name at its neighbour, if it is a route list
 abbrev pub filter_line : Network → List ℕ → NewList → Option Command

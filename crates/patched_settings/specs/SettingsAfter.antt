@@ -11,7 +11,8 @@ use Rattle.edit_space.specs.declared.edit_kinds.Edit.{Edit}
 use Rattle.edit_space.specs.declared.new_lists.NewList.{NewList}
 use Rattle.edit_space.specs.Numbered.{EachRow}
 use Rattle.patched_settings.specs.Plain.{said, plain_list}
-use Rattle.patched_settings.specs.Additions.{process_lines, named_lists, new_inbound, front_lines, new_list_lines, new_list_kind, new_list_form}
+use Rattle.patched_settings.specs.Additions.{process_lines, new_inbound, front_lines, new_list_lines, new_list_kind, new_list_form}
+use Rattle.edit_space.specs.NewLists.{named_lists}
 
 -- an interface of the router after the edits: its new packet list is bound inbound, where it has one
 abbrev pub face_with : Network → List Edit → ℕ → FaceText → FaceText

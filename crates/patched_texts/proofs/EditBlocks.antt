@@ -31,7 +31,8 @@ use Rattle.line_patcher.specs.declared.additions.NewNumber.{NewNumber}
 use Rattle.line_patcher.specs.Additions.{numbers_at}
 use Rattle.line_patcher.specs.NewListLines.{face_places, filter_lines}
 use Rattle.line_patcher.specs.SessionLines.{session_lines}
-use Rattle.patched_settings.specs.Additions.{named_lists, process_lines}
+use Rattle.patched_settings.specs.Additions.{process_lines}
+use Rattle.edit_space.specs.NewLists.{named_lists}
 use Rattle.patched_settings.specs.SettingsAfter.{process_with}
 use Rattle.edited_lines.specs.Sites.{Written, in_block, says_other}
 use Rattle.patched_texts.specs.EditFiles.{IsEditedFile}

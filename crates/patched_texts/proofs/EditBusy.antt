@@ -31,7 +31,7 @@ use Rattle.line_patcher.specs.Additions.{all_at, lines_before, lines_after, numb
 use Rattle.line_patcher.specs.EntryLines.{first_line, new_number, new_numbers, at_front, class_lines, prefix_lines, edited_packet_lists, edited_route_lists, packet_list_entries, route_list_entries, packet_list_numbers, route_list_numbers}
 use Rattle.line_patcher.specs.NewListLines.{face_places, group_line_among, group_lines, lines_of_new_lists, filter_lines}
 use Rattle.line_patcher.specs.SessionLines.{session_lines}
-use Rattle.patched_settings.specs.Additions.{named_lists}
+use Rattle.edit_space.specs.NewLists.{named_lists}
 use Rattle.patched_texts.specs.EditFiles.{HasFace, HasPacketList, HasRouteList, IsEditedFile}
 use Rattle.patched_texts.specs.EditSiteLaws.{own_places}
 use Rattle.patched_texts.specs.FaceBlocks.{HasFaceBlock}

@@ -29,7 +29,8 @@ use Rattle.edit_space.specs.Numbered.{of_number}
 use Rattle.edit_space.proofs.NewListFacts.{picked_from}
 use Rattle.line_patcher.specs.NewListLines.{face_places, filter_lines}
 use Rattle.line_patcher.specs.SessionLines.{session_lines}
-use Rattle.patched_settings.specs.Additions.{named_lists, process_lines}
+use Rattle.patched_settings.specs.Additions.{process_lines}
+use Rattle.edit_space.specs.NewLists.{named_lists}
 use Rattle.edited_lines.specs.Sites.{IsInnerOf, Written}
 use Rattle.patched_texts.specs.EditFiles.{HasFace, IsEditedFile}
 use Rattle.patched_texts.specs.EditSiteLaws.{own_places}

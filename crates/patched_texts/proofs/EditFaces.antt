@@ -36,13 +36,13 @@ use Rattle.net_build.specs.declared.built.Places.{Places}
 use Rattle.edit_space.specs.declared.edit_kinds.Edit.{Edit}
 use Rattle.edit_space.specs.declared.new_lists.NewList.{NewList}
 use Rattle.edit_space.specs.declared.new_lists.NewList.TheVariants.{Route, Packet}
-use Rattle.edit_space.specs.NewLists.{new_lists, new_lists_of, new_names_of}
+use Rattle.edit_space.specs.NewLists.{new_lists, new_lists_of, new_names_of, named_lists}
 use Rattle.edit_space.specs.Numbered.{if_number, of_number}
 use Rattle.edit_space.proofs.NewListFacts.{new_lists_apart, pairs_picked}
 use Rattle.line_patcher.specs.declared.additions.NewNumber.{NewNumber}
 use Rattle.line_patcher.specs.Additions.{numbers_at}
 use Rattle.line_patcher.specs.NewListLines.{face_places}
-use Rattle.patched_settings.specs.Additions.{list_for, named_lists, new_inbound}
+use Rattle.patched_settings.specs.Additions.{list_for, new_inbound}
 use Rattle.patched_settings.specs.Plain.{said}
 use Rattle.patched_settings.specs.SettingsAfter.{face_with}
 use Rattle.patched_settings.proofs.NewNames.{numbered, zip_places}

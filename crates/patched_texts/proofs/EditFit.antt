@@ -39,7 +39,7 @@ use Rattle.line_patcher.specs.EntryLines.{edited_packet_lists, edited_route_list
 use Rattle.line_patcher.specs.NewListLines.{face_places, filter_lines, group_line_among, group_lines, lines_of_new_lists, new_list_lines}
 use Rattle.line_patcher.specs.Patches.{end_of, line_end, row_bytes}
 use Rattle.line_patcher.specs.SessionLines.{session_lines}
-use Rattle.patched_settings.specs.Additions.{named_lists}
+use Rattle.edit_space.specs.NewLists.{named_lists}
 use Rattle.edited_lines.specs.Sites.{Site, Written}
 use Rattle.patched_texts.specs.EditFiles.{IsEditedFile}
 use Rattle.patched_texts.specs.EditSiteLaws.{own_places}

@@ -29,7 +29,7 @@ use Rattle.edit_space.specs.declared.new_lists.NewList.TheVariants.{Route, Packe
 use Rattle.edit_space.specs.Numbered.{of_number}
 use Rattle.line_patcher.specs.declared.additions.NewNumber.{NewNumber}
 use Rattle.line_patcher.specs.Additions.{numbers_at}
-use Rattle.patched_settings.specs.Additions.{named_lists}
+use Rattle.edit_space.specs.NewLists.{named_lists}
 use Rattle.edited_lines.specs.Grown.{IsGrown, AreFreshParts}
 use Rattle.edited_lines.specs.Sites.{Site, Written, Single, chunk_commands, in_block, says_other, own_commands, site_commands, new_commands}
 use Rattle.patched_texts.specs.EditFiles.{IsEditedFile}

@@ -19,7 +19,7 @@ use Rattle.edit_space.specs.declared.edit_kinds.Edit.{Edit}
 use Rattle.edited_lines.specs.Grown.{HasGrownGroups}
 use Rattle.edited_lines.specs.Sites.{new_commands}
 use Rattle.edited_lines.proofs.Grown.{has-grown}
-use Rattle.patched_settings.specs.Additions.{named_lists}
+use Rattle.edit_space.specs.NewLists.{named_lists}
 use Rattle.patched_settings.specs.Plain.{plain_list}
 use Rattle.patched_settings.specs.SettingsAfter.{list_with}
 use Rattle.patched_texts.specs.EditFiles.{IsEditedFile}

@@ -33,7 +33,7 @@ use Rattle.edit_space.specs.declared.new_lists.NewList.TheVariants.{Packet}
 use Rattle.edit_space.specs.Determined.{IsCountable}
 use Rattle.edit_space.proofs.NamedFacts.{of_packet_face}
 use Rattle.line_patcher.specs.NewListLines.{face_places}
-use Rattle.patched_settings.specs.Additions.{named_lists}
+use Rattle.edit_space.specs.NewLists.{named_lists}
 use Rattle.patched_settings.proofs.FileClear.{offends_not}
 use Rattle.patched_settings.proofs.NewNames.{new_of_named}
 use Rattle.patched_settings.proofs.PacketLists.{any_of}

@@ -45,7 +45,8 @@ use Rattle.line_patcher.specs.Additions.{numbers_at}
 use Rattle.line_patcher.specs.EntryLines.{first_line, new_number, new_numbers, edited_packet_lists, edited_route_lists, packet_list_numbers, route_list_numbers}
 use Rattle.line_patcher.specs.NewListLines.{face_places, filter_lines}
 use Rattle.line_patcher.specs.SessionLines.{session_lines}
-use Rattle.patched_settings.specs.Additions.{named_lists, process_lines}
+use Rattle.patched_settings.specs.Additions.{process_lines}
+use Rattle.edit_space.specs.NewLists.{named_lists}
 use Rattle.patched_settings.proofs.NewNames.{zip_places}
 use Rattle.arc_base.proofs.Zips.{AllZip-left}
 use Rattle.edited_lines.specs.Sites.{Written}

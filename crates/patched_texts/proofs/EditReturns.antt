@@ -32,7 +32,7 @@ use Rattle.edit_space.proofs.NewListFacts.{picked_from}
 use Rattle.line_patcher.specs.Additions.{all_at, lines_after}
 use Rattle.line_patcher.specs.NewListLines.{face_places, filter_lines, group_line_among, group_lines}
 use Rattle.line_patcher.specs.SessionLines.{session_lines}
-use Rattle.patched_settings.specs.Additions.{named_lists}
+use Rattle.edit_space.specs.NewLists.{named_lists}
 use Rattle.edited_lines.specs.Sites.{IsOfBlock, IsRewrittenFor, Site}
 use Rattle.patched_texts.specs.EditFiles.{IsEditedFile}
 use Rattle.patched_texts.specs.EditSiteLaws.{own_places}

@@ -35,7 +35,8 @@ use Rattle.line_patcher.specs.EntryLines.{at_front, first_line, class_lines, pre
 use Rattle.line_patcher.specs.NewListLines.{face_places, group_line_among, lines_of_new_lists, filter_lines}
 use Rattle.line_patcher.specs.Patches.{line_end, row_bytes}
 use Rattle.line_patcher.specs.SessionLines.{session_lines}
-use Rattle.patched_settings.specs.Additions.{named_lists, process_lines}
+use Rattle.patched_settings.specs.Additions.{process_lines}
+use Rattle.edit_space.specs.NewLists.{named_lists}
 use Rattle.edited_lines.specs.Sites.{Written, Single, Site, bytes_of, chunk_lines}
 use Rattle.patched_texts.specs.EditFiles.{IsEditedFile}
 use Rattle.patched_texts.specs.EditSiteLaws.{EditSitesAreThere, own_places}

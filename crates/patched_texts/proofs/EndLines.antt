@@ -37,7 +37,8 @@ use Rattle.edit_space.specs.declared.new_lists.NewList.{NewList}
 use Rattle.edit_space.specs.declared.new_lists.NewList.TheVariants as lists
 use Rattle.line_patcher.specs.NewListLines as patched
 use Rattle.line_patcher.specs.SessionLines.{session_lines}
-use Rattle.patched_settings.specs.Additions.{filter_line, named_lists, process_lines, turning_line, new_inbound}
+use Rattle.patched_settings.specs.Additions.{filter_line, process_lines, turning_line, new_inbound}
+use Rattle.edit_space.specs.NewLists.{named_lists}
 use Rattle.patched_settings.specs.Plain.{said}
 use Rattle.patched_settings.specs.Premises.{IsWritable}
 use Rattle.patched_settings.specs.SettingsAfter.{face_with, process_with}

@@ -37,7 +37,7 @@ use Rattle.edit_space.specs.Changes.{list_prefixes, list_classes}
 use Rattle.edit_space.specs.Writable.{is_writable}
 use Rattle.line_patcher.specs.EntryLines.{packet_place, route_place}
 use Rattle.line_patcher.specs.NewListLines.{face_places}
-use Rattle.patched_settings.specs.Additions.{named_lists}
+use Rattle.edit_space.specs.NewLists.{named_lists}
 use Rattle.patched_settings.specs.Premises.{IsWritable}
 use Rattle.patched_texts.specs.NewListSites.{IsNewName, AreDifferent}
 

@@ -22,7 +22,8 @@ use Rattle.line_patcher.specs.EntryLines.{first_line, for_packet_list, for_route
 use Rattle.line_patcher.specs.NewListLines.{face_places, filter_lines}
 use Rattle.line_patcher.specs.Patches.{line_end}
 use Rattle.line_patcher.specs.SessionLines.{session_lines}
-use Rattle.patched_settings.specs.Additions.{named_lists, process_lines}
+use Rattle.patched_settings.specs.Additions.{process_lines}
+use Rattle.edit_space.specs.NewLists.{named_lists}
 use Rattle.edited_lines.specs.Sites.{Written, Chunk, Single, Site, chunk_commands, own_commands}
 use Rattle.patched_texts.specs.EntrySites.{class_written, prefix_written}
 use Rattle.patched_texts.specs.Fits.{row_line}

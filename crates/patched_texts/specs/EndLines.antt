@@ -21,7 +21,8 @@ use Rattle.edit_space.specs.declared.edit_kinds.Edit.{Edit}
 use Rattle.edit_space.specs.declared.new_lists.NewList.{NewList}
 use Rattle.line_patcher.specs.NewListLines.{filter_lines}
 use Rattle.line_patcher.specs.SessionLines.{session_lines}
-use Rattle.patched_settings.specs.Additions.{named_lists, process_lines, new_inbound}
+use Rattle.patched_settings.specs.Additions.{process_lines, new_inbound}
+use Rattle.edit_space.specs.NewLists.{named_lists}
 use Rattle.patched_settings.specs.Premises.{IsWritable}
 use Rattle.patched_settings.specs.SettingsAfter.{face_with, process_with}
 use Rattle.patched_texts.specs.Fits.{IsFit}
