@@ -24,7 +24,8 @@ use Rattle.run_files.specs.Judgements.{judgement_status, judgement_text}
 use Rattle.run_inputs.specs.declared.inputs.Sources.{Sources}
 use Rattle.run_inputs.specs.Inputs.{HoldsDocument, ReadsSources}
 use Rattle.verify_commands.specs.Checks.{judgement_of}
-use Rattle.check_commands.specs.RepairChecks.{IsJudged, IsRepairJudged, IsTextFault, IsTextRefusal, StopsFor}
+use Rattle.check_commands.specs.RepairChecks.{IsJudged, IsRepairJudged, IsTextFault, IsTextRefusal}
+use Rattle.repair_commands.specs.Steps.{StopsFor}
 
 -- the judgement of a text over the network
 pub judged_text : (net : Network) (doc : Document) (list : List Edit) (text : List ℕ) (result : Result Outcome EditFault)

@@ -20,8 +20,6 @@ use Rattle.repair_check.specs.Outcomes.{IsOutcome}
 use Rattle.run_files.specs.declared.limits.Limits.TheVariants.{Editing}
 use Rattle.run_files.specs.declared.outcome.Done.{Done}
 use Rattle.run_files.specs.declared.outcome.FileRefusal.{FileRefusal}
-use Rattle.run_files.specs.declared.outcome.Stop.{Stop}
-use Rattle.run_files.specs.declared.outcome.Stop.TheVariants as stops
 use Rattle.run_files.specs.Judgements.{judgement_status, judgement_text}
 use Rattle.run_files.specs.Limits.{document_limit, proof_limit}
 use Rattle.run_files.specs.Refusals.{bytes_at, read_refusal, refusal_of}
@@ -107,8 +105,3 @@ abbrev pub IsAnyChecked : List ℕ → List ℕ → Files → Done → Type 0
 IsAnyChecked document certificate files done =
     (HoldsRepair certificate files × IsRepairJudged document (bytes_at files certificate) files done) ⊎
     ((¬ HoldsRepair certificate files) × IsChecked document certificate files done)
-
--- a count that passes its limit refuses the document, but for want of memory
-abbrev pub StopsFor : List ℕ → EditFault → Stop → Type 0
-StopsFor document (faults.Limit what count) stop = (stop ≡ stops.Memory) ⊎ (stop ≡ stops.Refused (refusal_of document 0 (Limit what count)))
-StopsFor document faults.Memory stop = stop ≡ stops.Memory

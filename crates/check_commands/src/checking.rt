@@ -7,17 +7,18 @@ ghost use Rattle.net_model.specs.Packets.{subject};
 ghost use Rattle.net_model.specs.Validity.{IsValid};
 ghost use Rattle.run_files.specs.Answers.{Answers, Gives, IsJudging, OnlyReads};
 ghost use Rattle.run_inputs.specs.Inputs.{AreFit, HoldsDocument};
-ghost use Rattle.check_commands.specs.RepairChecks.{begins_repair, IsAnyChecked, IsAnyRefusal, IsJudged, IsRepairJudged, IsTextFault, IsTextRefusal, StopsFor};
+ghost use Rattle.check_commands.specs.RepairChecks.{begins_repair, IsAnyChecked, IsAnyRefusal, IsJudged, IsRepairJudged, IsTextFault, IsTextRefusal};
 
-use arc_base::{Kind, Name};
+use arc_base::Name;
 use arc_outside::Store;
 use cnf_types::first_line;
 use edit_space::{EditFault, edits};
 use net_model::{Document, Network};
 use repair_check::check_repair;
 use repair_check::laws::certified_claims_are_true;
+use repair_commands::fault_stop;
 use report_check::Outcome;
-use run_files::{Done, Limits, PROOF_LIMIT, Stop, read_file, refused, told};
+use run_files::{Done, Limits, PROOF_LIMIT, Stop, read_file, told};
 use run_inputs::{read_document, read_sources};
 use std::alloc::Global;
 use verify_commands::{check_text, judgement_of};
@@ -31,16 +32,6 @@ fn begins_repair(text: &[u8]) -> bool
     }
     let (line, _) = first_line(text);
     line == b"arc-repair 1".as_slice()
-}
-
-// A count that passes its limit refuses the document.
-fn fault_stop(alloc: Global, document: &Name, fault: EditFault) -> Stop
-    ensures { StopsFor document.now fault result }
-{
-    match fault {
-        EditFault::Limit(what, count) => refused(alloc, document, 0, Kind::Limit(what, count)),
-        EditFault::Memory => Stop::Memory,
-    }
 }
 
 // Judges the certificate of a repair over the network.

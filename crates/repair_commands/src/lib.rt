@@ -6,4 +6,4 @@ mod answers;
 pub mod laws;
 mod repairing;
 
-pub use repairing::repair;
+pub use repairing::{fault_stop, repair};

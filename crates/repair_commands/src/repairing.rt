@@ -32,8 +32,8 @@ fn has_clash(alloc: Global, words: &RepairWords, doc: &Document) -> Result<bool,
     Ok(clashes(&words.document, routers, outputs.as_slice()))
 }
 
-// A count that passes its limit refuses the document.
-fn fault_stop(alloc: Global, document: &Name, fault: EditFault) -> Stop
+/// The stop for a fault in listing edits or making their formula: a count that passes its limit refuses the document.
+pub fn fault_stop(alloc: Global, document: &Name, fault: EditFault) -> Stop
     ensures { StopsFor document.now fault result }
 {
     match fault {

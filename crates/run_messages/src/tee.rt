@@ -1,5 +1,5 @@
 //! A sink that keeps the front of what is put.
-ghost use Rattle.std.specs.Prelude.{◌≡◌, ◌<◌};
+ghost use Rattle.std.specs.Prelude.{◌≡◌, ◌<◌, ◌≤◌, length, IfOk};
 
 use arc_outside::{Fault, Sink};
 use std::alloc::Global;
