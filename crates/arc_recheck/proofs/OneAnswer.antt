@@ -12,9 +12,8 @@ use Rattle.net_model.specs.declared.verdicts.Verdict.TheVariants.{Closed, Paths,
 use Rattle.net_model.specs.Packets.{subject}
 use Rattle.net_model.specs.Forwarding.{Ends}
 use Rattle.net_model.specs.Validity.{IsValid}
-use Rattle.net_model.specs.Witnesses.{is_yes, IsRight, IsRightFor}
+use Rattle.net_model.specs.Witnesses.{is_yes, IsRight, IsRightFor, is_no}
 use Rattle.net_model.proofs.Hosts.{one_pair_of_ends}
-use Rattle.net_laws.specs.Breaking.{is_no}
 use Rattle.net_laws.proofs.RightPaths.{refusals_are_right}
 use Rattle.net_laws.proofs.RightVerdicts.{right_verdicts_decide}
 use Rattle.policy_report.specs.Reports.{answer_word}

@@ -13,10 +13,10 @@ use Rattle.net_model.specs.declared.verdicts.Verdict.TheVariants.{Closed, Paths,
 use Rattle.net_model.specs.Forwarding.{Ends}
 use Rattle.net_model.specs.Packets.{subject}
 use Rattle.net_model.specs.Policies.{IsClear, Meets, MeetsAs}
-use Rattle.net_model.specs.Witnesses.{is_yes, IsRight, IsRightFor}
+use Rattle.net_model.specs.Witnesses.{is_yes, IsRight, IsRightFor, is_no}
 use Rattle.net_laws.specs.Laws.{HasOnePairOfEnds, RightVerdictsAreTrue, RightVerdictsDecide}
 use Rattle.generate_commands.specs.declared.tallies.Tally.{Tally}
-use Rattle.generate_commands.specs.Tallies.{HasSoMany, IsBroken, IsTally, IsUnclear, is_no, is_refused, one_more, tally_of}
+use Rattle.generate_commands.specs.Tallies.{HasSoMany, IsBroken, IsTally, IsUnclear, is_refused, one_more, tally_of}
 
 -- ---- verdict by verdict
 

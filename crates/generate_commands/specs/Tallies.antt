@@ -4,11 +4,11 @@ use Rattle.net_model.specs.declared.policies.Policy.{Policy}
 use Rattle.net_model.specs.declared.policies.PolicyKind.TheVariants.{Reach}
 use Rattle.net_model.specs.declared.rows.Network.{Network}
 use Rattle.net_model.specs.declared.verdicts.Verdict.{Verdict}
-use Rattle.net_model.specs.declared.verdicts.Verdict.TheVariants.{Walk, Denied, Cut, Refused}
+use Rattle.net_model.specs.declared.verdicts.Verdict.TheVariants.{Refused}
 use Rattle.net_model.specs.Forwarding.{Ends, AreEnds}
 use Rattle.net_model.specs.Packets.{subject}
 use Rattle.net_model.specs.Policies.{IsClear, Meets}
-use Rattle.net_model.specs.Witnesses.{is_yes}
+use Rattle.net_model.specs.Witnesses.{is_yes, is_no}
 use Rattle.generate_commands.specs.declared.tallies.Tally.{Tally}
 
 -- so many of the items have the property, and none of the others has
@@ -34,13 +34,7 @@ pub record IsTally (net : Network) (policies : List Policy) (tally : Tally) : Ty
   pub no : HasSoMany (IsBroken net) policies tally.no
   pub refused : HasSoMany (IsUnclear net) policies tally.refused
 
--- whether the verdict is a no, and whether it refuses its policy
-abbrev pub is_no : Verdict → Bool
-is_no (Walk class path) = true
-is_no (Denied class) = true
-is_no (Cut links side) = true
-is_no _ = false
-
+-- whether the verdict refuses its policy
 abbrev pub is_refused : Verdict → Bool
 is_refused (Refused p link) = true
 is_refused _ = false

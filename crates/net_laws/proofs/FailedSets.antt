@@ -12,8 +12,8 @@ use Rattle.net_model.specs.Routing.{FailureSet}
 use Rattle.net_model.specs.Forwarding.{Ends, AreEnds}
 use Rattle.net_model.specs.Policies.{HoldsAs}
 use Rattle.net_model.specs.Validity.{IsValid}
-use Rattle.net_model.specs.Witnesses.{IsRightFor}
-use Rattle.net_laws.specs.Breaking.{SpeaksOf, HoldsUnder, BreaksAs, HoldsUnderEach, RightNosBreak, is_no, failures_shown}
+use Rattle.net_model.specs.Witnesses.{IsRightFor, is_no}
+use Rattle.net_laws.specs.Breaking.{SpeaksOf, HoldsUnder, BreaksAs, HoldsUnderEach, RightNosBreak, failures_shown}
 use Rattle.net_laws.proofs.RightWalks.{walk_breaks_blocked, walk_breaks_through}
 use Rattle.net_laws.proofs.RightCuts.{cut_breaks, denial_breaks}
 

@@ -1,5 +1,5 @@
 -- What one failure set breaks. A policy holds exactly where none that it speaks of breaks it, and each no shows one that does.
-use Rattle.std.specs.Prelude.{◌≤◌, ◌↔◌, Bool, true, false, IsTrue, List}
+use Rattle.std.specs.Prelude.{◌≤◌, ◌↔◌, false, IsTrue, List}
 use Rattle.net_model.specs.declared.lists.Packet.{Packet}
 use Rattle.net_model.specs.declared.policies.Class.{Class}
 use Rattle.net_model.specs.declared.policies.Policy.{Policy}
@@ -7,12 +7,12 @@ use Rattle.net_model.specs.declared.policies.PolicyKind.{PolicyKind}
 use Rattle.net_model.specs.declared.policies.PolicyKind.TheVariants.{Blocked, Through, Reach}
 use Rattle.net_model.specs.declared.rows.Network.{Network}
 use Rattle.net_model.specs.declared.verdicts.Verdict.{Verdict}
-use Rattle.net_model.specs.declared.verdicts.Verdict.TheVariants.{Walk, Denied, Cut}
+use Rattle.net_model.specs.declared.verdicts.Verdict.TheVariants.{Walk, Cut}
 use Rattle.net_model.specs.Packets.{IsOf, subject}
 use Rattle.net_model.specs.Routing.{Arc, FailureSet, DistanceMap, IsStable}
 use Rattle.net_model.specs.Forwarding.{Ends, AreEnds, Enters, IsDelivered, IsStuck, failures, target_router}
 use Rattle.net_model.specs.Policies.{CrossesWaypoint, HoldsAs}
-use Rattle.net_model.specs.Witnesses.{IsRight, among, all_but}
+use Rattle.net_model.specs.Witnesses.{IsRight, among, all_but, is_no}
 
 -- the failure set that holds no link
 abbrev pub no_link : FailureSet
@@ -64,13 +64,6 @@ abbrev pub HoldsUnderEach : Network → Type 0
 HoldsUnderEach net =
     (ends : Ends) (class : Class) (kind : PolicyKind) →
     HoldsAs net ends class kind ↔ ((failed : FailureSet) → SpeaksOf net kind failed → HoldsUnder net ends class kind failed)
-
--- whether the verdict is a no: a walk, a denial or a cut
-abbrev pub is_no : Verdict → Bool
-is_no (Walk class path) = true
-is_no (Denied class) = true
-is_no (Cut links side) = true
-is_no _ = false
 
 -- the failure set that a no shows: every link but those of its walk, the links of its cut, and no link for a denial
 abbrev pub failures_shown : Verdict → FailureSet
