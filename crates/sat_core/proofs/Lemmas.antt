@@ -62,6 +62,7 @@ kept-learnt c n pool last held kept asserts range few fresh most held_is linked 
             subst (λ (xs : List Assigned). IsAtRest more (is_on xs)) (sym same)
             (All-push (λ (d : Numbered). RestsOn (is_on (up_to a.entries lower)) d.lits) clauses n (sound.rest lower below) (rests_below (state c) sound n.lits asserts lower below));
       };
+      marks = kept.marks;
       underway = record {
         small = u.small;
         few = omega arith;

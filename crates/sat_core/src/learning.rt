@@ -1,8 +1,7 @@
 //! How a lemma is added above level 0, on the level on which it becomes unit.
-ghost use Rattle.std.specs.Prelude.{◌≡◌, ◌≤◌, ◌<◌, ℕ, length, All, IsTrue};
-ghost use Rattle.cnf_types.specs.Literals.{negated};
-ghost use Rattle.clause_pool.specs.Pools.{lit_at};
-ghost use Rattle.sat_core.specs.Trails.{IsOf, is_on};
+ghost use Rattle.std.specs.Prelude.{◌≡◌, ◌↔◌, All, IsTrue};
+ghost use Rattle.sat_core.specs.Trails.{IsOf};
+ghost use Rattle.sat_core.specs.States.{AreFalse};
 
 use crate::adding::enter_watched;
 use crate::assigned::Held;
@@ -13,7 +12,7 @@ use arc_base::Memory;
 use cnf_types::Lit;
 
 impl Core {
-    ghost use Rattle.std.specs.Prelude.{◌≡◌, ◌≢◌, ◌<◌, ◌-◌, ◌^◌, length, All, IsTrue, OnOk, OnErr};
+    ghost use Rattle.std.specs.Prelude.{◌≡◌, ◌≢◌, ◌↔◌, ◌<◌, ◌-◌, ◌^◌, length, All, IsTrue, OnOk, OnErr};
     ghost use Rattle.sat_core.specs.Trails.{IsOf};
     ghost use Rattle.sat_core.specs.States.{IsAsserting, with_lemma};
 
@@ -21,7 +20,7 @@ impl Core {
     /// others are false, and the second one is since this level, which is not the lowest.
     pub fn is_asserting(&self, lits: &[Lit]) -> bool
         requires { All (IsOf self.now.vars) lits.now }
-        ensures { IsTrue result → IsAsserting self.now lits.now }
+        ensures { IsTrue result ↔ IsAsserting self.now lits.now }
     {
         let level = self.level();
         if level == 0 || lits.len() < 2 || self.trail.value(lits[0]).is_some() {
@@ -60,7 +59,7 @@ impl Core {
 /// Whether all literals but the first are false.
 fn others_are_false(trail: &Trail, lits: &[Lit]) -> bool
     requires { All (IsOf trail.now.vars) lits.now }
-    ensures { IsTrue result → (k : ℕ) → 1 ≤ k → k < length lits.now → IsTrue (is_on trail.now.entries (negated (lit_at lits.now k))) }
+    ensures { IsTrue result ↔ AreFalse trail.now.entries lits.now }
 {
     let mut place = 1;
     while place < lits.len() {

@@ -1,0 +1,60 @@
+use Rattle.std.proofs.Common.{◌≡◌, ℕ, ◌-◌, ◌<◌, List, length, sym, ap, ◌∙◌, subst, arith}
+use Rattle.sat_core.specs.declared.numbered.Numbered.{Numbered}
+use Rattle.sat_core.specs.States.{State}
+use Rattle.sat_core.specs.Stores.{Stored}
+use Rattle.sat_core.specs.Assignments.{Assignment}
+use Rattle.sat_core.specs.Progressing.{AreInRange}
+use Rattle.sat_core.specs.Watches.{IsLinked}
+use Rattle.sat_core.specs.Kept.{IsKeptCore}
+use Rattle.sat_core.specs.Forgotten.{moved_entries, without_at, without_clause, IsNoReason}
+use Rattle.sat_core.proofs.Removed.{length_removed}
+use Rattle.sat_core.proofs.Forgets.{kept-forgotten}
+use Rattle.sat_core.proofs.engine.Core.forget.Goals as goal
+
+-- the place is one of the list
+pub take_out-requires-clause-held : goal.take_out-requires-clause-held
+take_out-requires-clause-held c = subst (λ (s : State). c.args.held.0 < length s.clauses) (sym c.self.view_is) c.requires.held
+
+pub take_out-requires-clause-linked : goal.take_out-requires-clause-linked
+take_out-requires-clause-linked c =
+    let u = c.self.invariant.underway in
+    subst (λ (v : ℕ). IsLinked v c.self.inside.store.clauses c.self.inside.pool) (sym u.linked.vars_are) u.linked
+
+pub take_out-requires-clause-range : goal.take_out-requires-clause-range
+take_out-requires-clause-range c =
+    let u = c.self.invariant.underway in
+    subst (λ (v : ℕ). AreInRange v c.self.inside.store.clauses) (sym u.linked.vars_are) u.range
+
+pub remove-requires : goal.remove-requires
+remove-requires c = subst (λ (s : State). c.args.held.0 < length s.clauses) (sym c.self.view_is) c.requires.held
+
+last-is : (c : goal.After-self-1) → c.len-last.result ≡ length c.self.inside.store.clauses - 1
+last-is c =
+    let i = c.self.inside in
+    let inside = subst (λ (s : State). c.args.held.0 < length s.clauses) (sym c.self.view_is) c.requires.held in
+    omega (arith, c.len-last.ensures.number, ap (λ (s : Stored). length s.clauses) c.remove.ensures, length_removed i.store.clauses c.args.held.0 inside)
+
+trail-is : (c : goal.After-self-1) → c.rename.new.self ≡ record c.self.inside.trail { entries = moved_entries (length c.self.inside.store.clauses - 1) c.args.held.0 c.self.inside.trail.entries }
+trail-is c = c.rename.ensures ∙ ap (λ (n : ℕ). let a : Assignment = record c.self.inside.trail { entries = moved_entries n c.args.held.0 c.self.inside.trail.entries } in a) (last-is c)
+
+pub invariant_of-self : goal.invariant_of-self
+invariant_of-self c =
+    let i = c.self.inside in
+    let h = c.args.held in
+    let q = c.forgotten-self-inside.result in
+    let d = c.forgotten-self-inside.ensures in
+    let back = sym c.self.view_is in
+    let inside = subst (λ (s : State). h.0 < length s.clauses) back c.requires.held in
+    let no = subst (λ (s : State). IsNoReason s.trail h) back c.requires.no_reason in
+    let last = last-is c in
+    subst (λ (t : Stored). IsKeptCore (record i { store = t; pool = c.take_out.new.pool; trail = c.rename.new.self; progress = q })) (sym c.remove.ensures)
+    (subst (λ (a : Assignment). IsKeptCore (record i { store = record i.store { clauses = without_at i.store.clauses h.0 }; pool = c.take_out.new.pool; trail = a; progress = q })) (sym (trail-is c))
+    (kept-forgotten i h c.take_out.new.pool q c.self.invariant inside no c.take_out.ensures (λ l. d.all (omega (arith, l, last)) ∙ last) (λ l. d.anew (omega (arith, l, last))) d.done d.floor))
+
+pub returns : goal.returns
+returns c =
+    let i = c.self.inside in
+    let h = c.args.held in
+    ap (λ (t : Stored). let s : State = record { vars = c.rename.new.self.vars; clauses = t.clauses; last_id = i.last_id; trail = c.rename.new.self.entries; level = c.rename.new.self.level } in s) c.remove.ensures
+    ∙ ap (λ (a : Assignment). let s : State = record { vars = a.vars; clauses = without_at i.store.clauses h.0; last_id = i.last_id; trail = a.entries; level = a.level } in s) (trail-is c)
+    ∙ ap (λ (s : State). without_clause s h) c.self.view_is
