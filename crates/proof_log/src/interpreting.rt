@@ -65,42 +65,29 @@ fn literals(alloc: Global, numbers: &[i64]) -> Result<List<Lit>, Memory>
     requires fits { All (λ z. unsigned_abs z < 2 ^ 63) numbers.now }
     ensures { IfOk result (λ lits. lits ≡ map literal_of numbers.now) }
 {
-    let mut lits = List::make(alloc);
+    let mut lits = Vec::with_capacity(alloc, numbers.len())?;
     for number in numbers {
-        if lits.len() == u32::MAX {
-            return Err(Memory);
-        }
         lits.push(Lit::make(number.unsigned_abs(), *number > 0))?;
     }
-    Ok(lits)
+    List::of(lits)
 }
 
 /// The hints as they stand.
 fn hints(alloc: Global, numbers: &[i64]) -> Result<List<i64>, Memory>
     ensures { IfOk result (λ hints. hints ≡ numbers.now) }
 {
-    let mut hints = List::make(alloc);
-    for number in numbers {
-        if hints.len() == u32::MAX {
-            return Err(Memory);
-        }
-        hints.push(*number)?;
-    }
-    Ok(hints)
+    List::of(Vec::from_slice(alloc, numbers)?)
 }
 
 /// The absolute values of positive numbers.
 fn ids(alloc: Global, numbers: &[i64]) -> Result<List<u64>, Memory>
     ensures { IfOk result (λ ids. ids ≡ map unsigned_abs numbers.now) }
 {
-    let mut ids = List::make(alloc);
+    let mut ids = Vec::with_capacity(alloc, numbers.len())?;
     for number in numbers {
-        if ids.len() == u32::MAX {
-            return Err(Memory);
-        }
         ids.push(number.unsigned_abs())?;
     }
-    Ok(ids)
+    List::of(ids)
 }
 
 /// Whether each number is above 0.

@@ -86,7 +86,9 @@ pub(crate) fn read_numbers(alloc: Global, line: &[u8]) -> Result<Numbers, LineKi
     ensures bad { IsErrOf result LineKind.BadNumber → IsTrue (list_any is_bad (number_words (words line.now))) }
     ensures form { IsErrOf result LineKind.BadLine → ⊥ }
 {
-    let mut all = Vec::new(alloc);
+    let Ok(mut all) = Vec::with_capacity(alloc, line.len() / 4 + 4) else {
+        return Err(LineKind::Memory);
+    };
     let Some((first, rest)) = next_word(line) else {
         return Ok(Numbers {
             all,

@@ -3,4 +3,4 @@ use Rattle.cnf_types.specs.Dimacs.{literal_of}
 use Rattle.proof_log.proofs.interpreting.literals.Given as goal
 
 abbrev pub invariant-loop-number : goal.invariant-loop-number
-invariant-loop-number l = l.lits ≡ map literal_of (take l.number-index l.numbers)
+invariant-loop-number l = l.lits.items ≡ map literal_of (take l.number-index l.numbers)
