@@ -1,5 +1,5 @@
 -- What a core keeps when it forgets a clause, and when its pool is compacted.
-use Rattle.std.proofs.Common.{◌≡◌, ◌≢◌, ℕ, ◌+◌, ◌-◌, ◌<◌, ◌≤◌, ◌⊎◌, inl, inr, Bool, option_map, List, length, get_or, take, All, Contains, Option, Some, None, IfSome, IsSomeAnd, IsTrue, refl, sym, ap, ◌∙◌, subst, arith}
+use Rattle.std.proofs.Common.{◌≡◌, ◌≢◌, ℕ, ◌-◌, ◌<◌, ◌≤◌, inl, inr, Bool, option_map, List, length, take, All, Contains, Option, Some, None, IfSome, IsSomeAnd, IsTrue, refl, sym, ap, ◌∙◌, subst, arith}
 use Rattle.std.specs.List.{slice_get}
 use Rattle.std.proofs.lemmas.Bool.{cases_lt}
 use Rattle.std.proofs.lemmas.Option.{same_Some, slice_get_within}
@@ -18,10 +18,10 @@ use Rattle.sat_core.specs.declared.engine.Core.TheInside.{Inside}
 use Rattle.sat_core.specs.Trails.{IsOf, IsTrail, IsUnset, Implies, MayFollow, clause_at as list_clause, is_on, up_to}
 use Rattle.sat_core.specs.Rest.{IsAtRest, RestsOn}
 use Rattle.sat_core.specs.Assignments.{Assignment}
-use Rattle.sat_core.specs.Progressing.{AreInRange, HasTrue}
-use Rattle.sat_core.specs.Watches.{AreGuarded, AreSame, Guards, IsGuarded, IsInPool, IsLate, IsLinked}
+use Rattle.sat_core.specs.Progressing.{AreInRange}
+use Rattle.sat_core.specs.Watches.{AreSame, Guards, IsGuarded, IsLinked}
 use Rattle.sat_core.specs.Kept.{IsKeptCore}
-use Rattle.sat_core.specs.Forgotten.{moved, moved_entry, moved_entries, moved_reason, without_at, IsNoReason, IsMoved}
+use Rattle.sat_core.specs.Forgotten.{moved, moved_entries, moved_reason, without_at, IsNoReason, IsMoved}
 use Rattle.sat_core.proofs.Clauses.{clause-there, range-at}
 use Rattle.sat_core.proofs.Walks.{to-pool}
 use Rattle.sat_core.proofs.Linking.{in-list}

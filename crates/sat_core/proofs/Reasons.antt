@@ -1,5 +1,5 @@
 -- Which clauses are reasons.
-use Rattle.std.proofs.Common.{◌≡◌, ◌≢◌, ℕ, zero, suc, ◌<◌, ◌==◌, Bool, true, false, cond, List, [], ◌∷◌, length, get_or, take, All, Option, Some, None, IfSome, IsSomeAnd, refl, sym, ap, ◌∙◌, subst, arith}
+use Rattle.std.proofs.Common.{◌≡◌, ◌≢◌, ℕ, suc, ◌<◌, ◌==◌, Bool, true, false, cond, List, [], ◌∷◌, length, get_or, take, Option, Some, IfSome, IsSomeAnd, refl, ap, ◌∙◌, subst, arith}
 use Rattle.std.specs.List.{Any}
 use Rattle.std.specs.Option.{option_and_then}
 use Rattle.arc_base.proofs.Items.{All-from}

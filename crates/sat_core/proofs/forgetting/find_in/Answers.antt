@@ -1,4 +1,4 @@
-use Rattle.std.proofs.Common.{◌≡◌, ◌<◌, length, Option, sym, subst, arith}
+use Rattle.std.proofs.Common.{◌<◌, length, Option, sym, subst, arith}
 use Rattle.clause_pool.specs.declared.place.Place.{Place}
 use Rattle.clause_pool.specs.Chains.{from_on}
 use Rattle.clause_pool.specs.Pools.{chain}

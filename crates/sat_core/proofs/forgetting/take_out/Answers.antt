@@ -1,4 +1,4 @@
-use Rattle.std.proofs.Common.{◌≡◌, ℕ, ◌-◌, length, sym, subst}
+use Rattle.std.proofs.Common.{ℕ, ◌-◌, length, sym, subst}
 use Rattle.sat_core.specs.Progressing.{AreInRange}
 use Rattle.sat_core.specs.Forgotten.{IsRenumbered}
 use Rattle.sat_core.proofs.Forgets.{among-list, range-list}

@@ -1,8 +1,8 @@
-use Rattle.std.proofs.Common.{◌≡◌, ℕ, ◌+◌, ◌<◌, List, length, set, get_or, Option, None, ap, ◌∙◌, subst, sym, arith}
+use Rattle.std.proofs.Common.{ℕ, ◌<◌, List, length, set, get_or, Option, None, ap, ◌∙◌, arith}
 use Rattle.sat_core.specs.declared.assigned.Assigned.{Assigned}
 use Rattle.sat_core.specs.declared.assigned.Held.{Held}
 use Rattle.sat_core.specs.Forgotten.{moved_entry}
-use Rattle.sat_core.proofs.Moved.{mixed, mixed-step, mixed-length, mixed-all}
+use Rattle.sat_core.proofs.Moved.{mixed-step, mixed-length, mixed-all}
 use Rattle.sat_core.proofs.trail.rename.Goals as goal
 
 abbrev none : Assigned

@@ -1,4 +1,4 @@
-use Rattle.std.proofs.Common.{◌≡◌, sym, ap, ◌∙◌, subst}
+use Rattle.std.proofs.Common.{sym, ap, subst}
 use Rattle.clause_pool.specs.Pools.{State, IsSound}
 use Rattle.clause_pool.specs.Renumbered.{with_id_at}
 use Rattle.clause_pool.proofs.Kept.{at, live-at}

@@ -1,5 +1,4 @@
-use Rattle.std.proofs.Common.{◌≡◌, ℕ, ◌-◌, ◌<◌, List, length, sym, ap, ◌∙◌, subst, arith}
-use Rattle.sat_core.specs.declared.numbered.Numbered.{Numbered}
+use Rattle.std.proofs.Common.{◌≡◌, ℕ, ◌-◌, ◌<◌, length, sym, ap, ◌∙◌, subst, arith}
 use Rattle.sat_core.specs.States.{State}
 use Rattle.sat_core.specs.Stores.{Stored}
 use Rattle.sat_core.specs.Assignments.{Assignment}

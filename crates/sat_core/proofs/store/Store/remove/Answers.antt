@@ -1,4 +1,4 @@
-use Rattle.std.proofs.Common.{◌≡◌, ℕ, ◌<◌, List, length, ap, ◌∙◌, sym, subst, arith}
+use Rattle.std.proofs.Common.{◌<◌, List, length, ap, ◌∙◌, sym, subst}
 use Rattle.sat_core.specs.declared.numbered.Numbered.{Numbered}
 use Rattle.sat_core.specs.Forgotten.{without_at}
 use Rattle.sat_core.specs.Stores.{Stored}
