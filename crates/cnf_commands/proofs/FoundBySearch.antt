@@ -1,7 +1,7 @@
 -- What a search over the formula's core tells, as what `solve` answers.
 use Rattle.std.proofs.Common.{◌≡◌, ◌∙◌, ℕ, List, [], ◌++◌, IsTrue, All, None, refl, sym, ap, subst}
 use Rattle.cnf_types.specs.declared.clauses.Formula.{Formula}
-use Rattle.cnf_types.specs.Formulas.{clause_value}
+use Rattle.cnf_types.specs.Formulas.{clause_value, value_at}
 use Rattle.proof_log.specs.declared.steps.Step.{Step}
 use Rattle.proof_log.specs.declared.steps.Log.{Log}
 use Rattle.proof_check.specs.Knowledge.{start}
@@ -11,7 +11,7 @@ use Rattle.sat_core.specs.declared.numbered.Numbered.{Numbered}
 use Rattle.sat_core.specs.States.{State}
 use Rattle.sat_search.specs.declared.found.Found.{Found}
 use Rattle.sat_search.specs.declared.found.Found.TheVariants.{Model, Refuted, Budget}
-use Rattle.sat_search.specs.Searches.{IfModel, IsModelOf, value_at}
+use Rattle.sat_search.specs.Searches.{IfModel, IsModelOf}
 use Rattle.cnf_commands.specs.Cores.{core_of}
 use Rattle.cnf_commands.specs.Solves.{IsFound}
 use Rattle.cnf_commands.proofs.Searching.{all_front, satisfies, unsatisfiable}

@@ -5,7 +5,7 @@ use Rattle.arc_base.specs.declared.refusal.Kind.TheVariants.{OutputName}
 use Rattle.arc_outside.specs.Files.{Files, with_files}
 use Rattle.cnf_types.specs.declared.clauses.Formula.{Formula}
 use Rattle.cnf_types.specs.Dimacs.{reading}
-use Rattle.cnf_types.specs.Formulas.{Satisfies}
+use Rattle.cnf_types.specs.Formulas.{Satisfies, value_at}
 use Rattle.cnf_types.specs.Words.{lines}
 use Rattle.proof_log.specs.declared.steps.Log.{Log}
 use Rattle.proof_log.specs.declared.steps.Step.{Step}
@@ -16,7 +16,6 @@ use Rattle.proof_check.specs.Outcomes.{steps_of}
 use Rattle.clean_logs.specs.CleanLogs.{IsClean, IsSpent, additions}
 use Rattle.sat_search.specs.declared.found.Found.{Found}
 use Rattle.sat_search.specs.declared.found.Found.TheVariants.{Model, Refuted, Budget}
-use Rattle.sat_search.specs.Searches.{value_at}
 use Rattle.command_words.specs.declared.commands.SolveWords.{SolveWords}
 use Rattle.run_files.specs.declared.outcome.Done.{Done}
 use Rattle.run_files.specs.declared.outcome.FileRefusal.{FileRefusal}

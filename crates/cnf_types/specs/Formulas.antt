@@ -1,5 +1,5 @@
 -- Formulas, and when an assignment satisfies them.
-use Rattle.std.specs.Prelude.{ℕ, Bool, if◌then◌else◌, not, IsTrue, List, All}
+use Rattle.std.specs.Prelude.{ℕ, ◌-◌, Bool, false, if◌then◌else◌, not, IsTrue, List, All, slice_index_or}
 use Rattle.std.specs.List.{list_any}
 use Rattle.cnf_types.specs.declared.literal.Lit.{Lit}
 use Rattle.cnf_types.specs.declared.clauses.Clause.{Clause}
@@ -17,3 +17,7 @@ clause_value assignment lits = list_any (value assignment) lits
 -- the assignment makes each clause true
 abbrev pub Satisfies : (ℕ → Bool) → Formula → Type 0
 Satisfies assignment f = All (λ c. IsTrue (clause_value assignment c.lits)) f.clauses
+
+-- the value of a variable by a list of values, where that of variable v stands at place v - 1
+abbrev pub value_at : List Bool → ℕ → Bool
+value_at values var = slice_index_or values (var - 1) false

@@ -4,13 +4,13 @@ use Rattle.std.proofs.lemmas.Bool.{or_cases, both_ways}
 use Rattle.std.proofs.lemmas.List.Elements.{All-head, All-tail}
 use Rattle.cnf_types.specs.declared.literal.Lit.{Lit}
 use Rattle.cnf_types.specs.Literals.{literal, negated, variable, is_positive}
-use Rattle.cnf_types.specs.Formulas.{value, clause_value}
+use Rattle.cnf_types.specs.Formulas.{value, clause_value, value_at}
 use Rattle.sat_core.specs.Trails.{IsOf, IsUnset, is_on}
 use Rattle.sat_core.specs.Rest.{IsAtRest}
 use Rattle.sat_core.specs.States.{State, IsSound}
 use Rattle.sat_core.specs.Laws.{value_by, RestingTrailsSatisfy}
 use Rattle.sat_search.specs.Orders.{is_set}
-use Rattle.sat_search.specs.Searches.{value_at, IsModelOf}
+use Rattle.sat_search.specs.Searches.{IsModelOf}
 use Rattle.sat_search.proofs.Literals.{one_variable}
 
 -- assignments that agree on the variables of a clause give it one value

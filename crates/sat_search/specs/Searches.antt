@@ -1,9 +1,9 @@
 -- What a search leaves: the steps that it appends, and what its answers say.
-use Rattle.std.specs.Prelude.{◌≡◌, ℕ, ◌+◌, ◌-◌, ◌<◌, ◌≤◌, ◌^◌, ℤ, Bool, true, false, IsTrue, IsFalse, List, [], ◌∷◌, ◌++◌, length, max, drop, All, slice_index_or, None, Result, Ok, Err}
+use Rattle.std.specs.Prelude.{◌≡◌, ℕ, ◌+◌, ◌<◌, ◌≤◌, ◌^◌, ℤ, Bool, true, false, IsTrue, IsFalse, List, [], ◌∷◌, ◌++◌, length, max, drop, All, None, Result, Ok, Err}
 use Rattle.std.specs.List.{list_any}
 use Rattle.arc_base.specs.declared.memory.Memory.{Memory}
 use Rattle.cnf_types.specs.declared.literal.Lit.{Lit}
-use Rattle.cnf_types.specs.Formulas.{clause_value}
+use Rattle.cnf_types.specs.Formulas.{clause_value, value_at}
 use Rattle.proof_log.specs.declared.steps.Step.{Step}
 use Rattle.proof_log.specs.declared.steps.Step.TheVariants.{Add, Drop, Bound}
 use Rattle.proof_check.specs.Propagation.{is_among, chain_fault}
@@ -54,10 +54,6 @@ abbrev pub ends_empty : List Step → Bool
 ends_empty [] = false
 ends_empty (s ∷ []) = adds_empty s
 ends_empty (s ∷ t ∷ steps) = ends_empty (t ∷ steps)
-
--- the value of a variable, where that of variable v stands at place v - 1
-abbrev pub value_at : List Bool → ℕ → Bool
-value_at values var = slice_index_or values (var - 1) false
 
 -- whether the step adds a clause
 abbrev pub is_addition : Step → Bool

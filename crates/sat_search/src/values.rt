@@ -5,7 +5,8 @@ ghost use Rattle.sat_core.specs.Trails.{is_on, IsOf};
 ghost use Rattle.sat_core.specs.Rest.{IsAtRest};
 ghost use Rattle.sat_core.specs.States.{IsSound};
 ghost use Rattle.sat_search.specs.Orders.{is_set};
-ghost use Rattle.sat_search.specs.Searches.{IsModelOf, value_at};
+ghost use Rattle.cnf_types.specs.Formulas.{value_at};
+ghost use Rattle.sat_search.specs.Searches.{IsModelOf};
 
 use arc_base::{List, Memory};
 use cnf_types::Lit;

@@ -1,7 +1,7 @@
 use Rattle.std.proofs.Common.{◌≡◌, ℕ, ◌+◌, ◌<◌, ◌≤◌, true, length}
 use Rattle.cnf_types.specs.Literals.{literal}
 use Rattle.sat_core.specs.Trails.{is_on}
-use Rattle.sat_search.specs.Searches.{value_at}
+use Rattle.cnf_types.specs.Formulas.{value_at}
 use Rattle.sat_search.proofs.values.values.Given as goal
 
 abbrev pub invariant-loop-var : goal.invariant-loop-var
