@@ -4,8 +4,6 @@ use Rattle.std.specs.List.{enumerate_from}
 use Rattle.std.proofs.lemmas.Grind.{flat_map-append}
 use Rattle.std.proofs.lemmas.List.{append-nil, length-take-le, map-append, take_more}
 use Rattle.std.proofs.lemmas.List.Elements.{All-cons, All-nil, All-weaker}
-use Rattle.std.proofs.lemmas.List.FromFn.{length-enumerate_from}
-use Rattle.std.proofs.lemmas.List.{length-map}
 use Rattle.cnf_types.specs.declared.clauses.Clause.{Clause}
 use Rattle.proof_log.specs.Texts.{before_spaces}
 use Rattle.sat_core.specs.declared.numbered.Numbered.{Numbered}
@@ -83,6 +81,3 @@ next_is_fresh vars i clauses within =
     let long : length (take i clauses) ≡ i = length-take-le i clauses within in
     let Within : Numbered → Type 0 = λ d. (1 ≤ d.id) × (d.id < 1 + length (take i clauses)) in
     All-weaker Within (λ d. d.id ≢ i + 1) (λ d h e. omega (arith, h.1, e, long)) (numbered (take i clauses)) (ids_from 1 (take i clauses))
-
-pub numbered_long : (clauses : List Clause) → length (numbered clauses) ≡ length clauses
-numbered_long clauses = length-map (enumerate_from 1 clauses) with_id ∙ length-enumerate_from 1 clauses

@@ -1,17 +1,9 @@
 use Rattle.std.proofs.Common.{◌≡◌, ◌∙◌, ◌≢◌, ◌+◌, ap, sym, subst, arith, length, get_or, All, List}
 use Rattle.cnf_types.specs.declared.clauses.Clause.{Clause}
 use Rattle.cnf_types.specs.declared.literal.Lit.{Lit}
-use Rattle.std.proofs.lemmas.List.{length-take-le}
 use Rattle.sat_core.specs.States.{State, with_clause}
-use Rattle.cnf_commands.proofs.Numbering.{core_more, next_is_fresh, numbered_long}
+use Rattle.cnf_commands.proofs.Numbering.{core_more, next_is_fresh}
 use Rattle.cnf_commands.proofs.solving.core_of.Goals as goal
-
-pub add-requires-clause-few_clauses : goal.add-requires-clause-few_clauses
-add-requires-clause-few_clauses c =
-    let clauses = c.args.formula.now.clauses in
-    let i = c.loop-place.place in
-    let same : length c.slice-clause-items.result.now ≡ length clauses = ap length c.slice-clause-items.ensures.items in
-    omega (arith, same, ap (λ (s : State). length s.clauses) c.loop-place.invariant ∙ numbered_long _, length-take-le i clauses (omega (arith, same, c.loop-place-test.true)), c.loop-place-test.true, c.slice-clause-items.ensures.limit)
 
 pub add-requires-clause-fresh : goal.add-requires-clause-fresh
 add-requires-clause-fresh c =
