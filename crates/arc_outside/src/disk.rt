@@ -9,9 +9,9 @@ use std::io::{Read, Seek, SeekFrom, Write};
 use std::rt::Files;
 use std::{fs, io, str};
 
-/// What was done to a file when the system failed.
+/// What was tried with a file when the system failed.
 #[derive(Clone, Copy, Debug, PartialEq, Eq)]
-pub enum Deed {
+pub enum Operation {
     Reading,
     Writing,
 }
@@ -20,7 +20,7 @@ pub enum Deed {
 #[derive(Drop)]
 pub struct Failure {
     pub name: Name,
-    pub deed: Deed,
+    pub operation: Operation,
     pub error: io::Error,
 }
 
@@ -33,11 +33,13 @@ struct Reading<F: Drop> {
 }
 
 /// The files of the system, named by paths in UTF-8. A file to be read that is not there is Missing and raises the
-/// count of absences. Every other error is Failed and raises the count of faults, also a name that is no path.
+/// count of absences. Want of memory is Memory, whether the program had none for a name or the system says that it had
+/// none. Every other error is Failed and raises the count of faults, also a name that is no path.
 ///
 /// A file stays open from its first piece to its last, so that one that is replaced meanwhile is read as it was, and a
 /// pipe can be read once. A plain file is written beside its name, as NAME.part, and then renamed, so that it is whole or
 /// as it was; where no such file can be made, and at a link, a pipe or a device, the bytes are written in its place.
+/// Where there is no memory for the name NAME.part nothing is written.
 #[derive(Drop)]
 pub struct DiskStore<R: Files> {
     rt: R,
@@ -89,9 +91,18 @@ fn copy_of(alloc: Global, name: &Name) -> io::Result<Name> {
     }
 }
 
-fn failure_of(alloc: Global, name: &Name, deed: Deed, error: io::Error) -> Option<Failure> {
+fn failure_of(
+    alloc: Global,
+    name: &Name,
+    operation: Operation,
+    error: io::Error,
+) -> Option<Failure> {
     match copy_of(alloc, name) {
-        Ok(name) => Some(Failure { name, deed, error }),
+        Ok(name) => Some(Failure {
+            name,
+            operation,
+            error,
+        }),
         Err(_) => None,
     }
 }
@@ -202,11 +213,14 @@ impl<R: Files> Store for DiskStore<R> {
                 Ok(n)
             }
             Err(error) => {
+                if error.kind() == io::ErrorKind::OutOfMemory {
+                    return Err(Fault::Memory);
+                }
                 if error.kind() == io::ErrorKind::NotFound {
                     self.absences = self.absences.saturating_add(1);
                     return Err(Fault::Missing);
                 }
-                self.failure = failure_of(self.alloc, name, Deed::Reading, error);
+                self.failure = failure_of(self.alloc, name, Operation::Reading, error);
                 self.faults = self.faults.saturating_add(1);
                 Err(Fault::Failed)
             }
@@ -217,7 +231,10 @@ impl<R: Files> Store for DiskStore<R> {
         match write_to(&self.rt, self.alloc, name, bytes) {
             Ok(()) => Ok(()),
             Err(error) => {
-                self.failure = failure_of(self.alloc, name, Deed::Writing, error);
+                if error.kind() == io::ErrorKind::OutOfMemory {
+                    return Err(Fault::Memory);
+                }
+                self.failure = failure_of(self.alloc, name, Operation::Writing, error);
                 self.faults = self.faults.saturating_add(1);
                 Err(Fault::Failed)
             }

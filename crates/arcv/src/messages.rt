@@ -1,7 +1,7 @@
 //! What is said on the standard error of a run that did not end well.
 
 use arc_base::Name;
-use arc_outside::{Deed, DiskStore, StdSink, read_all};
+use arc_outside::{DiskStore, Operation, StdSink, read_all};
 use run_messages::{Tee, WrongWord, form_of, line_at, told_refusal, visible, wrong_word};
 use std::io::Write;
 use std::{env, fs, io, str};
@@ -84,12 +84,12 @@ fn explain_failure(rt: &HostRuntime, store: &DiskStore<HostRuntime>) -> io::Resu
     let Some(failure) = store.failure() else {
         return say(rt, &[b"arcv: a file could not be read or written"]);
     };
-    let deed = match failure.deed {
-        Deed::Reading => b"arcv: cannot read ".as_slice(),
-        Deed::Writing => b"arcv: cannot write ".as_slice(),
+    let operation = match failure.operation {
+        Operation::Reading => b"arcv: cannot read ".as_slice(),
+        Operation::Writing => b"arcv: cannot write ".as_slice(),
     };
     let why = failure.error.to_string(rt.alloc())?;
-    say(rt, &[deed, failure.name.bytes(), b": ", why.as_bytes()])
+    say(rt, &[operation, failure.name.bytes(), b": ", why.as_bytes()])
 }
 
 /// Says what there is to say of a run that ended so.

@@ -2,7 +2,7 @@
 
 use arc_base::{List, Name};
 use arc_outside::{
-    Deed, DiskStore, Fault, MemSink, MemStore, Pieces, ReadAll, Sink, StdSink, Store, SureSink,
+    DiskStore, Fault, MemSink, MemStore, Operation, Pieces, ReadAll, Sink, StdSink, Store, SureSink,
     SureStore, read_all,
 };
 use std::alloc::Global;
@@ -195,8 +195,8 @@ fn disk_and_standard_output(rt: HostRuntime) -> Result<(), Fail> {
         Some(ReadAll::Fault(Fault::Failed))
     );
     assert_eq!(rt;
-        store.failure().map(|failure| failure.deed),
-        Some(Deed::Reading)
+        store.failure().map(|failure| failure.operation),
+        Some(Operation::Reading)
     );
     fs::remove_file(&rt, path)?;
     let mut out = StdSink::make(rt);
