@@ -17,7 +17,7 @@ mod traces;
 mod unread;
 
 use arc_base::{List, Memory, Name};
-use arc_outside::{MemSink, MemStore, SureSink, SureStore};
+use arc_outside::{SureSink, SureStore};
 use arc_run::run;
 use certificates::{CERTIFICATES, JUDGED};
 use edited::{EDITED, are_left};
@@ -29,7 +29,7 @@ use plain::{KEPT, PLAIN, REDUNDANT};
 use refusals::REFUSALS;
 use routers::{PAIR_FILES, SQUARE_FILES};
 use sessions::{DENIED_ROUTE, SESSIONS};
-use solves::{REFUSED, SEARCHES, are_found, are_refused, empty_clause_is_told, write_fails};
+use solves::{REFUSED, SEARCHES, are_found, are_refused, empty_clause_is_told};
 use std::alloc::Global;
 use std::process::Abort;
 use std::test::Fail;
@@ -108,12 +108,6 @@ fn words(alloc: Global, line: &[&[u8]]) -> Result<List<Name>, Memory> {
         push(&mut words, Name::make(alloc, word)?)?;
     }
     Ok(words)
-}
-
-fn failing(alloc: Global, call: u64) -> Result<List<u64>, Memory> {
-    let mut fail = List::make(alloc);
-    push(&mut fail, call)?;
-    Ok(fail)
 }
 
 // The text that these words put over a store, and the status.
@@ -271,46 +265,4 @@ fn formulas_are_searched(rt: HostRuntime) -> Result<(), Fail> {
 #[test]
 fn files_are_edited(rt: HostRuntime) -> Result<(), Fail> {
     Ok(are_left(&rt, rt.alloc(), &EDITED)?)
-}
-
-const WALK: &[u8] = b"arc-report 1\n1 blocked no 1\nwalk 10.1.0.0/24 10.2.0.0/24 1\nend\n";
-
-// Each of the six reads fails in turn: nothing is put.
-#[test]
-fn store_calls_fail(rt: HostRuntime) -> Result<(), Fail> {
-    let alloc = rt.alloc();
-    for call in 1..8 {
-        let mut store = MemStore::make(
-            alloc,
-            store_files(alloc, &PAIR_FILES)?,
-            failing(alloc, call)?,
-        )?;
-        let mut out = MemSink::make(alloc, List::make(alloc));
-        let status = run(alloc, words(alloc, VERIFY)?.slice(), &mut store, &mut out);
-        let (code, text) = if call < 7 {
-            (6, b"".as_slice())
-        } else {
-            (1, WALK)
-        };
-        assert_eq!(rt; status.code, code, "at {call}");
-        assert_eq!(rt; out.bytes(), text);
-    }
-    Ok(())
-}
-
-#[test]
-fn proofs_are_not_written(rt: HostRuntime) -> Result<(), Fail> {
-    Ok(write_fails(&rt, rt.alloc())?)
-}
-
-// The one put fails: nothing is put.
-#[test]
-fn first_put_fails(rt: HostRuntime) -> Result<(), Fail> {
-    let alloc = rt.alloc();
-    let mut store = MemStore::make(alloc, store_files(alloc, &PAIR_FILES)?, List::make(alloc))?;
-    let mut out = MemSink::make(alloc, failing(alloc, 1)?);
-    let status = run(alloc, words(alloc, VERIFY)?.slice(), &mut store, &mut out);
-    assert_eq!(rt; status.code, 7);
-    assert_eq!(rt; out.bytes().len(), 0);
-    Ok(())
 }

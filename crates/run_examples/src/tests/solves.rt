@@ -1,9 +1,8 @@
 //! Formulas, what `solve` answers over each, and what `lrat` says of the proof that it wrote.
 
-use super::{LRAT, add, failing, put_over, words};
+use super::{LRAT, add, put_over};
 use arc_base::{List, Memory, Name};
-use arc_outside::{MemSink, MemStore, SureStore};
-use arc_run::run;
+use arc_outside::SureStore;
 use std::alloc::Global;
 use std::process::Abort;
 
@@ -164,19 +163,5 @@ pub fn empty_clause_is_told(rt: &impl Abort, alloc: Global) -> Result<(), Memory
     let (_, _) = put_over(alloc, &mut store, SOLVE)?;
     let proof = store.bytes(&Name::make(alloc, b"proof")?);
     assert!(rt; proof.is_some_and(|bytes| bytes == b"2 0 1 0\n".as_slice()));
-    Ok(())
-}
-
-// The third call is the write. Where it fails, nothing is put.
-pub fn write_fails(rt: &impl Abort, alloc: Global) -> Result<(), Memory> {
-    for (call, code) in [(3, 6), (4, 2)] {
-        let mut held = List::make(alloc);
-        add(alloc, &mut held, b"f.cnf", b"p cnf 0 1\n0\n")?;
-        let mut store = MemStore::make(alloc, held, failing(alloc, call)?)?;
-        let mut out = MemSink::make(alloc, List::make(alloc));
-        let status = run(alloc, words(alloc, SOLVE)?.slice(), &mut store, &mut out);
-        assert_eq!(rt; status.code, code, "at {call}");
-        assert_eq!(rt; out.bytes().is_empty(), code == 6, "at {call}");
-    }
     Ok(())
 }
