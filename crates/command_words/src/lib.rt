@@ -16,6 +16,3 @@ pub use commands::{
     SolveWords, TraceWords,
 };
 pub use reading::read_words;
-
-#[cfg(test)]
-mod tests;
