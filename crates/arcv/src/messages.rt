@@ -89,7 +89,10 @@ fn explain_failure(rt: &HostRuntime, store: &DiskStore<HostRuntime>) -> io::Resu
         Operation::Writing => b"arcv: cannot write ".as_slice(),
     };
     let why = failure.error.to_string(rt.alloc())?;
-    say(rt, &[operation, failure.name.bytes(), b": ", why.as_bytes()])
+    say(
+        rt,
+        &[operation, failure.name.bytes(), b": ", why.as_bytes()],
+    )
 }
 
 /// Says what there is to say of a run that ended so.

@@ -2,8 +2,8 @@
 
 use arc_base::{List, Name};
 use arc_outside::{
-    DiskStore, Fault, MemSink, MemStore, Operation, Pieces, ReadAll, Sink, StdSink, Store, SureSink,
-    SureStore, read_all,
+    DiskStore, Fault, MemSink, MemStore, Operation, Pieces, ReadAll, Sink, StdSink, Store,
+    SureSink, SureStore, read_all,
 };
 use std::alloc::Global;
 use std::test::Fail;
