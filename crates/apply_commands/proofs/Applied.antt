@@ -22,7 +22,8 @@ use Rattle.run_inputs.specs.declared.inputs.Sources.{Sources}
 use Rattle.run_inputs.specs.Inputs.{AreFit, HoldsDocument, ReadsSources}
 use Rattle.apply_commands.specs.declared.applying.Chosen.{Chosen}
 use Rattle.apply_commands.specs.declared.applying.Ready.{Ready}
-use Rattle.apply_commands.specs.Applies.{edit_texts, named_edits, IsApplied, IsApplyRefusal, IsCopyName, IsReadyRefusal, HasWrongLine, WritesCopies}
+use Rattle.output_files.specs.Outputs.{IsCopyName}
+use Rattle.apply_commands.specs.Applies.{edit_texts, named_edits, IsApplied, IsApplyRefusal, IsReadyRefusal, HasWrongLine, WritesCopies}
 use Rattle.apply_commands.specs.Steps.{Chooses, HoldsReady, IsChoice, IsWritten, ReadsReady}
 
 abbrev pub AppliedAs : ApplyWords → Option Files → Stop → Type 0

@@ -14,7 +14,7 @@ use Rattle.edit_space.specs.After.{IsAfter}
 use Rattle.edit_space.specs.EditLists.{AreEdits, HasFewClasses, NamesLimit}
 use Rattle.edit_space.specs.Prices.{chosen_of}
 use Rattle.edit_files.specs.EditFiles.{line_texts, chosen_by, AreEditLines, IsWrongLine}
-use Rattle.output_files.specs.Outputs.{clashes, copy_name, copy_names, wrote_lines}
+use Rattle.output_files.specs.Outputs.{clashes, copy_names, wrote_lines, IsCopyName}
 use Rattle.changed_files.specs.Changes.{changed_names, AreLeftPatched, AreReadAgain, Changes, IsEditable}
 use Rattle.command_words.specs.declared.commands.ApplyWords.{ApplyWords}
 use Rattle.run_files.specs.declared.limits.Limits.TheVariants.{Editing}
@@ -116,11 +116,6 @@ IsReadyRefusal words files r = IsDocumentRefusal words.document files r ⊎ (Ref
 abbrev pub IsApplyRefusal : ApplyWords → Files → FileRefusal → Type 0
 IsApplyRefusal words files r =
     IsReadyRefusal words files r ⊎ (RefusesSources words files r ⊎ (RefusesCounts words files r ⊎ RefusesLine words files r))
-
--- the name is that of a copy
-pub record IsCopyName (suffix name : List ℕ) : Type 0 where
-  pub router : List ℕ
-  pub named : name ≡ copy_name suffix router
 
 -- an answer of the command: status 0, and it writes copies of files, and tells their names
 pub record WritesCopies (words : ApplyWords) (done : Done) : Type 0 where

@@ -8,6 +8,7 @@ ghost use Rattle.net_build.specs.Networks.{IsBuiltWithin};
 ghost use Rattle.edit_space.specs.EditLists.{AreEdits};
 ghost use Rattle.edit_space.specs.Prices.{chosen_of};
 ghost use Rattle.run_files.specs.Answers.{Answers, OnlyReads};
+ghost use Rattle.run_files.specs.Limits.{least_limit};
 ghost use Rattle.apply_commands.specs.Applies.{has_clash, IsApplied, IsApplyRefusal, WritesCopies};
 ghost use Rattle.apply_commands.specs.Steps.{Chooses, IsWritten, ReadsReady};
 
@@ -54,7 +55,7 @@ fn read_ready<S: Store>(alloc: Global, words: &ApplyWords, store: &mut S) -> Res
     ensures told { IfSome (S.held store.old) (λ files. ReadsReady words.now files result) }
     ensures well_formed { IfOk result (λ ready. IsWellFormed ready.doc) }
     ensures few { IfOk result (λ ready. length ready.text.items ≤ 1048576) }
-    ensures reads { OnlyReads S.held S.faults S.absences store.old store.new result }
+    ensures reads { OnlyReads least_limit S.held S.faults S.absences S.taken store.old store.new result }
 {
     let doc = read_document(alloc, &words.document, store)?;
     if has_clash(alloc, words, &doc)? {
@@ -122,7 +123,7 @@ fn written(
 /// Puts the edits that an edit file names into copies of the router files that they change.
 pub fn apply<S: Store>(alloc: Global, words: &ApplyWords, store: &mut S) -> Result<Done, Stop>
     ensures answer { Answers (WritesCopies words.now) (IsApplyRefusal words.now) (IsApplied words.now) (S.held store.old) result }
-    ensures reads { OnlyReads S.held S.faults S.absences store.old store.new result }
+    ensures reads { OnlyReads least_limit S.held S.faults S.absences S.taken store.old store.new result }
 {
     let ready = read_ready(alloc, words, store)?;
     let doc = &ready.doc;

@@ -28,13 +28,13 @@ command_writes None held (outcomes.Refused r) defined some = absurd defined
 command_writes None held (outcomes.Done d) defined some = absurd defined
 
 -- what caused the outcome then causes it now
-later_cause : {then now : Type 0} (outcome : Outcome) → (then → now) → HasOutcomeCause then outcome → HasOutcomeCause now outcome
-later_cause outcomes.Usage later cause = tt
-later_cause (outcomes.Refused r) later cause = λ is. later (cause is)
-later_cause (outcomes.Done d) later cause = tt
+later_cause : {then now short long : Type 0} (outcome : Outcome) → (then → now) → (short → long) → HasOutcomeCause then short outcome → HasOutcomeCause now long outcome
+later_cause outcomes.Usage later longer cause = tt
+later_cause (outcomes.Refused r) later longer cause = record { missing = λ is. later (cause.missing is); too_long = λ is. longer (cause.too_long is) }
+later_cause (outcomes.Done d) later longer cause = tt
 
-module _ {absent : Type 0} (command : Option Command) (outcome : Outcome) (held now held' : Option Files) (put put' : Option (List ℕ)) (defined : IsDefined command held outcome) (cause : HasOutcomeCause absent outcome) (same : now ≡ held) where
-  leaves : (text : List ℕ) → WereWritten (writes_of outcome) now held' → WasPut text put put' → Leaves command absent held held' put put' outcome text
+module _ {absent long : Type 0} (command : Option Command) (outcome : Outcome) (held now held' : Option Files) (put put' : Option (List ℕ)) (defined : IsDefined command held outcome) (cause : HasOutcomeCause absent long outcome) (same : now ≡ held) where
+  leaves : (text : List ℕ) → WereWritten (writes_of outcome) now held' → WasPut text put put' → Leaves command absent long held held' put put' outcome text
   leaves text written was_put = record {
     defined = defined;
     cause = cause;
@@ -42,7 +42,7 @@ module _ {absent : Type 0} (command : Option Command) (outcome : Outcome) (held 
     sink = was_put;
   }
 
-  in_text : WereWritten (writes_of outcome) now held' → (count : ℕ) × WasPut (take count (text_of outcome)) put put' → StopsInText command absent held held' put put'
+  in_text : WereWritten (writes_of outcome) now held' → (count : ℕ) × WasPut (take count (text_of outcome)) put put' → StopsInText command absent long held held' put put'
   in_text written was_put = record { outcome = outcome; count = was_put.0; leaves = leaves (take was_put.0 (text_of outcome)) written was_put.1 }
 
 module _ (command : Option Command) (outcome : Outcome) (held now held' : Option Files) (put put' : Option (List ℕ)) (defined : IsDefined command held outcome) (same : now ≡ held) where
@@ -56,14 +56,14 @@ at_start : (command : Option Command) (held now held' : Option Files) (put put' 
 at_start command held now held' put put' same unchanged none = record { files = unwritten command held held' (unchanged ∙ same); sink = none }
 
 -- what the ending does, as a run over the store and the sink as they were
-pub finished : {then absent failed broken : Type 0} (command : Option Command) (outcome : Outcome) (held now held' : Option Files) (put put' : Option (List ℕ)) (code : ℕ) → IsDefined command held outcome → (then → absent) → HasOutcomeCause then outcome → now ≡ held →
+pub finished : {then absent short long failed broken : Type 0} (command : Option Command) (outcome : Outcome) (held now held' : Option Files) (put put' : Option (List ℕ)) (code : ℕ) → IsDefined command held outcome → (then → absent) → (short → long) → HasOutcomeCause then short outcome → now ≡ held →
     (code < 6 → (code ≡ status_of outcome) × WereWritten (writes_of outcome) now held' × WasPut (text_of outcome) put put') →
     (code ≡ 6 → failed × (0 < length (writes_of outcome)) × WhereTold (FailsWithin (writes_of outcome)) now held' × (put' ≡ put)) →
     (code ≡ 7 → broken × WereWritten (writes_of outcome) now held' × ((count : ℕ) × WasPut (take count (text_of outcome)) put put')) →
     (code ≡ 8 → ((held' ≡ now) × (put' ≡ put)) ⊎ (WhereTold (FailsWithin (writes_of outcome)) now held' × (put' ≡ put)) ⊎ (WereWritten (writes_of outcome) now held' × ((count : ℕ) × WasPut (take count (text_of outcome)) put put'))) →
-    code ≤ 8 → Runs command absent failed broken held held' put put' code
-finished command outcome held now held' put put' code defined later cause same ended store_failed sink_failed memory known =
-    let cause_now = later_cause outcome later cause in
+    code ≤ 8 → Runs command absent long failed broken held held' put put' code
+finished command outcome held now held' put put' code defined later longer cause same ended store_failed sink_failed memory known =
+    let cause_now = later_cause outcome later longer cause in
     record {
       ended = λ h. let e = ended h in record { outcome = outcome; status_is = e.0; leaves = leaves command outcome held now held' put put' defined cause_now same (text_of outcome) e.1 e.2 };
       store_failed = λ h. let e = store_failed h in (e.0, command_writes command held outcome defined e.1, before command outcome held now held' put put' defined same e.2 e.3);
@@ -81,8 +81,8 @@ some None named = absurd (named refl)
 some (Some command) named = refl
 
 -- the store failed before there was an outcome
-pub failed_before : {absent failed broken : Type 0} (command : Option Command) (held held' : Option Files) (put : Option (List ℕ)) → failed → (command ≡ None → ⊥) → held' ≡ held
-    → Runs command absent failed broken held held' put put 6
+pub failed_before : {absent long failed broken : Type 0} (command : Option Command) (held held' : Option Files) (put : Option (List ℕ)) → failed → (command ≡ None → ⊥) → held' ≡ held
+    → Runs command absent long failed broken held held' put put 6
 failed_before command held held' put rose named same = record {
   ended = λ h. absurd (omega (arith, h));
   store_failed = λ e. (rose, some command named, record { files = unwritten command held held' same; sink = refl });

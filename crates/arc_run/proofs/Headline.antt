@@ -50,8 +50,8 @@ told None held' outcome command defined written = tt
 told (Some files) held' outcome command defined written =
     subst (λ (o : Option Files). IsSomeAnd o (Tells command (status_of outcome) files)) (sym written) (told_of command files outcome defined)
 
-pub tells : {absent failed broken : Type 0} {held held' : Option Files} {put put' : Option (List ℕ)} {code : ℕ} (words : Option Command)
-    → Runs words absent failed broken held held' put put' code → (command : Command) → words ≡ Some command → code < 6
+pub tells : {absent long failed broken : Type 0} {held held' : Option Files} {put put' : Option (List ℕ)} {code : ℕ} (words : Option Command)
+    → Runs words absent long failed broken held held' put put' code → (command : Command) → words ≡ Some command → code < 6
     → IfSome held (λ before. IsSomeAnd held' (Tells command code before))
 tells {held = held} {held' = held'} words runs command is below =
     let end = runs.ended below in
@@ -63,7 +63,7 @@ never : Rose 0 0 → ⊥
 never rose = omega arith
 
 -- where no count can rise, the outside's failures are never told
-pub sure : {absent : Type 0} {held held' : Option Files} {put put' : Option (List ℕ)} {code : ℕ} (command : Option Command) → Runs command absent (Rose 0 0) (Rose 0 0) held held' put put' code → Runs command absent ⊥ ⊥ held held' put put' code
+pub sure : {absent long : Type 0} {held held' : Option Files} {put put' : Option (List ℕ)} {code : ℕ} (command : Option Command) → Runs command absent long (Rose 0 0) (Rose 0 0) held held' put put' code → Runs command absent long ⊥ ⊥ held held' put put' code
 sure command runs = record {
   ended = runs.ended;
   store_failed = λ h. absurd (never (runs.store_failed h).0);

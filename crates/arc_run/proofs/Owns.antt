@@ -35,8 +35,8 @@ four (Some command) held (outcomes.Refused r) defined is = absurd (omega (arith,
 four (Some command) held (outcomes.Done d) defined is = absurd (omega (arith, own_small command d defined.0, is))
 
 -- a run that ends with 4 is one of no command
-pub usage_only : {absent failed broken : Type 0} {held held' : Option Files} {put put' : Option (List ℕ)} {code : ℕ} (command : Option Command)
-    → Runs command absent failed broken held held' put put' code → code ≡ 4 → command ≡ None
+pub usage_only : {absent long failed broken : Type 0} {held held' : Option Files} {put put' : Option (List ℕ)} {code : ℕ} (command : Option Command)
+    → Runs command absent long failed broken held held' put put' code → code ≡ 4 → command ≡ None
 usage_only {held = held} command runs is =
     let end = runs.ended (omega (arith, is)) in
     four command held end.outcome end.leaves.defined (sym end.status_is ∙ is)

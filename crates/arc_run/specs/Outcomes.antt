@@ -92,8 +92,8 @@ IsDefined (Some command) held outcomes.Usage = ⊥
 IsDefined (Some command) held (outcomes.Refused r) = IfSome held (λ files. IsRefusal command files r)
 IsDefined (Some command) held (outcomes.Done d) = IsOwn command d × IfSome held (λ files. IsAnswer command files d)
 
--- a missing file is refused only where the count of absences rose
-abbrev pub HasOutcomeCause : Type 0 → Outcome → Type 0
-HasOutcomeCause absent outcomes.Usage = Unit {0}
-HasOutcomeCause absent (outcomes.Refused r) = HasRefusalCause absent r
-HasOutcomeCause absent (outcomes.Done d) = Unit {0}
+-- A missing file is refused only where the count of absences rose, and one that is too long only where reads took so many bytes.
+abbrev pub HasOutcomeCause : (absent long : Type 0) → Outcome → Type 0
+HasOutcomeCause absent long outcomes.Usage = Unit {0}
+HasOutcomeCause absent long (outcomes.Refused r) = HasRefusalCause absent long r
+HasOutcomeCause absent long (outcomes.Done d) = Unit {0}

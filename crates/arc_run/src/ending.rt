@@ -93,6 +93,7 @@ pub fn finish<S: Store, K: Sink>(
         × ((count : ℕ) × WasPut (take count (text_of outcome)) (K.written out.old) (K.written out.new))) }
     ensures code { result.code ≤ 8 }
     ensures absences { S.absences store.old ≤ S.absences store.new }
+    ensures taken { S.taken store.new ≡ S.taken store.old }
     ensures faults { S.faults store.old ≤ S.faults store.new }
 {
     let plan = match plan(alloc, outcome) {

@@ -1,6 +1,8 @@
 //! A run where nothing outside fails.
 ghost use Rattle.arc_outside.specs.Causes.{Rose};
+ghost use Rattle.arc_outside.specs.Reads.{TookMore};
 ghost use Rattle.command_words.specs.Commands.{command_of};
+ghost use Rattle.run_files.specs.Limits.{least_limit};
 ghost use Rattle.arc_run.specs.Runs.{Runs};
 
 use crate::outcome::Status;
@@ -17,7 +19,8 @@ pub fn run_surely(
     out: &mut SureSink,
 ) -> Status
     ensures { Runs (command_of words.now)
-        (Rose (⟦<SureStore as Store>⟧.absences store.old) (⟦<SureStore as Store>⟧.absences store.new)) ⊥ ⊥
+        (Rose (⟦<SureStore as Store>⟧.absences store.old) (⟦<SureStore as Store>⟧.absences store.new))
+        (TookMore least_limit (⟦<SureStore as Store>⟧.taken store.old) (⟦<SureStore as Store>⟧.taken store.new)) ⊥ ⊥
         (⟦<SureStore as Store>⟧.held store.old) (⟦<SureStore as Store>⟧.held store.new)
         (⟦<SureSink as Sink>⟧.written out.old) (⟦<SureSink as Sink>⟧.written out.new) result.code }
 {

@@ -1,8 +1,10 @@
 //! The top call.
 ghost use Rattle.std.specs.Prelude.{◌≡◌, ◌⊎◌, ◌<◌, ◌≤◌, Some, None, IfSome, IsSomeAnd, IfOk, IsErrOf};
 ghost use Rattle.arc_outside.specs.Causes.{Rose};
+ghost use Rattle.arc_outside.specs.Reads.{TookMore};
 ghost use Rattle.command_words.specs.Commands.{command_of, HasLimit};
 ghost use Rattle.run_files.specs.Answers.{Answers, OnlyReads};
+ghost use Rattle.run_files.specs.Limits.{least_limit};
 ghost use Rattle.arc_run.specs.Headline.{Tells};
 ghost use Rattle.arc_run.specs.Outcomes.{HasOutcomeCause, IsAnswer, IsDefined, IsOwn, IsRefusal, status_of};
 ghost use Rattle.arc_run.specs.Runs.{Runs};
@@ -33,7 +35,7 @@ enum Halt {
 fn answer<S: Store>(alloc: Global, command: &Command, store: &mut S) -> Result<Done, Stop>
     requires { HasLimit command.now }
     ensures answer { Answers (IsOwn command.now) (IsRefusal command.now) (IsAnswer command.now) (S.held store.old) result }
-    ensures reads { OnlyReads S.held S.faults S.absences store.old store.new result }
+    ensures reads { OnlyReads least_limit S.held S.faults S.absences S.taken store.old store.new result }
 {
     match command {
         Command::Verify(document) => verify(alloc, document, store),
@@ -54,12 +56,14 @@ fn answer<S: Store>(alloc: Global, command: &Command, store: &mut S) -> Result<D
 fn perform<S: Store>(alloc: Global, words: &[Name], store: &mut S) -> Result<Outcome, Halt>
     ensures defined { IfOk result (λ outcome. IsDefined (command_of words.now) (S.held store.old) outcome) }
     ensures small { IfOk result (λ outcome. status_of outcome ≤ 5) }
-    ensures cause { IfOk result (λ outcome. HasOutcomeCause (Rose (S.absences store.old) (S.absences store.new)) outcome) }
+    ensures cause { IfOk result (HasOutcomeCause
+        (Rose (S.absences store.old) (S.absences store.new)) (TookMore least_limit (S.taken store.old) (S.taken store.new))) }
     ensures failed { IsErrOf result Halt.Failed → Rose (S.faults store.old) (S.faults store.new) }
     ensures failed_in_command { IsErrOf result Halt.Failed → command_of words.now ≡ None → ⊥ }
     ensures same { S.held store.new ≡ S.held store.old }
     ensures faults { S.faults store.old ≤ S.faults store.new }
     ensures absences { S.absences store.old ≤ S.absences store.new }
+    ensures taken { S.taken store.old ≤ S.taken store.new }
 {
     let command = match read_words(alloc, words) {
         Ok(Some(command)) => command,
@@ -82,7 +86,8 @@ fn run_defined<S: Store, K: Sink>(
     out: &mut K,
 ) -> Status
     ensures { Runs (command_of words.now)
-        (Rose (S.absences store.old) (S.absences store.new)) (Rose (S.faults store.old) (S.faults store.new)) (Rose (K.faults out.old) (K.faults out.new))
+        (Rose (S.absences store.old) (S.absences store.new)) (TookMore least_limit (S.taken store.old) (S.taken store.new))
+        (Rose (S.faults store.old) (S.faults store.new)) (Rose (K.faults out.old) (K.faults out.new))
         (S.held store.old) (S.held store.new) (K.written out.old) (K.written out.new) result.code }
 {
     match perform(alloc, words, store) {
@@ -96,7 +101,8 @@ fn run_defined<S: Store, K: Sink>(
 /// all files are read and written.
 pub fn run<S: Store, K: Sink>(alloc: Global, words: &[Name], store: &mut S, out: &mut K) -> Status
     ensures runs { Runs (command_of words.now)
-        (Rose (S.absences store.old) (S.absences store.new)) (Rose (S.faults store.old) (S.faults store.new)) (Rose (K.faults out.old) (K.faults out.new))
+        (Rose (S.absences store.old) (S.absences store.new)) (TookMore least_limit (S.taken store.old) (S.taken store.new))
+        (Rose (S.faults store.old) (S.faults store.new)) (Rose (K.faults out.old) (K.faults out.new))
         (S.held store.old) (S.held store.new) (K.written out.old) (K.written out.new) result.code }
 
     // The usage line comes exactly where the words match no command, but for 7 and 8.

@@ -16,6 +16,7 @@ pub fn write_all<S: Store>(store: &mut S, writes: &[(Name, Name)]) -> Result<(),
     ensures never_missing { IsErrOf result Fault.Missing → ⊥ }
     ensures faults { S.faults store.old ≤ S.faults store.new }
     ensures absences { S.absences store.old ≤ S.absences store.new }
+    ensures taken { S.taken store.new ≡ S.taken store.old }
 {
     for write in writes {
         match store.write_whole(&write.0, write.1.bytes()) {

@@ -6,6 +6,7 @@ ghost use Rattle.net_model.specs.Forwarding.{HasEnds};
 ghost use Rattle.net_model.specs.Packets.{subject};
 ghost use Rattle.net_model.specs.Validity.{IsValid};
 ghost use Rattle.run_files.specs.Answers.{Answers, Gives, IsJudging, OnlyReads};
+ghost use Rattle.run_files.specs.Limits.{least_limit};
 ghost use Rattle.run_inputs.specs.Inputs.{AreFit, HoldsDocument};
 ghost use Rattle.check_commands.specs.RepairChecks.{begins_repair, IsAnyChecked, IsAnyRefusal, IsJudged, IsRepairJudged, IsTextFault, IsTextRefusal};
 
@@ -63,7 +64,7 @@ fn check_certificate<S: Store>(
     ensures told { IfSome (S.held store.old) (λ files. HoldsDocument document.now files doc.now
         → Gives (IsTextRefusal document.now text.now files) (IsRepairJudged document.now text.now files) result) }
     ensures own { IfOk result IsJudging }
-    ensures reads { OnlyReads S.held S.faults S.absences store.old store.new result }
+    ensures reads { OnlyReads least_limit S.held S.faults S.absences S.taken store.old store.new result }
 {
     let sources = read_sources(alloc, document, doc, &[], Limits::Editing, store)?;
     let outcome = match judge_repair(alloc, &sources.built.net, doc, text) {
@@ -83,7 +84,7 @@ pub fn check<S: Store>(
     store: &mut S,
 ) -> Result<Done, Stop>
     ensures answer { Answers IsJudging (IsAnyRefusal document.now certificate.now) (IsAnyChecked document.now certificate.now) (S.held store.old) result }
-    ensures reads { OnlyReads S.held S.faults S.absences store.old store.new result }
+    ensures reads { OnlyReads least_limit S.held S.faults S.absences S.taken store.old store.new result }
 {
     let doc = read_document(alloc, document, store)?;
     let bytes = read_file(alloc, store, certificate, PROOF_LIMIT)?;

@@ -3,6 +3,7 @@ ghost use Rattle.std.specs.Prelude.{◌≡◌, ◌⊎◌, ◌≤◌, ◌<◌, �
 ghost use Rattle.clean_logs.specs.Laws.{HasItsVariables};
 ghost use Rattle.cnf_commands.specs.Formulas.{faulty, ReadsFormula};
 ghost use Rattle.run_files.specs.Answers.{OnlyReads};
+ghost use Rattle.run_files.specs.Limits.{least_limit};
 
 use arc_base::{Kind, Memory, Name};
 use arc_outside::Store;
@@ -45,7 +46,7 @@ pub fn read_formula<S: Store>(alloc: Global, cnf: &Name, store: &mut S) -> Resul
     ensures told { IfSome (S.held store.old) (λ files. ReadsFormula cnf.now files result) }
     ensures variables { IfOk result HasItsVariables }
     ensures few { IfOk result (λ f. f.vars ≤ 16777216) }
-    ensures reads { OnlyReads S.held S.faults S.absences store.old store.new result }
+    ensures reads { OnlyReads least_limit S.held S.faults S.absences S.taken store.old store.new result }
 {
     let bytes = read_file(alloc, store, cnf, CNF_LIMIT)?;
     match formula(alloc, bytes.as_slice()) {

@@ -2,6 +2,7 @@
 ghost use Rattle.std.specs.Prelude.{◌≡◌};
 ghost use Rattle.cnf_commands.specs.Lrats.{judgement_of, rejection_kind, IsJudged, IsLratRefusal};
 ghost use Rattle.run_files.specs.Answers.{Answers, IsJudging, OnlyReads};
+ghost use Rattle.run_files.specs.Limits.{least_limit};
 
 use crate::formulas::read_formula;
 use crate::proof_lines::judge_proof;
@@ -36,7 +37,7 @@ fn judgement_of(outcome: Outcome) -> Judgement
 /// by line for its steps.
 pub fn lrat<S: Store>(alloc: Global, cnf: &Name, proof: &Name, store: &mut S) -> Result<Done, Stop>
     ensures answer { Answers IsJudging (IsLratRefusal cnf.now proof.now) (IsJudged cnf.now proof.now) (S.held store.old) result }
-    ensures reads { OnlyReads S.held S.faults S.absences store.old store.new result }
+    ensures reads { OnlyReads least_limit S.held S.faults S.absences S.taken store.old store.new result }
 {
     let formula = read_formula(alloc, cnf, store)?;
     try_file(alloc, store, proof, PROOF_LIMIT)?;

@@ -33,7 +33,7 @@ pub fn judge_proof<S: Store>(
 ) -> Result<Outcome, Stop>
     requires { limit < 2 ^ 63 }
     ensures told { IfSome (S.held store.old) (λ files. JudgesProof limit files proof.now f.now result) }
-    ensures reads { OnlyReads S.held S.faults S.absences store.old store.new result }
+    ensures reads { OnlyReads limit S.held S.faults S.absences S.taken store.old store.new result }
 {
     let mut checker = match Checker::make(alloc, f, None, &List::make(alloc)) {
         Ok(checker) => checker,

@@ -5,7 +5,7 @@ ghost use Rattle.clean_logs.specs.Laws.{HasItsVariables};
 ghost use Rattle.proof_log.specs.Texts.{log_text};
 ghost use Rattle.cnf_commands.specs.Cores.{core_of};
 ghost use Rattle.run_files.specs.Answers.{Answers, OnlyReads};
-ghost use Rattle.run_files.specs.Limits.{proof_limit};
+ghost use Rattle.run_files.specs.Limits.{least_limit, proof_limit};
 ghost use Rattle.cnf_commands.specs.Solves.{found_status, found_text, value_text, values_text, IsFound, IsLogFor, IsSolved, IsSolveRefusal, WritesProof};
 
 use crate::formulas::read_formula;
@@ -140,7 +140,7 @@ pub fn solve<S: Store>(alloc: Global, words: &SolveWords, store: &mut S) -> Resu
     requires least { 1 ≤ words.now.conflicts }
     requires most { words.now.conflicts ≤ 200000 }
     ensures answer { Answers (WritesProof words.now) (IsSolveRefusal words.now) (IsSolved words.now) (S.held store.old) result }
-    ensures reads { OnlyReads S.held S.faults S.absences store.old store.new result }
+    ensures reads { OnlyReads least_limit S.held S.faults S.absences S.taken store.old store.new result }
 {
     let formula = read_formula(alloc, &words.formula, store)?;
     if words.proof.is(words.formula.bytes()) {

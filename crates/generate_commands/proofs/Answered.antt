@@ -118,11 +118,11 @@ answers words held (Err (stops.Refused r)) is = whatever held is
 answers words held (Err stops.Memory) is = tt
 answers words held (Err stops.Failed) is = tt
 
-pub any_cause : (failed absent : Type 0) (result : Result Done Stop) → IfErr result (HasStopCause ⊥ ⊥) → IfErr result (HasStopCause failed absent)
-any_cause failed absent (Ok done) h = tt
-any_cause failed absent (Err (stops.Refused r)) h = λ missing. absurd (h missing)
-any_cause failed absent (Err stops.Memory) h = tt
-any_cause failed absent (Err stops.Failed) h = absurd h
+pub any_cause : (failed absent long : Type 0) (result : Result Done Stop) → IfErr result (HasStopCause ⊥ ⊥ ⊥) → IfErr result (HasStopCause failed absent long)
+any_cause failed absent long (Ok done) h = tt
+any_cause failed absent long (Err (stops.Refused r)) h = record { missing = λ is. absurd (h.missing is); too_long = λ is. absurd (h.too_long is) }
+any_cause failed absent long (Err stops.Memory) h = tt
+any_cause failed absent long (Err stops.Failed) h = absurd h
 
 -- ---- few classes
 
@@ -179,7 +179,7 @@ counts_stopped words made built (faults.Limit what count) stop is_made valid fau
 counts_stopped words made built faults.Memory stop is_made valid fault is = subst (λ (s : Stop). Gives (IsGenerateRefusal words) (IsSummary words) (Err s)) (sym is) tt
 
 -- and it is no missing file
-pub stop_cause : (fault : EditFault) (stop : Stop) → StopsFor document_name fault stop → HasStopCause ⊥ ⊥ stop
-stop_cause (faults.Limit what count) stop (inl memory) = subst (λ (s : Stop). HasStopCause ⊥ ⊥ s) (sym memory) tt
-stop_cause (faults.Limit what count) stop (inr told) = subst (λ (s : Stop). HasStopCause ⊥ ⊥ s) (sym told) (λ missing. absurd (cc))
-stop_cause faults.Memory stop is = subst (λ (s : Stop). HasStopCause ⊥ ⊥ s) (sym is) tt
+pub stop_cause : (fault : EditFault) (stop : Stop) → StopsFor document_name fault stop → HasStopCause ⊥ ⊥ ⊥ stop
+stop_cause (faults.Limit what count) stop (inl memory) = subst (λ (s : Stop). HasStopCause ⊥ ⊥ ⊥ s) (sym memory) tt
+stop_cause (faults.Limit what count) stop (inr told) = subst (λ (s : Stop). HasStopCause ⊥ ⊥ ⊥ s) (sym told) (record { missing = λ missing. absurd (cc); too_long = λ long. absurd (cc) })
+stop_cause faults.Memory stop is = subst (λ (s : Stop). HasStopCause ⊥ ⊥ ⊥ s) (sym is) tt

@@ -89,7 +89,7 @@ pub fn generate(alloc: Global, words: &GenerateWords) -> Result<Done, Stop>
     requires some { 6 ≤ words.now.number }
     requires few { words.now.number ≤ 40 }
     ensures answer { Gives (IsGenerateRefusal words.now) (IsSummary words.now) result }
-    ensures cause { IfErr result (HasStopCause ⊥ ⊥) }
+    ensures cause { IfErr result (HasStopCause ⊥ ⊥ ⊥) }
 {
     verdicts_are_right();
     networks_after_edits_are_valid();

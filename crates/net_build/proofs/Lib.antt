@@ -55,7 +55,7 @@ mod SettingForms
 pub mod FacesApart
 pub mod WellFormed
 pub mod OneAnswer
-pub mod NeverMissing
+pub mod OtherKinds
 mod NetworkTried
 mod PrefixKeys
 mod Gathered

@@ -19,10 +19,12 @@ pub fn files_have_one_answer()
         IsNetworkWithin down most doc files net → IsFirstRefusalWithin down most doc files r → ⊥ }
 {}
 
-/// No refusal says that a file is missing: that is for those to say who read the files.
-pub fn refusals_are_never_missing()
-    ensures { (down : List ℕ) (most : ℕ) (doc : Document) (files : List (List ℕ)) (r : Refusal) →
+/// No refusal says that a file is missing or too long: that is for those to say who read the files.
+pub fn refusals_are_of_what_files_say()
+    ensures never_missing { (down : List ℕ) (most : ℕ) (doc : Document) (files : List (List ℕ)) (r : Refusal) →
         IsFirstRefusalWithin down most doc files r → r.kind ≡ kinds.Missing → ⊥ }
+    ensures never_too_long { (down : List ℕ) (most : ℕ) (doc : Document) (files : List (List ℕ)) (r : Refusal) →
+        IsFirstRefusalWithin down most doc files r → r.kind ≡ kinds.TooLong → ⊥ }
 {}
 
 /// What is asked for besides does not change the network: where a list may have fewer entries, or links are to be down,

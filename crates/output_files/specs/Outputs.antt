@@ -7,6 +7,11 @@ use Rattle.arc_outside.specs.Files.{Files, with_files}
 abbrev pub copy_name : List ℕ → List ℕ → List ℕ
 copy_name suffix name = name ++ suffix
 
+-- the name is that of a copy of some router file
+pub record IsCopyName (suffix name : List ℕ) : Type 0 where
+  pub router : List ℕ
+  pub named : name ≡ copy_name suffix router
+
 -- the names of the copies of all router files
 abbrev pub copy_names : List ℕ → List (List ℕ) → List (List ℕ)
 copy_names suffix names = map (copy_name suffix) names

@@ -16,6 +16,7 @@ use Rattle.run_files.specs.declared.limits.Limits.TheVariants.{Judging}
 use Rattle.run_files.specs.declared.outcome.Done.{Done}
 use Rattle.run_files.specs.declared.outcome.Stop.{Stop}
 use Rattle.run_files.specs.declared.outcome.Stop.TheVariants as stops
+use Rattle.run_files.specs.Limits.{least_limit}
 use Rattle.run_files.specs.Answers.{Answers, IsJudging, OnlyReads}
 use Rattle.run_inputs.specs.Counts.{CountsClasses, HasFewClasses, HasManyClasses}
 use Rattle.run_inputs.specs.declared.inputs.Input.{Input}
@@ -98,7 +99,7 @@ answered (Some files) words doc net judged wanted answer done told valid adds na
 )
 
 -- want of memory after a call that only reads
-pub out_of_memory : {S : Type 0} (held : S → Option Files) (faults absences : S → ℕ) (before after : S) → held after ≡ held before → faults before ≤ faults after →
-    absences before ≤ absences after → OnlyReads {S = S} {X = Done} held faults absences before after (Err stops.Memory)
-out_of_memory held faults absences before after same faults_rise absences_rise =
-    record { same = same; cause = tt; faults_rise = faults_rise; absences_rise = absences_rise }
+pub out_of_memory : {S : Type 0} (held : S → Option Files) (faults absences taken : S → ℕ) (before after : S) → held after ≡ held before → faults before ≤ faults after →
+    absences before ≤ absences after → taken before ≤ taken after → OnlyReads {S = S} {X = Done} least_limit held faults absences taken before after (Err stops.Memory)
+out_of_memory held faults absences taken before after same faults_rise absences_rise taken_rise =
+    record { same = same; cause = tt; faults_rise = faults_rise; absences_rise = absences_rise; taken_rise = taken_rise }

@@ -7,6 +7,7 @@ ghost use Rattle.arc_prefer.specs.Answers.{IsRightPreferred};
 ghost use Rattle.arc_prefer.specs.Firsts.{IsOfFirstClass};
 ghost use Rattle.run_inputs.specs.Counts.{HasFewClasses};
 ghost use Rattle.run_files.specs.Answers.{Answers, IsJudging, OnlyReads};
+ghost use Rattle.run_files.specs.Limits.{least_limit};
 ghost use Rattle.reach_commands.specs.Added.{IsLast};
 ghost use Rattle.reach_commands.specs.PreferRuns.{prefers_policy, prefers_status, IsPrefersRefusal, IsPrefersAnswer};
 
@@ -72,7 +73,7 @@ fn status_of(answer: &Preferred) -> u8
 /// answer with its distances and, where it is a no, what goes another way.
 pub fn prefers<S: Store>(alloc: Global, words: &PrefersWords, store: &mut S) -> Result<Done, Stop>
     ensures answer { Answers IsJudging (IsPrefersRefusal words.now) (IsPrefersAnswer words.now) (S.held store.old) result }
-    ensures reads { OnlyReads S.held S.faults S.absences store.old store.new result }
+    ensures reads { OnlyReads least_limit S.held S.faults S.absences S.taken store.old store.new result }
 {
     let policy = policy_of(words);
     let input = read_input(alloc, &words.document, &[], Limits::Judging, store)?;

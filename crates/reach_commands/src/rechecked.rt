@@ -6,6 +6,7 @@ ghost use Rattle.arc_recheck.specs.Singles.{IsAloneAnswer};
 ghost use Rattle.run_inputs.specs.Counts.{HasFewClasses};
 ghost use Rattle.run_inputs.specs.Inputs.{IsFit};
 ghost use Rattle.run_files.specs.Answers.{Answers, IsJudging, OnlyReads};
+ghost use Rattle.run_files.specs.Limits.{least_limit};
 ghost use Rattle.reach_commands.specs.RecheckRuns.{AreRechecked, rechecked_status, IsRecheckRefusal, IsRecheckAnswer};
 
 use arc_base::{Link, List, Memory, Name};
@@ -84,7 +85,7 @@ fn are_all_yes(rechecked: &[Rechecked]) -> bool
 /// right, gives the others anew, and tells for each reach policy that holds the links whose failure alone breaks it.
 pub fn recheck<S: Store>(alloc: Global, words: &RecheckWords, store: &mut S) -> Result<Done, Stop>
     ensures answer { Answers IsJudging (IsRecheckRefusal words.now) (IsRecheckAnswer words.now) (S.held store.old) result }
-    ensures reads { OnlyReads S.held S.faults S.absences store.old store.new result }
+    ensures reads { OnlyReads least_limit S.held S.faults S.absences S.taken store.old store.new result }
 {
     let doc = read_document(alloc, &words.document, store)?;
     let bytes = read_file(alloc, store, &words.report, PROOF_LIMIT)?;

@@ -8,6 +8,7 @@ ghost use Rattle.arc_nodecut.specs.Given.{IsGiven};
 ghost use Rattle.arc_nodecut.specs.Judged.{IsFewReach};
 ghost use Rattle.run_inputs.specs.Counts.{HasFewClasses};
 ghost use Rattle.run_files.specs.Answers.{Answers, IsJudging, OnlyReads};
+ghost use Rattle.run_files.specs.Limits.{least_limit};
 ghost use Rattle.reach_commands.specs.Added.{IsLast};
 ghost use Rattle.reach_commands.specs.Nodes.{nodes_policy, nodes_status, IsNodesRefusal, IsNodesAnswer};
 
@@ -73,7 +74,7 @@ fn status_of(verdict: &NodeVerdict) -> u8
 pub fn nodes<S: Store>(alloc: Global, words: &NodesWords, store: &mut S) -> Result<Done, Stop>
     requires few { words.now.failures ≤ 16 }
     ensures answer { Answers IsJudging (IsNodesRefusal words.now) (IsNodesAnswer words.now) (S.held store.old) result }
-    ensures reads { OnlyReads S.held S.faults S.absences store.old store.new result }
+    ensures reads { OnlyReads least_limit S.held S.faults S.absences S.taken store.old store.new result }
 {
     let policy = policy_of(words);
     let input = read_input(alloc, &words.document, &[], Limits::Judging, store)?;

@@ -15,8 +15,11 @@ use Rattle.policy_report.specs.Certificates.{budget_text, certificate_text}
 use Rattle.arc_repair.specs.declared.answer.Answer.{Answer}
 use Rattle.arc_repair.specs.declared.answer.Answer.TheVariants.{Done as Claimed, Budget}
 use Rattle.arc_repair.specs.Answers.{IsAnswer, IsRepairFault}
+use Rattle.std.proofs.lemmas.List.Elements.{All-nil}
 use Rattle.std.proofs.lemmas.Slice.Zip.{AllZip-long}
 use Rattle.changed_files.specs.Changes.{IsEditable}
+use Rattle.changed_files.proofs.ReadAgain.{copies_named}
+use Rattle.output_files.specs.Outputs.{IsCopyName}
 use Rattle.command_words.specs.declared.commands.RepairWords.{RepairWords}
 use Rattle.run_files.specs.declared.limits.Limits.TheVariants.{Editing}
 use Rattle.run_files.specs.declared.outcome.Done.{Done}
@@ -119,16 +122,28 @@ own : (words : RepairWords) (doc : Document) (sources : Sources) (list : List Ed
 own words doc sources list (Claimed (Repaired price bound flags verdicts) log) done w = record {
   status = inl w.writes.status_is;
   changed = w.changed;
+  copies = subst (All (λ (write : List ℕ × List ℕ). IsCopyName words.suffix write.0)) (sym w.changes.writes_are)
+      (copies_named words.suffix (IsCopyName words.suffix) (λ name. record { router = name; named = refl }) doc.routers sources.files w.changes.new);
+  only = inl w.writes.status_is;
   certificate = certificate_text sources.built.net doc list (Repaired price bound flags verdicts) log;
   writes = w.writes.writes;
 }
 own words doc sources list (Claimed (NoRepair bound) log) done w = record {
   status = inr (inl w.status_is);
   changed = [];
+  copies = All-nil _;
+  only = inr refl;
   certificate = certificate_text sources.built.net doc list (NoRepair bound) log;
   writes = w.writes;
 }
-own words doc sources list (Budget log) done w = record { status = inr (inr w.status_is); changed = []; certificate = budget_text words.conflicts words.bound log; writes = w.writes }
+own words doc sources list (Budget log) done w = record {
+  status = inr (inr w.status_is);
+  changed = [];
+  copies = All-nil _;
+  only = inr refl;
+  certificate = budget_text words.conflicts words.bound log;
+  writes = w.writes;
+}
 
 done_told : (files : Files) (words : RepairWords) (doc : Document) (sources : Sources) (list : List Edit) (answer : Answer) (done : Done) → HoldsDocument words.document files doc → has_clash words doc ≡ false
     → ReadsSources Editing [] words.document doc files (Ok sources) → IsWellFormed doc → AreFit doc sources.built.net → IsBuiltWithin [] 2048 doc sources.files sources.built
@@ -162,7 +177,7 @@ repaired held one same words doc sources list answer done before free told well_
     go (Some files) b t = (own words doc sources list answer done writes, done_told files words doc sources list answer done b free (t b) well_formed fit built count bytes found writes)
 
 -- a count is no missing file
-pub stop_cause : (failed absent : Type 0) (document : List ℕ) (fault : EditFault) (stop : Stop) → StopsFor document fault stop → HasStopCause failed absent stop
-stop_cause failed absent document (faults.Limit what count) stop (inl memory) = subst (λ (s : Stop). HasStopCause failed absent s) (sym memory) tt
-stop_cause failed absent document (faults.Limit what count) stop (inr told) = subst (λ (s : Stop). HasStopCause failed absent s) (sym told) (λ missing. absurd (cc))
-stop_cause failed absent document faults.Memory stop is = subst (λ (s : Stop). HasStopCause failed absent s) (sym is) tt
+pub stop_cause : (failed absent long : Type 0) (document : List ℕ) (fault : EditFault) (stop : Stop) → StopsFor document fault stop → HasStopCause failed absent long stop
+stop_cause failed absent long document (faults.Limit what count) stop (inl memory) = subst (λ (s : Stop). HasStopCause failed absent long s) (sym memory) tt
+stop_cause failed absent long document (faults.Limit what count) stop (inr told) = subst (λ (s : Stop). HasStopCause failed absent long s) (sym told) (record { missing = λ missing. absurd (cc); too_long = λ long. absurd (cc) })
+stop_cause failed absent long document faults.Memory stop is = subst (λ (s : Stop). HasStopCause failed absent long s) (sym is) tt

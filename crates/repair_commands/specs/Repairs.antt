@@ -22,7 +22,7 @@ use Rattle.arc_repair.specs.declared.answer.Answer.{Answer}
 use Rattle.arc_repair.specs.declared.answer.Answer.TheVariants.{Done as Claimed, Budget}
 use Rattle.arc_repair.specs.Answers.{AnswersFew, IsAnswer, IsRepairFault, IsUntouched, KeepsLimits, answer_steps}
 use Rattle.arc_repair.specs.Repairs.{Mends, none_of}
-use Rattle.output_files.specs.Outputs.{clashes, copy_names, wrote_lines}
+use Rattle.output_files.specs.Outputs.{clashes, copy_names, wrote_lines, IsCopyName}
 use Rattle.changed_files.specs.Changes.{Changes, IsEditable}
 use Rattle.command_words.specs.declared.commands.RepairWords.{RepairWords}
 use Rattle.run_files.specs.declared.limits.Limits.TheVariants.{Editing}
@@ -105,10 +105,13 @@ WritesAnswer words doc built olds list (Claimed claim log) done = WritesClaim wo
 WritesAnswer words doc built olds list (Budget log) done =
     Writes words (codes "budget " ++ decimal words.conflicts ++ codes "\n") [] (budget_text words.conflicts words.bound log) 3 done
 
--- an answer of the command: status 0, 2 or 3, and the last file that is written is the certificate
+-- an answer of the command: status 0, 2 or 3; copies of router files are written after 0 only, and the last file that is written
+-- is the certificate
 pub record WritesCertificate (words : RepairWords) (done : Done) : Type 0 where
   pub status : (done.status ≡ 0) ⊎ ((done.status ≡ 2) ⊎ (done.status ≡ 3))
   pub changed : List (List ℕ × List ℕ)
+  pub copies : All (λ write. IsCopyName words.suffix write.0) changed
+  pub only : (done.status ≡ 0) ⊎ (changed ≡ [])
   pub certificate : List ℕ
   pub writes : done.writes ≡ changed ++ (words.proof, certificate) ∷ []
 

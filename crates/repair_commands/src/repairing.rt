@@ -7,6 +7,7 @@ ghost use Rattle.edit_space.specs.declared.edit_kinds.EditFault.TheVariants as f
 ghost use Rattle.net_model.specs.Policies.{HasFewFailures};
 ghost use Rattle.arc_repair.specs.Answers.{IsRepairFault};
 ghost use Rattle.run_files.specs.Answers.{Answers, OnlyReads};
+ghost use Rattle.run_files.specs.Limits.{least_limit};
 ghost use Rattle.repair_commands.specs.Repairs.{has_clash, IsRepaired, IsRepairRefusal, WritesCertificate};
 ghost use Rattle.repair_commands.specs.Steps.{IsFound, StopsFor};
 
@@ -68,7 +69,7 @@ pub fn repair<S: Store>(alloc: Global, words: &RepairWords, store: &mut S) -> Re
     requires bound { words.now.bound ≤ 512 }
     requires most { words.now.conflicts ≤ 200000 }
     ensures answer { Answers (WritesCertificate words.now) (IsRepairRefusal words.now) (IsRepaired words.now) (S.held store.old) result }
-    ensures reads { OnlyReads S.held S.faults S.absences store.old store.new result }
+    ensures reads { OnlyReads least_limit S.held S.faults S.absences S.taken store.old store.new result }
 {
     let doc = read_document(alloc, &words.document, store)?;
     if has_clash(alloc, words, &doc)? {

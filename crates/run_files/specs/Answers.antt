@@ -1,8 +1,9 @@
 -- What calls over a store answer, and what they leave of it.
 use Rattle.std.specs.Prelude.{◌≡◌, ℕ, ◌≤◌, [], Option, IfSome, Result, Ok, Err, IfErr}
-use Rattle.arc_base.specs.declared.refusal.Kind.TheVariants.{Missing}
+use Rattle.arc_base.specs.declared.refusal.Kind.TheVariants.{Missing, TooLong}
 use Rattle.arc_outside.specs.Causes.{Rose}
 use Rattle.arc_outside.specs.Files.{Files, with_files}
+use Rattle.arc_outside.specs.Reads.{TookMore}
 use Rattle.run_files.specs.declared.outcome.Done.{Done}
 use Rattle.run_files.specs.declared.outcome.FileRefusal.{FileRefusal}
 use Rattle.run_files.specs.declared.outcome.Reason.TheVariants as reasons
@@ -27,22 +28,28 @@ pub record IsJudging (done : Done) : Type 0 where
   pub status : done.status ≤ 1
   pub writes : done.writes ≡ []
 
--- A missing file is refused only where the count of absences rose, and a failure is told only where the count of faults
--- rose.
-abbrev pub HasRefusalCause : Type 0 → FileRefusal → Type 0
-HasRefusalCause absent r = r.reason ≡ reasons.Kind Missing → absent
+-- A missing file is refused only where the count of absences rose, and one that is too long only where reads took more bytes
+-- than it may have.
+pub record HasRefusalCause (absent long : Type 0) (r : FileRefusal) : Type 0 where
+  pub missing : r.reason ≡ reasons.Kind Missing → absent
+  pub too_long : r.reason ≡ reasons.Kind TooLong → long
 
-abbrev pub HasStopCause : Type 0 → Type 0 → Stop → Type 0
-HasStopCause failed absent stops.Memory = Unit {0}
-HasStopCause failed absent stops.Failed = failed
-HasStopCause failed absent (stops.Refused r) = HasRefusalCause absent r
+-- And a failure is told only where the count of faults rose.
+abbrev pub HasStopCause : (failed absent long : Type 0) → Stop → Type 0
+HasStopCause failed absent long stops.Memory = Unit {0}
+HasStopCause failed absent long stops.Failed = failed
+HasStopCause failed absent long (stops.Refused r) = HasRefusalCause absent long r
 
--- a call that only reads: what the store holds stays, its counts never fall, and a stop has its cause
-pub record OnlyReads {S X : Type 0} (held : S → Option Files) (faults absences : S → ℕ) (before after : S) (result : Result X Stop) : Type 0 where
+-- A call that only reads: what the store holds stays, its counts never fall, and a stop has its cause. No file that it refuses as
+-- too long may have fewer bytes than the limit.
+pub record OnlyReads {S X : Type 0} (limit : ℕ) (held : S → Option Files) (faults absences taken : S → ℕ)
+    (before after : S) (result : Result X Stop) : Type 0 where
   pub same : held after ≡ held before
-  pub cause : IfErr result (HasStopCause (Rose (faults before) (faults after)) (Rose (absences before) (absences after)))
+  pub cause : IfErr result
+    (HasStopCause (Rose (faults before) (faults after)) (Rose (absences before) (absences after)) (TookMore limit (taken before) (taken after)))
   pub faults_rise : faults before ≤ faults after
   pub absences_rise : absences before ≤ absences after
+  pub taken_rise : taken before ≤ taken after
 
 -- What a command's status tells of the files before and after: each of its answers tells by its status, with its files written, and
 -- each first refusal by 5, with nothing written.

@@ -3,6 +3,10 @@ use Rattle.std.specs.Prelude.{ℕ}
 use Rattle.run_files.specs.declared.limits.Limits.{Limits}
 use Rattle.run_files.specs.declared.limits.Limits.TheVariants.{Judging, Editing}
 
+-- The least limit of all: a file of any kind may have so many bytes.
+abbrev pub least_limit : ℕ
+least_limit = 1048576
+
 -- bytes of a document
 abbrev pub document_limit : ℕ
 document_limit = 1048576

@@ -1,5 +1,5 @@
 //! Files that are read line by line.
-ghost use Rattle.std.specs.Prelude.{◌≡◌, ◌<◌, false, IfOk, IfSome, OnOk, IsTrue};
+ghost use Rattle.std.specs.Prelude.{◌≡◌, ◌+◌, ◌-◌, ◌^◌, ◌<◌, ◌≤◌, min, false, IfOk, IfSome, OnOk, IsTrue};
 ghost use Rattle.arc_outside.specs.LinesRead.{ahead};
 ghost use Rattle.run_files.specs.Answers.{OnlyReads};
 ghost use Rattle.run_files.specs.ReadingLines.{MovesOn, IsWithinLimit};
@@ -22,7 +22,9 @@ pub fn next_line<S: Store>(
     ensures ok { OnOk result (pieces.new.failed ≡ false) }
     ensures fewer { IfOk result (λ found. IsTrue found → ahead pieces.new < ahead pieces.old) }
     ensures limit { pieces.new.limit ≡ pieces.old.limit }
-    ensures reads { OnlyReads S.held S.faults S.absences store.old store.new result }
+    ensures reads { OnlyReads (pieces.old.limit - pieces.old.place) S.held S.faults S.absences S.taken store.old store.new result }
+    ensures took { min (S.taken store.old + (pieces.new.place - pieces.old.place)) (2 ^ 64 - 1) ≤ S.taken store.new }
+    ensures onward { pieces.old.place ≤ pieces.new.place }
 {
     match pieces.next(store, name) {
         Ok(found) => Ok(found),
@@ -36,7 +38,7 @@ pub fn next_line<S: Store>(
 /// Reads a file to its end and keeps nothing of it, or refuses it.
 pub fn try_file<S: Store>(alloc: Global, store: &mut S, name: &Name, limit: u64) -> Result<(), Stop>
     ensures told { IfSome (S.held store.old) (λ files. IsWithinLimit limit files name.now result) }
-    ensures reads { OnlyReads S.held S.faults S.absences store.old store.new result }
+    ensures reads { OnlyReads limit S.held S.faults S.absences S.taken store.old store.new result }
 {
     let mut pieces = Pieces::make(alloc, limit);
     'lines: loop {

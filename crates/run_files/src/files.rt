@@ -1,7 +1,7 @@
 //! Files that are read.
-ghost use Rattle.std.specs.Prelude.{◌≡◌, ◌-◌, ◌^◌, ◌<◌, ◌≤◌, All, length, min, IfOk, IfSome};
+ghost use Rattle.std.specs.Prelude.{◌≡◌, ◌+◌, ◌-◌, ◌^◌, ◌<◌, ◌≤◌, All, length, min, IfOk, IfSome};
 ghost use Rattle.run_files.specs.Answers.{OnlyReads};
-ghost use Rattle.run_files.specs.Limits.{router_limit};
+ghost use Rattle.run_files.specs.Limits.{least_limit, router_limit};
 ghost use Rattle.run_files.specs.Reading.{ReadsFile, ReadsRouters};
 
 use crate::limits::Limits;
@@ -20,7 +20,8 @@ pub fn read_file<S: Store>(
 ) -> Result<Vec<u8>, Stop>
     ensures told { IfSome (S.held store.old) (λ files. ReadsFile limit files name.now result) }
     ensures few { IfOk result (λ bytes. length bytes.items ≤ limit) }
-    ensures reads { OnlyReads S.held S.faults S.absences store.old store.new result }
+    ensures reads { OnlyReads limit S.held S.faults S.absences S.taken store.old store.new result }
+    ensures took { IfOk result (λ bytes. min (S.taken store.old + length bytes.items) (2 ^ 64 - 1) ≤ S.taken store.new) }
 {
     match read_all(alloc, store, name, limit) {
         Ok(bytes) => Ok(bytes),
@@ -43,7 +44,8 @@ fn read_router<S: Store>(
     ensures within { IfOk result (λ bytes. length bytes.items ≤ room) }
     ensures few { IfOk result (λ bytes. length bytes.items ≤ 8388608) }
     ensures bytes { IfOk result (λ bytes. length bytes.items ≤ router_limit limits) }
-    ensures reads { OnlyReads S.held S.faults S.absences store.old store.new result }
+    ensures reads { OnlyReads (min least_limit room) S.held S.faults S.absences S.taken store.old store.new result }
+    ensures took { IfOk result (λ bytes. min (S.taken store.old + length bytes.items) (2 ^ 64 - 1) ≤ S.taken store.new) }
 {
     read_file(alloc, store, name, limits.router_bytes().min(room))
 }
@@ -61,7 +63,7 @@ pub fn read_routers<S: Store>(
     ensures count { IfOk result (λ contents. length contents ≡ length names.now) }
     ensures few { IfOk result (All (λ text. length text < 2 ^ 32)) }
     ensures bytes { IfOk result (All (λ text. length text ≤ router_limit limits)) }
-    ensures reads { OnlyReads S.held S.faults S.absences store.old store.new result }
+    ensures reads { OnlyReads least_limit S.held S.faults S.absences S.taken store.old store.new result }
 {
     let mut contents = List::make(alloc);
     let mut room = limits.all_bytes();

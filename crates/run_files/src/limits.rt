@@ -1,6 +1,6 @@
 //! How large the files of a command may be.
 ghost use Rattle.std.specs.Prelude.{◌≡◌, ◌≤◌};
-ghost use Rattle.run_files.specs.Limits.{entries_limit, router_limit, routers_limit};
+ghost use Rattle.run_files.specs.Limits.{entries_limit, least_limit, router_limit, routers_limit};
 
 /// How many bytes a document may have.
 pub const DOCUMENT_LIMIT: u64 = 1_048_576;
@@ -22,6 +22,7 @@ impl Limits {
     pub fn router_bytes(self) -> u64
         ensures value { result ≡ router_limit self }
         ensures small { result ≤ 8388608 }
+        ensures least { least_limit ≤ result }
     {
         match self {
             Limits::Judging => 8_388_608,
@@ -33,6 +34,7 @@ impl Limits {
     pub fn all_bytes(self) -> u64
         ensures value { result ≡ routers_limit self }
         ensures small { result ≤ 67108864 }
+        ensures least { least_limit ≤ result }
     {
         match self {
             Limits::Judging => 67_108_864,

@@ -5,7 +5,7 @@ ghost use Rattle.net_build.specs.Networks.{IsBuiltWithin};
 ghost use Rattle.net_doc.specs.Documents.{IsWellFormed};
 ghost use Rattle.run_inputs.specs.Inputs.{name_of, named, AreFit, HoldsDocument, IsFit, ReadsDocumentAt, ReadsFiles, ReadsInput, ReadsSources};
 ghost use Rattle.run_files.specs.Answers.{OnlyReads};
-ghost use Rattle.run_files.specs.Limits.{entries_limit, router_limit};
+ghost use Rattle.run_files.specs.Limits.{entries_limit, least_limit, router_limit};
 
 use arc_base::{List, Memory, Name};
 use arc_outside::Store;
@@ -61,7 +61,7 @@ fn named(alloc: Global, document: &Name, routers: &List<Name>, refusal: Refusal)
 pub fn read_document<S: Store>(alloc: Global, name: &Name, store: &mut S) -> Result<Document, Stop>
     ensures told { IfSome (S.held store.old) (λ files. ReadsDocumentAt name.now files result) }
     ensures well_formed { IfOk result IsWellFormed }
-    ensures reads { OnlyReads S.held S.faults S.absences store.old store.new result }
+    ensures reads { OnlyReads least_limit S.held S.faults S.absences S.taken store.old store.new result }
 {
     let bytes = read_file(alloc, store, name, DOCUMENT_LIMIT)?;
     match document(alloc, bytes.as_slice()) {
@@ -89,7 +89,7 @@ pub fn read_sources<S: Store>(
     ensures count { IfOk result (λ sources. length sources.files ≡ length doc.now.routers) }
     ensures bytes { IfOk result (λ sources. All (λ text. length text ≤ router_limit limits) sources.files) }
     ensures down { IfOk result (λ sources. first_above (length sources.built.net.links) down.now ≡ None) }
-    ensures reads { OnlyReads S.held S.faults S.absences store.old store.new result }
+    ensures reads { OnlyReads least_limit S.held S.faults S.absences S.taken store.old store.new result }
 {
     let files = read_routers(alloc, store, doc.routers.slice(), limits)?;
     match network_within(alloc, doc, &files, down, limits.entries()) {
@@ -113,7 +113,7 @@ pub fn read_files<S: Store>(
         → ReadsFiles limits down.now name.now files result) }
     ensures fit { IfOk result IsFit }
     ensures down { IfOk result (λ input. first_above (length input.net.links) down.now ≡ None) }
-    ensures reads { OnlyReads S.held S.faults S.absences store.old store.new result }
+    ensures reads { OnlyReads least_limit S.held S.faults S.absences S.taken store.old store.new result }
 {
     let sources = read_sources(alloc, name, &doc, down, limits, store)?;
     let built = sources.built;
@@ -134,7 +134,7 @@ pub fn read_input<S: Store>(
     ensures told { IfSome (S.held store.old) (λ files. ReadsInput limits down.now name.now files result) }
     ensures fit { IfOk result IsFit }
     ensures down { IfOk result (λ input. first_above (length input.net.links) down.now ≡ None) }
-    ensures reads { OnlyReads S.held S.faults S.absences store.old store.new result }
+    ensures reads { OnlyReads least_limit S.held S.faults S.absences S.taken store.old store.new result }
 {
     let doc = read_document(alloc, name, store)?;
     read_files(alloc, name, doc, down, limits, store)

@@ -2,6 +2,7 @@
 ghost use Rattle.std.specs.Prelude.{◌≡◌, IfOk, IfSome};
 ghost use Rattle.net_doc.specs.Documents.{IsWellFormed};
 ghost use Rattle.run_files.specs.Answers.{Gives, IsJudging, OnlyReads};
+ghost use Rattle.run_files.specs.Limits.{least_limit};
 ghost use Rattle.run_inputs.specs.Inputs.{HoldsDocument};
 ghost use Rattle.verify_commands.specs.Checks.{judgement_of, IsTextChecked, RefusesInput};
 
@@ -35,7 +36,7 @@ pub fn check_text<S: Store>(
     ensures told { IfSome (S.held store.old) (λ files. HoldsDocument document.now files doc
         → Gives (RefusesInput document.now files) (IsTextChecked document.now text.now files) result) }
     ensures own { IfOk result IsJudging }
-    ensures reads { OnlyReads S.held S.faults S.absences store.old store.new result }
+    ensures reads { OnlyReads least_limit S.held S.faults S.absences S.taken store.old store.new result }
 {
     let input = read_files(alloc, document, doc, &[], Limits::Judging, store)?;
     count_classes(alloc, document, &input.net, &input.doc.policies)?;

@@ -2,6 +2,7 @@
 ghost use Rattle.std.specs.Prelude.{◌≡◌, None, IfOk};
 ghost use Rattle.net_build.specs.Linking.{first_above};
 ghost use Rattle.run_files.specs.Answers.{Answers, IsJudging, OnlyReads};
+ghost use Rattle.run_files.specs.Limits.{least_limit};
 ghost use Rattle.verify_commands.specs.Traces.{down_flags, IsTraceRefusal, IsTraced};
 
 use arc_base::{Kind, List, Name};
@@ -30,7 +31,7 @@ fn down_flags(alloc: Global, links: u32, numbers: &[u32]) -> Result<Vec<bool>, A
 /// Traces packets from the one prefix to the other, with these links down.
 pub fn trace<S: Store>(alloc: Global, words: &TraceWords, store: &mut S) -> Result<Done, Stop>
     ensures answer { Answers IsJudging (IsTraceRefusal words.now) (IsTraced words.now) (S.held store.old) result }
-    ensures reads { OnlyReads S.held S.faults S.absences store.old store.new result }
+    ensures reads { OnlyReads least_limit S.held S.faults S.absences S.taken store.old store.new result }
 {
     let input = read_input(
         alloc,

@@ -5,6 +5,7 @@ ghost use Rattle.net_model.specs.Witnesses.{is_yes};
 ghost use Rattle.run_inputs.specs.Counts.{HasFewClasses, IsJudgingRefusal};
 ghost use Rattle.run_inputs.specs.Inputs.{IsFit};
 ghost use Rattle.run_files.specs.Answers.{Answers, IsJudging, OnlyReads};
+ghost use Rattle.run_files.specs.Limits.{least_limit};
 ghost use Rattle.verify_commands.specs.Verifies.{IsVerdictOn, IsVerified, verdicts_status};
 
 use arc_base::{List, Memory, Name};
@@ -58,7 +59,7 @@ fn status_of(verdicts: &[Verdict]) -> u8
 /// Judges each policy of the document, and reports the verdicts.
 pub fn verify<S: Store>(alloc: Global, document: &Name, store: &mut S) -> Result<Done, Stop>
     ensures answer { Answers IsJudging (IsJudgingRefusal Limits.Judging document.now) (IsVerified document.now) (S.held store.old) result }
-    ensures reads { OnlyReads S.held S.faults S.absences store.old store.new result }
+    ensures reads { OnlyReads least_limit S.held S.faults S.absences S.taken store.old store.new result }
 {
     let input = read_input(alloc, document, &[], Limits::Judging, store)?;
     count_classes(alloc, document, &input.net, &input.doc.policies)?;

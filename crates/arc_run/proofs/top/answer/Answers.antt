@@ -38,7 +38,8 @@ returns-in-Generate-clause-answer g c = rw c.in-Generate.is (answers c.in-Genera
 pub returns-in-Generate-clause-reads : goal.returns-in-Generate-clause-reads
 returns-in-Generate-clause-reads g c = record {
   same = refl;
-  cause = any_cause _ _ c.generate.result c.generate.ensures.cause;
+  cause = any_cause _ _ _ c.generate.result c.generate.ensures.cause;
   faults_rise = omega arith;
   absences_rise = omega arith;
+  taken_rise = omega arith;
 }

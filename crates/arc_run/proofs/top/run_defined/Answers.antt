@@ -8,7 +8,7 @@ pub returns-in-Ok : goal.returns-in-Ok
 returns-in-Ok g c =
     let e = c.finish.ensures in
     finished (command_of c.args.words.now) c.in-Ok.outcome (g.S.Store.held c.args.store.now) (g.S.Store.held c.perform.new.store) (g.S.Store.held c.finish.new.store) (g.K.Sink.written c.args.out.now) (g.K.Sink.written c.finish.new.out) c.finish.result.code
-    c.in-Ok.ensures.defined (λ rose. omega (arith, rose, e.absences)) c.in-Ok.ensures.cause c.in-Ok.ensures.same
+    c.in-Ok.ensures.defined (λ rose. omega (arith, rose, e.absences)) (λ more. omega (arith, more, e.taken)) c.in-Ok.ensures.cause c.in-Ok.ensures.same
     e.ended (λ h. let f = e.store_failed h in (omega (arith, f.0, c.in-Ok.ensures.faults), f.1, f.2, f.3)) e.sink_failed e.memory e.code
 
 pub returns-in-Err-Failed : goal.returns-in-Err-Failed

@@ -16,4 +16,5 @@ loop-write-preserved g c = record {
       (c.in-Ok.ensures.written ∙ ap (λ (b : List ℕ). option_map (λ files. with_file files c.write-item.result.0 b) (g.S.Store.held c.loop-write.store)) c.bytes.ensures);
   faults = omega (arith, c.loop-write.invariant.faults, c.in-Ok.ensures.cause.later);
   absences = omega (arith, c.loop-write.invariant.absences, c.in-Ok.ensures.absence.later);
+  taken = c.write_whole.ensures.taken ∙ c.loop-write.invariant.taken;
 }

@@ -1,5 +1,5 @@
-use Rattle.std.proofs.Common.{◌≡◌, ◌≤◌, ◌+◌, false}
-use Rattle.std.specs.Prelude.{IfSome}
+use Rattle.std.proofs.Common.{◌≡◌, ◌≤◌, ◌+◌, ◌-◌, ◌^◌, false}
+use Rattle.std.specs.Prelude.{IfSome, min}
 use Rattle.arc_outside.specs.LinesRead.{ahead}
 use Rattle.proof_check.specs.View.{known}
 use Rattle.cnf_commands.proofs.LineByLine.{JudgesRest}
@@ -12,6 +12,8 @@ invariant-lines g l = record {
   limit : l.pieces.limit ≡ l.limit;
   going : l.pieces.failed ≡ false;
   same : g.S.Store.held l.store ≡ g.S.Store.held l.fn.store;
+  took : min (g.S.Store.taken l.fn.store + l.pieces.place) (2 ^ 64 - 1) ≤ g.S.Store.taken l.store;
+  taken : g.S.Store.taken l.fn.store ≤ g.S.Store.taken l.store;
   faults : g.S.Store.faults l.fn.store ≤ g.S.Store.faults l.store;
   absences : g.S.Store.absences l.fn.store ≤ g.S.Store.absences l.store;
 }

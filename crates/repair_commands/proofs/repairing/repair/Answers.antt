@@ -12,9 +12,10 @@ returns-in-Err-clause-answer g c =
 pub returns-in-Err-clause-reads : goal.returns-in-Err-clause-reads
 returns-in-Err-clause-reads g c = record {
   same = c.in_ok-sources.ensures.reads.same ∙ c.in_ok-doc.ensures.reads.same;
-  cause = stop_cause _ _ c.args.words.now.document c.in-Err.fault c.fault_stop.result c.fault_stop.ensures;
+  cause = stop_cause _ _ _ c.args.words.now.document c.in-Err.fault c.fault_stop.result c.fault_stop.ensures;
   faults_rise = omega (arith, c.in_ok-doc.ensures.reads.faults_rise, c.in_ok-sources.ensures.reads.faults_rise);
   absences_rise = omega (arith, c.in_ok-doc.ensures.reads.absences_rise, c.in_ok-sources.ensures.reads.absences_rise);
+  taken_rise = omega (arith, c.in_ok-doc.ensures.reads.taken_rise, c.in_ok-sources.ensures.reads.taken_rise);
 }
 
 pub answer_done-requires-clause-whole : goal.answer_done-requires-clause-whole
@@ -34,6 +35,7 @@ returns-in_err-done-clause-reads g c =
       cause = tt;
       faults_rise = omega (arith, c.in_ok-doc.ensures.reads.faults_rise, c.in_ok-sources.ensures.reads.faults_rise);
       absences_rise = omega (arith, c.in_ok-doc.ensures.reads.absences_rise, c.in_ok-sources.ensures.reads.absences_rise);
+      taken_rise = omega (arith, c.in_ok-doc.ensures.reads.taken_rise, c.in_ok-sources.ensures.reads.taken_rise);
     })
 
 pub returns-clause-answer : goal.returns-clause-answer

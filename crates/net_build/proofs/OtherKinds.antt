@@ -1,4 +1,4 @@
--- No refusal of a network says that a file is missing.
+-- No refusal of a network says that a file is missing or too long.
 use Rattle.std.proofs.Common.{◌≡◌, ℕ, inl, inr, Bool, true, false, List, [], ◌∷◌, refl, sym, ◌∙◌, ap}
 use Rattle.std.proofs.lemmas.Bool.{false≢true}
 use Rattle.arc_base.specs.declared.refusal.Kind.{Kind}
@@ -15,16 +15,21 @@ use Rattle.net_build.specs.Networks.{IsFaulty, IsFirstRefusalWithin}
 use Rattle.net_build.specs.Order.{Try, Hostname, Protocol, TwoAreas, SameAs, LinkFace, DownLinks, NeighborUnknown, NetworkNotConnected, Overlap, LinkSubnets, ListStopsSession, AdjacencyForm, Interfaces, Entries, Endpoint, RefusesWithin, IsFirstOf, tries}
 use Rattle.net_build.specs.Reasons.{InFiles, InDocument}
 
+-- whether a kind speaks of how a file was read
+abbrev says_reading : Kind → Bool
+says_reading kinds.Missing = true
+says_reading kinds.TooLong = true
+says_reading _ = false
+
 -- the kind says something else
 abbrev IsOther : Kind → Type 0
-IsOther kind = kind ≡ kinds.Missing → ⊥
+IsOther kind = says_reading kind ≡ false
 
-abbrev says_missing : Kind → Bool
-says_missing kinds.Missing = true
-says_missing _ = false
+of_kind : (k l : Kind) → k ≡ l → says_reading l ≡ false → IsOther k
+of_kind k l same other = ap says_reading same ∙ other
 
-of_kind : (k l : Kind) → k ≡ l → says_missing l ≡ false → IsOther k
-of_kind k l same other missing = false≢true (sym other ∙ ap says_missing (sym same ∙ missing))
+is_other : (k l : Kind) → IsOther k → says_reading l ≡ true → k ≡ l → ⊥
+is_other k l other says same = false≢true (sym other ∙ ap says_reading same ∙ says)
 
 -- a line is no command for its words
 no_command : (text : List ℕ) (line : Line) (within : BlockKind) (kind : Kind) → IsNoCommand text line within kind → IsOther kind
@@ -43,10 +48,10 @@ faulty text line kind (inl orphan) = of_kind kind kinds.OrphanLine orphan.0 refl
 faulty text line kind (inr (inl banner)) = of_kind kind kinds.BadWord banner.0 refl
 faulty text line kind (inr (inr wrong)) = refused text wrong.lines line kind wrong.refused
 
-in_files : {X : Type 0} (kind : Kind) (Offends : ℕ → X → ℕ → Type 0) (items : List X) → says_missing kind ≡ false → (r : Refusal) → InFiles kind Offends items r → IsOther r.kind
+in_files : {X : Type 0} (kind : Kind) (Offends : ℕ → X → ℕ → Type 0) (items : List X) → says_reading kind ≡ false → (r : Refusal) → InFiles kind Offends items r → IsOther r.kind
 in_files kind Offends items other r refuses = of_kind r.kind kind (ap (λ (x : Refusal). x.kind) refuses.told) other
 
-in_document : {X : Type 0} (kind : Kind) (Offends : ℕ → X → Type 0) (items : List X) → says_missing kind ≡ false → (r : Refusal) → InDocument kind Offends items r → IsOther r.kind
+in_document : {X : Type 0} (kind : Kind) (Offends : ℕ → X → Type 0) (items : List X) → says_reading kind ≡ false → (r : Refusal) → InDocument kind Offends items r → IsOther r.kind
 in_document kind Offends items other r refuses = of_kind r.kind kind (ap (λ (x : Refusal). x.kind) refuses.told) other
 
 -- and the network for what they say
@@ -76,6 +81,12 @@ first_tried down most doc configs [] r first = absurd first
 first_tried down most doc configs (t ∷ ts) r (inl first) = tried down most doc configs t r first.made
 first_tried down most doc configs (t ∷ ts) r (inr later) = first_tried down most doc configs ts r later.1
 
+other : (down : List ℕ) (most : ℕ) (doc : Document) (files : List (List ℕ)) (r : Refusal) → IsFirstRefusalWithin down most doc files r → IsOther r.kind
+other down most doc files r (inl first) = faulty first.text r.number r.kind first.faulty
+other down most doc files r (inr is) = first_tried down most doc is.configs tries r is.first
+
 pub never_missing : (down : List ℕ) (most : ℕ) (doc : Document) (files : List (List ℕ)) (r : Refusal) → IsFirstRefusalWithin down most doc files r → r.kind ≡ kinds.Missing → ⊥
-never_missing down most doc files r (inl first) = faulty first.text r.number r.kind first.faulty
-never_missing down most doc files r (inr is) = first_tried down most doc is.configs tries r is.first
+never_missing down most doc files r first = is_other r.kind kinds.Missing (other down most doc files r first) refl
+
+pub never_too_long : (down : List ℕ) (most : ℕ) (doc : Document) (files : List (List ℕ)) (r : Refusal) → IsFirstRefusalWithin down most doc files r → r.kind ≡ kinds.TooLong → ⊥
+never_too_long down most doc files r first = is_other r.kind kinds.TooLong (other down most doc files r first) refl
