@@ -89,7 +89,6 @@ impl Pieces {
         ensures too_long { IsErrOf result ReadAll.TooLong → TookMore (self.old.limit - self.old.place) (S.taken store.old) (S.taken store.new) }
         ensures failed { IsErrOf result (ReadAll.Fault Fault.Failed) → Rose (S.faults store.old) (S.faults store.new) }
         ensures missing { IsErrOf result (ReadAll.Fault Fault.Missing) → Rose (S.absences store.old) (S.absences store.new) }
-        ensures taken { S.taken store.old ≤ S.taken store.new }
         ensures faults { S.faults store.old ≤ S.faults store.new }
         ensures absences { S.absences store.old ≤ S.absences store.new }
     {
@@ -132,7 +131,6 @@ impl Pieces {
         ensures too_long { IsErrOf result ReadAll.TooLong → TookMore (self.old.limit - self.old.place) (S.taken store.old) (S.taken store.new) }
         ensures failed { IsErrOf result (ReadAll.Fault Fault.Failed) → Rose (S.faults store.old) (S.faults store.new) }
         ensures missing { IsErrOf result (ReadAll.Fault Fault.Missing) → Rose (S.absences store.old) (S.absences store.new) }
-        ensures taken { S.taken store.old ≤ S.taken store.new }
         ensures faults { S.faults store.old ≤ S.faults store.new }
         ensures absences { S.absences store.old ≤ S.absences store.new }
     {

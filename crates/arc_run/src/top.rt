@@ -1,7 +1,7 @@
 //! The top call.
 ghost use Rattle.std.specs.Prelude.{◌≡◌, ◌⊎◌, ◌<◌, ◌≤◌, Some, None, IfSome, IsSomeAnd, IfOk, IsErrOf};
 ghost use Rattle.arc_outside.specs.Causes.{Rose};
-ghost use Rattle.arc_outside.specs.Reads.{TookMore};
+ghost use Rattle.arc_outside.specs.Reads.{TookMore, TookOn};
 ghost use Rattle.command_words.specs.Commands.{command_of, HasLimit};
 ghost use Rattle.run_files.specs.Answers.{Answers, OnlyReads};
 ghost use Rattle.run_files.specs.Limits.{least_limit};
@@ -63,7 +63,7 @@ fn perform<S: Store>(alloc: Global, words: &[Name], store: &mut S) -> Result<Out
     ensures same { S.held store.new ≡ S.held store.old }
     ensures faults { S.faults store.old ≤ S.faults store.new }
     ensures absences { S.absences store.old ≤ S.absences store.new }
-    ensures taken { S.taken store.old ≤ S.taken store.new }
+    ensures taken { TookOn (S.taken store.old) (S.taken store.new) }
 {
     let command = match read_words(alloc, words) {
         Ok(Some(command)) => command,

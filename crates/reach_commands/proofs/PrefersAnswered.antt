@@ -17,6 +17,7 @@ use Rattle.run_files.specs.declared.outcome.Done.{Done}
 use Rattle.run_files.specs.declared.outcome.Stop.{Stop}
 use Rattle.run_files.specs.declared.outcome.Stop.TheVariants as stops
 use Rattle.run_files.specs.Limits.{least_limit}
+use Rattle.arc_outside.specs.Reads.{TookOn}
 use Rattle.run_files.specs.Answers.{Answers, IsJudging, OnlyReads}
 use Rattle.run_inputs.specs.Counts.{CountsClasses, HasFewClasses, HasManyClasses}
 use Rattle.run_inputs.specs.declared.inputs.Input.{Input}
@@ -100,6 +101,6 @@ answered (Some files) words doc net judged wanted answer done told valid adds na
 
 -- want of memory after a call that only reads
 pub out_of_memory : {S : Type 0} (held : S → Option Files) (faults absences taken : S → ℕ) (before after : S) → held after ≡ held before → faults before ≤ faults after →
-    absences before ≤ absences after → taken before ≤ taken after → OnlyReads {S = S} {X = Done} least_limit held faults absences taken before after (Err stops.Memory)
+    absences before ≤ absences after → TookOn (taken before) (taken after) → OnlyReads {S = S} {X = Done} least_limit held faults absences taken before after (Err stops.Memory)
 out_of_memory held faults absences taken before after same faults_rise absences_rise taken_rise =
     record { same = same; cause = tt; faults_rise = faults_rise; absences_rise = absences_rise; taken_rise = taken_rise }

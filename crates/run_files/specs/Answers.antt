@@ -3,7 +3,7 @@ use Rattle.std.specs.Prelude.{◌≡◌, ℕ, ◌≤◌, [], Option, IfSome, Res
 use Rattle.arc_base.specs.declared.refusal.Kind.TheVariants.{Missing, TooLong}
 use Rattle.arc_outside.specs.Causes.{Rose}
 use Rattle.arc_outside.specs.Files.{Files, with_files}
-use Rattle.arc_outside.specs.Reads.{TookMore}
+use Rattle.arc_outside.specs.Reads.{TookMore, TookOn}
 use Rattle.run_files.specs.declared.outcome.Done.{Done}
 use Rattle.run_files.specs.declared.outcome.FileRefusal.{FileRefusal}
 use Rattle.run_files.specs.declared.outcome.Reason.TheVariants as reasons
@@ -49,7 +49,7 @@ pub record OnlyReads {S X : Type 0} (limit : ℕ) (held : S → Option Files) (f
     (HasStopCause (Rose (faults before) (faults after)) (Rose (absences before) (absences after)) (TookMore limit (taken before) (taken after)))
   pub faults_rise : faults before ≤ faults after
   pub absences_rise : absences before ≤ absences after
-  pub taken_rise : taken before ≤ taken after
+  pub taken_rise : TookOn (taken before) (taken after)
 
 -- What a command's status tells of the files before and after: each of its answers tells by its status, with its files written, and
 -- each first refusal by 5, with nothing written.

@@ -12,7 +12,6 @@ lines-init g c = record {
   going = c.make-pieces.ensures.failed;
   same = refl;
   took = omega (arith, c.make-pieces.ensures.place);
-  taken = omega arith;
   faults = omega arith;
   absences = omega arith;
 }
@@ -26,7 +25,6 @@ lines-preserved g c = record {
   going = c.in-Ok-true.ensures.ok;
   same = c.in-Ok-true.ensures.reads.same ∙ c.lines.invariant.same;
   took = omega (arith, c.lines.invariant.took, c.in-Ok-true.ensures.took, c.in-Ok-true.ensures.onward);
-  taken = omega (arith, c.lines.invariant.taken, c.in-Ok-true.ensures.reads.taken_rise);
   faults = omega (arith, c.lines.invariant.faults, c.in-Ok-true.ensures.reads.faults_rise);
   absences = omega (arith, c.lines.invariant.absences, c.in-Ok-true.ensures.reads.absences_rise);
 }
