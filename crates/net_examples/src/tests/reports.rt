@@ -147,11 +147,16 @@ side r1\nend\n\n",
     ),
 ];
 
+/// Whether the text of a row is rejected at its line.
+fn is_rejected(alloc: Global, changed: &Changed) -> Result<bool, Memory> {
+    let (text, line, kind) = *changed;
+    Ok(judged(alloc, text)? == Outcome::Rejected(CertFault { line, kind }))
+}
+
 #[test]
 fn changed_reports_are_rejected(rt: HostRuntime) -> Result<(), Fail> {
-    for (text, line, kind) in CHANGED {
-        let want = Outcome::Rejected(CertFault { line, kind });
-        assert_eq!(rt; judged(rt.alloc(), text)?, want, "{text:?}");
+    for (at, changed) in CHANGED.iter().enumerate() {
+        assert!(rt; is_rejected(rt.alloc(), changed)?, "row {at}");
     }
     Ok(())
 }
@@ -171,9 +176,12 @@ fn judged_on_services(
 /// A report on TCP's port 22 and on UDP, up to its walk.
 const BEFORE_WALK: &[u8] = b"arc-report 1\n1 reach yes 1\npath 1\n2 blocked no 1\n";
 
+/// A walk, and what is wrong with a report that has it.
+type Walk = (&'static [u8], Option<(u64, CertKind)>);
+
 /// The walk of such a report, and what is wrong with it: the class is no part of the policy, or it is
 /// written in another form.
-const WALKS: [(&[u8], Option<(u64, CertKind)>); 6] = [
+const WALKS: [Walk; 6] = [
     (
         b"walk 10.1.0.0/24 10.2.0.0/24 service:17.0-17.65535 1\n",
         None,
@@ -200,24 +208,41 @@ const WALKS: [(&[u8], Option<(u64, CertKind)>); 6] = [
     ),
 ];
 
+/// The report with this walk.
+fn report_with(alloc: Global, walk: &[u8]) -> Result<Vec<u8>, Memory> {
+    let mut text = Vec::new(alloc);
+    text.extend_from_slice(BEFORE_WALK)?;
+    text.extend_from_slice(walk)?;
+    text.extend_from_slice(b"end\n")?;
+    Ok(text)
+}
+
+/// What a report with this fault, or with none, is judged to.
+fn outcome(fault: Option<(u64, CertKind)>) -> Outcome {
+    match fault {
+        Some((line, kind)) => Outcome::Rejected(CertFault { line, kind }),
+        None => Outcome::Accepted,
+    }
+}
+
+/// Whether the report with the walk of a row is judged as the row says.
+fn is_judged(
+    alloc: Global,
+    allowed: Service,
+    blocked: Service,
+    row: &Walk,
+) -> Result<bool, Memory> {
+    let (walk, fault) = *row;
+    let text = report_with(alloc, walk)?;
+    Ok(judged_on_services(alloc, allowed, blocked, &text)? == outcome(fault))
+}
+
 #[test]
 fn reports_on_services_are_judged(rt: HostRuntime) -> Result<(), Fail> {
-    let alloc = rt.alloc();
     let ssh = Service::new(0x06_0016, 0x06_0016).ok_or("port 22 of TCP")?;
     let udp = Service::new(0x11_0000, 0x11_ffff).ok_or("UDP")?;
-    for (walk, fault) in WALKS {
-        let mut text = BEFORE_WALK.to_vec(alloc)?;
-        text.extend_from_slice(walk)?;
-        text.extend_from_slice(b"end\n")?;
-        let want = match fault {
-            Some((line, kind)) => Outcome::Rejected(CertFault { line, kind }),
-            None => Outcome::Accepted,
-        };
-        assert_eq!(rt;
-            judged_on_services(alloc, ssh, udp, &text)?,
-            want,
-            "{walk:?}"
-        );
+    for (at, row) in WALKS.iter().enumerate() {
+        assert!(rt; is_judged(rt.alloc(), ssh, udp, row)?, "row {at}");
     }
     Ok(())
 }
