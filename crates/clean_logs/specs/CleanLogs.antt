@@ -19,6 +19,16 @@ drops_after drops (Add id lits hints) = drops
 drops_after drops (Drop ids) = drops + 1
 drops_after drops (Bound id price) = drops
 
+-- the ids of the clauses that steps add after others, the latest first
+abbrev pub added_by : List ℕ → List Step → List ℕ
+added_by added [] = added
+added_by added (s ∷ steps) = added_by (added_after added s) steps
+
+-- how many steps dropped clauses, with those before them
+abbrev pub dropped_by : ℕ → List Step → ℕ
+dropped_by drops [] = drops
+dropped_by drops (s ∷ steps) = dropped_by (drops_after drops s) steps
+
 -- An added clause is new and not empty. Only added clauses are dropped, and the j-th step that drops names none of the 1,000 j that were
 -- added last.
 abbrev pub IsCleanStep : Knowledge → List ℕ → ℕ → Step → Type 0

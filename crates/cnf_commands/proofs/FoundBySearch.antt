@@ -1,36 +1,33 @@
 -- What a search over the formula's core tells, as what `solve` answers.
-use Rattle.std.proofs.Common.{◌≡◌, ◌∙◌, ℕ, List, [], ◌++◌, IsTrue, All, None, refl, sym, ap, subst}
+use Rattle.std.proofs.Common.{◌≡◌, ◌∙◌, ℕ, List, [], ◌++◌, None, refl, sym, ap, subst}
 use Rattle.cnf_types.specs.declared.clauses.Formula.{Formula}
-use Rattle.cnf_types.specs.Formulas.{clause_value, value_at}
+use Rattle.cnf_types.specs.Formulas.{value_at}
 use Rattle.proof_log.specs.declared.steps.Step.{Step}
 use Rattle.proof_log.specs.declared.steps.Log.{Log}
 use Rattle.proof_check.specs.Knowledge.{start}
 use Rattle.proof_check.specs.Logs.{IsAccepted, IsRefuting}
-use Rattle.clean_logs.specs.CleanLogs.{IsClean, IsSpent}
-use Rattle.sat_core.specs.declared.numbered.Numbered.{Numbered}
+use Rattle.clean_logs.specs.CleanLogs.{IsClean, IsSpent, added_by}
 use Rattle.sat_core.specs.States.{State}
 use Rattle.sat_search.specs.declared.found.Found.{Found}
 use Rattle.sat_search.specs.declared.found.Found.TheVariants.{Model, Refuted, Budget}
-use Rattle.sat_search.specs.Searches.{IfModel, IsModelOf}
+use Rattle.sat_search.specs.Searches.{IfModel, IsModelOf, KeepsOthers}
 use Rattle.cnf_commands.specs.Cores.{core_of}
 use Rattle.cnf_commands.specs.Solves.{IsFound}
-use Rattle.cnf_commands.proofs.Searching.{all_front, satisfies, unsatisfiable}
+use Rattle.cnf_commands.proofs.Searching.{stays_satisfied, unsatisfiable}
 
 -- the steps are those that were appended to an empty log
 pub all_appended : (P : List Step → Type 0) (old new more : List Step) → old ≡ [] → new ≡ old ++ more → P more → P new
 all_appended P old new more empty is h = subst P (sym (is ∙ ap (λ steps. steps ++ more) empty)) h
 
-pub is_found : (f : Formula) (limit : ℕ) (log : Log) (found : Found) (old new : State) (more : List Numbered) → old ≡ core_of f
-    → IfModel found (IsModelOf new) → IfModel found (λ values. new.clauses ≡ old.clauses ++ more) → IfModel found (λ values. new.vars ≡ old.vars)
+pub is_found : (f : Formula) (limit : ℕ) (log : Log) (found : Found) (old new : State) (steps : List Step) → old ≡ core_of f → steps ≡ []
+    → IfModel found (IsModelOf new) → IfModel found (λ values. KeepsOthers (added_by [] steps) old.clauses new.clauses) → IfModel found (λ values. new.vars ≡ old.vars)
     → (found ≡ Refuted → IsRefuting log.steps) → (found ≡ Budget → IsSpent f None [] limit log.steps) → IfModel found (λ values. IsClean f None [] log.steps) → IsAccepted (start f None []) log.steps → IsFound f limit log found
-is_found f limit log (Model values) old new more core model clauses vars refuting spent clean accepted =
-    let True : Numbered → Type 0 = λ c. IsTrue (clause_value (value_at values) c.lits) in
-    let all : All True (old.clauses ++ more) = subst (All True) clauses model.satisfied in (
-      record {
-        one_each = model.size ∙ (vars ∙ ap (λ (s : State). s.vars) core);
-        satisfies = satisfies f (value_at values) (subst (λ (s : State). All True s.clauses) core (all_front True old.clauses more all));
-      },
-      clean,
-    )
-is_found f limit log Refuted old new more core model clauses vars refuting spent clean accepted = (refuting refl, unsatisfiable f log.steps accepted (refuting refl))
-is_found f limit log Budget old new more core model clauses vars refuting spent clean accepted = spent refl
+is_found f limit log (Model values) old new steps core empty model others vars refuting spent clean accepted = (
+  record {
+    one_each = model.size ∙ (vars ∙ ap (λ (s : State). s.vars) core);
+    satisfies = stays_satisfied f (value_at values) (added_by [] steps) old.clauses new.clauses (ap (λ (s : State). s.clauses) core) (ap (added_by []) empty) others model.satisfied;
+  },
+  clean,
+)
+is_found f limit log Refuted old new steps core empty model others vars refuting spent clean accepted = (refuting refl, unsatisfiable f log.steps accepted (refuting refl))
+is_found f limit log Budget old new steps core empty model others vars refuting spent clean accepted = spent refl

@@ -1,8 +1,8 @@
 -- What a search over a formula's clauses finds, said of the formula.
-use Rattle.std.proofs.Common.{◌≡◌, ℕ, zero, suc, ◌+◌, ◌<◌, ◌==◌, Bool, true, false, IsTrue, List, [], ◌∷◌, ◌++◌, map, find, slice_get, All, None, option_map, refl, sym, arith}
+use Rattle.std.proofs.Common.{◌≡◌, ℕ, zero, suc, ◌+◌, ◌<◌, ◌==◌, Bool, true, false, IsTrue, List, [], ◌∷◌, ◌++◌, map, find, length, slice_get, get_or, All, Contains, Some, None, option_map, refl, ap, sym, ◌∙◌, subst, arith}
 use Rattle.std.specs.List.{enumerate_from}
 use Rattle.std.proofs.lemmas.Bool.{eq-eqb, ne_eqb}
-use Rattle.std.proofs.lemmas.List.Elements.{All-cons, All-nil, All-head, All-tail}
+use Rattle.std.proofs.lemmas.Option.{slice_get-get_or}
 use Rattle.cnf_types.specs.declared.literal.Lit.{Lit}
 use Rattle.cnf_types.specs.declared.clauses.Clause.{Clause}
 use Rattle.cnf_types.specs.declared.clauses.Formula.{Formula}
@@ -14,6 +14,9 @@ use Rattle.proof_check.specs.Logs.{IsAccepted, IsRefuting, KeepsBounds}
 use Rattle.proof_check.proofs.SoundLogs.{sound}
 use Rattle.sat_core.specs.declared.numbered.Numbered.{Numbered}
 use Rattle.sat_search.specs.Live.{clause_in}
+use Rattle.sat_search.specs.Searches.{KeepsOthers}
+use Rattle.sat_search.proofs.Held.{at_held}
+use Rattle.sat_search.proofs.Learnt.{all_at}
 use Rattle.cnf_commands.specs.Cores.{numbered}
 
 abbrev with_id : ℕ × Clause → Numbered
@@ -45,18 +48,20 @@ live_are clauses (suc j) = sym (found_at 1 j (suc j) clauses (omega arith))
 
 -- ---- what is true of all clauses
 
-all_numbered : (P : List Lit → Type 0) (n : ℕ) (clauses : List Clause) → All (λ c. P c.lits) (map with_id (enumerate_from n clauses)) → All (λ c. P c.lits) clauses
-all_numbered P n [] all = All-nil _
-all_numbered P n (c ∷ cs) all =
-    All-cons (λ (d : Clause). P d.lits) c cs (All-head (λ (d : Numbered). P d.lits) (with_id (n, c)) (map with_id (enumerate_from (n + 1) cs)) all)
-    (all_numbered P (n + 1) cs (All-tail (λ (d : Numbered). P d.lits) (with_id (n, c)) (map with_id (enumerate_from (n + 1) cs)) all))
+abbrev no-ids : List ℕ
+no-ids = []
 
-pub all_front : {X : Type 0} (P : X → Type 0) (xs ys : List X) → All P (xs ++ ys) → All P xs
-all_front P [] ys all = All-nil P
-all_front P (x ∷ xs) ys all = All-cons P x xs (All-head P x (xs ++ ys) all) (all_front P xs ys (All-tail P x (xs ++ ys) all))
+none-held : (ids : List ℕ) → ids ≡ no-ids → (id : ℕ) → Contains ids id → ⊥
+none-held ids none id held = omega (arith, held.1, ap length none)
 
-pub satisfies : (f : Formula) (a : ℕ → Bool) → All (λ c. IsTrue (clause_value a c.lits)) (numbered f.clauses) → Satisfies a f
-satisfies f a all = all_numbered (λ lits. IsTrue (clause_value a lits)) 1 f.clauses all
+-- where the clauses of the formula stay, and all that are live in the end are true, the formula is satisfied
+pub stays_satisfied : (f : Formula) (a : ℕ → Bool) (added : List ℕ) (old new : List Numbered) → old ≡ numbered f.clauses → added ≡ no-ids → KeepsOthers added old new → All (λ c. IsTrue (clause_value a c.lits)) new → Satisfies a f
+stays_satisfied f a added old new old_is none others all k d low =
+    let c : Clause = get_or f.clauses k d in
+    let was : clause_in (numbered f.clauses) (suc k) ≡ Some c.lits = sym (live_are f.clauses (suc k)) ∙ ap (option_map (λ (e : Clause). e.lits)) (slice_get-get_or f.clauses k d low) in
+    let is : clause_in old (suc k) ≡ Some c.lits = ap (λ (cs : List Numbered). clause_in cs (suc k)) old_is ∙ was in
+    let held = at_held new (suc k) c.lits (others (suc k) c.lits is (none-held added none (suc k))) in
+    subst (λ (ls : List Lit). IsTrue (clause_value a ls)) held.lits_are (all_at (λ (e : Numbered). IsTrue (clause_value a e.lits)) new held.place held.clause all held.at)
 
 -- ---- without bounds, an accepted log that adds the empty clause leaves no assignment
 

@@ -1,27 +1,27 @@
--- How the log and the clauses of a core grow together, lemma by lemma.
-use Rattle.std.proofs.Common.{◌≡◌, ℕ, suc, ◌+◌, ◌≤◌, ℤ, Bool, true, false, ◌||◌, IsTrue, List, [], ◌∷◌, ◌++◌, length, drop, All, refl, ap, sym, ◌∙◌, subst, arith, add-zero}
+-- How the log and the clauses of a core grow together, lemma by lemma, and lose clauses.
+use Rattle.std.proofs.Common.{◌≡◌, ◌≢◌, ℕ, ◌+◌, ◌≤◌, Bool, true, false, ◌||◌, IsTrue, IsSome, inl, inr, List, [], ◌∷◌, ◌++◌, length, drop, All, AllPairs, refl, ap, sym, ◌∙◌, subst, arith, Option, add-zero, ◌*◌}
 use Rattle.std.specs.List.{list_any}
 use Rattle.std.proofs.lemmas.Bool.{or_from}
 use Rattle.std.proofs.lemmas.List.{drop_at, append_assoc, append-nil, length-append, drop_all}
 use Rattle.std.proofs.lemmas.List.Folds.{list_any-append}
+use Rattle.std.proofs.lemmas.List.Quantifiers.{all_pairs_push}
+use Rattle.std.proofs.lemmas.List.Elements.{All-weaker}
 use Rattle.cnf_types.specs.declared.literal.Lit.{Lit}
 use Rattle.proof_log.specs.declared.steps.Step.{Step}
 use Rattle.proof_log.specs.declared.steps.Step.TheVariants.{Add, Drop, Bound}
-use Rattle.proof_check.specs.Knowledge.{is_empty}
+use Rattle.proof_check.specs.Knowledge.{is_empty, with_clause, without_clauses}
 use Rattle.proof_check.specs.Logs.{adds_empty}
 use Rattle.sat_core.specs.declared.numbered.Numbered.{Numbered}
-use Rattle.sat_core.specs.States.{State, at_level}
-use Rattle.clean_logs.specs.CleanLogs.{additions}
+use Rattle.sat_core.specs.States.{State}
+use Rattle.clean_logs.specs.CleanLogs.{added_by, dropped_by, additions}
+use Rattle.sat_search.specs.Live.{clause_in}
 use Rattle.sat_search.specs.Orders.{KeepsClauses}
-use Rattle.sat_search.specs.Searches.{appended, added_clauses, ends_empty, AreLearnt, IsLearnt, HasLearnt, GoesOn, Follows, Teaches, IsModelOf}
+use Rattle.sat_search.specs.Searches.{appended, ends_empty, live_after, AreLearnt, HasIdsTo, IsLearnt, IsOld, HasLearnt, GoesOn, Teaches}
+use Rattle.sat_search.specs.Dropping.{Drops}
 use Rattle.sat_search.proofs.Steps.{additions-append}
-
--- the step of a lemma
-abbrev pub lemma_step : ℕ → List Lit → List ℤ → List Step
-lemma_step id lits hints = Add id lits hints ∷ []
-
-abbrev lemma_clause : ℕ → List Lit → List Numbered
-lemma_clause id lits = record { id = id; lits = lits } ∷ []
+use Rattle.sat_search.proofs.Held.{held_push}
+use Rattle.sat_search.proofs.Learnt.{all_at}
+use Rattle.sat_search.proofs.Lives.{live_append, added_append, dropped_append, dropped_from, without_none, ids_to, lemma_step, learnt_add, learnt_drop}
 
 -- what stands behind the old steps
 pub appended_is : (old more new : List Step) → new ≡ old ++ more → appended old new ≡ more
@@ -34,26 +34,6 @@ pub appended_more : (old new newer : List Step) (steps : List Step) → new ≡ 
 appended_more old new newer steps grown is =
     appended_is old (appended old new ++ steps) newer (is ∙ ap (λ (xs : List Step). xs ++ steps) grown ∙ append_assoc old (appended old new) steps)
 
--- one lemma more
-learnt-push : (vars : ℕ) (clauses : List Numbered) (last : ℕ) (more : List Step) (lits : List Lit) (hints : List ℤ) → AreLearnt vars clauses last more → All (λ c. c.id ≤ last + length more) (clauses ++ added_clauses more) → IsLearnt (clauses ++ added_clauses more) vars lits hints →
-    AreLearnt vars clauses last (more ++ lemma_step (last + length more + 1) lits hints)
-learnt-push vars clauses last [] lits hints learnt known new =
-    (omega arith, subst (λ (n : ℕ). All (λ c. c.id ≤ n) clauses) (add-zero last) (subst (λ (cs : List Numbered). All (λ c. c.id ≤ last + 0) cs) (append-nil clauses) known), subst (λ (cs : List Numbered). IsLearnt cs vars lits hints) (append-nil clauses) new, tt)
-learnt-push vars clauses last (Add id ls hs ∷ more) lits hints learnt known new =
-    let shift : last + length (Add id ls hs ∷ more) ≡ id + length more = omega (arith, learnt.0) in
-    let known_there = subst (λ (cs : List Numbered). All (λ c. c.id ≤ id + length more) cs) (sym (append_assoc clauses (lemma_clause id ls) (added_clauses more))) (subst (λ (n : ℕ). All (λ c. c.id ≤ n) (clauses ++ added_clauses (Add id ls hs ∷ more))) shift known) in
-    let rest = learnt-push vars (clauses ++ lemma_clause id ls) id more lits hints learnt.3 known_there (subst (λ (cs : List Numbered). IsLearnt cs vars lits hints) (sym (append_assoc clauses (lemma_clause id ls) (added_clauses more))) new) in
-    let number : id + length more + 1 ≡ last + length (Add id ls hs ∷ more) + 1 = omega (arith, learnt.0) in
-    (learnt.0, learnt.1, learnt.2, subst (λ (n : ℕ). AreLearnt vars (clauses ++ lemma_clause id ls) id (more ++ lemma_step n lits hints)) number rest)
-learnt-push vars clauses last (Drop ids ∷ more) lits hints learnt known new = absurd learnt
-learnt-push vars clauses last (Bound id price ∷ more) lits hints learnt known new = absurd learnt
-
-added-append : (xs ys : List Step) → added_clauses (xs ++ ys) ≡ added_clauses xs ++ added_clauses ys
-added-append [] ys = refl
-added-append (Add id lits hints ∷ xs) ys = ap (λ (cs : List Numbered). record { id = id; lits = lits } ∷ cs) (added-append xs ys)
-added-append (Drop ids ∷ xs) ys = added-append xs ys
-added-append (Bound id price ∷ xs) ys = added-append xs ys
-
 pub ends-push : (xs : List Step) (s : Step) → ends_empty (xs ++ s ∷ []) ≡ adds_empty s
 ends-push [] s = refl
 ends-push (x ∷ []) s = refl
@@ -64,52 +44,73 @@ pub follows_start : (s : State) (old : List Step) → GoesOn s old s old
 follows_start s old =
     let none = appended_none old in
     record {
-      log = record { grown = sym (append-nil old) ∙ ap (λ (xs : List Step). old ++ xs) (sym none); learnt = subst (λ (xs : List Step). AreLearnt s.vars s.clauses s.last_id xs) (sym none) tt };
+      log = record {
+        grown = sym (append-nil old) ∙ ap (λ (xs : List Step). old ++ xs) (sym none);
+        learnt = subst (λ (xs : List Step). AreLearnt s.vars (clause_in s.clauses) s.last_id (added_by [] old) (dropped_by 0 old) xs) (sym none) tt;
+        few = omega (arith, ap (λ (xs : List Step). dropped_by 0 xs) none);
+      };
       vars = refl;
-      clauses = sym (append-nil s.clauses) ∙ ap (λ (xs : List Step). s.clauses ++ added_clauses xs) (sym none);
-      last = omega (arith, ap (λ (xs : List Step). length xs) none);
+      clauses = λ id. ap (λ (xs : List Step). live_after (clause_in s.clauses) xs id) (sym none);
+      last = omega (arith, ap additions none);
       filled = ap (list_any adds_empty) none;
     }
 
--- propagation and decisions that are taken back change nothing
-pub follows_back : (s now dived back : State) (old new : List Step) → GoesOn s old now new → KeepsClauses now dived → back ≡ at_level dived 0 → Follows s old back new
-follows_back s now dived back old new follows kept is = record {
+-- propagation and decisions change nothing
+pub follows_dived : (s now dived : State) (old new : List Step) → GoesOn s old now new → KeepsClauses now dived → GoesOn s old dived new
+follows_dived s now dived old new follows kept = record {
   log = follows.log;
-  level = ap (λ (x : State). x.level) is;
-  vars = ap (λ (x : State). x.vars) is ∙ kept.vars ∙ follows.vars;
-  clauses = ap (λ (x : State). x.clauses) is ∙ kept.clauses ∙ follows.clauses;
-  last = ap (λ (x : State). x.last_id) is ∙ kept.last_id ∙ follows.last;
+  vars = kept.vars ∙ follows.vars;
+  clauses = λ id. ap (λ (cs : List Numbered). clause_in cs id) kept.clauses ∙ follows.clauses id;
+  last = kept.last_id ∙ follows.last;
   filled = follows.filled;
 }
 
-pub model_back : (dived back : State) (values : List Bool) → back ≡ at_level dived 0 → IsModelOf dived values → IsModelOf back values
-model_back dived back values is model = subst (λ (x : State). IsModelOf x values) (sym is) (record { size = model.size; satisfied = model.satisfied })
-
 -- a lemma is learnt
 module _ (s now dived next : State) (old new newer : List Step) (empty : Bool) (follows : GoesOn s old now new) (kept : KeepsClauses now dived) (taught : Teaches dived new next newer empty) where
-  more_is : appended old newer ≡ appended old new ++ lemma_step (dived.last_id + 1) taught.lits taught.hints
-  more_is = appended_more old new newer (lemma_step (dived.last_id + 1) taught.lits taught.hints) follows.log.grown taught.log
+  abbrev step : List Step
+  step = lemma_step (dived.last_id + 1) taught.lits taught.hints
 
-  id_is : dived.last_id + 1 ≡ s.last_id + length (appended old new) + 1
+  -- the clauses that are live before it
+  abbrev live : ℕ → Option (List Lit)
+  live = live_after (clause_in s.clauses) (appended old new)
+
+  more_is : appended old newer ≡ appended old new ++ step
+  more_is = appended_more old new newer step follows.log.grown taught.log
+
+  live_is : clause_in dived.clauses ≡ live
+  live_is = λ i j. (ap (λ (cs : List Numbered). clause_in cs j) kept.clauses ∙ follows.clauses j) i
+
+  id_is : dived.last_id + 1 ≡ s.last_id + additions (appended old new) + 1
   id_is = omega (arith, kept.last_id, follows.last)
 
-  learnt_from : IsLearnt (s.clauses ++ added_clauses (appended old new)) s.vars taught.lits taught.hints
-  learnt_from = subst (λ (v : ℕ). IsLearnt (s.clauses ++ added_clauses (appended old new)) v taught.lits taught.hints) (kept.vars ∙ follows.vars)
-      (subst (λ (cs : List Numbered). IsLearnt cs dived.vars taught.lits taught.hints) (kept.clauses ∙ follows.clauses) taught.learnt)
+  learnt_from : IsLearnt live s.vars taught.lits taught.hints
+  learnt_from = subst (λ (v : ℕ). IsLearnt live v taught.lits taught.hints) (kept.vars ∙ follows.vars)
+      (subst (λ (l : ℕ → Option (List Lit)). IsLearnt l dived.vars taught.lits taught.hints) live_is taught.learnt)
 
-  known_from : All (λ c. c.id ≤ s.last_id + length (appended old new)) (s.clauses ++ added_clauses (appended old new))
-  known_from = subst (λ (n : ℕ). All (λ c. c.id ≤ n) (s.clauses ++ added_clauses (appended old new))) (kept.last_id ∙ follows.last)
-      (subst (λ (cs : List Numbered). All (λ c. c.id ≤ dived.last_id) cs) (kept.clauses ∙ follows.clauses) taught.known)
+  known_from : HasIdsTo (s.last_id + additions (appended old new)) live
+  known_from = subst (λ (l : ℕ → Option (List Lit)). HasIdsTo (s.last_id + additions (appended old new)) l) live_is
+      (λ id some. omega (arith, ids_to dived.clauses dived.last_id taught.known id some, kept.last_id, follows.last))
+
+  one_more : additions (appended old newer) ≡ additions (appended old new) + 1
+  one_more = ap additions more_is ∙ additions-append (appended old new) step
+
+  same_drops : dropped_by 0 (appended old newer) ≡ dropped_by 0 (appended old new)
+  same_drops = ap (dropped_by 0) more_is ∙ dropped_append 0 (appended old new) step
+
+  -- fewer steps drop clauses than add one
+  pub taught_few : dropped_by 0 (appended old newer) + 1 ≤ additions (appended old newer)
+  taught_few = omega (arith, one_more, same_drops, follows.log.few)
 
   pub taught_log : HasLearnt s old newer
   taught_log = record {
-    grown = taught.log ∙ ap (λ (xs : List Step). xs ++ lemma_step (dived.last_id + 1) taught.lits taught.hints) follows.log.grown ∙ append_assoc old (appended old new) (lemma_step (dived.last_id + 1) taught.lits taught.hints) ∙ ap (λ (xs : List Step). old ++ xs) (sym more_is);
-    learnt = subst (λ (xs : List Step). AreLearnt s.vars s.clauses s.last_id xs) (sym (more_is ∙ ap (λ (n : ℕ). appended old new ++ lemma_step n taught.lits taught.hints) id_is))
-        (learnt-push s.vars s.clauses s.last_id (appended old new) taught.lits taught.hints follows.log.learnt known_from learnt_from);
+    grown = taught.log ∙ ap (λ (xs : List Step). xs ++ step) follows.log.grown ∙ append_assoc old (appended old new) step ∙ ap (λ (xs : List Step). old ++ xs) (sym more_is);
+    learnt = subst (λ (xs : List Step). AreLearnt s.vars (clause_in s.clauses) s.last_id (added_by [] old) (dropped_by 0 old) xs) (sym (more_is ∙ ap (λ (n : ℕ). appended old new ++ lemma_step n taught.lits taught.hints) id_is))
+        (learnt_add s.vars (clause_in s.clauses) s.last_id (added_by [] old) (dropped_by 0 old) (appended old new) taught.lits taught.hints follows.log.learnt known_from learnt_from);
+    few = omega (arith, taught_few);
   }
 
   pub taught_more : additions newer ≡ additions new + 1
-  taught_more = ap additions taught.log ∙ additions-append new (lemma_step (dived.last_id + 1) taught.lits taught.hints)
+  taught_more = ap additions taught.log ∙ additions-append new step
 
   pub taught_empty : empty ≡ true → IsTrue (ends_empty (appended old newer))
   taught_empty e = ap ends_empty more_is ∙ ends-push (appended old new) (Add (dived.last_id + 1) taught.lits taught.hints) ∙ sym taught.tells ∙ e
@@ -118,23 +119,111 @@ module _ (s now dived next : State) (old new newer : List Step) (empty : Bool) (
   follows_taught e = record {
     log = taught_log;
     vars = taught.vars ∙ kept.vars ∙ follows.vars;
-    clauses = taught.clauses ∙ ap (λ (cs : List Numbered). cs ++ lemma_clause (dived.last_id + 1) taught.lits) (kept.clauses ∙ follows.clauses) ∙ append_assoc s.clauses (added_clauses (appended old new)) (lemma_clause (dived.last_id + 1) taught.lits)
-        ∙ ap (λ (cs : List Numbered). s.clauses ++ cs) (sym (added-append (appended old new) (lemma_step (dived.last_id + 1) taught.lits taught.hints))) ∙ ap (λ (xs : List Step). s.clauses ++ added_clauses xs) (sym more_is);
-    last = omega (arith, taught.last, kept.last_id, follows.last, ap (λ (xs : List Step). length xs) more_is, length-append (appended old new) (lemma_step (dived.last_id + 1) taught.lits taught.hints));
-    filled = ap (list_any adds_empty) more_is ∙ list_any-append adds_empty (appended old new) (lemma_step (dived.last_id + 1) taught.lits taught.hints)
+    clauses = λ j.
+        ap (λ (cs : List Numbered). clause_in cs j) taught.clauses
+        ∙ held_push dived.clauses (dived.last_id + 1) taught.lits (λ k c at e. absurd (omega (arith, all_at (λ (d : Numbered). d.id ≤ dived.last_id) dived.clauses k c taught.known at, e))) j
+        ∙ ap (λ (l : ℕ → Option (List Lit)). with_clause l (dived.last_id + 1) taught.lits j) live_is
+        ∙ ap (λ (l : ℕ → Option (List Lit)). l j) (sym (live_append (clause_in s.clauses) (appended old new) step))
+        ∙ ap (λ (xs : List Step). live_after (clause_in s.clauses) xs j) (sym more_is);
+    last = omega (arith, taught.last, kept.last_id, follows.last, one_more);
+    filled = ap (list_any adds_empty) more_is ∙ list_any-append adds_empty (appended old new) step
         ∙ or_from (list_any adds_empty (appended old new)) (is_empty taught.lits || false) follows.filled (or_from (is_empty taught.lits) false (sym taught.tells ∙ e) refl);
   }
 
--- how long the log is
-pub follows_short : (s now : State) (old new : List Step) → GoesOn s old now new → length new ≡ length old + length (appended old new)
-follows_short s now old new follows = ap (λ (xs : List Step). length xs) follows.log.grown ∙ length-append old (appended old new)
+-- the ids of the clauses still differ
+pub taught_different : (s now : State) (old new : List Step) (empty : Bool) → AllPairs (λ c d. c.id ≢ d.id) s.clauses → Teaches s old now new empty → AllPairs (λ c d. c.id ≢ d.id) now.clauses
+taught_different s now old new empty different taught =
+    subst (λ (cs : List Numbered). AllPairs (λ c d. c.id ≢ d.id) cs) (sym taught.clauses)
+    (all_pairs_push (λ c d. c.id ≢ d.id) s.clauses (record { id = s.last_id + 1; lits = taught.lits }) different (All-weaker (λ (c : Numbered). c.id ≤ s.last_id) (λ c. c.id ≢ s.last_id + 1) (λ c low e. omega (arith, low, e)) s.clauses taught.known))
 
-learnt-additions : (vars : ℕ) (clauses : List Numbered) (last : ℕ) (more : List Step) → AreLearnt vars clauses last more → additions more ≡ length more
-learnt-additions vars clauses last [] learnt = refl
-learnt-additions vars clauses last (Add id lits hints ∷ more) learnt = ap suc (learnt-additions vars (clauses ++ lemma_clause id lits) id more learnt.3)
-learnt-additions vars clauses last (Drop ids ∷ more) learnt = absurd learnt
-learnt-additions vars clauses last (Bound id price ∷ more) learnt = absurd learnt
+-- clauses are dropped
+module _ (s now next : State) (old new newer : List Step) (follows : GoesOn s old now new) (few : dropped_by 0 (appended old new) + 1 ≤ additions (appended old new)) (drops : Drops now new next newer) where
+  abbrev left : ℕ → Option (List Lit)
+  left = live_after (clause_in s.clauses) (appended old new)
 
-pub log_additions : (s : State) (old new : List Step) → HasLearnt s old new → additions new ≡ additions old + length (appended old new)
-log_additions s old new log =
-    ap additions log.grown ∙ additions-append old (appended old new) ∙ ap (λ (n : ℕ). additions old + n) (learnt-additions s.vars s.clauses s.last_id (appended old new) log.learnt)
+  left_is : clause_in now.clauses ≡ left
+  left_is = λ i j. follows.clauses j i
+
+  there : All (λ id. IsSome (left id)) drops.ids
+  there = subst (λ (l : ℕ → Option (List Lit)). All (λ id. IsSome (l id)) drops.ids) left_is drops.forgets.live
+
+  may_go : All (IsOld (added_by (added_by [] old) (appended old new)) (dropped_by (dropped_by 0 old) (appended old new))) drops.ids
+  may_go = subst (λ (xs : List ℕ). All (IsOld xs (dropped_by (dropped_by 0 old) (appended old new))) drops.ids) (ap (added_by []) follows.log.grown ∙ added_append [] old (appended old new))
+      (subst (λ (n : ℕ). All (IsOld (added_by [] new) n) drops.ids) (ap (dropped_by 0) follows.log.grown ∙ dropped_append 0 old (appended old new)) drops.may_go)
+
+  drop_clauses : (j : ℕ) → clause_in next.clauses j ≡ without_clauses left drops.ids j
+  drop_clauses j = drops.forgets.clauses j ∙ ap (λ (l : ℕ → Option (List Lit)). without_clauses l drops.ids j) left_is
+
+  module _ (is : newer ≡ new ++ Drop drops.ids ∷ []) where
+    abbrev drop_step : List Step
+    drop_step = Drop drops.ids ∷ []
+
+    drop_is : appended old newer ≡ appended old new ++ drop_step
+    drop_is = appended_more old new newer drop_step follows.log.grown is
+
+    same_additions : additions (appended old newer) ≡ additions (appended old new)
+    same_additions = ap additions drop_is ∙ additions-append (appended old new) drop_step ∙ add-zero (additions (appended old new))
+
+    one_drop : dropped_by 0 (appended old newer) ≡ dropped_by 0 (appended old new) + 1
+    one_drop = ap (dropped_by 0) drop_is ∙ dropped_append 0 (appended old new) drop_step
+
+    dropped_log : HasLearnt s old newer
+    dropped_log = record {
+      grown = is ∙ ap (λ (xs : List Step). xs ++ drop_step) follows.log.grown ∙ append_assoc old (appended old new) drop_step ∙ ap (λ (xs : List Step). old ++ xs) (sym drop_is);
+      learnt = subst (λ (xs : List Step). AreLearnt s.vars (clause_in s.clauses) s.last_id (added_by [] old) (dropped_by 0 old) xs) (sym drop_is)
+          (learnt_drop s.vars (clause_in s.clauses) s.last_id (added_by [] old) (dropped_by 0 old) (appended old new) drops.ids follows.log.learnt there may_go);
+      few = omega (arith, same_additions, one_drop, few);
+    }
+
+    follows_step : GoesOn s old next newer
+    follows_step = record {
+      log = dropped_log;
+      vars = drops.forgets.vars ∙ follows.vars;
+      clauses = λ j. drop_clauses j
+          ∙ ap (λ (l : ℕ → Option (List Lit)). l j) (sym (live_append (clause_in s.clauses) (appended old new) drop_step))
+          ∙ ap (λ (xs : List Step). live_after (clause_in s.clauses) xs j) (sym drop_is);
+      last = omega (arith, drops.forgets.last_id, follows.last, same_additions);
+      filled = ap (list_any adds_empty) drop_is ∙ list_any-append adds_empty (appended old new) drop_step ∙ or_from (list_any adds_empty (appended old new)) false follows.filled refl;
+    }
+
+  follows_none : newer ≡ new → drops.ids ≡ [] → GoesOn s old next newer
+  follows_none same none = subst (λ (xs : List Step). GoesOn s old next xs) (sym same) (record {
+    log = follows.log;
+    vars = drops.forgets.vars ∙ follows.vars;
+    clauses = λ j. drop_clauses j ∙ without_none left drops.ids j none;
+    last = drops.forgets.last_id ∙ follows.last;
+    filled = follows.filled;
+  })
+
+  pub follows_dropped : GoesOn s old next newer
+  follows_dropped = elim drops.log [
+    | inl is ↦ follows_step is
+    | inr same ↦ follows_none same.0 same.1
+  ]
+
+  -- no clause is added
+  pub dropped_additions : additions newer ≡ additions new
+  dropped_additions = elim drops.log [
+    | inl is ↦ ap additions is ∙ additions-append new (Drop drops.ids ∷ []) ∙ add-zero (additions new)
+    | inr same ↦ ap additions same.0
+  ]
+
+-- the same of equal steps
+pub log_same : (s : State) (old new newer : List Step) → HasLearnt s old new → newer ≡ new → HasLearnt s old newer
+log_same s old new newer log same = subst (λ (xs : List Step). HasLearnt s old xs) (sym same) log
+
+-- how many clauses the log adds
+pub log_additions : (s : State) (old new : List Step) → HasLearnt s old new → additions new ≡ additions old + additions (appended old new)
+log_additions s old new log = ap additions log.grown ∙ additions-append old (appended old new)
+
+learnt-length : (vars : ℕ) (live : ℕ → Option (List Lit)) (last : ℕ) (added : List ℕ) (drops : ℕ) (more : List Step) → AreLearnt vars live last added drops more → length more ≡ additions more + dropped_by 0 more
+learnt-length vars live last added drops [] learnt = refl
+learnt-length vars live last added drops (Add id lits hints ∷ more) learnt = omega (arith, learnt-length vars (with_clause live id lits) id (id ∷ added) drops more learnt.3)
+learnt-length vars live last added drops (Drop ids ∷ more) learnt = omega (arith, learnt-length vars (without_clauses live ids) last added (drops + 1) more learnt.2, dropped_from (0 + 1) more)
+learnt-length vars live last added drops (Bound id price ∷ more) learnt = absurd learnt
+
+-- how long it is
+pub log_short : (s : State) (old new : List Step) → HasLearnt s old new → length new ≤ length old + 2 * additions (appended old new)
+log_short s old new log =
+    let long : length new ≡ length old + length (appended old new) = ap (λ (xs : List Step). length xs) log.grown ∙ length-append old (appended old new) in
+    omega (arith, long, log.few, learnt-length s.vars (clause_in s.clauses) s.last_id (added_by [] old) (dropped_by 0 old) (appended old new) log.learnt)

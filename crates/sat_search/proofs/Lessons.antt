@@ -52,7 +52,7 @@ range_where s sound flags lits hints current pass k d low =
     record { least = omega (arith, range.least, var); most = omega (arith, range.most, var) }
 
 -- what it ends with is learnt
-pub pass_learnt : (s : State) → IsSound s → (first : ℕ) (flags : List Bool) (lits : List Lit) (hints turned : List ℤ) (current : ℕ) → IsPass s first flags lits (reverse hints) current → first ≡ 0 → turned ≡ reverse hints → IsLearnt s.clauses s.vars lits turned
+pub pass_learnt : (s : State) → IsSound s → (first : ℕ) (flags : List Bool) (lits : List Lit) (hints turned : List ℤ) (current : ℕ) → IsPass s first flags lits (reverse hints) current → first ≡ 0 → turned ≡ reverse hints → IsLearnt (clause_in s.clauses) s.vars lits turned
 pass_learnt s sound first flags lits hints turned current pass first_is turned_is =
     let at_start : IsPass s 0 flags lits (reverse hints) current = subst (λ (n : ℕ). IsPass s n flags lits (reverse hints) current) first_is pass in
     let ended : IsPass s 0 flags lits turned current = subst (λ (hs : List ℤ). IsPass s 0 flags lits hs current) (sym turned_is) at_start in

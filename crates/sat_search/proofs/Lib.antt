@@ -16,6 +16,8 @@ pub mod Ranges
 pub mod Steps
 pub mod Lessons
 pub mod Models
+pub mod Lives
 pub mod Following
+pub mod Forgetting
 pub mod Promises
 pub mod Outcomes

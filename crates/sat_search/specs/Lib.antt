@@ -3,3 +3,4 @@ pub mod Passes
 pub mod Searches
 pub mod Orders
 pub mod Learners
+pub mod Dropping

@@ -1,11 +1,14 @@
 //! What a search keeps between its conflicts, and what it does at one.
-ghost use Rattle.std.specs.Prelude.{◌≡◌, ◌≢◌, ◌+◌, ◌*◌, ◌≤◌, ◌<◌, ◌-◌, ◌^◌, All, length, IsSomeAnd, IfOk, OnOk, OnErr};
+ghost use Rattle.std.specs.Prelude.{◌≡◌, ◌≢◌, ◌+◌, ◌*◌, ◌≤◌, ◌<◌, ◌-◌, ◌^◌, All, AllPairs, length, IsSomeAnd, IfOk, OnOk, OnErr};
 ghost use Rattle.proof_log.specs.declared.steps.Log.{Log};
 ghost use Rattle.sat_core.specs.Trails.{clause_at, IsOf, IsFalsified};
 ghost use Rattle.sat_core.specs.States.{IsSound};
+ghost use Rattle.sat_search.specs.Live.{clause_in};
 ghost use Rattle.sat_search.specs.Learners.{IsReady};
+ghost use Rattle.sat_search.specs.Dropping.{Drops};
 ghost use Rattle.sat_search.specs.Searches.{Gains, IsLearnt, Teaches};
 
+use crate::lemmas::Lemmas;
 use crate::lesson::{Lesson, level_of_false};
 use crate::marks::Marks;
 use crate::order::Order;
@@ -23,43 +26,80 @@ pub(crate) struct Learner {
     pub marks: Marks,
     pub order: Order,
     pub restarts: Restarts,
+    pub lemmas: Lemmas,
 }
 
 impl Learner {
-    pub fn make(alloc: Global, vars: u64) -> Result<Learner, Memory>
+    /// What a search that goes on from a log begins with.
+    pub fn make(alloc: Global, vars: u64, steps: &[Step]) -> Result<Learner, Memory>
         requires { vars < 2 ^ 25 }
-        ensures { IfOk result (IsReady vars) }
+        ensures { IfOk result (IsReady vars steps.now) }
     {
         Ok(Learner {
             alloc,
             marks: Marks::make(alloc, vars)?,
             order: Order::make(alloc, vars)?,
             restarts: Restarts::make(),
+            lemmas: Lemmas::of(alloc, steps)?,
         })
     }
 
     /// Learns from a conflict: the lemma joins the core, at the level on which it implies a literal or at level 0, and
     /// the log. It tells whether it is empty.
     pub fn learn(&mut self, core: &mut Core, log: &mut Log, conflict: Held) -> Result<bool, Memory>
-        requires ready { IsReady core.old.vars self.old }
+        requires ready { IsReady core.old.vars log.old.steps self.old }
         requires conflict { IsSomeAnd (clause_at core.old.clauses conflict) (IsFalsified core.old.trail) }
         requires ids { core.old.last_id + 1 < 2 ^ 63 }
         requires short { length log.old.steps < 2 ^ 32 - 1 }
-        ensures ready { IfOk result (λ empty. IsReady core.new.vars self.new) }
+        ensures ready { IfOk result (λ empty. IsReady core.new.vars log.new.steps self.new) }
         ensures teaches { IfOk result (Teaches core.old log.old.steps core.new log.new.steps) }
         ensures err { OnErr result (log.new.steps ≡ log.old.steps) }
     {
         let lesson = Lesson::of(self.alloc, &mut self.marks, core, conflict)?;
         self.order.remember(core.vars(), &lesson.met);
         let (lits, hints) = lesson.into_parts()?;
-        let level = if self.restarts.is_due() {
+        let levels = joined_levels(core, lits.slice());
+        let level = if self.restarts.is_due() || self.lemmas.is_due_with_next() {
             0
         } else {
             second_level(core, lits.slice())
         };
         self.order.take_back(core, level);
+        self.lemmas.add(core.last_id() + 1, levels)?;
         enter(core, log, lits, hints)
     }
+
+    /// Drops lemmas, where it is time and the level is 0.
+    pub fn drop_lemmas(&mut self, core: &mut Core, log: &mut Log) -> Result<(), Memory>
+        requires ready { IsReady core.old.vars log.old.steps self.old }
+        requires different { AllPairs (λ c d. c.id ≢ d.id) core.old.clauses }
+        requires short { length log.old.steps < 2 ^ 32 - 1 }
+        ensures ready { OnOk result (IsReady core.new.vars log.new.steps self.new) }
+        ensures drops { OnOk result (Drops core.old log.old.steps core.new log.new.steps) }
+        ensures err { OnErr result (log.new.steps ≡ log.old.steps) }
+    {
+        if !self.lemmas.is_due() || core.level() > 0 {
+            return Ok(());
+        }
+        self.lemmas.drop_half(core, log)
+    }
+}
+
+/// How many levels the literals of a lemma are of, which stand by falling level.
+fn joined_levels(core: &Core, lits: &[Lit]) -> u32
+    requires sound { IsSound core.now }
+    requires range { All (IsOf core.now.vars) lits.now }
+{
+    let mut levels: u32 = 0;
+    let mut last = u32::MAX;
+    for lit in lits {
+        let level = level_of_false(core, *lit);
+        if level != last {
+            levels = levels.saturating_add(1);
+            last = level;
+        }
+    }
+    levels
 }
 
 /// The level of the second literal of a lemma, which is the greatest but that of the first, and 0 where there is none.
@@ -94,7 +134,7 @@ fn enter(core: &mut Core, log: &mut Log, lits: List<Lit>, hints: List<i64>) -> R
     requires ids { core.old.last_id + 1 < 2 ^ 63 }
     requires known { All (λ c. c.id ≤ core.old.last_id) core.old.clauses }
     requires short { length log.old.steps < 2 ^ 32 - 1 }
-    requires learnt { IsLearnt core.old.clauses core.old.vars lits hints }
+    requires learnt { IsLearnt (clause_in core.old.clauses) core.old.vars lits hints }
     ensures teaches { IfOk result (Teaches core.old log.old.steps core.new log.new.steps) }
     ensures err { OnErr result (log.new.steps ≡ log.old.steps) }
 {

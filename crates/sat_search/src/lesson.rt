@@ -6,6 +6,7 @@ ghost use Rattle.proof_check.specs.Propagation.{same};
 ghost use Rattle.sat_core.specs.Trails.{is_on, clause_at, id_at, IsOf, IsFalsified};
 ghost use Rattle.sat_core.specs.States.{IsSound};
 ghost use Rattle.sat_search.specs.Passes.{open_in, is_marked, resolving_reason, IsCleared, IsJoined, IsPass, HasRoom, hint_at};
+ghost use Rattle.sat_search.specs.Live.{clause_in};
 ghost use Rattle.sat_search.specs.Searches.{IsLearnt};
 
 use crate::marks::Marks;
@@ -202,7 +203,7 @@ impl Lesson {
         requires none { (l : Lit) → is_marked marks.old l ≡ false }
         requires ids { core.now.last_id < 2 ^ 63 }
         ensures sound { IsSound core.now }
-        ensures learnt { IfOk result (λ lesson. IsLearnt core.now.clauses core.now.vars lesson.lits.items lesson.hints.items) }
+        ensures learnt { IfOk result (λ lesson. IsLearnt (clause_in core.now.clauses) core.now.vars lesson.lits.items lesson.hints.items) }
         ensures met { IfOk result (λ lesson. All (IsOf core.now.vars) lesson.met.items) }
         ensures none { OnOk result ((l : Lit) → is_marked marks.new l ≡ false) }
         ensures size { length marks.new ≡ length marks.old }

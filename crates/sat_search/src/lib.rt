@@ -7,11 +7,14 @@ mod deciding;
 mod found;
 mod heap;
 mod learner;
+mod lemmas;
 mod lesson;
 mod marks;
 mod order;
 mod restarts;
 mod searching;
+#[cfg(test)]
+mod tests;
 mod values;
 
 pub use found::Found;

@@ -42,4 +42,4 @@ returns-clause-found c =
     let accepted = all_appended (IsAccepted (start f None [])) c.make.result c.search.new.log.steps _ c.make.ensures ensures.keeps (ensures.accepted (start f None []) (knows f c.in_ok-core.core core)) in
     let spent = ensures.spent f None [] (knows_after f c.in_ok-core.core c.make.result core c.make.ensures) (subst (IsClean f None []) (sym c.make.ensures) tt) in
     let clean = ensures.clean f None [] (knows_after f c.in_ok-core.core c.make.result core c.make.ensures) (subst (IsClean f None []) (sym c.make.ensures) tt) in
-    is_found f c.args.limit c.search.new.log c.in_ok-found.found c.in_ok-core.core c.search.new.core _ core ensures.model ensures.clauses ensures.vars ensures.refuting spent clean accepted
+    is_found f c.args.limit c.search.new.log c.in_ok-found.found c.in_ok-core.core c.search.new.core c.make.result core c.make.ensures ensures.model ensures.others ensures.vars ensures.refuting spent clean accepted

@@ -1,5 +1,6 @@
-use Rattle.std.proofs.Common.{arith}
-use Rattle.sat_search.proofs.Following.{follows_taught, taught_log, taught_more, taught_empty, follows_short, log_additions}
+use Rattle.std.proofs.Common.{ap, arith, rules}
+use Rattle.clean_logs.specs.CleanLogs.{additions}
+use Rattle.sat_search.proofs.Following.{follows_taught, taught_log, taught_few, taught_more, taught_empty, follows_dropped, dropped_additions, log_same, log_short, log_additions, taught_different}
 use Rattle.sat_search.proofs.searching.run.Goals as goal
 
 pub learn-requires-clause-ids : goal.learn-requires-clause-ids
@@ -14,7 +15,7 @@ learn-requires-clause-short c =
     let s = c.args.core.now in
     let follows = c.loop-conflict.invariant.follows in
     let count = log_additions s c.args.log.now.steps c.loop-conflict.log.steps follows.log in
-    let size = follows_short s c.loop-conflict.core c.args.log.now.steps c.loop-conflict.log.steps follows in
+    let size = log_short s c.args.log.now.steps c.loop-conflict.log.steps follows.log in
     omega (arith, count, size, c.loop-conflict.invariant.added, c.loop-conflict.invariant.most, c.requires.short, c.requires.few)
 
 pub returns-then-branch : goal.returns-then-branch
@@ -29,15 +30,50 @@ returns-then-branch c =
       ends = taught_empty c.args.core.now c.loop-conflict.core c.dive.new.core c.learn.new.core c.args.log.now.steps c.loop-conflict.log.steps c.learn.new.log.steps c.in_ok-learn.field-0 follows kept taught c.if-branch.true;
     }
 
-pub loop-conflict-preserved : goal.loop-conflict-preserved
-loop-conflict-preserved c =
+pub drop_lemmas-requires-clause-different : goal.drop_lemmas-requires-clause-different
+drop_lemmas-requires-clause-different c = taught_different c.dive.new.core c.learn.new.core c.loop-conflict.log.steps c.learn.new.log.steps c.in_ok-learn.field-0 c.dive.ensures.sound.different c.in_ok-learn.ensures.teaches
+
+pub drop_lemmas-requires-clause-short : goal.drop_lemmas-requires-clause-short
+drop_lemmas-requires-clause-short c =
+    let s = c.args.core.now in
     let follows = c.loop-conflict.invariant.follows in
     let kept = c.dive.ensures.kept in
     let taught = c.in_ok-learn.ensures.teaches in
-    let more = taught_more c.args.core.now c.loop-conflict.core c.dive.new.core c.learn.new.core c.args.log.now.steps c.loop-conflict.log.steps c.learn.new.log.steps c.in_ok-learn.field-0 follows kept taught in
+    let log = taught_log s c.loop-conflict.core c.dive.new.core c.learn.new.core c.args.log.now.steps c.loop-conflict.log.steps c.learn.new.log.steps c.in_ok-learn.field-0 follows kept taught in
+    let more = taught_more s c.loop-conflict.core c.dive.new.core c.learn.new.core c.args.log.now.steps c.loop-conflict.log.steps c.learn.new.log.steps c.in_ok-learn.field-0 follows kept taught in
+    let count = log_additions s c.args.log.now.steps c.learn.new.log.steps log in
+    let size = log_short s c.args.log.now.steps c.learn.new.log.steps log in
+    omega (arith, more, count, size, c.loop-conflict.invariant.added, c.loop-conflict.invariant.most, c.requires.short, c.requires.few)
+
+pub returns-in_err-drop_lemmas : goal.returns-in_err-drop_lemmas
+returns-in_err-drop_lemmas c =
+    let s = c.args.core.now in
+    let follows = c.loop-conflict.invariant.follows in
+    let kept = c.dive.ensures.kept in
+    let taught = c.in_ok-learn.ensures.teaches in
+    let log = taught_log s c.loop-conflict.core c.dive.new.core c.learn.new.core c.args.log.now.steps c.loop-conflict.log.steps c.learn.new.log.steps c.in_ok-learn.field-0 follows kept taught in
+    let more = taught_more s c.loop-conflict.core c.dive.new.core c.learn.new.core c.args.log.now.steps c.loop-conflict.log.steps c.learn.new.log.steps c.in_ok-learn.field-0 follows kept taught in
+    let same = c.in_err-drop_lemmas.ensures.err in
     record {
-      follows = follows_taught c.args.core.now c.loop-conflict.core c.dive.new.core c.learn.new.core c.args.log.now.steps c.loop-conflict.log.steps c.learn.new.log.steps c.in_ok-learn.field-0 follows kept taught c.if-branch.false;
-      ready = c.in_ok-learn.ensures.ready;
-      added = omega (arith, more, c.loop-conflict.invariant.added);
+      log = log_same s c.args.log.now.steps c.learn.new.log.steps c.drop_lemmas.new.log.steps log same;
+      most = omega (arith, more, ap additions same, c.loop-conflict.invariant.added, c.loop-conflict.invariant.most, c.if-added-limit.false);
+      ends = search rules;
+    }
+
+pub loop-conflict-preserved : goal.loop-conflict-preserved
+loop-conflict-preserved c =
+    let s = c.args.core.now in
+    let follows = c.loop-conflict.invariant.follows in
+    let kept = c.dive.ensures.kept in
+    let taught = c.in_ok-learn.ensures.teaches in
+    let more = taught_more s c.loop-conflict.core c.dive.new.core c.learn.new.core c.args.log.now.steps c.loop-conflict.log.steps c.learn.new.log.steps c.in_ok-learn.field-0 follows kept taught in
+    let few = taught_few s c.loop-conflict.core c.dive.new.core c.learn.new.core c.args.log.now.steps c.loop-conflict.log.steps c.learn.new.log.steps c.in_ok-learn.field-0 follows kept taught in
+    let next = follows_taught s c.loop-conflict.core c.dive.new.core c.learn.new.core c.args.log.now.steps c.loop-conflict.log.steps c.learn.new.log.steps c.in_ok-learn.field-0 follows kept taught c.if-branch.false in
+    let drops = c.in_ok-drop_lemmas.ensures.drops in
+    let same = dropped_additions s c.learn.new.core c.drop_lemmas.new.core c.args.log.now.steps c.learn.new.log.steps c.drop_lemmas.new.log.steps next few drops in
+    record {
+      follows = follows_dropped s c.learn.new.core c.drop_lemmas.new.core c.args.log.now.steps c.learn.new.log.steps c.drop_lemmas.new.log.steps next few drops;
+      ready = c.in_ok-drop_lemmas.ensures.ready;
+      added = omega (arith, more, same, c.loop-conflict.invariant.added);
       most = omega (arith, c.loop-conflict.invariant.most, c.if-added-limit.false);
     }

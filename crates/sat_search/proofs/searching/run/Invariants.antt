@@ -7,7 +7,7 @@ use Rattle.sat_search.proofs.searching.run.Given as goal
 abbrev pub invariant-loop-conflict : goal.invariant-loop-conflict
 invariant-loop-conflict l = record {
   follows : GoesOn l.fn.core l.fn.log.steps l.core l.log.steps;
-  ready : IsReady l.core.vars l.learner;
+  ready : IsReady l.core.vars l.log.steps l.learner;
   added : l.added ≡ additions l.log.steps;
   most : l.added ≤ l.limit;
 }

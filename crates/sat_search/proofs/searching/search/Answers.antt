@@ -1,29 +1,162 @@
-use Rattle.sat_search.proofs.Outcomes.{log_ids, log_accepted, log_hints, log_lines, refuted_exactly, refuting_then, knows_then, clean_then, spent_then}
+use Rattle.std.proofs.Common.{◌≡◌, ℕ, ◌+◌, [], ap}
+use Rattle.proof_check.specs.Knowledge.{Knowledge}
+use Rattle.proof_check.specs.Logs.{after_all}
+use Rattle.sat_core.specs.States.{State}
+use Rattle.clean_logs.specs.CleanLogs.{IsClean, added_by, additions}
+use Rattle.sat_search.specs.Live.{clause_in}
+use Rattle.sat_search.specs.Searches.{appended, live_after, KeepsOthers, Knows}
+use Rattle.sat_search.proofs.Outcomes.{log_ids, log_old, log_accepted, log_hints, log_lines, refuted_exactly, refuting_then, model_then, spent_then, is_model_then, follows_knows, follows_clean, follows_others, searched_back}
 use Rattle.sat_search.proofs.searching.search.Goals as goal
 
 pub returns-clause-ids : goal.returns-clause-ids
-returns-clause-ids c = log_ids c.args.core.now c.args.log.now.steps c.run.new.log.steps c.run.ensures.log
+returns-clause-ids c =
+    let s = c.args.core.now in
+    let old = c.args.log.now.steps in
+    let new = c.run-found.new.log.steps in
+    let now = c.back_to.new.self in
+    let ran = searched_back s old c.args.limit c.run-found.new.core now new c.run-found.result c.run-found.ensures c.back_to.ensures in
+    log_ids s old new ran.log
+
+pub returns-clause-dropped : goal.returns-clause-dropped
+returns-clause-dropped c =
+    let s = c.args.core.now in
+    let old = c.args.log.now.steps in
+    let new = c.run-found.new.log.steps in
+    let now = c.back_to.new.self in
+    let ran = searched_back s old c.args.limit c.run-found.new.core now new c.run-found.result c.run-found.ensures c.back_to.ensures in
+    log_old s old new ran.log
+
+pub returns-clause-few_drops : goal.returns-clause-few_drops
+returns-clause-few_drops c =
+    let s = c.args.core.now in
+    let old = c.args.log.now.steps in
+    let new = c.run-found.new.log.steps in
+    let now = c.back_to.new.self in
+    let ran = searched_back s old c.args.limit c.run-found.new.core now new c.run-found.result c.run-found.ensures c.back_to.ensures in
+    ran.log.few
 
 pub returns-clause-accepted : goal.returns-clause-accepted
-returns-clause-accepted c = log_accepted c.args.core.now c.args.log.now.steps c.run.new.log.steps c.run.ensures.log
+returns-clause-accepted c =
+    let s = c.args.core.now in
+    let old = c.args.log.now.steps in
+    let new = c.run-found.new.log.steps in
+    let now = c.back_to.new.self in
+    let ran = searched_back s old c.args.limit c.run-found.new.core now new c.run-found.result c.run-found.ensures c.back_to.ensures in
+    log_accepted s old new ran.log
 
 pub returns-clause-hints : goal.returns-clause-hints
-returns-clause-hints c = log_hints c.args.core.now c.args.log.now.steps c.run.new.log.steps c.run.ensures.log
+returns-clause-hints c =
+    let s = c.args.core.now in
+    let old = c.args.log.now.steps in
+    let new = c.run-found.new.log.steps in
+    let now = c.back_to.new.self in
+    let ran = searched_back s old c.args.limit c.run-found.new.core now new c.run-found.result c.run-found.ensures c.back_to.ensures in
+    log_hints s old new ran.log
 
 pub returns-clause-lines : goal.returns-clause-lines
-returns-clause-lines c = log_lines c.args.core.now c.args.log.now.steps c.run.new.log.steps c.run.ensures.log c.args.limit c.run.ensures.most c.requires.numbers
+returns-clause-lines c =
+    let s = c.args.core.now in
+    let old = c.args.log.now.steps in
+    let new = c.run-found.new.log.steps in
+    let now = c.back_to.new.self in
+    let ran = searched_back s old c.args.limit c.run-found.new.core now new c.run-found.result c.run-found.ensures c.back_to.ensures in
+    log_lines s old new ran.log c.args.limit ran.most c.requires.numbers
 
 pub returns-clause-refuted : goal.returns-clause-refuted
-returns-clause-refuted c = refuted_exactly c.args.core.now c.args.log.now.steps c.args.limit c.run.new.core c.run.new.log.steps c.run.result c.run.ensures
+returns-clause-refuted c =
+    let s = c.args.core.now in
+    let old = c.args.log.now.steps in
+    let new = c.run-found.new.log.steps in
+    let now = c.back_to.new.self in
+    let ran = searched_back s old c.args.limit c.run-found.new.core now new c.run-found.result c.run-found.ensures c.back_to.ensures in
+    refuted_exactly s old c.args.limit now new c.run-found.result ran
 
 pub returns-clause-refuting : goal.returns-clause-refuting
-returns-clause-refuting c = refuting_then c.args.core.now c.args.log.now.steps c.args.limit c.run.new.core c.run.new.log.steps c.run.result c.run.ensures
+returns-clause-refuting c =
+    let s = c.args.core.now in
+    let old = c.args.log.now.steps in
+    let new = c.run-found.new.log.steps in
+    let now = c.back_to.new.self in
+    let ran = searched_back s old c.args.limit c.run-found.new.core now new c.run-found.result c.run-found.ensures c.back_to.ensures in
+    refuting_then s old c.args.limit now new c.run-found.result ran
+
+pub returns-clause-model : goal.returns-clause-model
+returns-clause-model c =
+    let s = c.args.core.now in
+    let old = c.args.log.now.steps in
+    let new = c.run-found.new.log.steps in
+    let now = c.back_to.new.self in
+    let ran = searched_back s old c.args.limit c.run-found.new.core now new c.run-found.result c.run-found.ensures c.back_to.ensures in
+    is_model_then s old c.args.limit now new c.run-found.result ran
+
+pub returns-clause-clauses : goal.returns-clause-clauses
+returns-clause-clauses c =
+    let s = c.args.core.now in
+    let old = c.args.log.now.steps in
+    let new = c.run-found.new.log.steps in
+    let now = c.back_to.new.self in
+    let ran = searched_back s old c.args.limit c.run-found.new.core now new c.run-found.result c.run-found.ensures c.back_to.ensures in
+    model_then (λ n steps. (id : ℕ) → clause_in n.clauses id ≡ live_after (clause_in s.clauses) (appended old steps) id) s old c.args.limit now new c.run-found.result (λ follows. follows.clauses) ran
+
+pub returns-clause-others : goal.returns-clause-others
+returns-clause-others c =
+    let s = c.args.core.now in
+    let old = c.args.log.now.steps in
+    let new = c.run-found.new.log.steps in
+    let now = c.back_to.new.self in
+    let ran = searched_back s old c.args.limit c.run-found.new.core now new c.run-found.result c.run-found.ensures c.back_to.ensures in
+    model_then (λ n steps. KeepsOthers (added_by [] old) s.clauses n.clauses) s old c.args.limit now new c.run-found.result (follows_others s old now new) ran
 
 pub returns-clause-knows : goal.returns-clause-knows
-returns-clause-knows c = knows_then c.args.core.now c.args.log.now.steps c.args.limit c.run.new.core c.run.new.log.steps c.run.result c.run.ensures
+returns-clause-knows c =
+    let s = c.args.core.now in
+    let old = c.args.log.now.steps in
+    let new = c.run-found.new.log.steps in
+    let now = c.back_to.new.self in
+    let ran = searched_back s old c.args.limit c.run-found.new.core now new c.run-found.result c.run-found.ensures c.back_to.ensures in
+    model_then (λ n steps. (k : Knowledge) → Knows k s → Knows (after_all k (appended old steps)) n) s old c.args.limit now new c.run-found.result (follows_knows s old now new) ran
+
+pub returns-clause-last_id : goal.returns-clause-last_id
+returns-clause-last_id c =
+    let s = c.args.core.now in
+    let old = c.args.log.now.steps in
+    let new = c.run-found.new.log.steps in
+    let now = c.back_to.new.self in
+    let ran = searched_back s old c.args.limit c.run-found.new.core now new c.run-found.result c.run-found.ensures c.back_to.ensures in
+    model_then (λ n steps. n.last_id ≡ s.last_id + additions (appended old steps)) s old c.args.limit now new c.run-found.result (λ follows. follows.last) ran
+
+pub returns-clause-level : goal.returns-clause-level
+returns-clause-level c =
+    let s = c.args.core.now in
+    let old = c.args.log.now.steps in
+    let new = c.run-found.new.log.steps in
+    let now = c.back_to.new.self in
+    let ran = searched_back s old c.args.limit c.run-found.new.core now new c.run-found.result c.run-found.ensures c.back_to.ensures in
+    ap (λ (x : State). x.level) c.back_to.ensures
+
+pub returns-clause-vars : goal.returns-clause-vars
+returns-clause-vars c =
+    let s = c.args.core.now in
+    let old = c.args.log.now.steps in
+    let new = c.run-found.new.log.steps in
+    let now = c.back_to.new.self in
+    let ran = searched_back s old c.args.limit c.run-found.new.core now new c.run-found.result c.run-found.ensures c.back_to.ensures in
+    model_then (λ n steps. n.vars ≡ s.vars) s old c.args.limit now new c.run-found.result (λ follows. follows.vars) ran
 
 pub returns-clause-clean : goal.returns-clause-clean
-returns-clause-clean c = clean_then c.args.core.now c.args.log.now.steps c.args.limit c.run.new.core c.run.new.log.steps c.run.result c.run.ensures
+returns-clause-clean c =
+    let s = c.args.core.now in
+    let old = c.args.log.now.steps in
+    let new = c.run-found.new.log.steps in
+    let now = c.back_to.new.self in
+    let ran = searched_back s old c.args.limit c.run-found.new.core now new c.run-found.result c.run-found.ensures c.back_to.ensures in
+    λ f least tops knows clean. model_then (λ n steps. IsClean f least tops steps) s old c.args.limit now new c.run-found.result (λ follows. follows_clean s old now new follows f least tops knows clean) ran
 
 pub returns-clause-spent : goal.returns-clause-spent
-returns-clause-spent c = spent_then c.args.core.now c.args.log.now.steps c.args.limit c.run.new.core c.run.new.log.steps c.run.result c.run.ensures
+returns-clause-spent c =
+    let s = c.args.core.now in
+    let old = c.args.log.now.steps in
+    let new = c.run-found.new.log.steps in
+    let now = c.back_to.new.self in
+    let ran = searched_back s old c.args.limit c.run-found.new.core now new c.run-found.result c.run-found.ensures c.back_to.ensures in
+    spent_then s old c.args.limit now new c.run-found.result ran

@@ -1,0 +1,22 @@
+use Rattle.std.proofs.Common.{ℕ, List, length, take, All, Contains, ap, sym, ◌∙◌, subst, arith}
+use Rattle.proof_log.specs.declared.steps.Step.{Step}
+use Rattle.sat_search.specs.Dropping.{AreLemmas}
+use Rattle.sat_search.proofs.Forgetting.{few_drops, first_go, lemmas_drop, drops_some}
+use Rattle.sat_search.proofs.lemmas.Lemmas.drop_half.Goals as goal
+
+pub dropped-requires : goal.dropped-requires
+dropped-requires c = omega (arith, few_drops c.args.log.now.steps c.args.self.now c.requires.lemmas, c.requires.short)
+
+pub returns-clause-lemmas : goal.returns-clause-lemmas
+returns-clause-lemmas c =
+    subst (λ (xs : List Step). AreLemmas xs c.dropped.new.self) (sym c.in_ok-push.ensures.ok)
+    (lemmas_drop c.args.log.now.steps c.args.self.now c.dropped.new.self _ c.requires.lemmas c.dropped.ensures.ids c.dropped.ensures.drops)
+
+pub returns-clause-drops : goal.returns-clause-drops
+returns-clause-drops c =
+    let old = c.args.log.now.steps in
+    let items = c.args.self.now.ids.items in
+    let ids = c.in_ok-ids.ids in
+    let first = subst (λ (n : ℕ). All (Contains (take n items)) ids) (ap length c.as_slice.ensures.value ∙ c.in_ok-used.ensures) c.in_ok-ids.ensures.old in
+    let may_go = first_go old c.args.self.now c.old.result ids c.requires.lemmas c.old.ensures first in
+    drops_some c.args.core.now c.forget_half.new.core c.compact.new.self old c.push.new.self ids c.in_ok-ids.ensures.forgets c.compact.ensures may_go c.in_ok-push.ensures.ok

@@ -1,0 +1,40 @@
+-- What drop steps leave: which lemmas a log has, which may be dropped, and what a step that drops some does.
+use Rattle.std.specs.Prelude.{◌≡◌, ℕ, ◌⊎◌, IsSome, List, [], ◌∷◌, ◌++◌, reverse, All}
+use Rattle.proof_log.specs.declared.steps.Step.{Step}
+use Rattle.proof_log.specs.declared.steps.Step.TheVariants.{Drop}
+use Rattle.proof_check.specs.Knowledge.{without_clauses}
+use Rattle.sat_core.specs.States.{State}
+use Rattle.clean_logs.specs.CleanLogs.{added_by, dropped_by}
+use Rattle.sat_search.specs.Live.{clause_in}
+use Rattle.sat_search.specs.Searches.{IsOld}
+use Rattle.sat_search.specs.declared.lemmas.Lemmas.{Lemmas}
+
+-- the lemmas are those of the log
+pub record AreLemmas (steps : List Step) (lemmas : Lemmas) : Type 0 where
+  pub ids : reverse lemmas.ids.items ≡ added_by [] steps
+  pub drops : lemmas.drops ≡ dropped_by 0 steps
+
+-- the log added the clause, and it is none of those that its next drop step has to leave
+abbrev pub MayGo : List Step → ℕ → Type 0
+MayGo steps id = IsOld (added_by [] steps) (dropped_by 0 steps) id
+
+-- the core forgot these clauses, which were live
+pub record Forgets (s : State) (ids : List ℕ) (now : State) : Type 0 where
+  pub live : All (λ id. IsSome (clause_in s.clauses id)) ids
+  pub clauses : (id : ℕ) → clause_in now.clauses id ≡ without_clauses (clause_in s.clauses) ids id
+  pub vars : now.vars ≡ s.vars
+  pub last_id : now.last_id ≡ s.last_id
+  pub level : now.level ≡ s.level
+
+-- the core forgot those by which the list of ids grew
+pub record ForgetsMore (s : State) (old : List ℕ) (now : State) (new : List ℕ) : Type 0 where
+  pub more : List ℕ
+  pub grown : new ≡ old ++ more
+  pub forgets : Forgets s more now
+
+-- the core forgot clauses that may go, and the log tells so; or nothing changed
+pub record Drops (s : State) (old : List Step) (now : State) (new : List Step) : Type 0 where
+  pub ids : List ℕ
+  pub log : (new ≡ old ++ Drop ids ∷ []) ⊎ ((new ≡ old) × (ids ≡ []))
+  pub may_go : All (MayGo old) ids
+  pub forgets : Forgets s ids now

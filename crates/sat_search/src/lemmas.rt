@@ -1,0 +1,243 @@
+//! The lemmas of a log, and when and which of them are dropped. A search with fewer lemmas looks at fewer clauses; those
+//! that join few levels, or were used lately, are worth most. Which are dropped bears on nothing but speed.
+ghost use Rattle.std.specs.Prelude.{◌≡◌, ◌≢◌, ◌+◌, ◌-◌, ◌*◌, ◌<◌, ◌≤◌, ◌⊎◌, ◌^◌, ◌∷◌, ◌++◌, [], length, take, All, AllPairs, Contains, Some, IsSome, IfSome, IsSomeAnd, IfOk, OnOk, OnErr, slice_get};
+ghost use Rattle.sat_core.specs.Trails.{id_at};
+ghost use Rattle.sat_core.specs.Forgotten.{IsNoReason};
+ghost use Rattle.sat_search.specs.Dropping.{AreLemmas, Drops, Forgets, ForgetsMore};
+
+use arc_base::{List, Memory};
+use proof_log::{Log, Step};
+use sat_core::{Core, Held};
+use std::alloc::Global;
+
+/// A drop step comes after so many times its number added clauses, counted from the drop step before it.
+const ADDED: u64 = 1500;
+
+/// It leaves so many times its number of the clauses that were added last.
+const KEPT: u64 = 1000;
+
+/// What is added to the worth of a lemma that was not used lately.
+const UNUSED: u64 = 1 << 32;
+
+/// The lemmas of a log: their ids in the order in which they were added, and the levels that each one joined.
+#[derive(Debug, Drop)]
+pub(crate) struct Lemmas {
+    pub alloc: Global,
+    pub ids: Vec<u64>,
+    pub levels: Vec<u32>,
+    /// How many steps of the log drop clauses.
+    pub drops: u64,
+    /// How many clauses are to be added until lemmas are dropped next.
+    pub wait: u64,
+    /// The step of the log that follows the last one that dropped clauses.
+    pub from: u32,
+}
+
+impl Lemmas {
+    /// The lemmas of a log.
+    pub fn of(alloc: Global, steps: &[Step]) -> Result<Lemmas, Memory>
+        ensures { IfOk result (AreLemmas steps.now) }
+    {
+        let mut lemmas = Lemmas {
+            alloc,
+            ids: Vec::new(alloc),
+            levels: Vec::new(alloc),
+            drops: 0,
+            wait: ADDED,
+            from: 0,
+        };
+        for step in steps {
+            match step {
+                Step::Add { id, lits, .. } => lemmas.add(*id, lits.len())?,
+                Step::Drop { .. } => lemmas.dropped(),
+                Step::Bound { .. } => {}
+            }
+        }
+        Ok(lemmas)
+    }
+
+    /// A lemma joins the log.
+    pub fn add(&mut self, id: u64, levels: u32) -> Result<(), Memory>
+        ensures ids { OnOk result (self.new.ids.items ≡ self.old.ids.items ++ id ∷ []) }
+        ensures drops { self.new.drops ≡ self.old.drops }
+    {
+        self.ids.push(id)?;
+        self.levels.push(levels)?;
+        self.wait = self.wait.saturating_sub(1);
+        Ok(())
+    }
+
+    /// Lemmas were dropped.
+    fn dropped(&mut self)
+        requires { self.old.drops + 1 < 2 ^ 64 }
+        ensures ids { self.new.ids.items ≡ self.old.ids.items }
+        ensures drops { self.new.drops ≡ self.old.drops + 1 }
+    {
+        self.drops += 1;
+        self.wait = ADDED.saturating_mul(self.drops.saturating_add(1));
+    }
+
+    /// Whether lemmas are to be dropped once another one is added.
+    pub fn is_due_with_next(&self) -> bool {
+        self.wait <= 1
+    }
+
+    /// Whether lemmas are to be dropped now.
+    pub fn is_due(&self) -> bool {
+        self.wait == 0
+    }
+
+    /// How many of the lemmas, the first ones, are old enough.
+    fn old(&self) -> usize
+        ensures { result + 1000 * (self.now.drops + 1) ≤ length self.now.ids.items ⊎ (result ≡ 0) }
+    {
+        let kept = KEPT.saturating_mul(self.drops.saturating_add(1)) as usize;
+        self.ids.len().saturating_sub(kept)
+    }
+
+    /// Where a clause stands among the first lemmas, so many of them, where it does.
+    fn place_of(&self, id: u64, old: usize) -> Option<usize>
+        ensures { IfSome result (λ place. (place < old) × (slice_get self.now.ids.items place ≡ Some id)) }
+    {
+        let mut low = 0;
+        let mut high = old.min(self.ids.len());
+        while low < high {
+            let middle = low + (high - low) / 2;
+            if self.ids[middle] == id {
+                return Some(middle);
+            }
+            if self.ids[middle] < id {
+                low = middle + 1;
+            } else {
+                high = middle;
+            }
+        }
+        None
+    }
+
+    /// Which of the first lemmas the hints of these steps name.
+    fn used(&self, steps: &[Step], old: usize) -> Result<Vec<bool>, Memory>
+        ensures { IfOk result (λ used. length used.items ≡ old) }
+    {
+        let mut used = vec![in self.alloc; false; old]?;
+        for step in steps {
+            self.use_hints(&mut used, step, old);
+        }
+        Ok(used)
+    }
+
+    /// Marks the first lemmas that the hints of a step name.
+    fn use_hints(&self, used: &mut [bool], step: &Step, old: usize)
+        ensures { length used.new ≡ length used.old }
+    {
+        if let Step::Add { hints, .. } = step {
+            for hint in hints.slice() {
+                if let Some(place) = self.place_of((*hint).max(0) as u64, old) {
+                    if place < used.len() {
+                        used[place] = true;
+                    }
+                }
+            }
+        }
+    }
+
+    /// How little a clause of the core is worth, where it may be dropped: it is one of the first lemmas, has more than two
+    /// literals, and implied no literal of the trail.
+    fn cost(&self, core: &Core, used: &[bool], held: Held) -> Option<u64>
+        requires { held.0 < length core.now.clauses }
+        ensures no_reason { IsSome result → IsNoReason core.now.trail held }
+        ensures old { IsSome result → IsSomeAnd (id_at core.now.clauses held) (Contains (take (length used.now) self.now.ids.items)) }
+    {
+        if core.clause(held).len() <= 2 {
+            return None;
+        }
+        let place = self.place_of(core.id(held), used.len())?;
+        if core.is_reason(held) {
+            return None;
+        }
+        let levels = self.levels.get(place).copied().unwrap_or(0) as u64;
+        let lately = used.get(place).copied().unwrap_or(true);
+        Some(if lately { levels } else { levels + UNUSED })
+    }
+
+    /// The costs of the clauses that may be dropped, the least first.
+    fn costs(&self, core: &Core, used: &[bool]) -> Result<Vec<u64>, Memory> {
+        let mut costs = Vec::new(self.alloc);
+        for place in 0..core.clauses() {
+            if let Some(cost) = self.cost(core, used, Held(place)) {
+                costs.push(cost)?;
+            }
+        }
+        costs.sort_unstable();
+        Ok(costs)
+    }
+
+    /// Forgets the half of the clauses that may be dropped that costs most, and tells their ids.
+    fn forget_half(&self, core: &mut Core, used: &[bool]) -> Result<List<u64>, Memory>
+        requires { AllPairs (λ c d. c.id ≢ d.id) core.old.clauses }
+        ensures forgets { IfOk result (λ ids. Forgets core.old ids core.new) }
+        ensures old { IfOk result (All (Contains (take (length used.now) self.now.ids.items))) }
+    {
+        let costs = self.costs(core, used)?;
+        let half = costs.len().div_ceil(2).min(u32::MAX as usize);
+        let least = costs.get(costs.len() / 2).copied().unwrap_or(0);
+        let mut ids = List::make(self.alloc);
+        let mut place = core.clauses();
+        while place > 0 && (ids.len() as usize) < half {
+            place -= 1;
+            self.forget(core, used, least, Held(place), &mut ids)?;
+        }
+        Ok(ids)
+    }
+
+    /// Forgets a clause that may be dropped and costs so much at least.
+    fn forget(
+        &self,
+        core: &mut Core,
+        used: &[bool],
+        least: u64,
+        held: Held,
+        ids: &mut List<u64>,
+    ) -> Result<(), Memory>
+        requires held { held.0 < length core.old.clauses }
+        requires different { AllPairs (λ c d. c.id ≢ d.id) core.old.clauses }
+        requires few { length ids.old < 2 ^ 32 - 1 }
+        ensures forgets { OnOk result (ForgetsMore core.old ids.old core.new ids.new) }
+        ensures different { OnOk result (AllPairs (λ c d. c.id ≢ d.id) core.new.clauses) }
+        ensures old { OnOk result (All (Contains (take (length used.now) self.now.ids.items)) ids.old → All (Contains (take (length used.now) self.now.ids.items)) ids.new) }
+        ensures places { OnOk result (held.0 ≤ length core.new.clauses) }
+    {
+        match self.cost(core, used, held) {
+            Some(cost) if cost >= least => {
+                ids.push(core.id(held))?;
+                core.forget(held);
+                Ok(())
+            }
+            _ => Ok(()),
+        }
+    }
+
+    /// Drops lemmas, at level 0, by a step of the log. Where none may be dropped, it is tried again later.
+    pub fn drop_half(&mut self, core: &mut Core, log: &mut Log) -> Result<(), Memory>
+        requires lemmas { AreLemmas log.old.steps self.old }
+        requires short { length log.old.steps < 2 ^ 32 - 1 }
+        requires different { AllPairs (λ c d. c.id ≢ d.id) core.old.clauses }
+        ensures lemmas { OnOk result (AreLemmas log.new.steps self.new) }
+        ensures drops { OnOk result (Drops core.old log.old.steps core.new log.new.steps) }
+        ensures err { OnErr result (log.new.steps ≡ log.old.steps) }
+    {
+        let steps = log.steps.slice();
+        let used = self.used(&steps[(self.from as usize).min(steps.len())..], self.old())?;
+        let ids = self.forget_half(core, used.as_slice())?;
+        if ids.is_empty() {
+            self.wait = ADDED;
+            return Ok(());
+        }
+        log.steps.push(Step::Drop { ids })?;
+        self.from = log.steps.len();
+        self.dropped();
+        // Want of memory leaves the gaps in the core, and takes nothing else.
+        let _ = core.compact();
+        Ok(())
+    }
+}
