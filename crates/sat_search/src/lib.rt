@@ -13,8 +13,6 @@ mod marks;
 mod order;
 mod restarts;
 mod searching;
-#[cfg(test)]
-mod tests;
 mod values;
 
 pub use found::Found;
