@@ -1,0 +1,176 @@
+ghost use Rattle.std.specs.Prelude.{◌≡◌, ◌+◌, ◌≤◌, ◌<◌, ◌^◌, All, length, IfOk, OnOk, IsFalse};
+ghost use Rattle.std.specs.List.{list_any};
+ghost use Rattle.proof_check.specs.Logs.{adds_empty};
+ghost use Rattle.sat_core.specs.Trails.{IsOf};
+ghost use Rattle.clean_logs.specs.CleanLogs.{additions};
+
+use arc_base::{List, Memory};
+use cnf_types::{Clause, Formula, Lit};
+use proof_check::Checker;
+use proof_log::{Log, Step};
+use sat_core::Core;
+use sat_search::{Found, search};
+use std::alloc::Global;
+use std::test::Fail;
+
+const A: Lit = Lit { code: 2 };
+
+const NOT_A: Lit = Lit { code: 3 };
+
+const B: Lit = Lit { code: 4 };
+
+const NOT_B: Lit = Lit { code: 5 };
+
+const C: Lit = Lit { code: 6 };
+
+const NOT_C: Lit = Lit { code: 7 };
+
+const D: Lit = Lit { code: 8 };
+
+const E: Lit = Lit { code: 10 };
+
+const F: Lit = Lit { code: 12 };
+
+/// A clause of three literals.
+fn clause(alloc: Global, lits: [Lit; 3]) -> Result<Clause, Memory> {
+    Ok(Clause {
+        lits: List::of(Vec::from_slice(alloc, &lits)?)?,
+    })
+}
+
+/// The formula of all clauses over three variables, and of D or E or F.
+fn formula(alloc: Global) -> Result<Formula, Memory> {
+    let mut clauses = List::make(alloc);
+    clauses.push(clause(alloc, [A, B, C])?)?;
+    clauses.push(clause(alloc, [A, B, NOT_C])?)?;
+    clauses.push(clause(alloc, [A, NOT_B, C])?)?;
+    clauses.push(clause(alloc, [A, NOT_B, NOT_C])?)?;
+    clauses.push(clause(alloc, [NOT_A, B, C])?)?;
+    clauses.push(clause(alloc, [NOT_A, B, NOT_C])?)?;
+    clauses.push(clause(alloc, [NOT_A, NOT_B, C])?)?;
+    clauses.push(clause(alloc, [NOT_A, NOT_B, NOT_C])?)?;
+    clauses.push(clause(alloc, [D, E, F])?)?;
+    Ok(Formula { vars: 6, clauses })
+}
+
+/// Adds a clause to a core under the next id.
+fn put(core: &mut Core, lits: &[Lit]) -> Result<(), Memory>
+    requires level { core.old.level ≡ 0 }
+    requires range { All (IsOf core.old.vars) lits.now }
+    requires few { length lits.now ≤ 3 }
+    requires known { All (λ c. c.id ≤ core.old.last_id) core.old.clauses }
+    requires ids { core.old.last_id < 2000 }
+    ensures level { OnOk result (core.new.level ≡ 0) }
+    ensures vars { OnOk result (core.new.vars ≡ core.old.vars) }
+    ensures last_id { OnOk result (core.new.last_id ≡ core.old.last_id + 1) }
+    ensures known { OnOk result (All (λ c. c.id ≤ core.new.last_id) core.new.clauses) }
+{
+    let id = core.last_id() + 1;
+    core.add(id, lits)?;
+    Ok(())
+}
+
+/// A core with the clauses of the formula.
+fn core(alloc: Global) -> Result<Core, Memory>
+    ensures level { IfOk result (λ core. core.level ≡ 0) }
+    ensures vars { IfOk result (λ core. core.vars ≡ 6) }
+    ensures last_id { IfOk result (λ core. core.last_id ≡ 9) }
+    ensures known { IfOk result (λ core. All (λ c. c.id ≤ core.last_id) core.clauses) }
+{
+    let mut core = Core::make(alloc, 6)?;
+    put(&mut core, &[A, B, C])?;
+    put(&mut core, &[A, B, NOT_C])?;
+    put(&mut core, &[A, NOT_B, C])?;
+    put(&mut core, &[A, NOT_B, NOT_C])?;
+    put(&mut core, &[NOT_A, B, C])?;
+    put(&mut core, &[NOT_A, B, NOT_C])?;
+    put(&mut core, &[NOT_A, NOT_B, C])?;
+    put(&mut core, &[NOT_A, NOT_B, NOT_C])?;
+    put(&mut core, &[D, E, F])?;
+    Ok(core)
+}
+
+/// A step that adds the last clause again.
+fn again(alloc: Global, id: u64) -> Result<Step, Memory>
+    ensures { IfOk result (λ step. IsFalse (adds_empty step)) }
+{
+    Ok(Step::Add {
+        id,
+        lits: List::of(Vec::from_slice(alloc, &[D, E, F])?)?,
+        hints: List::of(Vec::from_slice(alloc, &[9])?)?,
+    })
+}
+
+/// The log that adds the last clause 1,499 times again, and the core with all these clauses.
+fn core_and_log(alloc: Global) -> Result<(Core, Log), Memory>
+    ensures level { IfOk result (λ r. r.0.level ≡ 0) }
+    ensures last_id { IfOk result (λ r. r.0.last_id ≤ 2000) }
+    ensures room { IfOk result (λ r. additions r.1.steps < 2000) }
+    ensures filled { IfOk result (λ r. IsFalse (list_any adds_empty r.1.steps)) }
+    ensures short { IfOk result (λ r. length r.1.steps < 2 ^ 31) }
+{
+    let mut core = core(alloc)?;
+    let mut log = Log {
+        steps: List::make(alloc),
+    };
+    for id in 10..1509 {
+        put(&mut core, &[D, E, F])?;
+        log.steps.push(again(alloc, id)?)?;
+    }
+    Ok((core, log))
+}
+
+/// How many ids the step drops, where each of them is one from 10 to 509.
+fn old_drops(step: &Step) -> Option<u32> {
+    let Step::Drop { ids } = step else {
+        return None;
+    };
+    for id in ids.slice() {
+        if *id < 10 || *id > 509 {
+            return None;
+        }
+    }
+    Some(ids.len())
+}
+
+/// Whether the steps add a clause that is not empty, and then drop from 1 to 250 clauses with ids from 10 to 509.
+fn drops_old(steps: &[Step]) -> bool {
+    let adds = match steps.get(1499) {
+        Some(Step::Add { lits, .. }) => !lits.is_empty(),
+        _ => false,
+    };
+    let dropped = match steps.get(1500) {
+        Some(step) => old_drops(step).unwrap_or(0),
+        None => 0,
+    };
+    adds && dropped >= 1 && dropped <= 250
+}
+
+/// Whether each step of a log is accepted.
+fn is_accepted(alloc: Global, formula: &Formula, log: &Log) -> Result<bool, Memory> {
+    let mut checker = Checker::make(alloc, formula, None, &List::make(alloc))?;
+    for step in log.steps.slice() {
+        if checker.step(step).is_err() {
+            return Ok(false);
+        }
+    }
+    Ok(true)
+}
+
+#[test]
+fn lemmas_are_dropped_after_1500(rt: HostRuntime) -> Result<(), Fail> {
+    let alloc = rt.alloc();
+    let Ok(formula) = formula(alloc) else {
+        return Err(Fail::from("memory"));
+    };
+    let Ok((mut core, mut log)) = core_and_log(alloc) else {
+        return Err(Fail::from("memory"));
+    };
+    let Ok(found) = search(alloc, &mut core, &mut log, 2000) else {
+        return Err(Fail::from("memory"));
+    };
+    assert!(rt; matches!(found, Found::Refuted));
+    assert!(rt; drops_old(log.steps.slice()));
+    assert_eq!(rt; is_accepted(alloc, &formula, &log).unwrap_or(false), true);
+    Ok(())
+}
