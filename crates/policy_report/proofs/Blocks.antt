@@ -1,5 +1,5 @@
 -- The lines that are left of a block, and the verdict that they make.
-use Rattle.std.proofs.Common.{◌≡◌, ℕ, ◌-◌, ◌==◌, nat_le, Bool, if◌then◌else◌, List, [], ◌∷◌, ◌++◌, Option, Some, None, refl}
+use Rattle.std.proofs.Common.{◌≡◌, ℕ, ◌-◌, ◌==◌, nat_le, Bool, if◌then◌else◌, List, [], ◌∷◌, ◌++◌, Option, Some, None, option_and_then, refl}
 use Rattle.std.proofs.lemmas.Option.{none-some}
 use Rattle.arc_base.specs.declared.place.Link.{Link}
 use Rattle.net_model.specs.declared.lists.Packet.{Packet}
@@ -46,8 +46,7 @@ with_item verdict_of draft_of left done x = if nat_le left 1 then Whole (verdict
 
 -- what a line adds to the draft, where it is read
 abbrev pub added : {A : Type 0} → Option A → (A → Option Block) → Option Block
-added None add = None
-added (Some a) add = add a
+added o add = option_and_then add o
 
 pub added_some : {A P : Type 0} (add : A → Option Block) (o : Option A) (block : Block) → added o add ≡ Some block → ((a : A) → o ≡ Some a → add a ≡ Some block → P) → P
 added_some add None block e use_it = absurd (none-some block e)
