@@ -46,7 +46,7 @@ pub record OnlyReads {S X : Type 0} (limit : ℕ) (held : S → Option Files) (f
     (before after : S) (result : Result X Stop) : Type 0 where
   pub same : held after ≡ held before
   pub cause : IfErr result
-    (HasStopCause (Rose (faults before) (faults after)) (Rose (absences before) (absences after)) (TookMore limit (taken before) (taken after)))
+      (HasStopCause (Rose (faults before) (faults after)) (Rose (absences before) (absences after)) (TookMore limit (taken before) (taken after)))
   pub faults_rise : faults before ≤ faults after
   pub absences_rise : absences before ≤ absences after
   pub taken_rise : TookOn (taken before) (taken after)
