@@ -1,5 +1,6 @@
 -- The command `apply DOC EDITS --out SUFFIX`.
-use Rattle.std.specs.Prelude.{◌≡◌, ◌↔◌, ◌⊎◌, ◌||◌, ◌≤◌, ℕ, Bool, true, false, List, [], ◌∷◌, length, Some, None, All, Contains, bytes_eq}
+use Rattle.std.specs.Prelude.{◌≡◌, ◌↔◌, ◌⊎◌, ◌||◌, ◌≤◌, ℕ, Bool, true, false, List, [], ◌∷◌, length}
+use Rattle.std.specs.Prelude.{Some, None, All, Contains, bytes_eq}
 use Rattle.std.specs.List.{list_any}
 use Rattle.arc_base.specs.declared.refusal.Kind.TheVariants.{EditLine, Limit, OutputName}
 use Rattle.arc_base.specs.declared.refusal.LimitKind.{LimitKind}
@@ -15,13 +16,15 @@ use Rattle.edit_space.specs.EditLists.{AreEdits, HasFewClasses, NamesLimit}
 use Rattle.edit_space.specs.Prices.{chosen_of}
 use Rattle.edit_files.specs.EditFiles.{line_texts, chosen_by, AreEditLines, IsWrongLine}
 use Rattle.output_files.specs.Outputs.{clashes, copy_names, wrote_lines, IsCopyName}
-use Rattle.changed_files.specs.Changes.{changed_names, AreLeftPatched, AreReadAgain, Changes, IsEditable}
+use Rattle.changed_files.specs.Changes.{changed_names, AreLeftPatched, AreReadAgain, Changes}
+use Rattle.changed_files.specs.Changes.{IsEditable}
 use Rattle.command_words.specs.declared.commands.ApplyWords.{ApplyWords}
 use Rattle.run_files.specs.declared.limits.Limits.TheVariants.{Editing}
 use Rattle.run_files.specs.declared.outcome.Done.{Done}
 use Rattle.run_files.specs.declared.outcome.FileRefusal.{FileRefusal}
 use Rattle.run_files.specs.Refusals.{bytes_at, read_refusal, refusal_of}
-use Rattle.run_inputs.specs.Inputs.{HoldsDocument, HoldsInput, IsDocumentRefusal, IsFilesRefusal, contents}
+use Rattle.run_inputs.specs.Inputs.{HoldsDocument, HoldsInput, IsDocumentRefusal, IsFilesRefusal}
+use Rattle.run_inputs.specs.Inputs.{contents}
 
 -- how many bytes an edit file may have
 abbrev pub edit_file_limit : ℕ
@@ -68,7 +71,8 @@ pub record RefusesSources (words : ApplyWords) (files : Files) (r : FileRefusal)
   pub refused : IsFilesRefusal Editing [] words.document files r
 
 -- they have a network
-pub record HasNetwork (words : ApplyWords) (files : Files) (doc : Document) (net : Network) : Type 0 where
+pub record HasNetwork (words : ApplyWords) (files : Files) (doc : Document)
+    (net : Network) : Type 0 where
   pub ready : IsReady words files doc
   pub input : HoldsInput Editing [] words.document files doc net
 
@@ -79,14 +83,17 @@ pub record AreFewEdits (net : Network) (doc : Document) (list : List Edit) : Typ
   pub few_classes : HasFewClasses net doc
 
 -- the network has too many classes or edits
-pub record PassesLimit (words : ApplyWords) (net : Network) (doc : Document) (r : FileRefusal) : Type 0 where
+pub record PassesLimit (words : ApplyWords) (net : Network) (doc : Document)
+    (r : FileRefusal) : Type 0 where
   pub what : LimitKind
   pub count : ℕ
   pub many : NamesLimit net doc (faults.Limit what count)
   pub told : r ≡ refusal_of words.document 0 (Limit what count)
 
--- a line of this text names no edit of the network, or one that a line before names, and it is the first such line
-pub record HasWrongLine (words : ApplyWords) (net : Network) (doc : Document) (text : List ℕ) (r : FileRefusal) : Type 0 where
+-- a line of this text names no edit of the network, or one that a line before names, and it is the
+-- first such line
+pub record HasWrongLine (words : ApplyWords) (net : Network) (doc : Document) (text : List ℕ)
+    (r : FileRefusal) : Type 0 where
   pub list : List Edit
   pub edits : AreFewEdits net doc list
   pub number : ℕ
@@ -107,15 +114,19 @@ pub record RefusesLine (words : ApplyWords) (files : Files) (r : FileRefusal) : 
   pub valid : IsValid net
   pub line : HasWrongLine words net doc (bytes_at files words.edits) r
 
--- the first refusal before the router files are read: of the document; of the names of the copies; or of the edit file
+-- the first refusal before the router files are read: of the document; of the names of the copies;
+-- or of the edit file
 abbrev pub IsReadyRefusal : ApplyWords → Files → FileRefusal → Type 0
-IsReadyRefusal words files r = IsDocumentRefusal words.document files r ⊎ (RefusesNames words files r ⊎ RefusesEditFile words files r)
+IsReadyRefusal words files r =
+    IsDocumentRefusal words.document files r ⊎
+    (RefusesNames words files r ⊎ RefusesEditFile words files r)
 
--- The first refusal: one of these; of the router files and their network; of the number of classes or edits; or of a line of the
--- edit file.
+-- The first refusal: one of these; of the router files and their network; of the number of classes
+-- or edits; or of a line of the edit file.
 abbrev pub IsApplyRefusal : ApplyWords → Files → FileRefusal → Type 0
 IsApplyRefusal words files r =
-    IsReadyRefusal words files r ⊎ (RefusesSources words files r ⊎ (RefusesCounts words files r ⊎ RefusesLine words files r))
+    IsReadyRefusal words files r ⊎
+    (RefusesSources words files r ⊎ (RefusesCounts words files r ⊎ RefusesLine words files r))
 
 -- an answer of the command: status 0, and it writes copies of files, and tells their names
 pub record WritesCopies (words : ApplyWords) (done : Done) : Type 0 where
@@ -123,8 +134,9 @@ pub record WritesCopies (words : ApplyWords) (done : Done) : Type 0 where
   pub copies : All (λ write. IsCopyName words.suffix write.0) done.writes
   pub text : done.text ≡ wrote_lines done.writes
 
--- The answer: each line of the edit file names an edit of the network, no two the same; a copy of each router file that these
--- edits change is written, which is its patch; and a line tells the name of each.
+-- The answer: each line of the edit file names an edit of the network, no two the same; a copy of
+-- each router file that these edits change is written, which is its patch; and a line tells the
+-- name of each.
 pub record IsApplied (words : ApplyWords) (files : Files) (done : Done) : Type 0 where
   pub doc : Document
   pub built : Built
@@ -133,12 +145,13 @@ pub record IsApplied (words : ApplyWords) (files : Files) (done : Done) : Type 0
   pub list : List Edit
   pub edits : AreFewEdits built.net doc list
   pub lines : AreEditLines built.net list (edit_texts words files)
-  pub changes : Changes words.suffix doc built (contents files doc) (named_edits words files built.net list) done.writes
+  pub changes : Changes words.suffix doc built (contents files doc)
+      (named_edits words files built.net list) done.writes
   pub text : done.text ≡ wrote_lines done.writes
   pub status : done.status ≡ 0
 
--- The document and its files have a network, the names of the copies are free, and each line of the edit file names one of its edits,
--- no two the same.
+-- The document and its files have a network, the names of the copies are free, and each line of the
+-- edit file names one of its edits, no two the same.
 pub record CanBeApplied (words : ApplyWords) (files : Files) : Type 0 where
   pub doc : Document
   pub net : Network
@@ -147,8 +160,9 @@ pub record CanBeApplied (words : ApplyWords) (files : Files) : Type 0 where
   pub edits : AreFewEdits net doc list
   pub lines : AreEditLines net list (edit_texts words files)
 
--- And the router files as the command left them are the patches by these edits of those that were read; read again, they have exactly
--- the network after these edits. All names but those of the copies of changed files hold what they held.
+-- And the router files as the command left them are the patches by these edits of those that were
+-- read; read again, they have exactly the network after these edits. All names but those of the
+-- copies of changed files hold what they held.
 pub record IsLeftApplied (words : ApplyWords) (before after : Files) : Type 0 where
   pub doc : Document
   pub built : Built
@@ -157,18 +171,22 @@ pub record IsLeftApplied (words : ApplyWords) (before after : Files) : Type 0 wh
   pub list : List Edit
   pub edits : AreFewEdits built.net doc list
   pub lines : AreEditLines built.net list (edit_texts words before)
-  pub patched : AreLeftPatched words.suffix doc built before after (named_edits words before built.net list)
+  pub patched :
+      AreLeftPatched words.suffix doc built before after (named_edits words before built.net list)
   pub changed : Network
   pub is_after : IsAfter built.net (named_edits words before built.net list) changed
   pub read_again : AreReadAgain words.suffix doc before after changed
-  pub kept : (name : List ℕ) → ¬ Contains (changed_names words.suffix doc before patched.new) name → after name ≡ before name
+  pub kept : (name : List ℕ) → ¬ Contains (changed_names words.suffix doc before patched.new) name →
+      after name ≡ before name
 
--- the document, the name of a copy, the edit file, the router files, their network, a count or a line of the edit file is refused
+-- the document, the name of a copy, the edit file, the router files, their network, a count or a
+-- line of the edit file is refused
 pub record CannotBeApplied (words : ApplyWords) (files : Files) : Type 0 where
   pub refusal : FileRefusal
   pub refused : IsApplyRefusal words files refusal
 
--- What the status tells, of the files before and after: 0 where the edits were applied, and 5 for refused, with nothing written.
+-- What the status tells, of the files before and after: 0 where the edits were applied, and 5 for
+-- refused, with nothing written.
 pub record TellsApply (words : ApplyWords) (status : ℕ) (before after : Files) : Type 0 where
   pub applied_exactly : (status ≡ 0) ↔ CanBeApplied words before
   pub applied : status ≡ 0 → IsLeftApplied words before after

@@ -15,7 +15,8 @@ use Rattle.run_files.specs.declared.outcome.Stop.{Stop}
 use Rattle.run_files.specs.declared.outcome.Stop.TheVariants as stops
 use Rattle.run_files.specs.Answers.{Gives}
 use Rattle.run_files.specs.Refusals.{bytes_at}
-use Rattle.apply_commands.specs.Applies.{AreFewEdits, HasWrongLine, IsReady, IsReadyRefusal, PassesLimit}
+use Rattle.apply_commands.specs.Applies.{AreFewEdits, HasWrongLine, IsReady, IsReadyRefusal}
+use Rattle.apply_commands.specs.Applies.{PassesLimit}
 use Rattle.apply_commands.specs.declared.applying.Chosen.{Chosen}
 use Rattle.apply_commands.specs.declared.applying.Ready.{Ready}
 
@@ -28,7 +29,8 @@ abbrev pub ReadsReady : ApplyWords → Files → Result Ready Stop → Type 0
 ReadsReady words files result = Gives (IsReadyRefusal words files) (HoldsReady words files) result
 
 -- the text names edits of the network, each once, and just these are chosen
-pub record IsChoice (net : Network) (doc : Document) (text : List ℕ) (chosen : Chosen) : Type 0 where
+pub record IsChoice (net : Network) (doc : Document) (text : List ℕ)
+    (chosen : Chosen) : Type 0 where
   pub edits : AreFewEdits net doc chosen.list
   pub countable : IsCountable net
   pub lines : AreEditLines net chosen.list (line_texts text)
@@ -36,13 +38,14 @@ pub record IsChoice (net : Network) (doc : Document) (text : List ℕ) (chosen :
 
 abbrev pub Chooses : ApplyWords → Network → Document → List ℕ → Result Chosen Stop → Type 0
 Chooses words net doc text (Ok chosen) = IsChoice net doc text chosen
-Chooses words net doc text (Err (stops.Refused r)) = PassesLimit words net doc r ⊎ HasWrongLine words net doc text r
+Chooses words net doc text (Err (stops.Refused r)) =
+    PassesLimit words net doc r ⊎ HasWrongLine words net doc text r
 Chooses words net doc text (Err stops.Memory) = Unit {0}
 Chooses words net doc text (Err stops.Failed) = ⊥
 
 -- the copies of the changed files are written, and a line tells the name of each
-pub record IsWritten (suffix : List ℕ) (doc : Document) (built : Built) (olds : List (List ℕ)) (chosen : List Edit)
-    (done : Done) : Type 0 where
+pub record IsWritten (suffix : List ℕ) (doc : Document) (built : Built) (olds : List (List ℕ))
+    (chosen : List Edit) (done : Done) : Type 0 where
   pub changes : Changes suffix doc built olds chosen done.writes
   pub text : done.text ≡ wrote_lines done.writes
   pub status : done.status ≡ 0

@@ -55,7 +55,8 @@ fn read_ready<S: Store>(alloc: Global, words: &ApplyWords, store: &mut S) -> Res
     ensures told { IfSome (S.held store.old) (λ files. ReadsReady words.now files result) }
     ensures well_formed { IfOk result (λ ready. IsWellFormed ready.doc) }
     ensures few { IfOk result (λ ready. length ready.text.items ≤ 1048576) }
-    ensures reads { OnlyReads least_limit S.held S.faults S.absences S.taken store.old store.new result }
+    ensures reads { OnlyReads least_limit S.held S.faults S.absences S.taken
+        store.old store.new result }
 {
     let doc = read_document(alloc, &words.document, store)?;
     if has_clash(alloc, words, &doc)? {
@@ -65,7 +66,8 @@ fn read_ready<S: Store>(alloc: Global, words: &ApplyWords, store: &mut S) -> Res
     Ok(Ready { doc, text })
 }
 
-// The edits of the network, and which of them the text names; or the refusal of a count or of a line.
+// The edits of the network, and which of them the text names; or the refusal of a count or of a
+// line.
 fn choose(
     alloc: Global,
     words: &ApplyWords,
@@ -107,7 +109,8 @@ fn written(
     requires edits { AreEdits sources.now.built.net doc.now chosen.now.list }
     requires few { length chosen.now.list ≤ 8192 }
     requires flags { length chosen.now.flags ≡ length chosen.now.list }
-    ensures { IfOk result (IsWritten suffix.now doc.now sources.now.built sources.now.files (chosen_of chosen.now.list chosen.now.flags)) }
+    ensures { IfOk result (IsWritten suffix.now doc.now sources.now.built sources.now.files
+        (chosen_of chosen.now.list chosen.now.flags)) }
 {
     let flags = chosen.flags.slice();
     let writes = changes(alloc, suffix, doc, sources, &chosen.list, flags)?;
@@ -122,8 +125,10 @@ fn written(
 
 /// Puts the edits that an edit file names into copies of the router files that they change.
 pub fn apply<S: Store>(alloc: Global, words: &ApplyWords, store: &mut S) -> Result<Done, Stop>
-    ensures answer { Answers (WritesCopies words.now) (IsApplyRefusal words.now) (IsApplied words.now) (S.held store.old) result }
-    ensures reads { OnlyReads least_limit S.held S.faults S.absences S.taken store.old store.new result }
+    ensures answer { Answers (WritesCopies words.now) (IsApplyRefusal words.now)
+        (IsApplied words.now) (S.held store.old) result }
+    ensures reads { OnlyReads least_limit S.held S.faults S.absences S.taken
+        store.old store.new result }
 {
     let ready = read_ready(alloc, words, store)?;
     let doc = &ready.doc;

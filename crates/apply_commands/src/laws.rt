@@ -5,5 +5,6 @@ ghost use Rattle.apply_commands.specs.Applies.{IsApplied, IsApplyRefusal, TellsA
 
 /// What the status of `apply` tells.
 pub fn apply_is_told()
-    ensures { (words : ApplyWords) → IsTold (IsApplyRefusal words) (IsApplied words) (TellsApply words) }
+    ensures { (words : ApplyWords) →
+        IsTold (IsApplyRefusal words) (IsApplied words) (TellsApply words) }
 {}

@@ -1,5 +1,6 @@
 -- The form of names, those of routers and lists and those of interfaces, and their order.
-use Rattle.std.specs.Prelude.{◌≡◌, ℕ, ◌≤◌, ◌==◌, ◌&&◌, ◌||◌, ◌⊎◌, ◌++◌, nat_le, Bool, List, [], ◌∷◌, length, map, codes, IsTrue, Contains}
+use Rattle.std.specs.Prelude.{◌≡◌, ℕ, ◌≤◌, ◌==◌, ◌&&◌, ◌||◌, ◌⊎◌, ◌++◌, nat_le, Bool, List, [], ◌∷◌}
+use Rattle.std.specs.Prelude.{length, map, codes, IsTrue, Contains}
 use Rattle.std.specs.Char.{is_ascii_digit}
 use Rattle.std.specs.List.{list_all, AllByRecursion}
 use Rattle.std.specs.Cmp.Lexicographic.{slice_cmp}
@@ -32,10 +33,11 @@ IsUnit (b ∷ c ∷ bs) = IsTrue (is_ascii_digit b) × (IsUnit (c ∷ bs) ⊎ ((
 -- the kinds of interface, with which their names begin
 abbrev pub face_kinds : List (List ℕ)
 face_kinds =
-    codes "Ethernet" ∷ codes "FastEthernet" ∷ codes "GigabitEthernet" ∷ codes "TenGigabitEthernet" ∷ codes "Serial"
-    ∷ codes "Loopback" ∷ []
+    codes "Ethernet" ∷ codes "FastEthernet" ∷ codes "GigabitEthernet" ∷ codes "TenGigabitEthernet"
+    ∷ codes "Serial" ∷ codes "Loopback" ∷ []
 
--- the bytes are the name of an interface: one of these kinds and its number, at most 64 bytes in all
+-- the bytes are the name of an interface: one of these kinds and its number, at most 64 bytes in
+-- all
 pub record IsFaceName (name : List ℕ) : Type 0 where
   pub kind : List ℕ
   pub unit : List ℕ

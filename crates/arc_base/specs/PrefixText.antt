@@ -1,7 +1,10 @@
--- How numbers, addresses and prefixes are written, and what a text of one stands for. A number is written in decimal
--- digits with no zero before another digit, an address as its four bytes with dots between them, and a prefix as its
--- first address and its length with a slash between them (RFC 4632).
-use Rattle.std.specs.Prelude.{◌≡◌, ℕ, ◌-◌, ◌%◌, ◌^◌, ◌==◌, ◌&&◌, nat_lt, nat_le, Bool, true, false, List, [], ◌∷◌, ◌++◌, ◌⊎◌, ◌≤◌, slice_index, length, codes, decimal, bytes_eq, Option, Some, None, if◌then◌else◌, ◌↔◌, refl}
+-- How numbers, addresses and prefixes are written, and what a text of one stands for. A number is
+-- written in decimal digits with no zero before another digit, an address as its four bytes with
+-- dots between them, and a prefix as its first address and its length with a slash between them
+-- (RFC 4632).
+use Rattle.std.specs.Prelude.{◌≡◌, ℕ, ◌-◌, ◌%◌, ◌^◌, ◌==◌, ◌&&◌, nat_lt, nat_le, Bool, true, false}
+use Rattle.std.specs.Prelude.{List, [], ◌∷◌, ◌++◌, ◌⊎◌, ◌≤◌, slice_index, length, codes, decimal}
+use Rattle.std.specs.Prelude.{bytes_eq, Option, Some, None, if◌then◌else◌, ◌↔◌, refl}
 use Rattle.std.specs.Int.{w32, to_be_bytes, from_be_bytes}
 use Rattle.std.specs.Net.Text.{ipv4_text}
 use Rattle.std.specs.Net.Reader.{read_ipv4}
@@ -40,7 +43,8 @@ abbrev pub are_prefix_parts : ℕ → ℕ → Bool
 are_prefix_parts addr len = nat_lt addr (2 ^ 32) && (nat_le len 32 && (addr % 2 ^ (32 - len) == 0))
 
 -- the prefix with these parts, where the test of them comes out true
-abbrev pub prefix_if : (addr len : ℕ) (test : Bool) → are_prefix_parts addr len ≡ test → Option Prefix
+abbrev pub prefix_if : (addr len : ℕ) (test : Bool) →
+    are_prefix_parts addr len ≡ test → Option Prefix
 prefix_if addr len false e = None
 prefix_if addr len true e =
     let (in_range, rest) = and_parts _ _ e in
@@ -67,4 +71,5 @@ prefix_of text = do
 
 -- a text is read as a prefix exactly where it is that prefix's text
 abbrev pub PrefixTextsAreExact : Type 0
-PrefixTextsAreExact = (text : List ℕ) (p : Prefix) → (prefix_of text ≡ Some p) ↔ (text ≡ prefix_text p)
+PrefixTextsAreExact =
+    (text : List ℕ) (p : Prefix) → (prefix_of text ≡ Some p) ↔ (text ≡ prefix_text p)

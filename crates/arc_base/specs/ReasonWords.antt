@@ -43,7 +43,8 @@ kind_words kinds.LinkSubnets = codes "link-subnets"
 kind_words kinds.ListStopsSession = codes "list-stops-session"
 kind_words kinds.AdjacencyForm = codes "adjacency-form"
 kind_words kinds.Endpoint = codes "endpoint"
-kind_words (kinds.Limit what count) = codes "limit " ++ count_word what ++ codes " " ++ decimal count
+kind_words (kinds.Limit what count) =
+    codes "limit " ++ count_word what ++ codes " " ++ decimal count
 kind_words kinds.OutputName = codes "output-name"
 kind_words kinds.EditLine = codes "edit-line"
 kind_words kinds.UnknownRouter = codes "unknown-router"

@@ -1,5 +1,5 @@
-/// Why a certificate or a proof is rejected. Each kind is printed as one word, in lower case with hyphens; `Memory` is
-/// never printed.
+/// Why a certificate or a proof is rejected. Each kind is printed as one word, in lower case with
+/// hyphens; `Memory` is never printed.
 #[derive(Clone, Copy, Debug, PartialEq, Eq)]
 pub enum CertKind {
     /// The line is not of a form that may stand there.

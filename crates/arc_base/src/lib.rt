@@ -1,6 +1,6 @@
-//! The values that every crate speaks of: want of memory, lists, names, prefixes, parts of a text, places in a
-//! network, and the kinds of refusal. Contracts see a list as its items, a name as its bytes and a prefix as the
-//! set of its addresses.
+//! The values that every crate speaks of: want of memory, lists, names, prefixes, parts of a text,
+//! places in a network, and the kinds of refusal. Contracts see a list as its items, a name as its
+//! bytes and a prefix as the set of its addresses.
 #![tactic(auto)]
 
 mod certificate;

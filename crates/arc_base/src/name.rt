@@ -4,7 +4,8 @@ use crate::memory::Memory;
 use std::alloc::Global;
 use std::marker::Model;
 
-/// A text of bytes: a name, or a whole file. Contracts see it as the list of its bytes. No encoding is asked.
+/// A text of bytes: a name, or a whole file. Contracts see it as the list of its bytes. No encoding
+/// is asked.
 #[derive(Debug, Drop)]
 pub struct Name {
     bytes: Vec<u8>,

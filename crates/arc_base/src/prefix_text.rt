@@ -1,7 +1,8 @@
-//! Numbers, addresses and prefixes as text: in decimal digits with no zero before another digit, addresses in four
-//! bytes with dots between them, prefixes as `A/L` (RFC 4632).
+//! Numbers, addresses and prefixes as text: in decimal digits with no zero before another digit,
+//! addresses in four bytes with dots between them, prefixes as `A/L` (RFC 4632).
 ghost use Rattle.std.specs.Prelude.{◌≡◌, ◌↔◌, ◌++◌, Some, decimal, IsTrue, OnOk};
-ghost use Rattle.arc_base.specs.PrefixText.{BeginsAsNumber, number_of, address_of, prefix_of, address_text, prefix_text};
+ghost use Rattle.arc_base.specs.PrefixText.{BeginsAsNumber, number_of, address_of, prefix_of};
+ghost use Rattle.arc_base.specs.PrefixText.{address_text, prefix_text};
 
 use crate::cut::cut_at;
 use crate::memory::Memory;
@@ -10,7 +11,8 @@ use std::alloc::Global;
 use std::net::Ipv4Addr;
 use std::str;
 
-/// The number that is written so, if there is one. No sign, no blank and no leading zero is allowed.
+/// The number that is written so, if there is one. No sign, no blank and no leading zero is
+/// allowed.
 pub fn read_number(text: &[u8]) -> Option<u64>
     ensures { result ≡ number_of text.now }
 {

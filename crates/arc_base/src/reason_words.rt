@@ -39,7 +39,8 @@ fn limit_words(alloc: Global, what: LimitKind, count: u64) -> Result<Vec<u8>, Al
 }
 
 impl Kind {
-    /// The words for the kind: one in lower case with hyphens, or `limit`, what is counted and how many there are.
+    /// The words for the kind: one in lower case with hyphens, or `limit`, what is counted and how
+    /// many there are.
     pub fn words(self, alloc: Global) -> Result<Vec<u8>, AllocError>
         ensures { IfOk result (λ text. text.items ≡ kind_words self) }
     {

@@ -5,13 +5,15 @@ pub enum Kind {
     DocumentForm,
     /// The store does not hold a file that is to be read.
     Missing,
-    /// A file has more bytes than its limit, or the router files up to this one have more than theirs.
+    /// A file has more bytes than its limit, or the router files up to this one have more than
+    /// theirs.
     TooLong,
     /// An indented line stands in no block.
     OrphanLine,
     /// No line form matches.
     UnknownLine,
-    /// A word of a line is out of its form or range, missing, or one too many; or a banner is not closed.
+    /// A word of a line is out of its form or range, missing, or one too many; or a banner is not
+    /// closed.
     BadWord,
     /// A mask or wildcard is an address, but its ones do not stand together.
     WildcardNotPrefix,

@@ -7,10 +7,12 @@ use Rattle.net_model.specs.Forwarding.{Ends, source_router, target_router}
 use Rattle.net_model.specs.Witnesses.{IsOn}
 use Rattle.arc_base.specs.declared.prefix.Prefix.{Prefix}
 
--- the routed arc of this link in this direction, if there is one, keeps to the side: it does not lead from it to a router that is off it and is not one of these
+-- the routed arc of this link in this direction, if there is one, keeps to the side: it does not
+-- lead from it to a router that is off it and is not one of these
 abbrev pub KeepsOver : Network → Prefix → List Router → List Bool → ℕ → Bool → Type 0
 KeepsOver net to routers side link from_a =
-    (arc : Arc) → IsArc net arc → IsRouted net to arc → arc.link ≡ link → arc.from_a ≡ from_a → IsOn side (tail_router arc) → (¬ Contains routers arc.head.router) → IsOn side (head_router arc)
+    (arc : Arc) → IsArc net arc → IsRouted net to arc → arc.link ≡ link → arc.from_a ≡ from_a →
+    IsOn side (tail_router arc) → (¬ Contains routers arc.head.router) → IsOn side (head_router arc)
 
 -- both arcs of the link do
 abbrev pub KeepsBoth : Network → Prefix → List Router → List Bool → ℕ → Type 0

@@ -1,5 +1,5 @@
--- The text of an answer about failed routers: a head line, a line with the answer and the number of lines to come, the lines of the
--- witness, and an end line.
+-- The text of an answer about failed routers: a head line, a line with the answer and the number of
+-- lines to come, the lines of the witness, and an end line.
 use Rattle.std.specs.Prelude.{ℕ, ◌+◌, List, [], ◌∷◌, ◌++◌, length, map, slice_get, codes, decimal}
 use Rattle.std.specs.List.{concat}
 use Rattle.std.specs.Option.{option_map_or}
@@ -8,7 +8,8 @@ use Rattle.net_model.specs.declared.rows.Network.{Network}
 use Rattle.policy_report.specs.Lines.{line}
 use Rattle.policy_report.specs.Reports.{class_words, side_words, path_line, refused_line}
 use Rattle.arc_nodecut.specs.declared.verdict.NodeVerdict.{NodeVerdict}
-use Rattle.arc_nodecut.specs.declared.verdict.NodeVerdict.TheVariants.{Same, Direct, Apart, Denied, Cut, Refused}
+use Rattle.arc_nodecut.specs.declared.verdict.NodeVerdict.TheVariants.{Same, Direct, Apart, Denied}
+use Rattle.arc_nodecut.specs.declared.verdict.NodeVerdict.TheVariants.{Cut, Refused}
 
 -- the answer, as a word
 abbrev pub answer_word : NodeVerdict → List ℕ
@@ -33,13 +34,18 @@ witness_lines net Same = []
 witness_lines net (Direct link) = line (codes "arc") (decimal (link.0 + 1) ∷ []) ∷ []
 witness_lines net (Apart paths) = map path_line paths
 witness_lines net (Denied class) = line (codes "denied") (class_words class) ∷ []
-witness_lines net (Cut routers side) = cut_line net routers ∷ line (codes "side") (side_words net.routers side) ∷ []
+witness_lines net (Cut routers side) =
+    cut_line net routers ∷ line (codes "side") (side_words net.routers side) ∷ []
 witness_lines net (Refused p link) = refused_line p link ∷ []
 
 -- the line with how many routers may fail, the answer, and how many lines follow
 abbrev pub answer_line : ℕ → Network → NodeVerdict → List ℕ
-answer_line k net v = line (codes "reach-routers") (decimal k ∷ answer_word v ∷ decimal (length (witness_lines net v)) ∷ [])
+answer_line k net v =
+    line (codes "reach-routers")
+    (decimal k ∷ answer_word v ∷ decimal (length (witness_lines net v)) ∷ [])
 
 -- the whole text
 abbrev pub nodes_text : Network → ℕ → NodeVerdict → List ℕ
-nodes_text net k v = line (codes "arc-nodes") (codes "1" ∷ []) ++ answer_line k net v ++ concat (witness_lines net v) ++ line (codes "end") []
+nodes_text net k v =
+    line (codes "arc-nodes") (codes "1" ∷ []) ++ answer_line k net v ++
+    concat (witness_lines net v) ++ line (codes "end") []

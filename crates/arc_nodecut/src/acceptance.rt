@@ -14,8 +14,9 @@ use crate::verdict::NodeVerdict;
 use net_model::{Network, Policy, PolicyKind};
 use witness_check::Case;
 
-/// Whether the witness shows that the verdict on the policy under failed routers is right. By the laws beside it the verdict
-/// is then true. Each witness is looked through once, and no set of failed routers is tried.
+/// Whether the witness shows that the verdict on the policy under failed routers is right. By the
+/// laws beside it the verdict is then true. Each witness is looked through once, and no set of
+/// failed routers is tried.
 pub fn accepts_nodes(net: &Network, policy: &Policy, v: &NodeVerdict) -> bool
     requires valid { IsValid net.now }
     requires ends { HasEnds net.now (subject policy.now) }
@@ -31,7 +32,8 @@ pub fn accepts_nodes(net: &Network, policy: &Policy, v: &NodeVerdict) -> bool
     }
 }
 
-/// Whether the case's own routers and links show that the verdict is right, which is no denial or refusal.
+/// Whether the case's own routers and links show that the verdict is right, which is no denial or
+/// refusal.
 fn is_shown(case: &Case<'_>, k: u32, v: &NodeVerdict) -> bool
     requires told { IsTold case.now }
     requires valid { IsValid case.now.net.now }

@@ -15,7 +15,8 @@ use witness_check::Case;
 fn avoids(case: &Case<'_>, from: Router, links: &[Link], other: Router) -> bool
     requires told { IsTold case.now }
     requires valid { IsValid case.now.net.now }
-    ensures { IsTrue result ↔ IsTrail case.now.net.now case.now.to (Avoids other.0) from.0 links.now case.now.target.now.router.0 }
+    ensures { IsTrue result ↔ IsTrail case.now.net.now case.now.to (Avoids other.0) from.0 links.now
+        case.now.target.now.router.0 }
 {
     let mut router = from;
     for link in links {
@@ -30,12 +31,13 @@ fn avoids(case: &Case<'_>, from: Router, links: &[Link], other: Router) -> bool
     router.0 == case.target.router.0
 }
 
-/// Whether the links lead from the source to the target, and no router stands twice on the way. Each router is looked for
-/// among those that follow it.
+/// Whether the links lead from the source to the target, and no router stands twice on the way.
+/// Each router is looked for among those that follow it.
 fn goes_once(case: &Case<'_>, links: &[Link]) -> bool
     requires told { IsTold case.now }
     requires valid { IsValid case.now.net.now }
-    ensures { IsTrue result ↔ IsTrailOnce case.now.net.now case.now.to case.now.source.now.router.0 links.now case.now.target.now.router.0 }
+    ensures { IsTrue result ↔ IsTrailOnce case.now.net.now case.now.to case.now.source.now.router.0
+        links.now case.now.target.now.router.0 }
 {
     let mut router = case.source.router;
     for (place, link) in links.iter().enumerate() {
@@ -76,7 +78,8 @@ fn all_go_by(case: &Case<'_>, paths: &[LinkPath]) -> bool
     true
 }
 
-/// Whether another path may pass the router beside this one: it is one of the ends, or this one is a path that does not pass it.
+/// Whether another path may pass the router beside this one: it is one of the ends, or this one is
+/// a path that does not pass it.
 fn may_pass(case: &Case<'_>, path: &LinkPath, router: Router) -> bool
     requires told { IsTold case.now }
     requires valid { IsValid case.now.net.now }
@@ -91,11 +94,14 @@ fn may_pass(case: &Case<'_>, path: &LinkPath, router: Router) -> bool
     avoids(case, case.source.router, path.links.slice(), router)
 }
 
-/// Whether the links lead from the source to the target over routers that they may pass beside the other path.
+/// Whether the links lead from the source to the target over routers that they may pass beside the
+/// other path.
 fn keeps_off(case: &Case<'_>, links: &[Link], other: &LinkPath) -> bool
     requires told { IsTold case.now }
     requires valid { IsValid case.now.net.now }
-    ensures { IsTrue result ↔ IsTrail case.now.net.now case.now.to (KeepsOff case.now.net.now (ends_of case.now) other.now) case.now.source.now.router.0 links.now case.now.target.now.router.0 }
+    ensures { IsTrue result ↔ IsTrail case.now.net.now case.now.to
+        (KeepsOff case.now.net.now (ends_of case.now) other.now) case.now.source.now.router.0
+        links.now case.now.target.now.router.0 }
 {
     let mut router = case.source.router;
     for link in links {
@@ -114,7 +120,8 @@ fn keeps_off(case: &Case<'_>, links: &[Link], other: &LinkPath) -> bool
 fn keeps_off_all(case: &Case<'_>, path: &LinkPath, others: &[LinkPath]) -> bool
     requires told { IsTold case.now }
     requires valid { IsValid case.now.net.now }
-    ensures { IsTrue result ↔ All (GoesOff case.now.net.now (ends_of case.now) path.now) others.now }
+    ensures { IsTrue result ↔
+        All (GoesOff case.now.net.now (ends_of case.now) path.now) others.now }
 {
     for other in others {
         if !keeps_off(case, path.links.slice(), other) {
@@ -138,11 +145,13 @@ fn are_apart(case: &Case<'_>, paths: &[LinkPath]) -> bool
     true
 }
 
-/// Whether there is one path more than routers may fail, each goes by other routers than the ends, and no two share any of these.
+/// Whether there is one path more than routers may fail, each goes by other routers than the ends,
+/// and no two share any of these.
 pub(crate) fn is_right_apart(case: &Case<'_>, k: u32, paths: &List<LinkPath>) -> bool
     requires told { IsTold case.now }
     requires valid { IsValid case.now.net.now }
-    ensures { IsTrue result ↔ IsRightApart case.now.net.now (ends_of case.now) k case.now.whole paths.now }
+    ensures { IsTrue result ↔
+        IsRightApart case.now.net.now (ends_of case.now) k case.now.whole paths.now }
 {
     if case.is_local() {
         return false;

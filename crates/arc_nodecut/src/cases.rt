@@ -24,7 +24,8 @@ pub(crate) fn is_served(case: &Case<'_>) -> bool
 /// The routed arc over a link in one direction, if there is one.
 pub(crate) fn hop(case: &Case<'_>, link: Link, from_a: bool) -> Option<Hop>
     requires { IsTold case.now }
-    ensures some { IfSome result (λ h. IsHop case.now.net.now case.now.to link.0 from_a h.tail.0 h.head.0) }
+    ensures some { IfSome result (λ h.
+        IsHop case.now.net.now case.now.to link.0 from_a h.tail.0 h.head.0) }
     ensures none { IfNone result (IsNoHop case.now.net.now case.now.to link.0 from_a) }
 {
     match case.routed_arc(link, from_a) {
@@ -36,10 +37,13 @@ pub(crate) fn hop(case: &Case<'_>, link: Link, from_a: bool) -> Option<Hop>
     }
 }
 
-/// Whether the link's arc in this direction is routed, and leads from the source router to the target router.
+/// Whether the link's arc in this direction is routed, and leads from the source router to the
+/// target router.
 fn joins_over(case: &Case<'_>, link: Link, from_a: bool) -> bool
     requires { IsTold case.now }
-    ensures { IsTrue result ↔ IsHop case.now.net.now case.now.to link.0 from_a (source_router (ends_of case.now)) (target_router (ends_of case.now)) }
+    ensures { IsTrue result ↔
+        IsHop case.now.net.now case.now.to link.0 from_a (source_router (ends_of case.now))
+        (target_router (ends_of case.now)) }
 {
     match hop(case, link, from_a) {
         Some(hop) => { hop.tail.0 == case.source.router.0 && hop.head.0 == case.target.router.0 }
@@ -50,7 +54,8 @@ fn joins_over(case: &Case<'_>, link: Link, from_a: bool) -> bool
 /// Whether the link joins the two ends.
 fn joins(case: &Case<'_>, link: Link) -> bool
     requires { IsTold case.now }
-    ensures { IsTrue result ↔ IsJoin case.now.net.now case.now.to (source_router (ends_of case.now)) (target_router (ends_of case.now)) link.0 }
+    ensures { IsTrue result ↔ IsJoin case.now.net.now case.now.to (source_router (ends_of case.now))
+        (target_router (ends_of case.now)) link.0 }
 {
     joins_over(case, link, true) || joins_over(case, link, false)
 }
@@ -69,7 +74,8 @@ pub(crate) fn is_right_same(case: &Case<'_>) -> bool
 /// Whether the answer is right that the link joins the ends.
 pub(crate) fn is_right_direct(case: &Case<'_>, link: Link) -> bool
     requires { IsTold case.now }
-    ensures { IsTrue result ↔ IsRightDirect case.now.net.now (ends_of case.now) case.now.whole link }
+    ensures { IsTrue result ↔
+        IsRightDirect case.now.net.now (ends_of case.now) case.now.whole link }
 {
     if case.is_local() {
         return false;

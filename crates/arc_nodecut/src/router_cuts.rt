@@ -1,5 +1,6 @@
 //! Whether routers part the ends, without a search and without memory.
-ghost use Rattle.std.specs.Prelude.{◌≡◌, ◌≢◌, ◌↔◌, ◌<◌, ◌≤◌, ◌-◌, ◌+◌, ℕ, Bool, IsTrue, All, Contains, length, map};
+ghost use Rattle.std.specs.Prelude.{◌≡◌, ◌≢◌, ◌↔◌, ◌<◌, ◌≤◌, ◌-◌, ◌+◌, ℕ, Bool, IsTrue, All};
+ghost use Rattle.std.specs.Prelude.{Contains, length, map};
 ghost use Rattle.std.specs.List.Sorted.{IsStrictlyIncreasing};
 ghost use Rattle.net_model.specs.Witnesses.{IsOn};
 ghost use Rattle.arc_nodecut.specs.NodeWitnesses.{PartsAt, IsRightCut};
@@ -73,7 +74,8 @@ fn are_inner(case: &Case<'_>, routers: &[Router]) -> bool
     true
 }
 
-/// Whether the routed arc over a link in one direction, if there is one, keeps to the side or leads to one of the routers.
+/// Whether the routed arc over a link in one direction, if there is one, keeps to the side or leads
+/// to one of the routers.
 fn keeps_over(
     case: &Case<'_>,
     routers: &[Router],
@@ -82,7 +84,8 @@ fn keeps_over(
     from_a: bool,
 ) -> bool
     requires { IsTold case.now }
-    ensures { IsTrue result ↔ KeepsOver case.now.net.now case.now.to routers.now side.now link.0 from_a }
+    ensures { IsTrue result ↔
+        KeepsOver case.now.net.now case.now.to routers.now side.now link.0 from_a }
 {
     let Some(hop) = hop(case, link, from_a) else {
         return true;
@@ -110,7 +113,8 @@ fn keeps_both(case: &Case<'_>, routers: &[Router], side: &List<bool>, link: Link
 /// Whether all arcs do.
 fn keeps_all(case: &Case<'_>, routers: &[Router], side: &List<bool>) -> bool
     requires { IsTold case.now }
-    ensures { IsTrue result ↔ ((link : ℕ) → KeepsBoth case.now.net.now case.now.to routers.now side.now link) }
+    ensures { IsTrue result ↔
+        ((link : ℕ) → KeepsBoth case.now.net.now case.now.to routers.now side.now link) }
 {
     for place in 0..case.net.links.len() {
         if !keeps_both(case, routers, side, Link(place)) {
@@ -140,7 +144,8 @@ fn parts_at(case: &Case<'_>, routers: &List<Router>, side: &List<bool>) -> bool
     keeps_all(case, routers.slice(), side)
 }
 
-/// Whether the cut is right: rising routers, no more than may fail, that part the ends of a clear policy.
+/// Whether the cut is right: rising routers, no more than may fail, that part the ends of a clear
+/// policy.
 pub(crate) fn is_right_cut(
     case: &Case<'_>,
     k: u32,
@@ -148,7 +153,8 @@ pub(crate) fn is_right_cut(
     side: &List<bool>,
 ) -> bool
     requires { IsTold case.now }
-    ensures { IsTrue result ↔ IsRightCut case.now.net.now (ends_of case.now) k case.now.whole routers.now side.now }
+    ensures { IsTrue result ↔
+        IsRightCut case.now.net.now (ends_of case.now) k case.now.whole routers.now side.now }
 {
     if case.is_local() {
         return false;

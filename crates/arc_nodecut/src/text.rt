@@ -4,7 +4,8 @@ ghost use Rattle.std.specs.List.{concat};
 ghost use Rattle.net_model.specs.declared.rows.Network.{Network};
 ghost use Rattle.policy_report.specs.Lines.{after_spaces, line};
 ghost use Rattle.policy_report.specs.Reports.{path_line};
-ghost use Rattle.arc_nodecut.specs.NodeText.{answer_word, router_word, cut_line, witness_lines, answer_line, nodes_text};
+ghost use Rattle.arc_nodecut.specs.NodeText.{answer_word, router_word, cut_line, witness_lines};
+ghost use Rattle.arc_nodecut.specs.NodeText.{answer_line, nodes_text};
 
 use crate::verdict::NodeVerdict;
 use arc_base::{Memory, Router};
@@ -14,8 +15,9 @@ use policy_report::{
 };
 use std::alloc::Global;
 
-/// The text of a verdict under at most so many failed routers: `arc-nodes 1`, the answer with the number of lines to come, the
-/// lines of the witness, and `end`. Links are counted from 1, and routers go by their names.
+/// The text of a verdict under at most so many failed routers: `arc-nodes 1`, the answer with the
+/// number of lines to come, the lines of the witness, and `end`. Links are counted from 1, and
+/// routers go by their names.
 pub fn nodes_text(
     alloc: Global,
     net: &Network,
@@ -38,7 +40,8 @@ fn push_answer(
     failures: u32,
     verdict: &NodeVerdict,
 ) -> Result<(), Memory>
-    ensures { OnOk result ((net : Network) → text.new.items ≡ text.old.items ++ answer_line failures net verdict.now) }
+    ensures { OnOk result ((net : Network) →
+        text.new.items ≡ text.old.items ++ answer_line failures net verdict.now) }
 {
     text.extend_from_slice(b"reach-routers")?;
     push_count(alloc, text, u64::from(failures))?;
@@ -77,7 +80,8 @@ fn push_witness(
     net: &Network,
     verdict: &NodeVerdict,
 ) -> Result<(), Memory>
-    ensures { OnOk result (text.new.items ≡ text.old.items ++ concat (witness_lines net.now verdict.now)) }
+    ensures { OnOk result
+        (text.new.items ≡ text.old.items ++ concat (witness_lines net.now verdict.now)) }
 {
     match verdict {
         NodeVerdict::Same => Ok(()),
@@ -94,7 +98,8 @@ fn push_witness(
 
 /// The number of a link, counted from 1.
 fn push_arc_line(alloc: Global, text: &mut Vec<u8>, number: u64) -> Result<(), Memory>
-    ensures { OnOk result (text.new.items ≡ text.old.items ++ line (codes "arc") (decimal number ∷ [])) }
+    ensures { OnOk result
+        (text.new.items ≡ text.old.items ++ line (codes "arc") (decimal number ∷ [])) }
 {
     text.extend_from_slice(b"arc")?;
     push_count(alloc, text, number)?;
@@ -121,7 +126,8 @@ fn push_cut_line(text: &mut Vec<u8>, net: &Network, routers: &[Router]) -> Resul
 }
 
 fn push_routers(text: &mut Vec<u8>, net: &Network, routers: &[Router]) -> Result<(), Memory>
-    ensures { OnOk result (text.new.items ≡ text.old.items ++ after_spaces (map (router_word net.now) routers.now)) }
+    ensures { OnOk result
+        (text.new.items ≡ text.old.items ++ after_spaces (map (router_word net.now) routers.now)) }
 {
     for router in routers {
         push_word(text, name(net, *router))?;

@@ -32,13 +32,15 @@ struct Reading<F: Drop> {
     place: u64,
 }
 
-/// The files of the system, named by paths in UTF-8. A file to be read that is not there is Missing and raises the
-/// count of absences. Want of memory is Memory, whether the program had none for a name or the system says that it had
-/// none. Every other error is Failed and raises the count of faults, also a name that is no path.
+/// The files of the system, named by paths in UTF-8. A file to be read that is not there is Missing
+/// and raises the count of absences. Want of memory is Memory, whether the program had none for a
+/// name or the system says that it had none. Every other error is Failed and raises the count of
+/// faults, also a name that is no path.
 ///
-/// A file stays open from its first piece to its last, so that one that is replaced meanwhile is read as it was, and a
-/// pipe can be read once. A plain file is written beside its name, as NAME.part, and then renamed, so that it is whole or
-/// as it was; where no such file can be made, and at a link, a pipe or a device, the bytes are written in its place.
+/// A file stays open from its first piece to its last, so that one that is replaced meanwhile is
+/// read as it was, and a pipe can be read once. A plain file is written beside its name, as
+/// NAME.part, and then renamed, so that it is whole or as it was; where no such file can be made,
+/// and at a link, a pipe or a device, the bytes are written in its place.
 /// Where there is no memory for the name NAME.part nothing is written.
 #[derive(Drop)]
 pub struct DiskStore<R: Files> {
@@ -107,7 +109,8 @@ fn failure_of(
     }
 }
 
-// Opens a file at a place. One that is read from its start need not know places, as a pipe does not.
+// Opens a file at a place. One that is read from its start need not know places, as a pipe does
+// not.
 fn opened<R: Files>(
     rt: &R,
     alloc: Global,
@@ -125,7 +128,8 @@ fn opened<R: Files>(
     })
 }
 
-// Reads on where the file stands open at this place, and else opens it there. At its end it is closed.
+// Reads on where the file stands open at this place, and else opens it there. At its end it is
+// closed.
 fn read_on<R: Files>(
     rt: &R,
     alloc: Global,

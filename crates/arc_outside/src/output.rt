@@ -5,7 +5,8 @@ use crate::{Fault, Sink};
 use std::io;
 use std::io::Write;
 
-/// The standard output. Each piece is flushed, and each error, that of a flush too, raises the count of faults.
+/// The standard output. Each piece is flushed, and each error, that of a flush too, raises the
+/// count of faults.
 #[derive(Drop)]
 pub struct StdSink<R> {
     rt: R,

@@ -8,7 +8,8 @@ use crate::{Fault, Store};
 use arc_base::{Memory, Name};
 use std::alloc::Global;
 
-/// A reader of one file line by line, in pieces of 65,536 bytes. It holds no more of the file than a piece and a line.
+/// A reader of one file line by line, in pieces of 65,536 bytes. It holds no more of the file than
+/// a piece and a line.
 #[derive(Drop)]
 pub struct Pieces {
     limit: u64,
@@ -19,8 +20,8 @@ pub struct Pieces {
     ghost within: { place ≤ limit },
 }
 
-// Moves the bytes before the first line feed of the window to the end of the line, and takes them and the line feed off
-// the window. Where there is no line feed it moves all, and says so.
+// Moves the bytes before the first line feed of the window to the end of the line, and takes them
+// and the line feed off the window. Where there is no line feed it moves all, and says so.
 fn take_front(window: &mut Window, line: &mut Vec<u8>) -> Result<bool, Memory>
     ensures { IfOk result (TakesFront window.old line.old.items line.new.items window.new) }
 {
@@ -41,7 +42,9 @@ fn take_front(window: &mut Window, line: &mut Vec<u8>) -> Result<bool, Memory>
 }
 
 impl Pieces {
-    ghost use Rattle.std.specs.Prelude.{◌≡◌, ◌+◌, ◌-◌, ◌^◌, ◌<◌, ◌≤◌, [], ℕ, true, false, List, Option, unwrap_or, min, IfOk, IfSome, OnOk, OnErr, IsErrOf, IsTrue};
+    ghost use Rattle.std.specs.Prelude.{◌≡◌, ◌+◌, ◌-◌, ◌^◌, ◌<◌, ◌≤◌, [], ℕ, true, false, List};
+    ghost use Rattle.std.specs.Prelude.{Option, unwrap_or, min, IfOk, IfSome, OnOk, OnErr, IsErrOf};
+    ghost use Rattle.std.specs.Prelude.{IsTrue};
     ghost use Rattle.arc_outside.specs.Causes.{Rose};
     ghost use Rattle.arc_outside.specs.LinesRead.{ahead, left, ReadsLine};
     ghost use Rattle.arc_outside.specs.Reads.{TookMore};
@@ -79,16 +82,21 @@ impl Pieces {
 
     // Moves to the next line, and leaves it open whether the reader failed.
     fn read_line<S: Store>(&mut self, store: &mut S, name: &Name) -> Result<bool, ReadAll>
-        ensures told { IfSome (S.held store.old) (λ files. ReadsLine (files name.now) self.old self.new result) }
+        ensures told { IfSome (S.held store.old) (λ files.
+            ReadsLine (files name.now) self.old self.new result) }
         ensures fewer { IfOk result (λ found. IsTrue found → ahead self.new < ahead self.old) }
         ensures limit { self.new.limit ≡ self.old.limit }
         ensures kept { self.new.failed ≡ self.old.failed }
         ensures same { S.held store.new ≡ S.held store.old }
         ensures onward { self.old.place ≤ self.new.place }
-        ensures took { min (S.taken store.old + (self.new.place - self.old.place)) (2 ^ 64 - 1) ≤ S.taken store.new }
-        ensures too_long { IsErrOf result ReadAll.TooLong → TookMore (self.old.limit - self.old.place) (S.taken store.old) (S.taken store.new) }
-        ensures failed { IsErrOf result (ReadAll.Fault Fault.Failed) → Rose (S.faults store.old) (S.faults store.new) }
-        ensures missing { IsErrOf result (ReadAll.Fault Fault.Missing) → Rose (S.absences store.old) (S.absences store.new) }
+        ensures took { min (S.taken store.old + (self.new.place - self.old.place)) (2 ^ 64 - 1)
+            ≤ S.taken store.new }
+        ensures too_long { IsErrOf result ReadAll.TooLong →
+            TookMore (self.old.limit - self.old.place) (S.taken store.old) (S.taken store.new) }
+        ensures failed { IsErrOf result (ReadAll.Fault Fault.Failed) →
+            Rose (S.faults store.old) (S.faults store.new) }
+        ensures missing { IsErrOf result (ReadAll.Fault Fault.Missing) →
+            Rose (S.absences store.old) (S.absences store.new) }
         ensures faults { S.faults store.old ≤ S.faults store.new }
         ensures absences { S.absences store.old ≤ S.absences store.new }
     {
@@ -113,12 +121,14 @@ impl Pieces {
         }
     }
 
-    /// Moves to the next line of the file, and says whether there is one. The first read is at place 0, and each other
-    /// begins where the one before ended. Each byte is copied once into its line, so a file is read in time linear in
-    /// its bytes and the reads. It ends for every store, since each turn takes a byte.
+    /// Moves to the next line of the file, and says whether there is one. The first read is at
+    /// place 0, and each other begins where the one before ended. Each byte is copied once into its
+    /// line, so a file is read in time linear in its bytes and the reads. It ends for every store,
+    /// since each turn takes a byte.
     pub fn next<S: Store>(&mut self, store: &mut S, name: &Name) -> Result<bool, ReadAll>
         requires { self.old.failed ≡ false }
-        ensures told { IfSome (S.held store.old) (λ files. ReadsLine (files name.now) self.old self.new result) }
+        ensures told { IfSome (S.held store.old) (λ files.
+            ReadsLine (files name.now) self.old self.new result) }
         ensures fewer { IfOk result (λ found. IsTrue found → ahead self.new < ahead self.old) }
         ensures limit { self.new.limit ≡ self.old.limit }
         ensures ok { OnOk result (self.new.failed ≡ false) }
@@ -127,10 +137,14 @@ impl Pieces {
 
         // How many bytes the reads took, and when each error comes.
         ensures onward { self.old.place ≤ self.new.place }
-        ensures took { min (S.taken store.old + (self.new.place - self.old.place)) (2 ^ 64 - 1) ≤ S.taken store.new }
-        ensures too_long { IsErrOf result ReadAll.TooLong → TookMore (self.old.limit - self.old.place) (S.taken store.old) (S.taken store.new) }
-        ensures failed { IsErrOf result (ReadAll.Fault Fault.Failed) → Rose (S.faults store.old) (S.faults store.new) }
-        ensures missing { IsErrOf result (ReadAll.Fault Fault.Missing) → Rose (S.absences store.old) (S.absences store.new) }
+        ensures took { min (S.taken store.old + (self.new.place - self.old.place)) (2 ^ 64 - 1)
+            ≤ S.taken store.new }
+        ensures too_long { IsErrOf result ReadAll.TooLong →
+            TookMore (self.old.limit - self.old.place) (S.taken store.old) (S.taken store.new) }
+        ensures failed { IsErrOf result (ReadAll.Fault Fault.Failed) →
+            Rose (S.faults store.old) (S.faults store.new) }
+        ensures missing { IsErrOf result (ReadAll.Fault Fault.Missing) →
+            Rose (S.absences store.old) (S.absences store.new) }
         ensures faults { S.faults store.old ≤ S.faults store.new }
         ensures absences { S.absences store.old ≤ S.absences store.new }
     {

@@ -21,7 +21,8 @@ fn take_room(alloc: Global, bytes: &mut Vec<u8>) -> Result<(), Memory>
     Ok(())
 }
 
-/// What is left of the bytes of one read. The room for a read is taken by the first one and used again by each other.
+/// What is left of the bytes of one read. The room for a read is taken by the first one and used
+/// again by each other.
 #[derive(Drop)]
 pub(crate) struct Window {
     alloc: Global,
@@ -72,20 +73,22 @@ impl Window {
         self.start += count;
     }
 
-    /// Takes the bytes of the next read in place of what is left, from a place of the file on, and says how many they
-    /// are.
+    /// Takes the bytes of the next read in place of what is left, from a place of the file on, and
+    /// says how many they are.
     pub fn refill<S: Store>(
         &mut self,
         store: &mut S,
         name: &Name,
         place: u64,
     ) -> Result<usize, Fault>
-        ensures told { IfSome (S.held store.old) (λ files. Reads (files name.now) place result self.new) }
+        ensures told { IfSome (S.held store.old) (λ files.
+            Reads (files name.now) place result self.new) }
         ensures count { IfOk result (λ n. n ≡ length self.new) }
         ensures same { S.held store.new ≡ S.held store.old }
         ensures taken { Took (S.taken store.old) (S.taken store.new) result }
         ensures cause { HasCause Fault.Failed (S.faults store.old) (S.faults store.new) result }
-        ensures absence { HasCause Fault.Missing (S.absences store.old) (S.absences store.new) result }
+        ensures absence { HasCause Fault.Missing (S.absences store.old)
+            (S.absences store.new) result }
     {
         match take_room(self.alloc, &mut self.bytes) {
             Ok(()) => {}

@@ -15,8 +15,9 @@ verdicts_before (Err fault ∷ rest) = []
 verdicts_before (Ok (Verdict which v) ∷ rest) = v ∷ verdicts_before rest
 verdicts_before (Ok got ∷ rest) = verdicts_before rest
 
--- The verdicts of the blocks that are held, by what a reader answers to the lines: those before the first line that it rejects,
--- where the first line is the head of a report. A reader gives the blocks in the order of the policies, so the first is that of the first policy.
+-- The verdicts of the blocks that are held, by what a reader answers to the lines: those before the
+-- first line that it rejects, where the first line is the head of a report. A reader gives the
+-- blocks in the order of the policies, so the first is that of the first policy.
 abbrev pub held_verdicts : List (Result Got CertFault) → List verdicts.Verdict
 held_verdicts (Ok (Head Report) ∷ rest) = verdicts_before rest
 held_verdicts _ = []

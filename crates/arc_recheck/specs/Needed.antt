@@ -1,5 +1,6 @@
 -- Which links the routes from the source to the target need.
-use Rattle.std.specs.Prelude.{◌↔◌, ◌<◌, ℕ, Option, MatchOption, List, IsFalse, length, AllPairs, Contains}
+use Rattle.std.specs.Prelude.{◌↔◌, ◌<◌, ℕ, Option, MatchOption, List, IsFalse, length, AllPairs}
+use Rattle.std.specs.Prelude.{Contains}
 use Rattle.arc_base.specs.declared.place.Link.{Link}
 use Rattle.net_model.specs.declared.rows.Network.{Network}
 use Rattle.net_model.specs.declared.verdicts.LinkPath.{LinkPath}
@@ -22,7 +23,8 @@ pub record AreNeededBelow (net : Network) (ends : Ends) (n : ℕ) (links : List 
   pub rising : AllPairs (λ k l. k.0 < l.0) links
   pub exact : (link : Link) → Contains links link ↔ ((link.0 < n) × IsNeeded net ends link)
 
--- with all links up there is a route, and of the links of the network the list has exactly those that are needed
+-- with all links up there is a route, and of the links of the network the list has exactly those
+-- that are needed
 pub record AreNeeded (net : Network) (ends : Ends) (links : List Link) : Type 0 where
   pub route : HasRoute net ends no_link
   pub needed : AreNeededBelow net ends (length net.links) links

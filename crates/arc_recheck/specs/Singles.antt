@@ -1,5 +1,6 @@
 -- Links that a reach policy hangs on: it fails once one of them fails alone.
-use Rattle.std.specs.Prelude.{◌≡◌, ◌<◌, ◌≤◌, ◌↔◌, ℕ, Bool, true, false, Option, MatchOption, List, length, map, Contains}
+use Rattle.std.specs.Prelude.{◌≡◌, ◌<◌, ◌≤◌, ◌↔◌, ℕ, Bool, true, false, Option, MatchOption, List}
+use Rattle.std.specs.Prelude.{length, map, Contains}
 use Rattle.std.specs.List.Sorted.{IsStrictlyIncreasing}
 use Rattle.arc_base.specs.declared.place.Link.{Link}
 use Rattle.net_model.specs.declared.policies.Policy.{Policy}
@@ -23,17 +24,20 @@ pub record HoldsAllUp (net : Network) (policy : Policy) (ends : Ends) : Type 0 w
   pub clear : IsClear net ends (subject policy)
   pub holds : Reaches net ends (subject policy) 0
 
--- the link is one of the network, and its failure alone keeps some of the policy's packets from their target
+-- the link is one of the network, and its failure alone keeps some of the policy's packets from
+-- their target
 pub record IsAlone (net : Network) (policy : Policy) (ends : Ends) (link : Link) : Type 0 where
   pub of_network : link.0 < length net.links
   pub breaks : ¬ ReachesUnder net ends (subject policy) (just link)
 
 -- the links, in rising order, are exactly those that are alone
-pub record AreAlone (net : Network) (policy : Policy) (ends : Ends) (links : List Link) : Type 0 where
+pub record AreAlone (net : Network) (policy : Policy) (ends : Ends)
+    (links : List Link) : Type 0 where
   pub rising : IsStrictlyIncreasing (map (λ l. l.0) links)
   pub exact : (link : Link) → Contains links link ↔ IsAlone net policy ends link
 
--- the policy is a clear reach policy that holds with all links up, and these are the links that are alone
+-- the policy is a clear reach policy that holds with all links up, and these are the links that are
+-- alone
 pub record HoldsBut (net : Network) (policy : Policy) (links : List Link) : Type 0 where
   pub ends : Ends
   pub holds : HoldsAllUp net policy ends
@@ -43,7 +47,8 @@ pub record HoldsBut (net : Network) (policy : Policy) (links : List Link) : Type
 abbrev pub HoldsNot : Network → Policy → Type 0
 HoldsNot net policy = (ends : Ends) → ¬ HoldsAllUp net policy ends
 
--- the answer for the policy: its links that are alone, or none where it is no clear reach policy that holds with all links up
+-- the answer for the policy: its links that are alone, or none where it is no clear reach policy
+-- that holds with all links up
 abbrev pub IsAloneAnswer : Network → Policy → Option (List Link) → Type 0
 IsAloneAnswer net policy found = MatchOption found (HoldsNot net policy) (HoldsBut net policy)
 
@@ -58,7 +63,8 @@ abbrev pub is_reach : PolicyKind → Bool
 is_reach (Reach k) = true
 is_reach _ = false
 
--- whether the verdict shows paths or a cut, so that the policy is clear and its packets enter and leave
+-- whether the verdict shows paths or a cut, so that the policy is clear and its packets enter and
+-- leave
 abbrev pub shows_routes : Verdict → Bool
 shows_routes (Paths paths) = true
 shows_routes (Cut links side) = true

@@ -3,7 +3,8 @@ ghost use Rattle.std.specs.Prelude.{◌≡◌, ◌+◌, ◌↔◌, IsTrue, IfOk,
 ghost use Rattle.net_model.specs.Validity.{IsValid};
 ghost use Rattle.net_model.specs.Forwarding.{Ends};
 ghost use Rattle.net_model.specs.Tables.{AreRoutedLinks};
-ghost use Rattle.class_graph.specs.Building.{IsArcOver, IsNoArcOver, IsGraphBelow, number, flag, cost_from};
+ghost use Rattle.class_graph.specs.Building.{IsArcOver, IsNoArcOver, IsGraphBelow, number, flag};
+ghost use Rattle.class_graph.specs.Building.{cost_from};
 ghost use Rattle.class_graph.specs.Graphs.{IsGraphOf};
 ghost use Rattle.class_graph.specs.Hosts.{IsHostPair, HasHostPair};
 ghost use Rattle.net_laws.specs.Routes.{just, HasRoute};
@@ -24,7 +25,8 @@ pub(crate) fn has_detour(
 ) -> Result<bool, Memory>
     requires valid { IsValid net.now }
     requires pair { HasHostPair net.now pair.now }
-    ensures { IfOk result (λ left. (ends : Ends) → IsHostPair net.now ends pair.now → IsTrue left ↔ HasRoute net.now ends (just failed)) }
+    ensures { IfOk result (λ left. (ends : Ends) → IsHostPair net.now ends pair.now →
+        IsTrue left ↔ HasRoute net.now ends (just failed)) }
 {
     let graph = graph_without(alloc, net, pair, failed)?;
     let mut closure = Closure::make(alloc, &graph)?;
@@ -51,8 +53,8 @@ fn graph_without(
     Ok(graph)
 }
 
-/// Adds the arc over a link in one direction, if it is routed and not of the failed link. The arcs of the links before, and that
-/// in the other direction if it comes first, are there.
+/// Adds the arc over a link in one direction, if it is routed and not of the failed link. The arcs
+/// of the links before, and that in the other direction if it comes first, are there.
 fn add_over(
     graph: &mut Graph,
     net: &Network,
@@ -63,8 +65,10 @@ fn add_over(
 ) -> Result<(), Memory>
     requires valid { IsValid net.now }
     requires routed { AreRoutedLinks net.now pair.now.to pair.now.routed }
-    requires below { IsGraphBelow net.now pair.now.to (IsLeft failed) (number link.0 from_a) graph.old }
-    ensures { OnOk result (IsGraphBelow net.now pair.now.to (IsLeft failed) (number link.0 from_a + 1) graph.new) }
+    requires below { IsGraphBelow net.now pair.now.to (IsLeft failed)
+        (number link.0 from_a) graph.old }
+    ensures { OnOk result
+        (IsGraphBelow net.now pair.now.to (IsLeft failed) (number link.0 from_a + 1) graph.new) }
 {
     if let Some(arc) = arc_over(net, pair, failed, link, from_a) {
         graph.arc(arc)?;

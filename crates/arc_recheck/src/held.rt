@@ -22,16 +22,17 @@ enum Told {
     Refused,
 }
 
-/// The verdicts of the blocks that a report holds, in the order of the policies: those before the first line that is not of the
-/// form. A text that does not begin as a report holds none. The time is linear in the bytes, and for each `closed` or `side`
-/// line in the routers.
+/// The verdicts of the blocks that a report holds, in the order of the policies: those before the
+/// first line that is not of the form. A text that does not begin as a report holds none. The time
+/// is linear in the bytes, and for each `closed` or `side` line in the routers.
 pub fn held_verdicts(
     alloc: Global,
     net: &Network,
     doc: &Document,
     text: &[u8],
 ) -> Result<List<Verdict>, Memory>
-    ensures { IfOk result (λ held. held ≡ held_verdicts (answers net.now doc.now [] start (lines text.now))) }
+    ensures { IfOk result (λ held.
+        held ≡ held_verdicts (answers net.now doc.now [] start (lines text.now))) }
 {
     if text.is_empty() {
         return Ok(List::make(alloc));
@@ -60,7 +61,8 @@ fn verdicts_before(
     mut reader: Reader,
     text: &[u8],
 ) -> Result<List<Verdict>, Memory>
-    ensures { IfOk result (λ held. held ≡ verdicts_before (answers net.now doc.now [] (standing reader) (lines text.now))) }
+    ensures { IfOk result (λ held.
+        held ≡ verdicts_before (answers net.now doc.now [] (standing reader) (lines text.now))) }
 {
     let mut held = List::make(alloc);
     let mut rest = text;
@@ -83,8 +85,10 @@ fn take_line(
     reader: &mut Reader,
     line: &[u8],
 ) -> Result<Told, Memory>
-    ensures told { IfOk result (λ told. told ≡ told_by (step net.now doc.now [] (standing reader.old) line.now).1) }
-    ensures reader { IfOk result (λ told. IsTaken told → standing reader.new ≡ (step net.now doc.now [] (standing reader.old) line.now).0) }
+    ensures told { IfOk result (λ told.
+        told ≡ told_by (step net.now doc.now [] (standing reader.old) line.now).1) }
+    ensures reader { IfOk result (λ told. IsTaken told →
+        standing reader.new ≡ (step net.now doc.now [] (standing reader.old) line.now).0) }
 {
     let told = match reader.report_line(net, doc, line) {
         Ok(Got::Verdict(_, verdict)) => Told::Block(verdict),

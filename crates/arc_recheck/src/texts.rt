@@ -1,6 +1,7 @@
 //! The text of a recheck.
 ghost use Rattle.std.specs.Prelude.{◌≡◌, ◌++◌, length, Some, IfOk, OnOk};
-ghost use Rattle.arc_recheck.specs.Texts.{kept_word, rechecked_text, rechecked_texts, alone_line, alone_lines, recheck_text};
+ghost use Rattle.arc_recheck.specs.Texts.{kept_word, rechecked_text, rechecked_texts, alone_line};
+ghost use Rattle.arc_recheck.specs.Texts.{alone_lines, recheck_text};
 
 use crate::rechecking::Rechecked;
 use arc_base::{Link, List, Memory, push_number};
@@ -10,8 +11,9 @@ use policy_report::{
 };
 use std::alloc::Global;
 
-/// The text of a recheck: `arc-recheck 1`, for each policy its block with whether its verdict is the old one, for each policy
-/// that has an answer the line of the links whose failure alone breaks it, and `end`. Policies and links are counted from 1.
+/// The text of a recheck: `arc-recheck 1`, for each policy its block with whether its verdict is
+/// the old one, for each policy that has an answer the line of the links whose failure alone breaks
+/// it, and `end`. Policies and links are counted from 1.
 pub fn recheck_text(
     alloc: Global,
     net: &Network,
@@ -20,7 +22,8 @@ pub fn recheck_text(
     alone: &List<Option<List<Link>>>,
 ) -> Result<Vec<u8>, Memory>
     requires { length rechecked.now ≡ length policies.now }
-    ensures { IfOk result (λ text. text.items ≡ recheck_text net.now policies.now rechecked.now alone.now) }
+    ensures { IfOk result (λ text.
+        text.items ≡ recheck_text net.now policies.now rechecked.now alone.now) }
 {
     let mut text = Vec::new(alloc);
     text.extend_from_slice(b"arc-recheck 1\n")?;
@@ -38,7 +41,8 @@ fn push_blocks(
     rechecked: &[Rechecked],
 ) -> Result<(), Memory>
     requires { length rechecked.now ≡ length policies.now }
-    ensures { OnOk result (text.new.items ≡ text.old.items ++ rechecked_texts 1 net.now policies.now rechecked.now) }
+    ensures { OnOk result
+        (text.new.items ≡ text.old.items ++ rechecked_texts 1 net.now policies.now rechecked.now) }
 {
     for (place, policy) in policies.iter().enumerate() {
         push_rechecked(
@@ -89,7 +93,8 @@ fn push_rechecked(
     policy: &Policy,
     rechecked: &Rechecked,
 ) -> Result<(), Memory>
-    ensures { OnOk result (text.new.items ≡ text.old.items ++ rechecked_text number net.now policy.now rechecked.now) }
+    ensures { OnOk result (text.new.items ≡ text.old.items ++
+        rechecked_text number net.now policy.now rechecked.now) }
 {
     push_number(alloc, text, number)?;
     push_answer_words(text, policy.kind, &rechecked.verdict)?;

@@ -21,25 +21,31 @@ use Rattle.arc_repair.specs.Repairs.{cost, Mends, none_of}
 use Rattle.arc_repair.specs.Claims.{claim_bound, IsTrueClaim, IsCertificate}
 
 -- the claim is true and of the bound that was asked for, and the log makes it a certificate
-pub record IsDone (net : Network) (doc : Document) (list : List Edit) (bound : ℕ) (claim : Claim) (steps : List Step) : Type 0 where
+pub record IsDone (net : Network) (doc : Document) (list : List Edit) (bound : ℕ) (claim : Claim)
+    (steps : List Step) : Type 0 where
   pub same_bound : claim_bound claim ≡ bound
   pub is_true : IsTrueClaim net doc list claim
   pub certificate : IsCertificate net doc list claim steps
 
 -- some edits mend the network at just this price
-pub record IsPriceOfRepair (net : Network) (doc : Document) (list : List Edit) (price : ℕ) : Type 0 where
+pub record IsPriceOfRepair (net : Network) (doc : Document) (list : List Edit)
+    (price : ℕ) : Type 0 where
   pub flags : List Bool
   pub mends : Mends net doc list flags
   pub costs : cost doc list flags ≡ price
 
--- a bound of the log is the one that was asked for, or one less than the price of edits that mend the network
+-- a bound of the log is the one that was asked for, or one less than the price of edits that mend
+-- the network
 abbrev pub IsKnownBound : Network → Document → List Edit → ℕ → Step → Type 0
 IsKnownBound net doc list most (Add id lits hints) = Unit {0}
 IsKnownBound net doc list most (Drop ids) = Unit {0}
-IsKnownBound net doc list most (Bound id bound) = (bound ≡ most) ⊎ IsPriceOfRepair net doc list (bound + 1)
+IsKnownBound net doc list most (Bound id bound) =
+    (bound ≡ most) ⊎ IsPriceOfRepair net doc list (bound + 1)
 
--- the log is spent: for the repair formula it is clean, and has as many added clauses as the limit; each of its bounds has its cause
-pub record IsOutOfBudget (net : Network) (doc : Document) (list : List Edit) (bound limit : ℕ) (steps : List Step) : Type 0 where
+-- the log is spent: for the repair formula it is clean, and has as many added clauses as the limit;
+-- each of its bounds has its cause
+pub record IsOutOfBudget (net : Network) (doc : Document) (list : List Edit) (bound limit : ℕ)
+    (steps : List Step) : Type 0 where
   pub formula : Formula
   pub tops : List Lit
   pub is_formula : IsRepairFormula net doc list bound formula tops
@@ -58,7 +64,8 @@ answer_steps (Budget log) = log.steps
 
 -- no edit is chosen, and the log is empty
 abbrev pub IsUntouched : List Edit → Answer → Type 0
-IsUntouched list (Done (Repaired price bound flags verdicts) log) = (price ≡ 0) × (flags ≡ none_of list) × (log.steps ≡ [])
+IsUntouched list (Done (Repaired price bound flags verdicts) log) =
+    (price ≡ 0) × (flags ≡ none_of list) × (log.steps ≡ [])
 IsUntouched list (Done (NoRepair bound) log) = ⊥
 IsUntouched list (Budget log) = ⊥
 
@@ -79,19 +86,22 @@ AnswersFew (Done claim log) = ClaimsFew claim
 AnswersFew (Budget log) = Unit {0}
 
 -- there are few classes and few edits, and the formula is within its limits
-pub record KeepsLimits (net : Network) (doc : Document) (list : List Edit) (bound : ℕ) : Type 0 where
+pub record KeepsLimits (net : Network) (doc : Document) (list : List Edit)
+    (bound : ℕ) : Type 0 where
   pub classes : HasFewClasses net doc
   pub edits : length list ≤ 8192
   pub formula : IsWithin net doc list bound
 
 -- with few classes and few edits, the formula passes the limit that the fault names
-pub record PassesFormula (net : Network) (doc : Document) (bound : ℕ) (fault : EditFault) : Type 0 where
+pub record PassesFormula (net : Network) (doc : Document) (bound : ℕ)
+    (fault : EditFault) : Type 0 where
   pub list : List Edit
   pub are : AreEdits net doc list
   pub classes : HasFewClasses net doc
   pub edits : length list ≤ 8192
   pub formula : IsFaultOf net doc list bound fault
 
--- the fault names the first limit that is passed: of classes, of edits, of the formula's variables, of its literals
+-- the fault names the first limit that is passed: of classes, of edits, of the formula's variables,
+-- of its literals
 abbrev pub IsRepairFault : Network → Document → ℕ → EditFault → Type 0
 IsRepairFault net doc bound fault = NamesLimit net doc fault ⊎ PassesFormula net doc bound fault

@@ -22,11 +22,13 @@ use Rattle.arc_repair.specs.declared.check.Check.{Check}
 use Rattle.arc_repair.specs.declared.check.Made.{Made}
 use Rattle.arc_repair.specs.declared.check.Made.TheVariants.{Good, Bad}
 use Rattle.arc_repair.specs.Repairs.{cost}
-use Rattle.arc_repair.specs.Claims.{IsRightYes, IsRightClaim, claim_bound, least_bound, needs_refutation}
+use Rattle.arc_repair.specs.Claims.{IsRightYes, IsRightClaim, claim_bound, least_bound}
+use Rattle.arc_repair.specs.Claims.{needs_refutation}
 
 -- the claim has a flag for each edit of the network
 abbrev pub HasFlags : Network → Document → Claim → Type 0
-HasFlags net doc (Repaired price bound flags verdicts) = (list : List Edit) → AreEdits net doc list → length flags ≡ length list
+HasFlags net doc (Repaired price bound flags verdicts) =
+    (list : List Edit) → AreEdits net doc list → length flags ≡ length list
 HasFlags net doc (NoRepair bound) = Unit {0}
 
 -- the claim has a flag for each edit of this list
@@ -36,9 +38,11 @@ HasFlagsOf list (NoRepair bound) = Unit {0}
 
 -- the price is not that of the edits, or passes the bound, or the bound passes 512
 abbrev pub IsMispriced : Document → List Edit → ℕ → ℕ → List Bool → Type 0
-IsMispriced doc list price bound flags = (cost doc list flags ≢ price) ⊎ (bound < price) ⊎ (512 < bound)
+IsMispriced doc list price bound flags =
+    (cost doc list flags ≢ price) ⊎ (bound < price) ⊎ (512 < bound)
 
--- the first thing that is wrong with the verdicts on these policies: one is missing or too many, one is no yes, or one is not right
+-- the first thing that is wrong with the verdicts on these policies: one is missing or too many,
+-- one is no yes, or one is not right
 abbrev pub IsVerdictDefect : Network → List Policy → List Verdict → CertKind → Type 0
 IsVerdictDefect net [] [] kind = ⊥
 IsVerdictDefect net [] (v ∷ verdicts) kind = kind ≡ kinds.Policy
@@ -48,8 +52,10 @@ IsVerdictDefect net (policy ∷ policies) (v ∷ verdicts) kind =
     ((¬ IsFalse (is_yes v)) × (¬ IsRight net policy v) × (kind ≡ kinds.Witness)) ⊎
     (IsRightYes net policy v × IsVerdictDefect net policies verdicts kind)
 
--- the price is right, and this is the first thing that is wrong with the verdicts in the network after the edits
-pub record IsMisjudged (net : Network) (doc : Document) (list : List Edit) (price bound : ℕ) (flags : List Bool) (verdicts : List Verdict) (kind : CertKind) : Type 0 where
+-- the price is right, and this is the first thing that is wrong with the verdicts in the network
+-- after the edits
+pub record IsMisjudged (net : Network) (doc : Document) (list : List Edit) (price bound : ℕ)
+    (flags : List Bool) (verdicts : List Verdict) (kind : CertKind) : Type 0 where
   pub priced : ¬ IsMispriced doc list price bound flags
   pub after : Network
   pub is_after : IsAfter net (chosen_of list flags) after
@@ -58,15 +64,19 @@ pub record IsMisjudged (net : Network) (doc : Document) (list : List Edit) (pric
 -- this is the first thing that is wrong with the claim: the price, or else a verdict
 abbrev pub IsDefect : Network → Document → List Edit → Claim → CertKind → Type 0
 IsDefect net doc list (Repaired price bound flags verdicts) kind =
-    (IsMispriced doc list price bound flags × (kind ≡ kinds.Price)) ⊎ IsMisjudged net doc list price bound flags verdicts kind
+    (IsMispriced doc list price bound flags × (kind ≡ kinds.Price)) ⊎
+    IsMisjudged net doc list price bound flags verdicts kind
 IsDefect net doc list (NoRepair bound) kind = (512 < bound) × (kind ≡ kinds.Price)
 
--- what the check knows of the log: the live clauses of the formula and the steps so far, and whether an empty clause was added
+-- what the check knows of the log: the live clauses of the formula and the steps so far, and
+-- whether an empty clause was added
 abbrev pub knowledge : Check → Knowledge
 knowledge check = known check.checker
 
--- the check of this claim stands before its log: the claim is right, and what is known is its repair formula with its least bound
-pub record IsBegun (net : Network) (doc : Document) (list : List Edit) (claim : Claim) (check : Check) : Type 0 where
+-- the check of this claim stands before its log: the claim is right, and what is known is its
+-- repair formula with its least bound
+pub record IsBegun (net : Network) (doc : Document) (list : List Edit) (claim : Claim)
+    (check : Check) : Type 0 where
   pub right : IsRightClaim net doc list claim
   pub formula : Formula
   pub tops : List Lit

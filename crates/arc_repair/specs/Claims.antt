@@ -1,5 +1,7 @@
--- What is claimed of a repair: when a claim is true, when it is right as far as it goes without a log, and which log shows it.
-use Rattle.std.specs.Prelude.{◌≡◌, ℕ, suc, zero, ◌<◌, ◌≤◌, Bool, true, false, IsTrue, Option, Some, List, length}
+-- What is claimed of a repair: when a claim is true, when it is right as far as it goes without a
+-- log, and which log shows it.
+use Rattle.std.specs.Prelude.{◌≡◌, ℕ, suc, zero, ◌<◌, ◌≤◌, Bool, true, false, IsTrue, Option, Some}
+use Rattle.std.specs.Prelude.{List, length}
 use Rattle.std.specs.List.{AllZip}
 use Rattle.cnf_types.specs.declared.literal.Lit.{Lit}
 use Rattle.cnf_types.specs.declared.clauses.Formula.{Formula}
@@ -25,9 +27,11 @@ pub record IsRightYes (net : Network) (policy : Policy) (v : Verdict) : Type 0 w
   pub yes : IsTrue (is_yes v)
   pub right : IsRight net policy v
 
--- what is claimed of edits is right: there is a flag for each, the chosen ones cost the price, which is within the bound, the bound is at most 512, and in the
--- network after them the verdicts are right yeses, one on each policy in order
-pub record IsRightRepair (net : Network) (doc : Document) (list : List Edit) (price bound : ℕ) (flags : List Bool) (verdicts : List Verdict) : Type 0 where
+-- what is claimed of edits is right: there is a flag for each, the chosen ones cost the price,
+-- which is within the bound, the bound is at most 512, and in the network after them the verdicts
+-- are right yeses, one on each policy in order
+pub record IsRightRepair (net : Network) (doc : Document) (list : List Edit) (price bound : ℕ)
+    (flags : List Bool) (verdicts : List Verdict) : Type 0 where
   pub one_each : length flags ≡ length list
   pub costs : cost doc list flags ≡ price
   pub affordable : price ≤ bound
@@ -38,26 +42,32 @@ pub record IsRightRepair (net : Network) (doc : Document) (list : List Edit) (pr
 
 -- the claim is right as far as it goes without a log
 abbrev pub IsRightClaim : Network → Document → List Edit → Claim → Type 0
-IsRightClaim net doc list (Repaired price bound flags verdicts) = IsRightRepair net doc list price bound flags verdicts
+IsRightClaim net doc list (Repaired price bound flags verdicts) =
+    IsRightRepair net doc list price bound flags verdicts
 IsRightClaim net doc list (NoRepair bound) = bound ≤ 512
 
 -- the edits mend the network at this price, and none do for less
-pub record IsCheapestRepair (net : Network) (doc : Document) (list : List Edit) (price bound : ℕ) (flags : List Bool) (verdicts : List Verdict) : Type 0 where
+pub record IsCheapestRepair (net : Network) (doc : Document) (list : List Edit) (price bound : ℕ)
+    (flags : List Bool) (verdicts : List Verdict) : Type 0 where
   pub right : IsRightRepair net doc list price bound flags verdicts
   pub mends : Mends net doc list flags
   pub least : IsLeast net doc list price
 
--- the claim is true: these are the cheapest edits that mend the network, or all that do cost more than the bound
+-- the claim is true: these are the cheapest edits that mend the network, or all that do cost more
+-- than the bound
 abbrev pub IsTrueClaim : Network → Document → List Edit → Claim → Type 0
-IsTrueClaim net doc list (Repaired price bound flags verdicts) = IsCheapestRepair net doc list price bound flags verdicts
-IsTrueClaim net doc list (NoRepair bound) = (flags : List Bool) → Mends net doc list flags → bound < cost doc list flags
+IsTrueClaim net doc list (Repaired price bound flags verdicts) =
+    IsCheapestRepair net doc list price bound flags verdicts
+IsTrueClaim net doc list (NoRepair bound) =
+    (flags : List Bool) → Mends net doc list flags → bound < cost doc list flags
 
 -- the bound of the claim
 abbrev pub claim_bound : Claim → ℕ
 claim_bound (Repaired price bound flags verdicts) = bound
 claim_bound (NoRepair bound) = bound
 
--- the least bound that a log of the claim may have: one less than the price of a repair, and the bound itself where there is no repair
+-- the least bound that a log of the claim may have: one less than the price of a repair, and the
+-- bound itself where there is no repair
 abbrev pub least_bound : Claim → Option ℕ
 least_bound (Repaired price bound flags verdicts) = least_below price
 least_bound (NoRepair bound) = Some bound
@@ -67,13 +77,16 @@ abbrev pub is_above_zero : ℕ → Bool
 is_above_zero zero = false
 is_above_zero (suc n) = true
 
--- whether a log has to refute something to show the claim: each claim but a repair that costs nothing
+-- whether a log has to refute something to show the claim: each claim but a repair that costs
+-- nothing
 abbrev pub needs_refutation : Claim → Bool
 needs_refutation (Repaired price bound flags verdicts) = is_above_zero price
 needs_refutation (NoRepair bound) = true
 
--- the log shows the claim: it is accepted for the repair formula and the least bound, and adds the empty clause where there is something to refute
-pub record Shows (net : Network) (doc : Document) (list : List Edit) (claim : Claim) (steps : List Step) : Type 0 where
+-- the log shows the claim: it is accepted for the repair formula and the least bound, and adds the
+-- empty clause where there is something to refute
+pub record Shows (net : Network) (doc : Document) (list : List Edit) (claim : Claim)
+    (steps : List Step) : Type 0 where
   pub formula : Formula
   pub tops : List Lit
   pub is_formula : IsRepairFormula net doc list (claim_bound claim) formula tops
@@ -81,6 +94,7 @@ pub record Shows (net : Network) (doc : Document) (list : List Edit) (claim : Cl
   pub refuting : IsTrue (needs_refutation claim) → IsRefuting steps
 
 -- the claim and the log are a certificate: the claim is right, and the log shows it
-pub record IsCertificate (net : Network) (doc : Document) (list : List Edit) (claim : Claim) (steps : List Step) : Type 0 where
+pub record IsCertificate (net : Network) (doc : Document) (list : List Edit) (claim : Claim)
+    (steps : List Step) : Type 0 where
   pub right : IsRightClaim net doc list claim
   pub shown : Shows net doc list claim steps

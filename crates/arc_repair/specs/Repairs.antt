@@ -11,8 +11,10 @@ use Rattle.edit_space.specs.Prices.{chosen_of, price_of}
 abbrev pub cost : Document → List Edit → List Bool → ℕ
 cost doc list flags = price_of doc.weights (chosen_of list flags)
 
--- the flags mend the network: there is one for each edit, and the network after the edits that they choose meets the document
-pub record Mends (net : Network) (doc : Document) (list : List Edit) (flags : List Bool) : Type 0 where
+-- the flags mend the network: there is one for each edit, and the network after the edits that they
+-- choose meets the document
+pub record Mends (net : Network) (doc : Document) (list : List Edit)
+    (flags : List Bool) : Type 0 where
   pub one_each : length flags ≡ length list
   pub after : Network
   pub is_after : IsAfter net (chosen_of list flags) after
@@ -20,7 +22,8 @@ pub record Mends (net : Network) (doc : Document) (list : List Edit) (flags : Li
 
 -- no edits that mend the network cost less
 abbrev pub IsLeast : Network → Document → List Edit → ℕ → Type 0
-IsLeast net doc list price = (flags : List Bool) → Mends net doc list flags → price ≤ cost doc list flags
+IsLeast net doc list price =
+    (flags : List Bool) → Mends net doc list flags → price ≤ cost doc list flags
 
 -- the flags that choose none of the edits
 abbrev pub none_of : List Edit → List Bool

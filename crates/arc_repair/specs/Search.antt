@@ -31,16 +31,21 @@ flagged_cost doc list flags = if length flags == length list then cost doc list 
 
 -- each of the policies has at most 4,096 classes
 abbrev pub HasFewClassesEach : Network → List Policy → Type 0
-HasFewClassesEach net policies = (policy : Policy) → Contains policies policy → (classes : List Class) → AreClasses net policies policy classes → length classes ≤ 4096
+HasFewClassesEach net policies =
+    (policy : Policy) → Contains policies policy →
+    (classes : List Class) → AreClasses net policies policy classes → length classes ≤ 4096
 
--- the verdicts are right yeses, one on each policy in order, in the network after the edits that the flags choose
-pub record AreYesAfter (net : Network) (doc : Document) (list : List Edit) (flags : List Bool) (verdicts : List Verdict) : Type 0 where
+-- the verdicts are right yeses, one on each policy in order, in the network after the edits that
+-- the flags choose
+pub record AreYesAfter (net : Network) (doc : Document) (list : List Edit) (flags : List Bool)
+    (verdicts : List Verdict) : Type 0 where
   pub after : Network
   pub is_after : IsAfter net (chosen_of list flags) after
   pub judged : AllZip (IsRightYes after) doc.policies verdicts
 
 -- the edits that were found mend the network, none that do are cheaper, and the log shows it
-pub record IsCheapestFound (net : Network) (doc : Document) (list : List Edit) (bound : ℕ) (offer : Offer) (steps : List Step) : Type 0 where
+pub record IsCheapestFound (net : Network) (doc : Document) (list : List Edit) (bound : ℕ)
+    (offer : Offer) (steps : List Step) : Type 0 where
   pub mends : Mends net doc list offer.values
   pub costs : cost doc list offer.values ≡ offer.price
   pub affordable : offer.price ≤ bound
@@ -53,6 +58,8 @@ pub record IsCheapestFound (net : Network) (doc : Document) (list : List Edit) (
 
 -- what a search found is so
 abbrev pub IsSearched : Network → Document → List Edit → ℕ → ℕ → Found → Type 0
-IsSearched net doc list bound limit (Cheapest offer log) = IsCheapestFound net doc list bound offer log.steps
-IsSearched net doc list bound limit (Nothing log) = IsDone net doc list bound (NoRepair bound) log.steps
+IsSearched net doc list bound limit (Cheapest offer log) =
+    IsCheapestFound net doc list bound offer log.steps
+IsSearched net doc list bound limit (Nothing log) =
+    IsDone net doc list bound (NoRepair bound) log.steps
 IsSearched net doc list bound limit (Budget log) = IsOutOfBudget net doc list bound limit log.steps

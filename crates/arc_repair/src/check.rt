@@ -26,7 +26,8 @@ pub enum Made {
 }
 
 impl Check {
-    ghost use Rattle.std.specs.Prelude.{◌≡◌, ◌≤◌, None, List as Items, length, All, IfOk, IfErr, OnOk, OnErr};
+    ghost use Rattle.std.specs.Prelude.{◌≡◌, ◌≤◌, None, List as Items, length, All, IfOk, IfErr};
+    ghost use Rattle.std.specs.Prelude.{OnOk, OnErr};
     ghost use Rattle.net_model.specs.Forwarding.{HasEnds};
     ghost use Rattle.net_model.specs.Packets.{subject};
     ghost use Rattle.net_model.specs.Validity.{IsValid};
@@ -39,10 +40,11 @@ impl Check {
     ghost use Rattle.arc_repair.specs.Claims.{claim_bound};
     ghost use Rattle.arc_repair.specs.Laws.{accepts};
 
-    /// Judges the claim as far as it goes without its log: its price, and then each of its verdicts in the network after the
-    /// edits.
+    /// Judges the claim as far as it goes without its log: its price, and then each of its verdicts
+    /// in the network after the edits.
     ///
-    /// The classes, the edits and, for a bound up to 512, the formula are counted against their limits first.
+    /// The classes, the edits and, for a bound up to 512, the formula are counted against their
+    /// limits first.
     pub fn make(
         alloc: Global,
         net: &Network,
@@ -54,7 +56,8 @@ impl Check {
         requires ends { All (λ policy. HasEnds net.now (subject policy)) doc.now.policies }
         requires failures { All (λ policy. HasFewFailures policy.kind) doc.now.policies }
         requires flags { HasFlags net.now doc.now claim.now }
-        ensures made { IfOk result (λ made. (list : Items AnyEdit) → AreEdits net.now doc.now list → IsMade net.now doc.now list claim.now made) }
+        ensures made { IfOk result (λ made. (list : Items AnyEdit) → AreEdits net.now doc.now list →
+            IsMade net.now doc.now list claim.now made) }
         ensures fault { IfErr result (IsRepairFault net.now doc.now (claim_bound claim.now)) }
     {
         edit_lists_are_one();
@@ -74,7 +77,8 @@ impl Check {
         }))
     }
 
-    /// Judges a step of the log, and takes it where it is accepted. After a fault the check is as it was.
+    /// Judges a step of the log, and takes it where it is accepted. After a fault the check is as
+    /// it was.
     pub fn step(&mut self, s: &Step) -> Result<(), StepFault>
         ensures ok { OnOk result (step_fault (knowledge self.old) s.now ≡ None) }
         ensures after { OnOk result (knowledge self.new ≡ after (knowledge self.old) s.now) }

@@ -6,7 +6,8 @@ ghost use Rattle.net_model.specs.Packets.{subject};
 ghost use Rattle.net_model.specs.Validity.{IsValid};
 ghost use Rattle.edit_space.specs.declared.claims.Claim.TheVariants.{Repaired};
 ghost use Rattle.arc_repair.specs.Checks.{IsVerdictDefect, IsDefect, HasFlagsOf};
-ghost use Rattle.arc_repair.specs.Claims.{IsRightYes, IsRightClaim, claim_bound, least_bound, needs_refutation};
+ghost use Rattle.arc_repair.specs.Claims.{IsRightYes, IsRightClaim, claim_bound, least_bound};
+ghost use Rattle.arc_repair.specs.Claims.{needs_refutation};
 
 use crate::judging::is_yes;
 use arc_base::{CertKind, List, Memory};
@@ -49,7 +50,8 @@ pub(crate) fn needs_refutation(claim: &Claim) -> bool
 fn verdict_defect(net: &Network, policies: &[Policy], verdicts: &[Verdict]) -> Option<CertKind>
     requires valid { IsValid net.now }
     requires ends { All (λ policy. HasEnds net.now (subject policy)) policies.now }
-    ensures { MatchOption result (AllZip (IsRightYes net.now) policies.now verdicts.now) (IsVerdictDefect net.now policies.now verdicts.now) }
+    ensures { MatchOption result (AllZip (IsRightYes net.now) policies.now verdicts.now)
+        (IsVerdictDefect net.now policies.now verdicts.now) }
 {
     for (place, policy) in policies.iter().enumerate() {
         let Some(verdict) = verdicts.get(place) else {
@@ -84,7 +86,9 @@ fn repair_defect(
     requires ends { All (λ policy. HasEnds net.now (subject policy)) doc.now.policies }
     requires flags { length chosen.now ≡ length list.now }
     requires bound { bound ≤ 512 }
-    ensures { IfOk result (λ kind. MatchOption kind (IsRightClaim net.now doc.now list.now (Repaired claimed bound chosen.now verdicts.now)) (IsDefect net.now doc.now list.now (Repaired claimed bound chosen.now verdicts.now))) }
+    ensures { IfOk result (λ kind. MatchOption kind
+        (IsRightClaim net.now doc.now list.now (Repaired claimed bound chosen.now verdicts.now))
+        (IsDefect net.now doc.now list.now (Repaired claimed bound chosen.now verdicts.now))) }
 {
     if claimed > bound {
         return Ok(Some(CertKind::Price));
@@ -109,7 +113,9 @@ pub(crate) fn defect(
     requires ends { All (λ policy. HasEnds net.now (subject policy)) doc.now.policies }
     requires flags { HasFlagsOf list.now claim.now }
     requires bound { claim_bound claim.now ≤ 512 }
-    ensures { IfOk result (λ kind. MatchOption kind (IsRightClaim net.now doc.now list.now claim.now) (IsDefect net.now doc.now list.now claim.now)) }
+    ensures { IfOk result (λ kind.
+        MatchOption kind (IsRightClaim net.now doc.now list.now claim.now)
+        (IsDefect net.now doc.now list.now claim.now)) }
 {
     match claim {
         Claim::Repaired {

@@ -37,7 +37,8 @@ fn yeses(
     requires ends { All (λ policy. HasEnds net.now (subject policy)) policies.now }
     requires failures { All (λ policy. HasFewFailures policy.kind) policies.now }
     requires classes { HasFewClassesEach net.now policies.now }
-    ensures some { IfOk result (λ verdicts. IfSome verdicts (AllZip (IsRightYes net.now) policies.now)) }
+    ensures some { IfOk result (λ verdicts.
+        IfSome verdicts (AllZip (IsRightYes net.now) policies.now)) }
     ensures few { IfOk result (λ verdicts. IfSome verdicts (All ShowsFew)) }
     ensures none { IfOk result (λ verdicts. IsNone verdicts → ¬ All (Meets net.now) policies.now) }
 {
@@ -73,9 +74,11 @@ pub(crate) fn yeses_after(
     requires classes { HasFewClasses net.now doc.now }
     requires edits { AreEdits net.now doc.now list.now }
     requires flags { length chosen.now ≡ length list.now }
-    ensures some { IfOk result (λ verdicts. IfSome verdicts (AreYesAfter net.now doc.now list.now chosen.now)) }
+    ensures some { IfOk result (λ verdicts.
+        IfSome verdicts (AreYesAfter net.now doc.now list.now chosen.now)) }
     ensures few { IfOk result (λ verdicts. IfSome verdicts (All ShowsFew)) }
-    ensures none { IfOk result (λ verdicts. IsNone verdicts → ¬ Mends net.now doc.now list.now chosen.now) }
+    ensures none { IfOk result (λ verdicts. IsNone verdicts →
+        ¬ Mends net.now doc.now list.now chosen.now) }
 {
     let after = after(alloc, net, list, chosen)?;
     let verdicts = yeses(alloc, &after, &doc.policies)?;

@@ -1,5 +1,6 @@
 //! Laws over the definitions alone: each is the contract of a function that does nothing.
-ghost use Rattle.arc_repair.specs.Laws.{CertificatesAreTrue, ChecksAreExact, CertificatesPass, MetNetworksNeedNoEdits};
+ghost use Rattle.arc_repair.specs.Laws.{CertificatesAreTrue, ChecksAreExact, CertificatesPass};
+ghost use Rattle.arc_repair.specs.Laws.{MetNetworksNeedNoEdits};
 
 use edit_space::laws::{networks_after_edits_are_valid, no_edits_change_nothing};
 use net_laws::verdicts_are_right;
@@ -20,7 +21,8 @@ pub fn certificates_are_true()
     verdicts_are_right();
 }
 
-/// A check accepts the log of a claim step by step, and in the end, exactly where the two are a certificate.
+/// A check accepts the log of a claim step by step, and in the end, exactly where the two are a
+/// certificate.
 pub fn checks_are_exact()
     ensures exact { ChecksAreExact }
     ensures passes { CertificatesPass }

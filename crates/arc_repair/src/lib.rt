@@ -1,6 +1,7 @@
-//! The cheapest repair of a network, and the check of a claimed one. A repair is a set of modelled edits after which the
-//! network meets its document; that none is cheaper is shown by a log that refutes the repair formula under a lower bound. A
-//! check judges a claim and its log from the network and the document alone, and accepts only what is true.
+//! The cheapest repair of a network, and the check of a claimed one. A repair is a set of modelled
+//! edits after which the network meets its document; that none is cheaper is shown by a log that
+//! refutes the repair formula under a lower bound. A check judges a claim and its log from the
+//! network and the document alone, and accepts only what is true.
 #![tactic(auto)]
 
 mod answer;

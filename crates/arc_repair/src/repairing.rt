@@ -12,7 +12,8 @@ ghost use Rattle.price_descent.specs.Outcomes.{found_steps};
 ghost use Rattle.proof_log.specs.Texts.{HasLine};
 ghost use Rattle.net_model.specs.Policies.{HasFewFailures};
 ghost use Rattle.arc_repair.specs.declared.answer.Answer.TheVariants.{Done};
-ghost use Rattle.arc_repair.specs.Answers.{AnswersFew, IsAnswer, answer_steps, IsUntouched, KeepsLimits, IsRepairFault};
+ghost use Rattle.arc_repair.specs.Answers.{AnswersFew, IsAnswer, answer_steps, IsUntouched};
+ghost use Rattle.arc_repair.specs.Answers.{KeepsLimits, IsRepairFault};
 ghost use Rattle.arc_repair.specs.Repairs.{Mends, none_of};
 ghost use Rattle.arc_repair.specs.Search.{IsSearched};
 
@@ -60,7 +61,8 @@ fn untouched(alloc: Global, bound: u32, chosen: List<bool>, verdicts: List<Verdi
     Answer::Done(claim, log)
 }
 
-/// The answer that comes of a search, with the verdicts in the network after the edits that were found.
+/// The answer that comes of a search, with the verdicts in the network after the edits that were
+/// found.
 fn answer_of(
     alloc: Global,
     net: &Network,
@@ -104,11 +106,12 @@ fn answer_of(
     }
 }
 
-/// The cheapest edits of a price up to the bound after which the network meets the document, with a log that shows that none
-/// are cheaper; or a log that shows that there are none within the bound. It gives up once the log adds `limit` clauses.
+/// The cheapest edits of a price up to the bound after which the network meets the document, with a
+/// log that shows that none are cheaper; or a log that shows that there are none within the bound.
+/// It gives up once the log adds `limit` clauses.
 ///
-/// The classes, the edits and the formula are counted against their limits first, in this order. A network that meets the
-/// document as it stands is answered without a search.
+/// The classes, the edits and the formula are counted against their limits first, in this order. A
+/// network that meets the document as it stands is answered without a search.
 pub fn repair(
     alloc: Global,
     net: &Network,
@@ -122,12 +125,15 @@ pub fn repair(
     requires failures { All (λ policy. HasFewFailures policy.kind) doc.now.policies }
     requires bound { bound ≤ 512 }
     requires limit { limit ≤ 200000 }
-    ensures answer { IfOk result (λ answer. (list : Items AnyEdit) → AreEdits net.now doc.now list → IsAnswer net.now doc.now list bound limit answer) }
-    ensures met { IfOk result (λ answer. (list : Items AnyEdit) → AreEdits net.now doc.now list → Mends net.now doc.now list (none_of list) → IsUntouched list answer) }
+    ensures answer { IfOk result (λ answer. (list : Items AnyEdit) → AreEdits net.now doc.now list →
+        IsAnswer net.now doc.now list bound limit answer) }
+    ensures met { IfOk result (λ answer. (list : Items AnyEdit) → AreEdits net.now doc.now list →
+        Mends net.now doc.now list (none_of list) → IsUntouched list answer) }
     ensures lines { IfOk result (λ answer. All HasLine (answer_steps answer)) }
     ensures few { IfOk result AnswersFew }
     ensures within { IfOk result (λ answer. additions (answer_steps answer) ≤ limit) }
-    ensures limits { IfOk result (λ answer. (list : Items AnyEdit) → AreEdits net.now doc.now list → KeepsLimits net.now doc.now list bound) }
+    ensures limits { IfOk result (λ answer. (list : Items AnyEdit) → AreEdits net.now doc.now list →
+        KeepsLimits net.now doc.now list bound) }
     ensures fault { IfErr result (IsRepairFault net.now doc.now bound) }
 {
     edit_lists_are_one();

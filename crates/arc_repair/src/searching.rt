@@ -32,7 +32,8 @@ pub(crate) fn cheapest(
     requires valid { IsValid net.now }
     requires countable { IsCountable net.now }
     requires edits { AreEdits net.now doc.now list.now }
-    requires formula { IsRepairFormula net.now doc.now list.now bound encoded.now.formula encoded.now.tops }
+    requires formula { IsRepairFormula net.now doc.now list.now bound
+        encoded.now.formula encoded.now.tops }
     requires variables { encoded.now.formula.vars ≤ 16777216 }
     requires bound { bound ≤ 512 }
     requires limit { limit ≤ 200000 }

@@ -2,7 +2,9 @@
 use Rattle.std.specs.Prelude.{ℕ, List, [], Option, Some, None, IfSome}
 use Rattle.arc_outside.specs.Files.{Files}
 use Rattle.command_words.specs.declared.commands.Command.{Command}
-use Rattle.command_words.specs.declared.commands.Command.TheVariants.{Verify, Trace, Repair, Check, Apply, Solve, Lrat, Generate, Nodes, Prefers, Recheck}
+use Rattle.command_words.specs.declared.commands.Command.TheVariants.{Verify, Trace, Repair, Check}
+use Rattle.command_words.specs.declared.commands.Command.TheVariants.{Apply, Solve, Lrat, Generate}
+use Rattle.command_words.specs.declared.commands.Command.TheVariants.{Nodes, Prefers, Recheck}
 use Rattle.run_files.specs.declared.limits.Limits.TheVariants.{Judging}
 use Rattle.run_files.specs.declared.outcome.Done.{Done}
 use Rattle.run_files.specs.declared.outcome.FileRefusal.{FileRefusal}
@@ -52,7 +54,8 @@ IsAnswer (Nodes words) = IsNodesAnswer words
 IsAnswer (Prefers words) = IsPrefersAnswer words
 IsAnswer (Recheck words) = IsRecheckAnswer words
 
--- what an answer of a command is, whatever the store holds: which statuses it has, and which files it writes
+-- what an answer of a command is, whatever the store holds: which statuses it has, and which files
+-- it writes
 abbrev pub IsOwn : Command → Done → Type 0
 IsOwn (Verify document) = IsJudging
 IsOwn (Trace words) = IsJudging
@@ -82,17 +85,21 @@ status_of outcomes.Usage = 4
 status_of (outcomes.Refused r) = 5
 status_of (outcomes.Done d) = d.status
 
--- The defined outcomes: the usage line exactly where the words match no command, and else a command's first refusal or one of
--- its answers. Over a store that does not tell what it holds, any refusal and any of the command's own answers.
+-- The defined outcomes: the usage line exactly where the words match no command, and else a
+-- command's first refusal or one of its answers. Over a store that does not tell what it holds, any
+-- refusal and any of the command's own answers.
 abbrev pub IsDefined : Option Command → Option Files → Outcome → Type 0
 IsDefined None held outcomes.Usage = Unit {0}
 IsDefined None held (outcomes.Refused r) = ⊥
 IsDefined None held (outcomes.Done d) = ⊥
 IsDefined (Some command) held outcomes.Usage = ⊥
-IsDefined (Some command) held (outcomes.Refused r) = IfSome held (λ files. IsRefusal command files r)
-IsDefined (Some command) held (outcomes.Done d) = IsOwn command d × IfSome held (λ files. IsAnswer command files d)
+IsDefined (Some command) held (outcomes.Refused r) =
+    IfSome held (λ files. IsRefusal command files r)
+IsDefined (Some command) held (outcomes.Done d) =
+    IsOwn command d × IfSome held (λ files. IsAnswer command files d)
 
--- A missing file is refused only where the count of absences rose, and one that is too long only where reads took so many bytes.
+-- A missing file is refused only where the count of absences rose, and one that is too long only
+-- where reads took so many bytes.
 abbrev pub HasOutcomeCause : (absent long : Type 0) → Outcome → Type 0
 HasOutcomeCause absent long outcomes.Usage = Unit {0}
 HasOutcomeCause absent long (outcomes.Refused r) = HasRefusalCause absent long r

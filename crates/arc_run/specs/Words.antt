@@ -2,4 +2,5 @@
 use Rattle.std.specs.Prelude.{ℕ, List, codes}
 
 abbrev pub usage : List ℕ
-usage = codes "usage: arcv verify|trace|repair|check|apply|solve|lrat|generate|nodes|prefers|recheck\n"
+usage =
+    codes "usage: arcv verify|trace|repair|check|apply|solve|lrat|generate|nodes|prefers|recheck\n"

@@ -1,5 +1,6 @@
 //! The common ending of all commands: the files are written, and then the text is put.
-ghost use Rattle.std.specs.Prelude.{◌≡◌, ◌⊎◌, ◌<◌, ◌≤◌, ◌+◌, ◌++◌, take, drop, option_map, length, IfOk, IfErr, OnOk, OnErr, IsErrOf, ℕ};
+ghost use Rattle.std.specs.Prelude.{◌≡◌, ◌⊎◌, ◌<◌, ◌≤◌, ◌+◌, ◌++◌, take, drop, option_map, length};
+ghost use Rattle.std.specs.Prelude.{IfOk, IfErr, OnOk, OnErr, IsErrOf, ℕ};
 ghost use Rattle.arc_outside.specs.Causes.{Rose};
 ghost use Rattle.arc_outside.specs.Files.{WhereTold};
 ghost use Rattle.arc_run.specs.Outcomes.{text_of, writes_of, status_of};
@@ -17,7 +18,8 @@ fn put_from<K: Sink>(out: &mut K, text: &[u8], at: usize) -> Result<usize, Fault
     requires { at < length text.now }
     ensures some { IfOk result (λ n. 0 < n) }
     ensures bound { IfOk result (λ n. at + n ≤ length text.now) }
-    ensures appended { IfOk result (λ n. K.written out.new ≡ option_map (λ written. written ++ take n (drop at text.now)) (K.written out.old)) }
+    ensures appended { IfOk result (λ n. K.written out.new
+        ≡ option_map (λ written. written ++ take n (drop at text.now)) (K.written out.old)) }
     ensures nothing { OnErr result (K.written out.new ≡ K.written out.old) }
     ensures cause { IsErrOf result Fault.Failed → Rose (K.faults out.old) (K.faults out.new) }
     ensures never_missing { IsErrOf result Fault.Missing → ⊥ }
@@ -30,7 +32,8 @@ fn put_from<K: Sink>(out: &mut K, text: &[u8], at: usize) -> Result<usize, Fault
 // Puts the whole text.
 fn put_all<K: Sink>(out: &mut K, text: &[u8]) -> Result<(), Fault>
     ensures put { OnOk result (WasPut text.now (K.written out.old) (K.written out.new)) }
-    ensures stopped { OnErr result ((count : ℕ) × WasPut (take count text.now) (K.written out.old) (K.written out.new)) }
+    ensures stopped { OnErr result
+        ((count : ℕ) × WasPut (take count text.now) (K.written out.old) (K.written out.new)) }
     ensures cause { IsErrOf result Fault.Failed → Rose (K.faults out.old) (K.faults out.new) }
     ensures never_missing { IsErrOf result Fault.Missing → ⊥ }
     ensures faults { K.faults out.old ≤ K.faults out.new }
@@ -47,7 +50,8 @@ fn put_all<K: Sink>(out: &mut K, text: &[u8]) -> Result<(), Fault>
 
 // The text, the files to write and the status of an outcome.
 fn plan(alloc: Global, outcome: Outcome) -> Result<Done, Memory>
-    ensures { IfOk result (λ done. done ≡ record { text = text_of outcome; writes = writes_of outcome; status = status_of outcome }) }
+    ensures { IfOk result (λ done. done ≡
+        record { text = text_of outcome; writes = writes_of outcome; status = status_of outcome }) }
 {
     match outcome {
         Outcome::Usage => Ok(Done {
@@ -85,12 +89,14 @@ pub fn finish<S: Store, K: Sink>(
         × (K.written out.new ≡ K.written out.old) }
     ensures sink_failed { result.code ≡ 7 → Rose (K.faults out.old) (K.faults out.new)
         × WereWritten (writes_of outcome) (S.held store.old) (S.held store.new)
-        × ((count : ℕ) × WasPut (take count (text_of outcome)) (K.written out.old) (K.written out.new)) }
+        × ((count : ℕ) × WasPut (take count (text_of outcome)) (K.written out.old)
+        (K.written out.new)) }
     ensures memory { result.code ≡ 8 →
         ((S.held store.new ≡ S.held store.old) × (K.written out.new ≡ K.written out.old))
-        ⊎ (WhereTold (FailsWithin (writes_of outcome)) (S.held store.old) (S.held store.new) × (K.written out.new ≡ K.written out.old))
-        ⊎ (WereWritten (writes_of outcome) (S.held store.old) (S.held store.new)
-        × ((count : ℕ) × WasPut (take count (text_of outcome)) (K.written out.old) (K.written out.new))) }
+        ⊎ (WhereTold (FailsWithin (writes_of outcome)) (S.held store.old) (S.held store.new) ×
+        (K.written out.new ≡ K.written out.old))
+        ⊎ (WereWritten (writes_of outcome) (S.held store.old) (S.held store.new) × ((count : ℕ) ×
+        WasPut (take count (text_of outcome)) (K.written out.old) (K.written out.new))) }
     ensures code { result.code ≤ 8 }
     ensures absences { S.absences store.old ≤ S.absences store.new }
     ensures taken { S.taken store.new ≡ S.taken store.old }

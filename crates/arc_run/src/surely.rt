@@ -19,8 +19,10 @@ pub fn run_surely(
     out: &mut SureSink,
 ) -> Status
     ensures { Runs (command_of words.now)
-        (Rose (⟦<SureStore as Store>⟧.absences store.old) (⟦<SureStore as Store>⟧.absences store.new))
-        (TookMore least_limit (⟦<SureStore as Store>⟧.taken store.old) (⟦<SureStore as Store>⟧.taken store.new)) ⊥ ⊥
+        (Rose (⟦<SureStore as Store>⟧.absences store.old)
+        (⟦<SureStore as Store>⟧.absences store.new))
+        (TookMore least_limit (⟦<SureStore as Store>⟧.taken store.old)
+        (⟦<SureStore as Store>⟧.taken store.new)) ⊥ ⊥
         (⟦<SureStore as Store>⟧.held store.old) (⟦<SureStore as Store>⟧.held store.new)
         (⟦<SureSink as Sink>⟧.written out.old) (⟦<SureSink as Sink>⟧.written out.new) result.code }
 {

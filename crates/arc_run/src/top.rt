@@ -1,12 +1,14 @@
 //! The top call.
-ghost use Rattle.std.specs.Prelude.{◌≡◌, ◌⊎◌, ◌<◌, ◌≤◌, Some, None, IfSome, IsSomeAnd, IfOk, IsErrOf};
+ghost use Rattle.std.specs.Prelude.{◌≡◌, ◌⊎◌, ◌<◌, ◌≤◌, Some, None, IfSome, IsSomeAnd, IfOk};
+ghost use Rattle.std.specs.Prelude.{IsErrOf};
 ghost use Rattle.arc_outside.specs.Causes.{Rose};
 ghost use Rattle.arc_outside.specs.Reads.{TookMore, TookOn};
 ghost use Rattle.command_words.specs.Commands.{command_of, HasLimit};
 ghost use Rattle.run_files.specs.Answers.{Answers, OnlyReads};
 ghost use Rattle.run_files.specs.Limits.{least_limit};
 ghost use Rattle.arc_run.specs.Headline.{Tells};
-ghost use Rattle.arc_run.specs.Outcomes.{HasOutcomeCause, IsAnswer, IsDefined, IsOwn, IsRefusal, status_of};
+ghost use Rattle.arc_run.specs.Outcomes.{HasOutcomeCause, IsAnswer, IsDefined, IsOwn, IsRefusal};
+ghost use Rattle.arc_run.specs.Outcomes.{status_of};
 ghost use Rattle.arc_run.specs.Runs.{Runs};
 
 use crate::ending::finish;
@@ -34,8 +36,10 @@ enum Halt {
 // Runs the function of the command.
 fn answer<S: Store>(alloc: Global, command: &Command, store: &mut S) -> Result<Done, Stop>
     requires { HasLimit command.now }
-    ensures answer { Answers (IsOwn command.now) (IsRefusal command.now) (IsAnswer command.now) (S.held store.old) result }
-    ensures reads { OnlyReads least_limit S.held S.faults S.absences S.taken store.old store.new result }
+    ensures answer { Answers (IsOwn command.now) (IsRefusal command.now) (IsAnswer command.now)
+        (S.held store.old) result }
+    ensures reads { OnlyReads least_limit S.held S.faults S.absences S.taken
+        store.old store.new result }
 {
     match command {
         Command::Verify(document) => verify(alloc, document, store),
@@ -54,10 +58,12 @@ fn answer<S: Store>(alloc: Global, command: &Command, store: &mut S) -> Result<D
 
 // Finds the outcome that the words and the files define. It writes nothing.
 fn perform<S: Store>(alloc: Global, words: &[Name], store: &mut S) -> Result<Outcome, Halt>
-    ensures defined { IfOk result (λ outcome. IsDefined (command_of words.now) (S.held store.old) outcome) }
+    ensures defined { IfOk result (λ outcome.
+        IsDefined (command_of words.now) (S.held store.old) outcome) }
     ensures small { IfOk result (λ outcome. status_of outcome ≤ 5) }
-    ensures cause { IfOk result (HasOutcomeCause
-        (Rose (S.absences store.old) (S.absences store.new)) (TookMore least_limit (S.taken store.old) (S.taken store.new))) }
+    ensures cause { IfOk result
+        (HasOutcomeCause (Rose (S.absences store.old) (S.absences store.new))
+        (TookMore least_limit (S.taken store.old) (S.taken store.new))) }
     ensures failed { IsErrOf result Halt.Failed → Rose (S.faults store.old) (S.faults store.new) }
     ensures failed_in_command { IsErrOf result Halt.Failed → command_of words.now ≡ None → ⊥ }
     ensures same { S.held store.new ≡ S.held store.old }
@@ -85,9 +91,10 @@ fn run_defined<S: Store, K: Sink>(
     store: &mut S,
     out: &mut K,
 ) -> Status
-    ensures { Runs (command_of words.now)
-        (Rose (S.absences store.old) (S.absences store.new)) (TookMore least_limit (S.taken store.old) (S.taken store.new))
-        (Rose (S.faults store.old) (S.faults store.new)) (Rose (K.faults out.old) (K.faults out.new))
+    ensures { Runs (command_of words.now) (Rose (S.absences store.old) (S.absences store.new))
+        (TookMore least_limit (S.taken store.old) (S.taken store.new))
+        (Rose (S.faults store.old) (S.faults store.new))
+        (Rose (K.faults out.old) (K.faults out.new))
         (S.held store.old) (S.held store.new) (K.written out.old) (K.written out.new) result.code }
 {
     match perform(alloc, words, store) {
@@ -97,23 +104,26 @@ fn run_defined<S: Store, K: Sink>(
     }
 }
 
-/// Does what the words say over the store and the sink, and answers the exit status. All text is put at the end, after
-/// all files are read and written.
+/// Does what the words say over the store and the sink, and answers the exit status. All text is
+/// put at the end, after all files are read and written.
 pub fn run<S: Store, K: Sink>(alloc: Global, words: &[Name], store: &mut S, out: &mut K) -> Status
-    ensures runs { Runs (command_of words.now)
-        (Rose (S.absences store.old) (S.absences store.new)) (TookMore least_limit (S.taken store.old) (S.taken store.new))
-        (Rose (S.faults store.old) (S.faults store.new)) (Rose (K.faults out.old) (K.faults out.new))
+    ensures runs { Runs (command_of words.now) (Rose (S.absences store.old) (S.absences store.new))
+        (TookMore least_limit (S.taken store.old) (S.taken store.new))
+        (Rose (S.faults store.old) (S.faults store.new))
+        (Rose (K.faults out.old) (K.faults out.new))
         (S.held store.old) (S.held store.new) (K.written out.old) (K.written out.new) result.code }
 
     // The usage line comes exactly where the words match no command, but for 7 and 8.
     ensures usage { result.code ≡ 4 → command_of words.now ≡ None }
     ensures no_command { command_of words.now ≡ None → (result.code ≡ 4) ⊎ (7 ≤ result.code) }
 
-    // The headline: below status 6 the status of each command tells what `Tells` says of it, in the words of the subject, of the
-    // files before and after. It speaks of a store that tells what it holds (`S.held`). Over one that tells nothing of its content
-    // it says nothing, and of the clause `runs` only the causes of the statuses are left, and which command has which status.
+    // The headline: below status 6 the status of each command tells what `Tells` says of it, in the
+    // words of the subject, of the files before and after. It speaks of a store that tells what it
+    // holds (`S.held`). Over one that tells nothing of its content it says nothing, and of the
+    // clause `runs` only the causes of the statuses are left, and which command has which status.
     ensures told { (command : Command) → command_of words.now ≡ Some command → result.code < 6
-        → IfSome (S.held store.old) (λ before. IsSomeAnd (S.held store.new) (Tells command result.code before)) }
+        → IfSome (S.held store.old) (λ before.
+        IsSomeAnd (S.held store.new) (Tells command result.code before)) }
 {
     run_defined(alloc, words, store, out)
 }

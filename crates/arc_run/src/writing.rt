@@ -10,7 +10,8 @@ use arc_outside::{Fault, Store};
 /// Writes these files in order.
 pub fn write_all<S: Store>(store: &mut S, writes: &[(Name, Name)]) -> Result<(), Fault>
     ensures written { OnOk result (WereWritten writes.now (S.held store.old) (S.held store.new)) }
-    ensures stopped { OnErr result (WhereTold (FailsWithin writes.now) (S.held store.old) (S.held store.new)) }
+    ensures stopped { OnErr result
+        (WhereTold (FailsWithin writes.now) (S.held store.old) (S.held store.new)) }
     ensures some { OnErr result (0 < length writes.now) }
     ensures cause { IsErrOf result Fault.Failed → Rose (S.faults store.old) (S.faults store.new) }
     ensures never_missing { IsErrOf result Fault.Missing → ⊥ }

@@ -1,6 +1,6 @@
-//! The command `arcv`: `run` over the files of the system and its standard output, with the words that follow the
-//! program's name. The exit status is the run's. What more there is to say of a run that did not end well goes to the
-//! standard error, and bears on neither.
+//! The command `arcv`: `run` over the files of the system and its standard output, with the words
+//! that follow the program's name. The exit status is the run's. What more there is to say of a run
+//! that did not end well goes to the standard error, and bears on neither.
 #![tactic(auto)]
 
 mod messages;
@@ -14,7 +14,8 @@ use std::alloc::Global;
 use std::process::ExitCode;
 use std::{env, io};
 
-// The words that follow the program's name. Words that cannot be had as text are none, and so match no command.
+// The words that follow the program's name. Words that cannot be had as text are none, and so match
+// no command.
 fn words(rt: &HostRuntime, alloc: Global) -> Result<List<Name>, Memory> {
     let mut words = List::make(alloc);
     let args = match env::args(rt) {

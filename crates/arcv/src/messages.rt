@@ -32,7 +32,8 @@ fn explain_words(rt: &HostRuntime, words: &[Name]) -> io::Result<()> {
     }
 }
 
-// Whether a file can be read again at once, as a pipe cannot: there a second reading would wait for ever.
+// Whether a file can be read again at once, as a pipe cannot: there a second reading would wait for
+// ever.
 fn is_plain(rt: &HostRuntime, name: &[u8]) -> bool {
     let Ok(path) = str::from_utf8(name) else {
         return false;

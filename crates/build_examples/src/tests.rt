@@ -78,7 +78,8 @@ fn counts(built: &Built) -> [u32; 5] {
     ]
 }
 
-// Whether the first interface is told at cost 1, and the first router's process stands in lines 9 and 10.
+// Whether the first interface is told at cost 1, and the first router's process stands in lines 9
+// and 10.
 fn is_told_and_placed(built: &Built) -> bool {
     let is_told = match built.net.faces.get(0) {
         Some(face) => face.told && face.cost == 1,
@@ -104,7 +105,8 @@ fn two_routers_with_ospf(rt: HostRuntime) -> Result<(), Fail> {
     Ok(())
 }
 
-// A document, the parts of its two router files, and the file, the line and the kind of the first refusal.
+// A document, the parts of its two router files, and the file, the line and the kind of the first
+// refusal.
 type Refused = (
     &'static str,
     &'static [&'static str],
@@ -225,8 +227,8 @@ fn networks_are_refused(rt: HostRuntime) -> Result<(), Fail> {
 // An entry, and whether a list of it stops the session under OSPF and under eBGP.
 type Entry = (&'static str, bool, bool);
 
-// Whether a list of these entries at the second router's end stops the session, under OSPF and under eBGP. Either end may
-// open a session of BGP, from a port of 1024 or more.
+// Whether a list of these entries at the second router's end stops the session, under OSPF and
+// under eBGP. Either end may open a session of BGP, from a port of 1024 or more.
 const ENTRIES: [Entry; 8] = [
     ("permit ip any any", false, false),
     ("permit tcp any any", true, false),
@@ -269,7 +271,8 @@ fn entries_that_stop_a_session(rt: HostRuntime) -> Result<(), Fail> {
     Ok(())
 }
 
-// Whether each router has its session, of which the first is filtered, and the first router tells one network.
+// Whether each router has its session, of which the first is filtered, and the first router tells
+// one network.
 fn are_sessions_of_both(built: &Built) -> bool {
     let is_filtered = match built.net.sessions.get(0) {
         Some(near) => {

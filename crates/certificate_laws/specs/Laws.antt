@@ -11,26 +11,36 @@ use Rattle.repair_commands.specs.Repairs.{IsRepaired}
 use Rattle.generate_commands.specs.Generates.{IsSummary}
 use Rattle.check_commands.specs.Tells.{IsRepairAccepted}
 
--- the certificate that `repair` wrote, of a repair or of that there is none, is accepted under each name that it is saved under, where the
--- document and its router files are still the same
+-- the certificate that `repair` wrote, of a repair or of that there is none, is accepted under each
+-- name that it is saved under, where the document and its router files are still the same
 abbrev pub RepairedIsAccepted : Type 0
-RepairedIsAccepted = (words : RepairWords) (certificate : List ℕ) (before after : Files) (done : Done) → IsRepaired words before done →
-    (done.status ≡ 0) ⊎ (done.status ≡ 2) → HoldTheSame words.document before after → after certificate ≡ with_files done.writes before words.proof →
+RepairedIsAccepted =
+    (words : RepairWords) (certificate : List ℕ) (before after : Files) (done : Done) →
+    IsRepaired words before done →
+    (done.status ≡ 0) ⊎ (done.status ≡ 2) → HoldTheSame words.document before after →
+    after certificate ≡ with_files done.writes before words.proof →
     IsRepairAccepted words.document certificate after
 
 -- so it is as the command left the files
 abbrev pub LeftIsAccepted : Type 0
-LeftIsAccepted = (words : RepairWords) (before : Files) (done : Done) → IsRepaired words before done → (done.status ≡ 0) ⊎ (done.status ≡ 2) →
+LeftIsAccepted =
+    (words : RepairWords) (before : Files) (done : Done) → IsRepaired words before done →
+    (done.status ≡ 0) ⊎ (done.status ≡ 2) →
     IsRepairAccepted words.document words.proof (with_files done.writes before)
 
--- what was made is laid out: this name holds its document, and each name of a router file that one's text
+-- what was made is laid out: this name holds its document, and each name of a router file that
+-- one's text
 pub record IsLaidOut (made : Generated) (document : List ℕ) (files : Files) : Type 0 where
   pub document_is : HoldsDocument document files made.doc
   pub routers_are : map files made.doc.routers ≡ map Some made.files
 
--- the certificate that `generate` wrote, of a repair or of that there is none, is accepted under each name that it is saved under, where what
--- was made is laid out, whatever those files hold besides
+-- the certificate that `generate` wrote, of a repair or of that there is none, is accepted under
+-- each name that it is saved under, where what was made is laid out, whatever those files hold
+-- besides
 abbrev pub GeneratedIsAccepted : Type 0
-GeneratedIsAccepted = (words : GenerateWords) (made : Generated) (document certificate : List ℕ) (before files : Files) (done : Done) → IsSummary words done →
-    (done.status ≡ 0) ⊎ (done.status ≡ 2) → IsGeneratedWithin words.number made → IsLaidOut made document files →
-    files certificate ≡ with_files done.writes before words.proof → IsRepairAccepted document certificate files
+GeneratedIsAccepted =
+    (words : GenerateWords) (made : Generated) (document certificate : List ℕ)
+    (before files : Files) (done : Done) → IsSummary words done →
+    (done.status ≡ 0) ⊎ (done.status ≡ 2) → IsGeneratedWithin words.number made →
+    IsLaidOut made document files → files certificate ≡ with_files done.writes before words.proof →
+    IsRepairAccepted document certificate files

@@ -1,13 +1,15 @@
 //! Laws over the definitions alone: each is the contract of a function that does nothing.
-ghost use Rattle.certificate_laws.specs.Laws.{GeneratedIsAccepted, LeftIsAccepted, RepairedIsAccepted};
+ghost use Rattle.certificate_laws.specs.Laws.{GeneratedIsAccepted, LeftIsAccepted};
+ghost use Rattle.certificate_laws.specs.Laws.{RepairedIsAccepted};
 
 use net_build::laws::asking_more_changes_no_network;
 use patched_settings::laws::networks_are_writable;
 use policy_report::laws::{certificates_are_read_again, edits_are_told_apart};
 use repair_check::laws::{certified_claims_are_true, written_claims_are_certified};
 
-/// The certificate that `repair` wrote with status 0 or 2 is accepted by `check`, under each name that it is saved under, where the
-/// document and its router files are still the same; so it is as the command left the files.
+/// The certificate that `repair` wrote with status 0 or 2 is accepted by `check`, under each name
+/// that it is saved under, where the document and its router files are still the same; so it is as
+/// the command left the files.
 pub fn repaired_is_accepted()
     ensures saved { RepairedIsAccepted }
     ensures left { LeftIsAccepted }
@@ -20,8 +22,8 @@ pub fn repaired_is_accepted()
     asking_more_changes_no_network();
 }
 
-/// The certificate that `generate` wrote with status 0 or 2 is accepted by `check`, under each name that it is saved under, where the
-/// document and the router files that were made are laid out.
+/// The certificate that `generate` wrote with status 0 or 2 is accepted by `check`, under each name
+/// that it is saved under, where the document and the router files that were made are laid out.
 pub fn generated_is_accepted()
     ensures { GeneratedIsAccepted }
 {

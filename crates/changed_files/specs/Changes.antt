@@ -1,4 +1,5 @@
--- The router files that edits change, as a command writes them and leaves them, and what they are when they are read again.
+-- The router files that edits change, as a command writes them and leaves them, and what they are
+-- when they are read again.
 use Rattle.std.specs.Prelude.{◌≡◌, ℕ, ◌≤◌, Bool, false, List, [], ◌∷◌, length, map, All}
 use Rattle.std.specs.List.{AllZip}
 use Rattle.arc_outside.specs.Files.{Files, with_files}
@@ -18,8 +19,8 @@ use Rattle.run_files.specs.declared.limits.Limits.TheVariants.{Editing}
 use Rattle.run_inputs.specs.Inputs.{AreFit, HoldsInput, contents}
 
 -- the copies of the files that the edits change: those of which the patch is another text
-pub record Changes (suffix : List ℕ) (doc : Document) (built : Built) (olds : List (List ℕ)) (chosen : List Edit)
-    (writes : List (List ℕ × List ℕ)) : Type 0 where
+pub record Changes (suffix : List ℕ) (doc : Document) (built : Built) (olds : List (List ℕ))
+    (chosen : List Edit) (writes : List (List ℕ × List ℕ)) : Type 0 where
   pub new : List (List ℕ)
   pub patched : ArePatched built chosen olds new
   pub writes_are : writes ≡ copies suffix doc.routers olds new
@@ -35,21 +36,25 @@ pub record IsEditable (doc : Document) (built : Built) (files : List (List ℕ))
 
 -- the names of the copies of the files that are changed, where these are the new files
 abbrev pub changed_names : List ℕ → Document → Files → List (List ℕ) → List (List ℕ)
-changed_names suffix doc before new = map (λ copy. copy.0) (copies suffix doc.routers (contents before doc) new)
+changed_names suffix doc before new =
+    map (λ copy. copy.0) (copies suffix doc.routers (contents before doc) new)
 
--- The router files as a command left them are the patches of those that it read: each is held as its copy, or is the file as it was
--- where there is nothing to change.
-pub record AreLeftPatched (suffix : List ℕ) (doc : Document) (built : Built) (before after : Files) (chosen : List Edit) : Type 0 where
+-- The router files as a command left them are the patches of those that it read: each is held as
+-- its copy, or is the file as it was where there is nothing to change.
+pub record AreLeftPatched (suffix : List ℕ) (doc : Document) (built : Built) (before after : Files)
+    (chosen : List Edit) : Type 0 where
   pub new : List (List ℕ)
   pub patched : ArePatched built chosen (contents before doc) new
   pub left : AllZip (IsLeft suffix before after) doc.routers new
 
--- once the copies are written, where none has the name of a file that is read, the router files are left patched
+-- once the copies are written, where none has the name of a file that is read, the router files are
+-- left patched
 abbrev pub ChangesAreLeft : Type 0
 ChangesAreLeft =
-    (suffix document : List ℕ) (before : Files) (doc : Document) (built : Built) (chosen : List Edit)
-    (writes : List (List ℕ × List ℕ)) →
-    HoldsInput Editing [] document before doc built.net → IsEditable doc built (contents before doc) →
+    (suffix document : List ℕ) (before : Files)
+    (doc : Document) (built : Built) (chosen : List Edit) (writes : List (List ℕ × List ℕ)) →
+    HoldsInput Editing [] document before doc built.net →
+    IsEditable doc built (contents before doc) →
     clashes (document ∷ doc.routers) (copy_names suffix doc.routers) ≡ false →
     Changes suffix doc built (contents before doc) chosen writes →
     AreLeftPatched suffix doc built before (with_files writes before) chosen
@@ -57,13 +62,16 @@ ChangesAreLeft =
 -- the patches of files have the network after the edits
 abbrev pub PatchesHaveTheNetwork : Type 0
 PatchesHaveTheNetwork =
-    (doc : Document) (built : Built) (olds new : List (List ℕ)) (list : List Edit) (flags : List Bool) (after : Network) →
+    (doc : Document) (built : Built) (olds new : List (List ℕ)) (list : List Edit)
+    (flags : List Bool) (after : Network) →
     IsEditable doc built olds → AreEdits built.net doc list → length list ≤ 8192 →
-    ArePatched built (chosen_of list flags) olds new → IsAfter built.net (chosen_of list flags) after → IsNetworkOf doc new after
+    ArePatched built (chosen_of list flags) olds new →
+    IsAfter built.net (chosen_of list flags) after → IsNetworkOf doc new after
 
--- The router files as a command left them, read again, have this network: each is its copy, or the file as it was where there is
--- nothing to change.
-pub record AreReadAgain (suffix : List ℕ) (doc : Document) (before after : Files) (net : Network) : Type 0 where
+-- The router files as a command left them, read again, have this network: each is its copy, or the
+-- file as it was where there is nothing to change.
+pub record AreReadAgain (suffix : List ℕ) (doc : Document) (before after : Files)
+    (net : Network) : Type 0 where
   pub texts : List (List ℕ)
   pub left : AllZip (IsLeft suffix before after) doc.routers texts
   pub network : IsNetworkOf doc texts net
@@ -71,7 +79,8 @@ pub record AreReadAgain (suffix : List ℕ) (doc : Document) (before after : Fil
 -- files that were left patched, read again, have the network after the edits
 abbrev pub LeftPatchedIsReadAgain : Type 0
 LeftPatchedIsReadAgain =
-    (suffix : List ℕ) (doc : Document) (built : Built) (before after : Files) (list : List Edit) (flags : List Bool) (now : Network) →
+    (suffix : List ℕ) (doc : Document) (built : Built) (before after : Files) (list : List Edit)
+    (flags : List Bool) (now : Network) →
     IsEditable doc built (contents before doc) → AreEdits built.net doc list → length list ≤ 8192 →
-    AreLeftPatched suffix doc built before after (chosen_of list flags) → IsAfter built.net (chosen_of list flags) now →
-    AreReadAgain suffix doc before after now
+    AreLeftPatched suffix doc built before after (chosen_of list flags) →
+    IsAfter built.net (chosen_of list flags) now → AreReadAgain suffix doc before after now

@@ -29,7 +29,8 @@ pub fn changes(
     requires edits { AreEdits sources.now.built.net doc.now edits.now }
     requires few { length edits.now ≤ 8192 }
     requires flags { length chosen.now ≡ length edits.now }
-    ensures { IfOk result (Changes suffix.now doc.now sources.now.built sources.now.files (chosen_of edits.now chosen.now)) }
+    ensures { IfOk result (Changes suffix.now doc.now sources.now.built sources.now.files
+        (chosen_of edits.now chosen.now)) }
 {
     asking_more_changes_no_network();
     let new = patch(alloc, doc, &sources.built, &sources.files, edits, chosen)?;

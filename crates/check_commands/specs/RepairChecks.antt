@@ -1,5 +1,7 @@
--- The command `check DOC CERT`: the first line of the certificate decides whether it is judged as that of a repair or as a report.
-use Rattle.std.specs.Prelude.{◌≡◌, ◌↔◌, ◌⊎◌, ℕ, ◌≤◌, Bool, true, false, List, [], ◌∷◌, None, Some, length, bytes_eq, codes}
+-- The command `check DOC CERT`: the first line of the certificate decides whether it is judged as
+-- that of a repair or as a report.
+use Rattle.std.specs.Prelude.{◌≡◌, ◌↔◌, ◌⊎◌, ℕ, ◌≤◌, Bool, true, false, List, [], ◌∷◌, None, Some}
+use Rattle.std.specs.Prelude.{length, bytes_eq, codes}
 use Rattle.arc_base.specs.declared.refusal.Kind.TheVariants.{Limit}
 use Rattle.arc_base.specs.declared.refusal.LimitKind.{LimitKind}
 use Rattle.arc_outside.specs.Files.{Files}
@@ -15,7 +17,8 @@ use Rattle.edit_space.specs.EditLists.{AreEdits, HasFewClasses, NamesLimit}
 use Rattle.report_check.specs.declared.outcome.Outcome.{Outcome}
 use Rattle.report_check.specs.declared.outcome.Outcome.TheVariants.{Accepted}
 use Rattle.arc_repair.specs.Claims.{IsTrueClaim}
-use Rattle.repair_check.specs.Certifies.{Certifies, IsCertified, IsCounted, IsCountFault, text_answers}
+use Rattle.repair_check.specs.Certifies.{Certifies, IsCertified, IsCounted, IsCountFault}
+use Rattle.repair_check.specs.Certifies.{text_answers}
 use Rattle.repair_check.specs.Outcomes.{IsOutcome}
 use Rattle.run_files.specs.declared.limits.Limits.TheVariants.{Editing}
 use Rattle.run_files.specs.declared.outcome.Done.{Done}
@@ -36,9 +39,10 @@ pub record HoldsRepair (certificate : List ℕ) (files : Files) : Type 0 where
   pub held : read_refusal proof_limit files certificate ≡ None
   pub begins : begins_repair (lines (bytes_at files certificate)) ≡ true
 
--- a count passes its limit: of classes or of edits; or, with few of both, of the variables or literals of the formula for the
--- bound of the answer
-pub record PassesCounted (net : Network) (doc : Document) (text : List ℕ) (fault : EditFault) : Type 0 where
+-- a count passes its limit: of classes or of edits; or, with few of both, of the variables or
+-- literals of the formula for the bound of the answer
+pub record PassesCounted (net : Network) (doc : Document) (text : List ℕ)
+    (fault : EditFault) : Type 0 where
   pub list : List Edit
   pub edits : AreEdits net doc list
   pub classes : HasFewClasses net doc
@@ -61,7 +65,8 @@ pub record RefusesCounts (document text : List ℕ) (files : Files) (r : FileRef
 
 -- the router files or their network are refused, within the limits of a repair; or a count
 abbrev pub IsTextRefusal : List ℕ → List ℕ → Files → FileRefusal → Type 0
-IsTextRefusal document text files r = IsFilesRefusal Editing [] document files r ⊎ RefusesCounts document text files r
+IsTextRefusal document text files r =
+    IsFilesRefusal Editing [] document files r ⊎ RefusesCounts document text files r
 
 -- what is refused behind the certificate's file
 abbrev pub RefusesJudging : List ℕ → List ℕ → Files → FileRefusal → Type 0
@@ -69,9 +74,11 @@ RefusesJudging document certificate files r =
     (HoldsRepair certificate files × IsTextRefusal document (bytes_at files certificate) files r) ⊎
     ((¬ HoldsRepair certificate files) × RefusesBehind document certificate files r)
 
--- The judgement of the text over the network: that it is accepted, or the first line that is rejected. It is accepted exactly where
--- it is the certificate of a claim, and each such claim is true.
-pub record IsJudged (net : Network) (doc : Document) (text : List ℕ) (outcome : Outcome) : Type 0 where
+-- The judgement of the text over the network: that it is accepted, or the first line that is
+-- rejected. It is accepted exactly where it is the certificate of a claim, and each such claim is
+-- true.
+pub record IsJudged (net : Network) (doc : Document) (text : List ℕ)
+    (outcome : Outcome) : Type 0 where
   pub list : List Edit
   pub edits : AreEdits net doc list
   pub classes : HasFewClasses net doc
@@ -79,7 +86,8 @@ pub record IsJudged (net : Network) (doc : Document) (text : List ℕ) (outcome 
   pub counted : IsCounted net doc list (text_answers net doc list text)
   pub outcome_is : IsOutcome net doc list text outcome
   pub accepted : (outcome ≡ Accepted) ↔ IsCertified net doc list text
-  pub are_true : (claim : Claim) → Certifies net doc list claim text → IsTrueClaim net doc list claim
+  pub are_true : (claim : Claim) → Certifies net doc list claim text →
+      IsTrueClaim net doc list claim
 
 -- the text is judged so over the network of the document and its files, and that is told
 pub record IsRepairJudged (document text : List ℕ) (files : Files) (done : Done) : Type 0 where
@@ -93,15 +101,18 @@ pub record IsRepairJudged (document text : List ℕ) (files : Files) (done : Don
   pub writes : done.writes ≡ []
   pub status : done.status ≡ judgement_status (judgement_of outcome)
 
--- The first refusal: of the document; of the certificate's file; or, by its first line, of the router files, their network or a count
--- within the limits of a repair, or of these as for a report.
+-- The first refusal: of the document; of the certificate's file; or, by its first line, of the
+-- router files, their network or a count within the limits of a repair, or of these as for a
+-- report.
 abbrev pub IsAnyRefusal : List ℕ → List ℕ → Files → FileRefusal → Type 0
 IsAnyRefusal document certificate files r =
     (read_refusal document_limit files document ≡ Some r) ⊎
-    (RefusesDocument document files r ⊎ (RefusesCertificate document certificate files r ⊎ RefusesJudging document certificate files r))
+    (RefusesDocument document files r ⊎
+    (RefusesCertificate document certificate files r ⊎ RefusesJudging document certificate files r))
 
 -- the judgement of a certificate of either form
 abbrev pub IsAnyChecked : List ℕ → List ℕ → Files → Done → Type 0
 IsAnyChecked document certificate files done =
-    (HoldsRepair certificate files × IsRepairJudged document (bytes_at files certificate) files done) ⊎
+    (HoldsRepair certificate files ×
+    IsRepairJudged document (bytes_at files certificate) files done) ⊎
     ((¬ HoldsRepair certificate files) × IsChecked document certificate files done)

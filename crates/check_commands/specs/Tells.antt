@@ -15,9 +15,11 @@ use Rattle.run_inputs.specs.Inputs.{HoldsInput}
 use Rattle.verify_commands.specs.Checks.{IsAccepted, IsRejected}
 use Rattle.check_commands.specs.RepairChecks.{HoldsRepair, IsAnyRefusal}
 
--- The certificate is held and begins as that of a repair; the document and its files have a network with these edits, within the
--- limits of a repair, and the formula for the bound that is claimed is within its limits.
-pub record IsJudgeable (document certificate : List ℕ) (files : Files) (doc : Document) (net : Network) (list : List Edit) : Type 0 where
+-- The certificate is held and begins as that of a repair; the document and its files have a network
+-- with these edits, within the limits of a repair, and the formula for the bound that is claimed is
+-- within its limits.
+pub record IsJudgeable (document certificate : List ℕ) (files : Files) (doc : Document)
+    (net : Network) (list : List Edit) : Type 0 where
   pub holds : HoldsRepair certificate files
   pub input : HoldsInput Editing [] document files doc net
   pub edits : AreEdits net doc list
@@ -32,7 +34,8 @@ pub record IsRepairAccepted (document certificate : List ℕ) (files : Files) : 
   pub list : List Edit
   pub judgeable : IsJudgeable document certificate files doc net list
   pub certified : IsCertified net doc list (bytes_at files certificate)
-  pub are_true : (claim : Claim) → Certifies net doc list claim (bytes_at files certificate) → IsTrueClaim net doc list claim
+  pub are_true : (claim : Claim) → Certifies net doc list claim (bytes_at files certificate) →
+      IsTrueClaim net doc list claim
 
 -- it is the certificate of no claim
 pub record IsRepairRejected (document certificate : List ℕ) (files : Files) : Type 0 where
@@ -42,15 +45,18 @@ pub record IsRepairRejected (document certificate : List ℕ) (files : Files) : 
   pub judgeable : IsJudgeable document certificate files doc net list
   pub not_certified : ¬ IsCertified net doc list (bytes_at files certificate)
 
--- the certificate shows a true claim on a repair; or it is another text, and a report whose verdicts are right and true
+-- the certificate shows a true claim on a repair; or it is another text, and a report whose
+-- verdicts are right and true
 abbrev pub IsAnyAccepted : List ℕ → List ℕ → Files → Type 0
 IsAnyAccepted document certificate files =
-    IsRepairAccepted document certificate files ⊎ ((¬ HoldsRepair certificate files) × IsAccepted document certificate files)
+    IsRepairAccepted document certificate files ⊎
+    ((¬ HoldsRepair certificate files) × IsAccepted document certificate files)
 
 -- it begins as the certificate of a repair and is none; or it is another text, and no such report
 abbrev pub IsAnyRejected : List ℕ → List ℕ → Files → Type 0
 IsAnyRejected document certificate files =
-    IsRepairRejected document certificate files ⊎ ((¬ HoldsRepair certificate files) × IsRejected document certificate files)
+    IsRepairRejected document certificate files ⊎
+    ((¬ HoldsRepair certificate files) × IsRejected document certificate files)
 
 -- there is a first reason to refuse the files
 pub record IsAnyUnchecked (document certificate : List ℕ) (files : Files) : Type 0 where

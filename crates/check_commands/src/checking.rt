@@ -8,7 +8,9 @@ ghost use Rattle.net_model.specs.Validity.{IsValid};
 ghost use Rattle.run_files.specs.Answers.{Answers, Gives, IsJudging, OnlyReads};
 ghost use Rattle.run_files.specs.Limits.{least_limit};
 ghost use Rattle.run_inputs.specs.Inputs.{AreFit, HoldsDocument};
-ghost use Rattle.check_commands.specs.RepairChecks.{begins_repair, IsAnyChecked, IsAnyRefusal, IsJudged, IsRepairJudged, IsTextFault, IsTextRefusal};
+ghost use Rattle.check_commands.specs.RepairChecks.{begins_repair, IsAnyChecked, IsAnyRefusal};
+ghost use Rattle.check_commands.specs.RepairChecks.{IsJudged, IsRepairJudged, IsTextFault};
+ghost use Rattle.check_commands.specs.RepairChecks.{IsTextRefusal};
 
 use arc_base::Name;
 use arc_outside::Store;
@@ -62,9 +64,11 @@ fn check_certificate<S: Store>(
 ) -> Result<Done, Stop>
     requires { IsWellFormed doc.now }
     ensures told { IfSome (S.held store.old) (λ files. HoldsDocument document.now files doc.now
-        → Gives (IsTextRefusal document.now text.now files) (IsRepairJudged document.now text.now files) result) }
+        → Gives (IsTextRefusal document.now text.now files)
+        (IsRepairJudged document.now text.now files) result) }
     ensures own { IfOk result IsJudging }
-    ensures reads { OnlyReads least_limit S.held S.faults S.absences S.taken store.old store.new result }
+    ensures reads { OnlyReads least_limit S.held S.faults S.absences S.taken
+        store.old store.new result }
 {
     let sources = read_sources(alloc, document, doc, &[], Limits::Editing, store)?;
     let outcome = match judge_repair(alloc, &sources.built.net, doc, text) {
@@ -75,16 +79,18 @@ fn check_certificate<S: Store>(
     Ok(done)
 }
 
-/// Judges a certificate from the document, the router files and its own text alone. One that begins as that of a repair is judged as
-/// such, and any other as a report.
+/// Judges a certificate from the document, the router files and its own text alone. One that begins
+/// as that of a repair is judged as such, and any other as a report.
 pub fn check<S: Store>(
     alloc: Global,
     document: &Name,
     certificate: &Name,
     store: &mut S,
 ) -> Result<Done, Stop>
-    ensures answer { Answers IsJudging (IsAnyRefusal document.now certificate.now) (IsAnyChecked document.now certificate.now) (S.held store.old) result }
-    ensures reads { OnlyReads least_limit S.held S.faults S.absences S.taken store.old store.new result }
+    ensures answer { Answers IsJudging (IsAnyRefusal document.now certificate.now)
+        (IsAnyChecked document.now certificate.now) (S.held store.old) result }
+    ensures reads { OnlyReads least_limit S.held S.faults S.absences S.taken
+        store.old store.new result }
 {
     let doc = read_document(alloc, document, store)?;
     let bytes = read_file(alloc, store, certificate, PROOF_LIMIT)?;

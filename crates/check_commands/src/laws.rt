@@ -6,6 +6,7 @@ ghost use Rattle.check_commands.specs.Tells.{TellsCheck};
 
 /// What the status of `check` tells, of a certificate of either form.
 pub fn any_check_is_told()
-    ensures { (document certificate : List ℕ) → IsTold (IsAnyRefusal document certificate) (IsAnyChecked document certificate)
+    ensures { (document certificate : List ℕ) →
+        IsTold (IsAnyRefusal document certificate) (IsAnyChecked document certificate)
         (λ status before after. TellsCheck document certificate status before) }
 {}

@@ -1,5 +1,5 @@
-//! The command `check` for certificates of both forms: the first line decides whether a text is judged as a report or as the
-//! certificate of a repair.
+//! The command `check` for certificates of both forms: the first line decides whether a text is
+//! judged as a report or as the certificate of a repair.
 #![tactic(auto)]
 
 mod checking;

@@ -1,4 +1,5 @@
--- The arcs of a network in the order in which they are added to a graph: by link, and for each link first that from its end a.
+-- The arcs of a network in the order in which they are added to a graph: by link, and for each link
+-- first that from its end a.
 use Rattle.std.specs.Prelude.{◌≡◌, ◌↔◌, ℕ, ◌+◌, ◌<◌, Bool, if◌then◌else◌, List, length, Contains}
 use Rattle.arc_base.specs.declared.prefix.Prefix.{Prefix}
 use Rattle.graph_flow.specs.declared.arcs.Arc as shown
@@ -31,7 +32,8 @@ abbrev pub number : ℕ → Bool → ℕ
 number link from_a = link + link + (if from_a then 0 else 1)
 
 -- the arc of this link in this direction is routed, and has this property
-pub record IsTaken (net : Network) (to : Prefix) (P : Arc → Type 0) (link : ℕ) (from_a : Bool) (arc : Arc) : Type 0 where
+pub record IsTaken (net : Network) (to : Prefix) (P : Arc → Type 0) (link : ℕ) (from_a : Bool)
+    (arc : Arc) : Type 0 where
   pub is_arc : IsArc net arc
   pub routed : IsRouted net to arc
   pub fits : P arc
@@ -39,7 +41,8 @@ pub record IsTaken (net : Network) (to : Prefix) (P : Arc → Type 0) (link : �
   pub direction : arc.from_a ≡ from_a
 
 -- the graph's arc is that one
-pub record IsArcOver (net : Network) (to : Prefix) (P : Arc → Type 0) (link : ℕ) (from_a : Bool) (a : shown.Arc) : Type 0 where
+pub record IsArcOver (net : Network) (to : Prefix) (P : Arc → Type 0) (link : ℕ) (from_a : Bool)
+    (a : shown.Arc) : Type 0 where
   pub arc : Arc
   pub taken : IsTaken net to P link from_a arc
   pub shows : Shows net arc a
@@ -49,7 +52,8 @@ abbrev pub IsNoArcOver : Network → Prefix → (Arc → Type 0) → ℕ → Boo
 IsNoArcOver net to P link from_a = (arc : Arc) → ¬ IsTaken net to P link from_a arc
 
 -- the graph's arc is that of a routed arc of this property, whose place is below the number
-pub record IsShownBelow (net : Network) (to : Prefix) (P : Arc → Type 0) (n : ℕ) (a : shown.Arc) : Type 0 where
+pub record IsShownBelow (net : Network) (to : Prefix) (P : Arc → Type 0) (n : ℕ)
+    (a : shown.Arc) : Type 0 where
   pub arc : Arc
   pub is_arc : IsArc net arc
   pub routed : IsRouted net to arc
@@ -58,6 +62,7 @@ pub record IsShownBelow (net : Network) (to : Prefix) (P : Arc → Type 0) (n : 
   pub below : number arc.link arc.from_a < n
 
 -- the graph has exactly these arcs
-pub record IsGraphBelow (net : Network) (to : Prefix) (P : Arc → Type 0) (n : ℕ) (g : Digraph) : Type 0 where
+pub record IsGraphBelow (net : Network) (to : Prefix) (P : Arc → Type 0) (n : ℕ)
+    (g : Digraph) : Type 0 where
   pub nodes : g.nodes ≡ length net.routers
   pub arcs : (a : shown.Arc) → Contains g.arcs a ↔ IsShownBelow net to P n a

@@ -35,11 +35,13 @@ pub record IsDeniedBy (net : Network) (to : Prefix) (answers : List Bool) (link 
   pub denied : ¬ ArcAllows answers arc
 
 -- the arc in this direction is such an arc
-pub record IsDeniedOver (net : Network) (to : Prefix) (answers : List Bool) (link : ℕ) (from_a : Bool) : Type 0 where
+pub record IsDeniedOver (net : Network) (to : Prefix) (answers : List Bool) (link : ℕ)
+    (from_a : Bool) : Type 0 where
   pub denied_by : IsDeniedBy net to answers link
   pub direction : denied_by.arc.from_a ≡ from_a
 
 -- it is the first such link
-pub record IsLeastDeniedBy (net : Network) (to : Prefix) (answers : List Bool) (link : ℕ) : Type 0 where
+pub record IsLeastDeniedBy (net : Network) (to : Prefix) (answers : List Bool)
+    (link : ℕ) : Type 0 where
   pub denied : IsDeniedBy net to answers link
   pub least : (lower : ℕ) → lower < link → ¬ IsDeniedBy net to answers lower

@@ -19,7 +19,8 @@ pub fn list_answers(alloc: Global, net: &Network, class: Class) -> Result<List<b
     Ok(answers)
 }
 
-/// Whether the list with this place answers yes. An interface without a defined list permits every packet.
+/// Whether the list with this place answers yes. An interface without a defined list permits every
+/// packet.
 pub(crate) fn allows(answers: &List<bool>, list: Option<ListId>) -> bool
     ensures { IsTrue result ↔ Allows answers.now list }
 {
@@ -30,7 +31,8 @@ pub(crate) fn allows(answers: &List<bool>, list: Option<ListId>) -> bool
     }
 }
 
-/// Whether the lists that an arc meets answer yes: that outbound at its tail, and that inbound at its head.
+/// Whether the lists that an arc meets answer yes: that outbound at its tail, and that inbound at
+/// its head.
 pub(crate) fn arc_allows(answers: &List<bool>, tail: &FaceRow, head: &FaceRow) -> bool
     ensures { IsTrue result ↔ EndsAllow answers.now tail.now head.now }
 {

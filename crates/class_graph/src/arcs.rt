@@ -2,7 +2,8 @@
 ghost use Rattle.std.specs.Prelude.{◌≡◌, ◌+◌, ◌↔◌, IsTrue, OnOk, IfSome, IfNone};
 ghost use Rattle.net_model.specs.Validity.{IsValid};
 ghost use Rattle.net_model.specs.Tables.{AreRoutedLinks};
-ghost use Rattle.class_graph.specs.Building.{Answered, IsArcOver, IsNoArcOver, IsGraphBelow, number, flag, cost_from};
+ghost use Rattle.class_graph.specs.Building.{Answered, IsArcOver, IsNoArcOver, IsGraphBelow};
+ghost use Rattle.class_graph.specs.Building.{number, flag, cost_from};
 
 use crate::answers::arc_allows;
 use crate::hosts::HostPair;
@@ -38,8 +39,10 @@ fn arc_over(
     from_a: bool,
 ) -> Option<Arc>
     requires { AreRoutedLinks net.now pair.now.to pair.now.routed }
-    ensures some { IfSome result (IsArcOver net.now pair.now.to (Answered mode answers.now) link.0 from_a) }
-    ensures none { IfNone result (IsNoArcOver net.now pair.now.to (Answered mode answers.now) link.0 from_a) }
+    ensures some { IfSome result
+        (IsArcOver net.now pair.now.to (Answered mode answers.now) link.0 from_a) }
+    ensures none { IfNone result
+        (IsNoArcOver net.now pair.now.to (Answered mode answers.now) link.0 from_a) }
 {
     let flags = pair.routed.get(link.0)?;
     let row = net.links.get(link.0)?;
@@ -59,8 +62,8 @@ fn arc_over(
     })
 }
 
-/// Adds the arc over a link in one direction, if it is routed and of the mode. The arcs of the links before, and that in the
-/// other direction if it comes first, are there.
+/// Adds the arc over a link in one direction, if it is routed and of the mode. The arcs of the
+/// links before, and that in the other direction if it comes first, are there.
 pub(crate) fn add_over(
     graph: &mut Graph,
     net: &Network,
@@ -72,8 +75,10 @@ pub(crate) fn add_over(
 ) -> Result<(), Memory>
     requires valid { IsValid net.now }
     requires routed { AreRoutedLinks net.now pair.now.to pair.now.routed }
-    requires below { IsGraphBelow net.now pair.now.to (Answered mode answers.now) (number link.0 from_a) graph.old }
-    ensures { OnOk result (IsGraphBelow net.now pair.now.to (Answered mode answers.now) (number link.0 from_a + 1) graph.new) }
+    requires below { IsGraphBelow net.now pair.now.to (Answered mode answers.now)
+        (number link.0 from_a) graph.old }
+    ensures { OnOk result (IsGraphBelow net.now pair.now.to (Answered mode answers.now)
+        (number link.0 from_a + 1) graph.new) }
 {
     if let Some(arc) = arc_over(net, pair, answers, mode, link, from_a) {
         graph.arc(arc)?;

@@ -17,8 +17,8 @@ use graph_flow::Graph;
 use net_model::{Class, Network};
 use std::alloc::Global;
 
-/// How the packets of a class may go through the network: where they would enter and leave, whether they do, and the arcs
-/// between. A node is the place of a router.
+/// How the packets of a class may go through the network: where they would enter and leave, whether
+/// they do, and the arcs between. A node is the place of a router.
 #[derive(Debug, Drop)]
 pub struct ClassGraph {
     pub graph: Graph,
@@ -28,8 +28,8 @@ pub struct ClassGraph {
     pub leaves: bool,
 }
 
-/// The graph of a class that goes from one host network to another, and on which each packet list is uniform. For the classes
-/// of one policy find their `host_pair` once, and call `build_between`.
+/// The graph of a class that goes from one host network to another, and on which each packet list
+/// is uniform. For the classes of one policy find their `host_pair` once, and call `build_between`.
 pub fn build(alloc: Global, net: &Network, class: Class, mode: Mode) -> Result<ClassGraph, Memory>
     requires valid { IsValid net.now }
     requires ends { HasEnds net.now class }
@@ -51,7 +51,8 @@ pub fn build_between(
     requires valid { IsValid net.now }
     requires pair { HasHostPair net.now pair.now }
     requires uniform { AreUniform net.now class }
-    ensures { IfOk result (λ graph. (ends : Ends) → IsHostPair net.now ends pair.now → IsClassGraph net.now ends class mode graph) }
+    ensures { IfOk result (λ graph. (ends : Ends) → IsHostPair net.now ends pair.now →
+        IsClassGraph net.now ends class mode graph) }
 {
     let answers = list_answers(alloc, net, class)?;
     let graph = graph_of(alloc, net, pair, &answers, mode)?;

@@ -3,7 +3,8 @@ ghost use Rattle.std.specs.Prelude.{◌↔◌, ℕ, IsTrue, IfOk, IfSome, IfNone
 ghost use Rattle.net_model.specs.Tables.{AreRoutedLinks};
 ghost use Rattle.class_graph.specs.Classes.{AreUniform};
 ghost use Rattle.class_graph.specs.Hosts.{HasHostPair};
-ghost use Rattle.class_graph.specs.Denials.{IsLeastDenied, IsDeniedNowhere, IsDeniedBy, IsDeniedOver, IsLeastDeniedBy};
+ghost use Rattle.class_graph.specs.Denials.{IsLeastDenied, IsDeniedNowhere, IsDeniedBy};
+ghost use Rattle.class_graph.specs.Denials.{IsDeniedOver, IsLeastDeniedBy};
 
 use crate::answers::{arc_allows, list_answers};
 use crate::arcs::leads;
@@ -21,13 +22,16 @@ pub fn denied_link(
 ) -> Result<Option<Link>, Memory>
     requires pair { HasHostPair net.now pair.now }
     requires uniform { AreUniform net.now class }
-    ensures { IfOk result (λ found. MatchOption found (IsDeniedNowhere net.now pair.now.to class) (λ link. IsLeastDenied net.now pair.now.to class link.0)) }
+    ensures { IfOk result (λ found.
+        MatchOption found (IsDeniedNowhere net.now pair.now.to class) (λ link.
+        IsLeastDenied net.now pair.now.to class link.0)) }
 {
     let answers = list_answers(alloc, net, class)?;
     Ok(denied_by(net, pair, &answers))
 }
 
-/// The first link over which an arc is routed that denies the packets, where this is what lists answer.
+/// The first link over which an arc is routed that denies the packets, where this is what lists
+/// answer.
 fn denied_by(net: &Network, pair: &HostPair, answers: &List<bool>) -> Option<Link>
     requires { AreRoutedLinks net.now pair.now.to pair.now.routed }
     ensures found { IfSome result (λ link. IsLeastDeniedBy net.now pair.now.to answers.now link.0) }

@@ -5,14 +5,16 @@ ghost use Rattle.net_model.specs.Packets.{IsOf};
 ghost use Rattle.net_model.specs.Forwarding.{Ends, HasEnds, Enters, Leaves};
 ghost use Rattle.class_graph.specs.Classes.{AreUniform};
 ghost use Rattle.class_graph.specs.Answers.{Allows};
-ghost use Rattle.class_graph.specs.Hosts.{end_in, end_out, IsOpenTo, Admits, IsHostPair, IsHostPairOf};
+ghost use Rattle.class_graph.specs.Hosts.{end_in, end_out, IsOpenTo, Admits, IsHostPair};
+ghost use Rattle.class_graph.specs.Hosts.{IsHostPairOf};
 
 use crate::answers::allows;
 use arc_base::{List, ListId, Memory, Prefix, Router};
 use net_model::{Class, FaceRow, Network, Packet, RoutedLink};
 use std::alloc::Global;
 
-/// An interface at which packets enter or leave: its router, whether it is up, and the list that they meet there.
+/// An interface at which packets enter or leave: its router, whether it is up, and the list that
+/// they meet there.
 #[derive(Clone, Copy, Debug)]
 pub struct End {
     pub router: Router,
@@ -53,14 +55,16 @@ impl HostPair {
     /// Whether the packets of a class enter and leave.
     pub fn lets_through(&self, net: &Network, class: Class) -> bool
         requires { AreUniform net.now class }
-        ensures { (ends : Ends) → IsHostPair net.now ends self.now → IsTrue result ↔ ((p : AnyPacket) → IsOf class p → Enters net.now ends p × Leaves net.now ends p) }
+        ensures { (ends : Ends) → IsHostPair net.now ends self.now → IsTrue result ↔
+            ((p : AnyPacket) → IsOf class p → Enters net.now ends p × Leaves net.now ends p) }
     {
         self.admits(net, class.first_packet())
     }
 
     /// Whether both interfaces are up, and their lists permit the packet.
     fn admits(&self, net: &Network, packet: Packet) -> bool
-        ensures { IsTrue result ↔ (Admits net.now self.now.source packet × Admits net.now self.now.target packet) }
+        ensures { IsTrue result ↔
+            (Admits net.now self.now.source packet × Admits net.now self.now.target packet) }
     {
         self.source.admits(net, packet) && self.target.admits(net, packet)
     }

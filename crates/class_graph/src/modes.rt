@@ -14,7 +14,8 @@ pub enum Mode {
 }
 
 impl Mode {
-    /// Whether an arc that permits the packets or not, over a link that is a waypoint or not, is of this mode.
+    /// Whether an arc that permits the packets or not, over a link that is a waypoint or not, is of
+    /// this mode.
     pub(crate) fn takes(self, permits: bool, waypoint: bool) -> bool
         ensures { IsTrue result ↔ MayUse self (IsTrue permits) waypoint }
     {

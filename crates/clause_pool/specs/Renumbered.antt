@@ -11,4 +11,9 @@ with_id id b = record { id = id; one = b.one; two = b.two; lits = b.lits }
 
 -- with another id of a clause
 abbrev pub with_id_at : State → Place → ℕ → State
-with_id_at s p id = record { vars = s.vars; spare = s.spare; clauses = changed s.clauses p (λ c. record { id = id; lits = c.lits }); chains = s.chains }
+with_id_at s p id = record {
+  vars = s.vars;
+  spare = s.spare;
+  clauses = changed s.clauses p (λ c. record { id = id; lits = c.lits });
+  chains = s.chains;
+}

@@ -1,5 +1,6 @@
 -- Clean logs, and logs that are spent at a limit.
-use Rattle.std.specs.Prelude.{◌≡◌, ℕ, ◌+◌, ◌*◌, suc, Bool, IsFalse, List, [], ◌∷◌, All, Contains, drop, length, Option, None}
+use Rattle.std.specs.Prelude.{◌≡◌, ℕ, ◌+◌, ◌*◌, suc, Bool, IsFalse, List, [], ◌∷◌, All, Contains}
+use Rattle.std.specs.Prelude.{drop, length, Option, None}
 use Rattle.cnf_types.specs.declared.literal.Lit.{Lit}
 use Rattle.cnf_types.specs.declared.clauses.Formula.{Formula}
 use Rattle.proof_log.specs.declared.steps.Step.{Step}
@@ -29,8 +30,8 @@ abbrev pub dropped_by : ℕ → List Step → ℕ
 dropped_by drops [] = drops
 dropped_by drops (s ∷ steps) = dropped_by (drops_after drops s) steps
 
--- An added clause is new and not empty. Only added clauses are dropped, and the j-th step that drops names none of the 1,000 j that were
--- added last.
+-- An added clause is new and not empty. Only added clauses are dropped, and the j-th step that
+-- drops names none of the 1,000 j that were added last.
 abbrev pub IsCleanStep : Knowledge → List ℕ → ℕ → Step → Type 0
 IsCleanStep k added drops (Add id lits hints) = IsFalse (is_empty lits) × IsNew k.clause lits hints
 IsCleanStep k added drops (Drop ids) = All (λ id. Contains (drop (1000 * (drops + 1)) added) id) ids
@@ -39,7 +40,9 @@ IsCleanStep k added drops (Bound id price) = Unit {0}
 -- the steps are accepted and clean, after others that added these clauses and dropped so often
 abbrev pub IsCleanAfter : Knowledge → List ℕ → ℕ → List Step → Type 0
 IsCleanAfter k added drops [] = Unit {0}
-IsCleanAfter k added drops (s ∷ steps) = (step_fault k s ≡ None) × IsCleanStep k added drops s × IsCleanAfter (after k s) (added_after added s) (drops_after drops s) steps
+IsCleanAfter k added drops (s ∷ steps) =
+    (step_fault k s ≡ None) × IsCleanStep k added drops s ×
+    IsCleanAfter (after k s) (added_after added s) (drops_after drops s) steps
 
 -- the log is clean for a formula, a least bound and the literals that bounds negate
 abbrev pub IsClean : Formula → Option ℕ → List Lit → List Step → Type 0

@@ -13,6 +13,9 @@ IsWithin vars lits = All (λ l. (1 ≤ variable l) × (variable l ≤ vars)) lit
 abbrev pub HasItsVariables : Formula → Type 0
 HasItsVariables f = All (λ c. IsWithin f.vars c.lits) f.clauses
 
--- a log that is spent at a limit, for a formula of at most six variables and without bounds, is short
+-- a log that is spent at a limit, for a formula of at most six variables and without bounds, is
+-- short
 abbrev pub SpentLogsAreShort : Type 0
-SpentLogsAreShort = (f : Formula) → HasItsVariables f → f.vars ≤ 6 → (limit : ℕ) (steps : List Step) → IsSpent f None [] limit steps → limit < 3 ^ f.vars
+SpentLogsAreShort =
+    (f : Formula) → HasItsVariables f → f.vars ≤ 6 →
+    (limit : ℕ) (steps : List Step) → IsSpent f None [] limit steps → limit < 3 ^ f.vars

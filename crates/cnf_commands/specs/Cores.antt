@@ -12,4 +12,10 @@ numbered clauses = map (λ p. record { id = p.0; lits = p.1.lits }) (enumerate_f
 
 -- the formula's clauses, and nothing on the trail
 abbrev pub core_of : Formula → State
-core_of formula = record { vars = formula.vars; clauses = numbered formula.clauses; last_id = length formula.clauses; trail = []; level = 0 }
+core_of formula = record {
+  vars = formula.vars;
+  clauses = numbered formula.clauses;
+  last_id = length formula.clauses;
+  trail = [];
+  level = 0;
+}

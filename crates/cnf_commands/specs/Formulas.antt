@@ -19,9 +19,12 @@ cnf_limit = 268435456
 
 -- the refusal of a text that has this fault; want of memory is no fault of the text
 abbrev pub faulty : List ℕ → CnfFault → Option FileRefusal
-faulty cnf (faults.BadHeader line) = Some (record { name = cnf; number = line; reason = reasons.BadHeader })
-faulty cnf (faults.BadNumber line) = Some (record { name = cnf; number = line; reason = reasons.BadNumber })
-faulty cnf (faults.Count line) = Some (record { name = cnf; number = line; reason = reasons.ClauseCount })
+faulty cnf (faults.BadHeader line) =
+    Some (record { name = cnf; number = line; reason = reasons.BadHeader })
+faulty cnf (faults.BadNumber line) =
+    Some (record { name = cnf; number = line; reason = reasons.BadNumber })
+faulty cnf (faults.Count line) =
+    Some (record { name = cnf; number = line; reason = reasons.ClauseCount })
 faulty cnf (faults.TooLarge what count) = Some (refusal_of cnf 0 (Limit what count))
 faulty cnf faults.Memory = None
 
@@ -31,9 +34,12 @@ formula_refusal cnf (Err fault) = faulty cnf fault
 
 -- the first refusal of a formula's file: it is missing or too long, or its first fault
 abbrev pub cnf_refusal : List ℕ → Files → Option FileRefusal
-cnf_refusal cnf files = option_or (read_refusal cnf_limit files cnf) (formula_refusal cnf (reading (bytes_at files cnf)))
+cnf_refusal cnf files =
+    option_or (read_refusal cnf_limit files cnf)
+    (formula_refusal cnf (reading (bytes_at files cnf)))
 
 -- what reading the formula answers
 abbrev pub ReadsFormula : List ℕ → Files → Result Formula Stop → Type 0
 ReadsFormula cnf files result =
-    Gives (λ r. cnf_refusal cnf files ≡ Some r) (λ f. (cnf_refusal cnf files ≡ None) × (reading (bytes_at files cnf) ≡ Ok f)) result
+    Gives (λ r. cnf_refusal cnf files ≡ Some r)
+    (λ f. (cnf_refusal cnf files ≡ None) × (reading (bytes_at files cnf) ≡ Ok f)) result

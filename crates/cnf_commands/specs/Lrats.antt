@@ -25,7 +25,8 @@ use Rattle.run_files.specs.Judgements.{judgement_status, judgement_text}
 
 -- the formula first, and then the proof
 unfoldable pub lrat_refusal : List ℕ → List ℕ → Files → Option FileRefusal
-lrat_refusal cnf proof files = option_or (cnf_refusal cnf files) (read_refusal proof_limit files proof)
+lrat_refusal cnf proof files =
+    option_or (cnf_refusal cnf files) (read_refusal proof_limit files proof)
 
 -- it is the one or the other
 abbrev pub IsLratRefusal : List ℕ → List ℕ → Files → FileRefusal → Type 0
@@ -42,8 +43,9 @@ abbrev pub judgement_of : Outcome → Judgement
 judgement_of Accepted = judgements.Accepted
 judgement_of (Rejected line rejection) = judgements.Rejected line (rejection_kind rejection)
 
--- The judgement of the proof: the first line that is rejected, or that it is accepted. It is accepted exactly where it is an
--- accepted log that adds the empty clause, and then no assignment satisfies the formula.
+-- The judgement of the proof: the first line that is rejected, or that it is accepted. It is
+-- accepted exactly where it is an accepted log that adds the empty clause, and then no assignment
+-- satisfies the formula.
 pub record IsJudged (cnf proof : List ℕ) (files : Files) (done : Done) : Type 0 where
   pub held : lrat_refusal cnf proof files ≡ None
   pub formula : Formula
@@ -56,8 +58,8 @@ pub record IsJudged (cnf proof : List ℕ) (files : Files) (done : Done) : Type 
   pub writes : done.writes ≡ []
   pub status : done.status ≡ judgement_status (judgement_of outcome)
 
--- the formula and the proof are held, and the proof is an accepted log for the formula that adds the empty clause; so no
--- assignment satisfies the formula
+-- the formula and the proof are held, and the proof is an accepted log for the formula that adds
+-- the empty clause; so no assignment satisfies the formula
 pub record IsRefuted (cnf proof : List ℕ) (files : Files) : Type 0 where
   pub held : lrat_refusal cnf proof files ≡ None
   pub formula : Formula

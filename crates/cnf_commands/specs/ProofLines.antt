@@ -13,4 +13,5 @@ use Rattle.run_files.specs.Refusals.{bytes_at, read_refusal}
 -- the outcome of the lines of a proof for a formula, or a refusal of its file
 abbrev pub JudgesProof : ℕ → Files → List ℕ → Formula → Result Outcome Stop → Type 0
 JudgesProof limit files proof f result =
-    Gives (λ r. read_refusal limit files proof ≡ Some r) (λ o. o ≡ log_outcome (start f None []) 1 (lines (bytes_at files proof))) result
+    Gives (λ r. read_refusal limit files proof ≡ Some r)
+    (λ o. o ≡ log_outcome (start f None []) 1 (lines (bytes_at files proof))) result

@@ -1,5 +1,7 @@
 -- The command `solve CNF --proof NAME`.
-use Rattle.std.specs.Prelude.{◌≡◌, ◌↔◌, ◌⊎◌, ℕ, ◌<◌, ◌≤◌, ◌^◌, Bool, if◌then◌else◌, List, [], ◌∷◌, ◌++◌, map, length, All, Option, Some, None, Ok, bytes_eq, codes, decimal}
+use Rattle.std.specs.Prelude.{◌≡◌, ◌↔◌, ◌⊎◌, ℕ, ◌<◌, ◌≤◌, ◌^◌, Bool, if◌then◌else◌, List, [], ◌∷◌}
+use Rattle.std.specs.Prelude.{◌++◌, map, length, All, Option, Some, None, Ok, bytes_eq, codes}
+use Rattle.std.specs.Prelude.{decimal}
 use Rattle.std.specs.List.{enumerate_from}
 use Rattle.arc_base.specs.declared.refusal.Kind.TheVariants.{OutputName}
 use Rattle.arc_outside.specs.Files.{Files, with_files}
@@ -27,7 +29,9 @@ use Rattle.cnf_commands.specs.Lrats.{IsRefuted}
 
 -- the proof may not be written over the formula
 abbrev pub name_refusal : SolveWords → Option FileRefusal
-name_refusal words = if bytes_eq words.proof words.formula then Some (refusal_of words.formula 0 OutputName) else None
+name_refusal words =
+    if bytes_eq words.proof words.formula
+    then Some (refusal_of words.formula 0 OutputName) else None
 
 -- the first refusal: that of the formula's file, and then that of the proof's name
 abbrev pub solve_refusal : SolveWords → Files → Option FileRefusal
@@ -67,12 +71,14 @@ pub record IsModel (formula : Formula) (values : List Bool) : Type 0 where
   pub one_each : length values ≡ formula.vars
   pub satisfies : Satisfies (value_at values) formula
 
--- What was found is so: the values are a model, and the log is clean, so that each clause that it adds is new and none is empty; or
--- the log adds the empty clause, and no assignment satisfies the formula; or the log is spent at the limit, so that it is clean
--- and adds just as many clauses.
+-- What was found is so: the values are a model, and the log is clean, so that each clause that it
+-- adds is new and none is empty; or the log adds the empty clause, and no assignment satisfies the
+-- formula; or the log is spent at the limit, so that it is clean and adds just as many clauses.
 abbrev pub IsFound : Formula → ℕ → Log → Found → Type 0
-IsFound formula limit log (Model values) = IsModel formula values × IsClean formula None [] log.steps
-IsFound formula limit log Refuted = IsRefuting log.steps × ((assignment : ℕ → Bool) → Satisfies assignment formula → ⊥)
+IsFound formula limit log (Model values) =
+    IsModel formula values × IsClean formula None [] log.steps
+IsFound formula limit log Refuted =
+    IsRefuting log.steps × ((assignment : ℕ → Bool) → Satisfies assignment formula → ⊥)
 IsFound formula limit log Budget = IsSpent formula None [] limit log.steps
 
 -- the log is accepted for the formula, and each of its steps has a line
@@ -80,8 +86,8 @@ pub record IsLogFor (formula : Formula) (log : Log) : Type 0 where
   pub accepted : IsAccepted (start formula None []) log.steps
   pub has_lines : All HasLine log.steps
 
--- The answer: what was found, in words, and the text of the search's log as the one file that is written. The log adds at most as
--- many clauses as the words allow.
+-- The answer: what was found, in words, and the text of the search's log as the one file that is
+-- written. The log adds at most as many clauses as the words allow.
 pub record IsSolved (words : SolveWords) (files : Files) (done : Done) : Type 0 where
   pub held : solve_refusal words files ≡ None
   pub formula : Formula
@@ -116,8 +122,9 @@ pub record IsSolveRefused (words : SolveWords) (files : Files) : Type 0 where
   pub refusal : FileRefusal
   pub refused : solve_refusal words files ≡ Some refusal
 
--- the formula is held, and so is the text of a log that is spent for it: the log is accepted, adds just as many clauses as the
--- words allow, and each of them is new and none empty. Such a log is too short for a formula of few variables.
+-- the formula is held, and so is the text of a log that is spent for it: the log is accepted, adds
+-- just as many clauses as the words allow, and each of them is new and none empty. Such a log is
+-- too short for a formula of few variables.
 pub record HoldsSpentLog (words : SolveWords) (files : Files) : Type 0 where
   pub formula : Formula
   pub formula_is : reading (bytes_at files words.formula) ≡ Ok formula
@@ -126,17 +133,22 @@ pub record HoldsSpentLog (words : SolveWords) (files : Files) : Type 0 where
   pub spent : IsSpent formula None [] words.conflicts steps
   pub variables : formula.vars ≤ 6 → words.conflicts < 3 ^ formula.vars
 
--- What the status tells, of the files before and after: 0 for satisfiable, 2 for unsatisfiable, and then `lrat` accepts what was
--- written, 3 in place of either where what was written is a spent log, and 5 for refused.
+-- What the status tells, of the files before and after: 0 for satisfiable, 2 for unsatisfiable, and
+-- then `lrat` accepts what was written, 3 in place of either where what was written is a spent log,
+-- and 5 for refused.
 pub record TellsSolution (words : SolveWords) (status : ℕ) (before after : Files) : Type 0 where
   pub satisfiable : status ≡ 0 → IsSatisfiable words before
-  pub unsatisfiable : status ≡ 2 → IsUnsatisfiable words before × IsRefuted words.formula words.proof after
+  pub unsatisfiable : status ≡ 2 →
+      IsUnsatisfiable words before × IsRefuted words.formula words.proof after
   pub undecided : status ≡ 3 → HoldsSpentLog words after
   pub refused_exactly : (status ≡ 5) ↔ IsSolveRefused words before
   pub zero_or_three : IsSatisfiable words before → (status ≡ 0) ⊎ (status ≡ 3)
   pub two_or_three : IsUnsatisfiable words before → (status ≡ 2) ⊎ (status ≡ 3)
   pub nothing_else : (status ≡ 0) ⊎ ((status ≡ 2) ⊎ ((status ≡ 3) ⊎ (status ≡ 5)))
 
--- the log that `solve` wrote where no assignment satisfies the formula is a proof of that which `lrat` accepts
+-- the log that `solve` wrote where no assignment satisfies the formula is a proof of that which
+-- `lrat` accepts
 abbrev pub SolvedIsRefuted : Type 0
-SolvedIsRefuted = (words : SolveWords) (files : Files) (done : Done) → IsSolved words files done → done.status ≡ 2 → IsRefuted words.formula words.proof (with_files done.writes files)
+SolvedIsRefuted =
+    (words : SolveWords) (files : Files) (done : Done) → IsSolved words files done →
+    done.status ≡ 2 → IsRefuted words.formula words.proof (with_files done.writes files)

@@ -16,7 +16,8 @@ const CNF_LIMIT: u64 = 268_435_456;
 
 // The refusal of the formula at a line.
 fn refused_at(alloc: Global, cnf: &Name, line: u32, reason: Reason) -> Stop
-    ensures { (result ≡ Stop.Memory) ⊎ (result ≡ Stop.Refused (record { name = cnf.now; number = line; reason = reason })) }
+    ensures { (result ≡ Stop.Memory) ⊎
+        (result ≡ Stop.Refused (record { name = cnf.now; number = line; reason = reason })) }
 {
     match Name::make(alloc, cnf.bytes()) {
         Ok(name) => Stop::Refused(FileRefusal {
@@ -30,7 +31,8 @@ fn refused_at(alloc: Global, cnf: &Name, line: u32, reason: Reason) -> Stop
 
 // The refusal of a text that is no formula.
 fn faulty(alloc: Global, cnf: &Name, fault: CnfFault) -> Stop
-    ensures { (result ≡ Stop.Memory) ⊎ IsSomeAnd (faulty cnf.now fault) (λ r. result ≡ Stop.Refused r) }
+    ensures { (result ≡ Stop.Memory) ⊎
+        IsSomeAnd (faulty cnf.now fault) (λ r. result ≡ Stop.Refused r) }
 {
     match fault {
         CnfFault::BadHeader(line) => refused_at(alloc, cnf, line, Reason::BadHeader),
@@ -46,7 +48,8 @@ pub fn read_formula<S: Store>(alloc: Global, cnf: &Name, store: &mut S) -> Resul
     ensures told { IfSome (S.held store.old) (λ files. ReadsFormula cnf.now files result) }
     ensures variables { IfOk result HasItsVariables }
     ensures few { IfOk result (λ f. f.vars ≤ 16777216) }
-    ensures reads { OnlyReads least_limit S.held S.faults S.absences S.taken store.old store.new result }
+    ensures reads { OnlyReads least_limit S.held S.faults S.absences S.taken
+        store.old store.new result }
 {
     let bytes = read_file(alloc, store, cnf, CNF_LIMIT)?;
     match formula(alloc, bytes.as_slice()) {

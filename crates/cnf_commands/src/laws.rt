@@ -3,7 +3,8 @@ ghost use Rattle.std.specs.Prelude.{ℕ, List};
 ghost use Rattle.command_words.specs.declared.commands.SolveWords.{SolveWords};
 ghost use Rattle.run_files.specs.Answers.{IsTold};
 ghost use Rattle.cnf_commands.specs.Lrats.{IsJudged, IsLratRefusal, TellsRefutation};
-ghost use Rattle.cnf_commands.specs.Solves.{IsSolved, IsSolveRefusal, SolvedIsRefuted, TellsSolution};
+ghost use Rattle.cnf_commands.specs.Solves.{IsSolved, IsSolveRefusal, SolvedIsRefuted};
+ghost use Rattle.cnf_commands.specs.Solves.{TellsSolution};
 
 /// What the status of `lrat` tells.
 pub fn lrat_is_told()
@@ -13,7 +14,8 @@ pub fn lrat_is_told()
 
 /// What the status of `solve` tells.
 pub fn solve_is_told()
-    ensures { (words : SolveWords) → IsTold (IsSolveRefusal words) (IsSolved words) (TellsSolution words) }
+    ensures { (words : SolveWords) →
+        IsTold (IsSolveRefusal words) (IsSolved words) (TellsSolution words) }
 {}
 
 /// Every proof that `solve` wrote with status 2 is accepted by `lrat` over the same formula.

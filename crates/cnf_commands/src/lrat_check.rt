@@ -33,11 +33,13 @@ fn judgement_of(outcome: Outcome) -> Judgement
     }
 }
 
-/// Judges whether a proof shows that no assignment satisfies the formula. The proof is read twice: for its size, and line
-/// by line for its steps.
+/// Judges whether a proof shows that no assignment satisfies the formula. The proof is read twice:
+/// for its size, and line by line for its steps.
 pub fn lrat<S: Store>(alloc: Global, cnf: &Name, proof: &Name, store: &mut S) -> Result<Done, Stop>
-    ensures answer { Answers IsJudging (IsLratRefusal cnf.now proof.now) (IsJudged cnf.now proof.now) (S.held store.old) result }
-    ensures reads { OnlyReads least_limit S.held S.faults S.absences S.taken store.old store.new result }
+    ensures answer { Answers IsJudging (IsLratRefusal cnf.now proof.now)
+        (IsJudged cnf.now proof.now) (S.held store.old) result }
+    ensures reads { OnlyReads least_limit S.held S.faults S.absences S.taken
+        store.old store.new result }
 {
     let formula = read_formula(alloc, cnf, store)?;
     try_file(alloc, store, proof, PROOF_LIMIT)?;

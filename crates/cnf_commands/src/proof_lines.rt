@@ -23,7 +23,8 @@ fn last_word(checker: &Checker, number: u64) -> Outcome
     }
 }
 
-/// Judges the lines of a proof one by one, or refuses its file. No more of the proof than a piece and a line is held.
+/// Judges the lines of a proof one by one, or refuses its file. No more of the proof than a piece
+/// and a line is held.
 pub fn judge_proof<S: Store>(
     alloc: Global,
     store: &mut S,
@@ -32,7 +33,8 @@ pub fn judge_proof<S: Store>(
     f: &Formula,
 ) -> Result<Outcome, Stop>
     requires { limit < 2 ^ 63 }
-    ensures told { IfSome (S.held store.old) (λ files. JudgesProof limit files proof.now f.now result) }
+    ensures told { IfSome (S.held store.old) (λ files.
+        JudgesProof limit files proof.now f.now result) }
     ensures reads { OnlyReads limit S.held S.faults S.absences S.taken store.old store.new result }
 {
     let mut checker = match Checker::make(alloc, f, None, &List::make(alloc)) {

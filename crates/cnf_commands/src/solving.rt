@@ -1,12 +1,15 @@
 //! The command `solve CNF --proof NAME`.
-ghost use Rattle.std.specs.Prelude.{◌≡◌, ◌++◌, ◌∷◌, ◌<◌, ◌≤◌, ◌^◌, [], length, IfOk, OnOk, string_bytes};
+ghost use Rattle.std.specs.Prelude.{◌≡◌, ◌++◌, ◌∷◌, ◌<◌, ◌≤◌, ◌^◌, [], length, IfOk, OnOk};
+ghost use Rattle.std.specs.Prelude.{string_bytes};
 ghost use Rattle.clean_logs.specs.CleanLogs.{additions};
 ghost use Rattle.clean_logs.specs.Laws.{HasItsVariables};
 ghost use Rattle.proof_log.specs.Texts.{log_text};
 ghost use Rattle.cnf_commands.specs.Cores.{core_of};
 ghost use Rattle.run_files.specs.Answers.{Answers, OnlyReads};
 ghost use Rattle.run_files.specs.Limits.{least_limit, proof_limit};
-ghost use Rattle.cnf_commands.specs.Solves.{found_status, found_text, value_text, values_text, IsFound, IsLogFor, IsSolved, IsSolveRefusal, WritesProof};
+ghost use Rattle.cnf_commands.specs.Solves.{found_status, found_text, value_text, values_text};
+ghost use Rattle.cnf_commands.specs.Solves.{IsFound, IsLogFor, IsSolved, IsSolveRefusal};
+ghost use Rattle.cnf_commands.specs.Solves.{WritesProof};
 
 use crate::formulas::read_formula;
 use arc_base::{Kind, List, Memory, Name};
@@ -66,7 +69,8 @@ fn proof_text(alloc: Global, log: &Log) -> Result<Vec<u8>, Memory>
 
 // Writes a variable that is true, or the negation of one that is false, and a space.
 fn push_value(text: &mut String, var: u64, value: bool) -> Result<(), Memory>
-    ensures { OnOk result (string_bytes text.new ≡ string_bytes text.old ++ (value_text var value ++ 32 ∷ [])) }
+    ensures { OnOk result
+        (string_bytes text.new ≡ string_bytes text.old ++ (value_text var value ++ 32 ∷ [])) }
 {
     let written = if value {
         write!(text, "{var} ")
@@ -78,7 +82,8 @@ fn push_value(text: &mut String, var: u64, value: bool) -> Result<(), Memory>
 
 // Writes the values of the variables in order.
 fn push_values(text: &mut String, values: &[bool]) -> Result<(), Memory>
-    ensures { OnOk result (string_bytes text.new ≡ string_bytes text.old ++ values_text values.now) }
+    ensures { OnOk result
+        (string_bytes text.new ≡ string_bytes text.old ++ values_text values.now) }
 {
     for (place, value) in values.iter().enumerate() {
         push_value(text, place as u64 + 1, *value)?;
@@ -139,8 +144,10 @@ fn answer(alloc: Global, proof: &Name, found: &Found, log: &Log) -> Result<Done,
 pub fn solve<S: Store>(alloc: Global, words: &SolveWords, store: &mut S) -> Result<Done, Stop>
     requires least { 1 ≤ words.now.conflicts }
     requires most { words.now.conflicts ≤ 200000 }
-    ensures answer { Answers (WritesProof words.now) (IsSolveRefusal words.now) (IsSolved words.now) (S.held store.old) result }
-    ensures reads { OnlyReads least_limit S.held S.faults S.absences S.taken store.old store.new result }
+    ensures answer { Answers (WritesProof words.now) (IsSolveRefusal words.now) (IsSolved words.now)
+        (S.held store.old) result }
+    ensures reads { OnlyReads least_limit S.held S.faults S.absences S.taken
+        store.old store.new result }
 {
     let formula = read_formula(alloc, &words.formula, store)?;
     if words.proof.is(words.formula.bytes()) {

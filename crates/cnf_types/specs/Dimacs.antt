@@ -1,5 +1,8 @@
 -- What a text in DIMACS form is read as: its formula, or its first fault.
-use Rattle.std.specs.Prelude.{◌≡◌, ℕ, suc, ◌+◌, ◌^◌, ◌-◌, ℤ, pos, negsuc, Bool, true, false, if◌then◌else◌, ◌==◌, ◌&&◌, not, nat_le, nat_lt, List, [], ◌∷◌, length, map, filter, codes, Option, Some, None, option_and_then, is_none, Result, Ok, Err, find, filter_map, flat_map, sum_by}
+use Rattle.std.specs.Prelude.{◌≡◌, ℕ, suc, ◌+◌, ◌^◌, ◌-◌, ℤ, pos, negsuc, Bool, true, false}
+use Rattle.std.specs.Prelude.{if◌then◌else◌, ◌==◌, ◌&&◌, not, nat_le, nat_lt, List, [], ◌∷◌, length}
+use Rattle.std.specs.Prelude.{map, filter, codes, Option, Some, None, option_and_then, is_none}
+use Rattle.std.specs.Prelude.{Result, Ok, Err, find, filter_map, flat_map, sum_by}
 use Rattle.std.specs.Option.{option_map, option_map_or}
 use Rattle.std.specs.List.{list_any, slice_split, enumerate_from}
 use Rattle.std.specs.Str.{bytes_eq}
@@ -8,7 +11,8 @@ use Rattle.cnf_types.specs.declared.literal.Lit.{Lit}
 use Rattle.cnf_types.specs.declared.clauses.Clause.{Clause}
 use Rattle.cnf_types.specs.declared.clauses.Formula.{Formula}
 use Rattle.cnf_types.specs.declared.faults.CnfFault.{CnfFault}
-use Rattle.cnf_types.specs.declared.faults.CnfFault.TheVariants.{BadHeader, BadNumber, Count, TooLarge, Memory}
+use Rattle.cnf_types.specs.declared.faults.CnfFault.TheVariants.{BadHeader, BadNumber, Count}
+use Rattle.cnf_types.specs.declared.faults.CnfFault.TheVariants.{TooLarge, Memory}
 use Rattle.cnf_types.specs.declared.header.Header.{Header}
 use Rattle.cnf_types.specs.Literals.{literal}
 use Rattle.cnf_types.specs.Words.{lines, without_return}
@@ -34,7 +38,10 @@ count word = if nat_le (length word) 18 then natural (2 ^ 63 - 1) word else None
 
 -- the words are `p cnf`, the number of variables and the number of clauses
 abbrev pub header : List (List ℕ) → Option Header
-header (p ∷ cnf ∷ vars ∷ clauses ∷ []) = if bytes_eq p (codes "p") && bytes_eq cnf (codes "cnf") then option_and_then (λ v. option_map (λ c. record { vars = v; clauses = c }) (count clauses)) (count vars) else None
+header (p ∷ cnf ∷ vars ∷ clauses ∷ []) =
+    if bytes_eq p (codes "p") && bytes_eq cnf (codes "cnf")
+    then option_and_then (λ v. option_map (λ c. record { vars = v; clauses = c }) (count clauses))
+    (count vars) else None
 header _ = None
 
 -- the word is no whole number, or one above the number of variables
@@ -81,11 +88,15 @@ ends_closed (p ∷ q ∷ ps) = ends_closed (q ∷ ps)
 
 -- the formula, if it has no more than 32,000,000 literals
 abbrev pub sized : ℕ → List (List Lit) → Result Formula CnfFault
-sized vars ps = if nat_le (sum_by length ps) 32000000 then Ok (record { vars = vars; clauses = closed ps }) else Err (TooLarge Literals (sum_by length ps))
+sized vars ps =
+    if nat_le (sum_by length ps) 32000000 then Ok (record { vars = vars; clauses = closed ps })
+    else Err (TooLarge Literals (sum_by length ps))
 
 -- the same, if there are as many clauses as the header says, each of them closed
 abbrev pub counted : Header → ℕ → List (List Lit) → Result Formula CnfFault
-counted h last ps = if (length (closed ps) == h.clauses) && ends_closed ps then sized h.vars ps else Err (Count last)
+counted h last ps =
+    if (length (closed ps) == h.clauses) && ends_closed ps then sized h.vars ps
+    else Err (Count last)
 
 -- the same, if there is no bad line
 abbrev pub judged : Header → ℕ → Option (ℕ × List ℕ) → List (List Lit) → Result Formula CnfFault
@@ -94,12 +105,15 @@ judged h last (Some line) ps = Err (BadNumber line.0)
 
 -- what stands after the header, in a text of `last` lines
 abbrev pub after_header : ℕ → List (ℕ × List ℕ) → Header → Result Formula CnfFault
-after_header last ls h = if nat_lt 16777216 h.vars then Err (TooLarge Variables h.vars) else judged h last (first_bad h.vars ls) (pieces (numbers h.vars ls))
+after_header last ls h =
+    if nat_lt 16777216 h.vars then Err (TooLarge Variables h.vars)
+    else judged h last (first_bad h.vars ls) (pieces (numbers h.vars ls))
 
 -- the first line that is no comment is the header
 abbrev pub from_header : ℕ → List (ℕ × List ℕ) → Result Formula CnfFault
 from_header last [] = Err (BadHeader last)
-from_header last (l ∷ ls) = option_map_or (after_header last ls) (header (line_words l.1)) (Err (BadHeader l.0))
+from_header last (l ∷ ls) =
+    option_map_or (after_header last ls) (header (line_words l.1)) (Err (BadHeader l.0))
 
 -- what the whole text is read as
 unfoldable pub reading : List ℕ → Result Formula CnfFault

@@ -1,5 +1,6 @@
 -- Formulas, and when an assignment satisfies them.
-use Rattle.std.specs.Prelude.{ℕ, ◌-◌, Bool, false, if◌then◌else◌, not, IsTrue, List, All, slice_index_or}
+use Rattle.std.specs.Prelude.{ℕ, ◌-◌, Bool, false, if◌then◌else◌, not, IsTrue, List, All}
+use Rattle.std.specs.Prelude.{slice_index_or}
 use Rattle.std.specs.List.{list_any}
 use Rattle.cnf_types.specs.declared.literal.Lit.{Lit}
 use Rattle.cnf_types.specs.declared.clauses.Clause.{Clause}
@@ -8,7 +9,8 @@ use Rattle.cnf_types.specs.Literals.{variable, is_positive}
 
 -- the truth value of a literal under an assignment, which gives each variable one
 abbrev pub value : (ℕ → Bool) → Lit → Bool
-value assignment l = if is_positive l then assignment (variable l) else not (assignment (variable l))
+value assignment l =
+    if is_positive l then assignment (variable l) else not (assignment (variable l))
 
 -- a clause is true where some literal is
 abbrev pub clause_value : (ℕ → Bool) → List Lit → Bool

@@ -1,4 +1,5 @@
-use Rattle.std.specs.Prelude.{◌≡◌, ℕ, ◌+◌, ◌-◌, ◌*◌, ◌/◌, ◌%◌, Bool, if◌then◌else◌, ◌==◌, not, IsTrue, IsFalse, ◌↔◌}
+use Rattle.std.specs.Prelude.{◌≡◌, ℕ, ◌+◌, ◌-◌, ◌*◌, ◌/◌, ◌%◌, Bool, if◌then◌else◌, ◌==◌, not}
+use Rattle.std.specs.Prelude.{IsTrue, IsFalse, ◌↔◌}
 use Rattle.cnf_types.specs.declared.literal.Lit.{Lit}
 
 -- the variable itself, or its negation

@@ -1,7 +1,8 @@
 -- How far the reading of clauses has come.
 use Rattle.std.specs.Prelude.{◌≡◌, ℕ, ℤ, List, [], ◌∷◌, ◌++◌, map, Option, IsSomeAnd}
 use Rattle.cnf_types.specs.declared.faults.CnfFault.{CnfFault}
-use Rattle.cnf_types.specs.declared.faults.CnfFault.TheVariants.{BadHeader, BadNumber, Count, TooLarge, Memory}
+use Rattle.cnf_types.specs.declared.faults.CnfFault.TheVariants.{BadHeader, BadNumber, Count}
+use Rattle.cnf_types.specs.declared.faults.CnfFault.TheVariants.{TooLarge, Memory}
 use Rattle.cnf_types.specs.declared.literal.Lit.{Lit}
 use Rattle.cnf_types.specs.declared.clauses.Clause.{Clause}
 use Rattle.cnf_types.specs.Dimacs.{pieces}

@@ -1,5 +1,7 @@
 //! The clauses of a DIMACS text, word by word and line by line.
-ghost use Rattle.std.specs.Prelude.{◌≡◌, ◌+◌, ◌-◌, ◌<◌, ◌≤◌, ◌^◌, ◌++◌, [], ◌∷◌, ℕ, ℤ, List as Items, length, IsFalse, IsTrue, IfOk, IfErr, IsSomeAnd, IsErrOf, OnOk, None, unsigned_abs};
+ghost use Rattle.std.specs.Prelude.{◌≡◌, ◌+◌, ◌-◌, ◌<◌, ◌≤◌, ◌^◌, ◌++◌, [], ◌∷◌, ℕ, ℤ};
+ghost use Rattle.std.specs.Prelude.{List as Items, length, IsFalse, IsTrue, IfOk, IfErr, IsSomeAnd};
+ghost use Rattle.std.specs.Prelude.{IsErrOf, OnOk, None, unsigned_abs};
 ghost use Rattle.std.specs.List.{list_any};
 ghost use Rattle.cnf_types.specs.Words.{lines};
 ghost use Rattle.arc_base.specs.Words.{words};
@@ -61,7 +63,9 @@ impl Body {
         requires size { unsigned_abs number < 2 ^ 63 }
         requires room { length self.old.clauses < 2 ^ 32 - 1 }
         requires open_room { length self.old.unclosed < 2 ^ 32 - 1 }
-        ensures pieces { OnOk result ((more : Items ℤ) → pieces_after self.new.clauses self.new.unclosed more ≡ pieces_after self.old.clauses self.old.unclosed (number ∷ more)) }
+        ensures pieces { OnOk result ((more : Items ℤ) →
+            pieces_after self.new.clauses self.new.unclosed more
+            ≡ pieces_after self.old.clauses self.old.unclosed (number ∷ more)) }
         ensures clauses { length self.new.clauses ≤ length self.old.clauses + 1 }
         ensures unclosed { length self.new.unclosed ≤ length self.old.unclosed + 1 }
         ensures vars { self.new.vars ≡ self.old.vars }
@@ -82,7 +86,10 @@ impl Body {
         requires room { length self.old.clauses < 2 ^ 32 - 1 }
         requires unclosed_room { length self.old.unclosed < 2 ^ 32 - 1 }
         ensures number { OnOk result (IsFalse (is_bad self.old.vars word.now)) }
-        ensures pieces { OnOk result ((more : Items ℤ) → pieces_after self.new.clauses self.new.unclosed more ≡ pieces_after self.old.clauses self.old.unclosed (line_numbers self.old.vars (word.now ∷ []) ++ more)) }
+        ensures pieces { OnOk result ((more : Items ℤ) →
+            pieces_after self.new.clauses self.new.unclosed more
+            ≡ pieces_after self.old.clauses self.old.unclosed
+            (line_numbers self.old.vars (word.now ∷ []) ++ more)) }
         ensures bad { IsErrOf result WordFault.BadNumber → IsTrue (is_bad self.old.vars word.now) }
         ensures clauses { length self.new.clauses ≤ length self.old.clauses + 1 }
         ensures unclosed { length self.new.unclosed ≤ length self.old.unclosed + 1 }
@@ -101,8 +108,12 @@ impl Body {
         requires room { length self.old.clauses + length line.now < 2 ^ 32 }
         requires unclosed_room { length self.old.unclosed + length line.now < 2 ^ 32 }
         ensures numbers { OnOk result (IsFalse (list_any (is_bad self.old.vars) (words line.now))) }
-        ensures pieces { OnOk result ((more : Items ℤ) → pieces_after self.new.clauses self.new.unclosed more ≡ pieces_after self.old.clauses self.old.unclosed (line_numbers self.old.vars (words line.now) ++ more)) }
-        ensures bad { IsErrOf result WordFault.BadNumber → IsTrue (list_any (is_bad self.old.vars) (words line.now)) }
+        ensures pieces { OnOk result ((more : Items ℤ) →
+            pieces_after self.new.clauses self.new.unclosed more
+            ≡ pieces_after self.old.clauses self.old.unclosed
+            (line_numbers self.old.vars (words line.now) ++ more)) }
+        ensures bad { IsErrOf result WordFault.BadNumber →
+            IsTrue (list_any (is_bad self.old.vars) (words line.now)) }
         ensures clauses { length self.new.clauses ≤ length self.old.clauses + length line.now }
         ensures unclosed { length self.new.unclosed ≤ length self.old.unclosed + length line.now }
         ensures vars { self.new.vars ≡ self.old.vars }
@@ -116,8 +127,8 @@ impl Body {
     }
 }
 
-/// Reads the clauses in the lines of a text that follow the header, and gives them with the number of the last
-/// line. `before` lines stand before them.
+/// Reads the clauses in the lines of a text that follow the header, and gives them with the number
+/// of the last line. `before` lines stand before them.
 pub(crate) fn read_lines(
     alloc: Global,
     vars: u64,
@@ -127,10 +138,12 @@ pub(crate) fn read_lines(
     requires limit { vars < 2 ^ 63 }
     requires size { before + length text.now < 2 ^ 32 }
     ensures numbers { OnOk result (first_bad vars (content before (lines text.now)) ≡ None) }
-    ensures pieces { IfOk result (λ found. pieces_after found.0.clauses found.0.unclosed [] ≡ pieces (numbers vars (content before (lines text.now)) ++ [])) }
+    ensures pieces { IfOk result (λ found. pieces_after found.0.clauses found.0.unclosed []
+        ≡ pieces (numbers vars (content before (lines text.now)) ++ [])) }
     ensures last { IfOk result (λ found. found.1 ≡ before + length (lines text.now)) }
     ensures vars { IfOk result (λ found. found.0.vars ≡ vars) }
-    ensures fault { IfErr result (λ fault. IsFirstBad fault (first_bad vars (content before (lines text.now)))) }
+    ensures fault { IfErr result (λ fault.
+        IsFirstBad fault (first_bad vars (content before (lines text.now)))) }
 {
     let mut body = Body::make(alloc, vars);
     let mut line = before;

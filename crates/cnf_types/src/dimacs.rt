@@ -1,7 +1,9 @@
 //! Formulas from the text of a DIMACS file.
-ghost use Rattle.std.specs.Prelude.{◌≡◌, ◌+◌, ◌<◌, ◌≤◌, ◌^◌, [], length, IfOk, IfErr, Err, Ok, sum_by, IsTrue, ◌↔◌};
+ghost use Rattle.std.specs.Prelude.{◌≡◌, ◌+◌, ◌<◌, ◌≤◌, ◌^◌, [], length, IfOk, IfErr, Err, Ok};
+ghost use Rattle.std.specs.Prelude.{sum_by, IsTrue, ◌↔◌};
 ghost use Rattle.cnf_types.specs.Words.{lines};
-ghost use Rattle.cnf_types.specs.Dimacs.{content, from_header, after_header, counted, reading, IsFaultOf};
+ghost use Rattle.cnf_types.specs.Dimacs.{content, from_header, after_header, counted, reading};
+ghost use Rattle.cnf_types.specs.Dimacs.{IsFaultOf};
 ghost use Rattle.cnf_types.specs.Progress.{pieces_after};
 
 use crate::body::{Body, read_lines};
@@ -21,10 +23,13 @@ const MOST_LITERALS: u64 = 32_000_000;
 /// The header of a text, the number of its line, and what follows that.
 fn read_header(text: &[u8]) -> Result<(Header, u32, &[u8]), CnfFault>
     requires { length text.now < 2 ^ 32 }
-    ensures header { IfOk result (λ found. from_header (length (lines text.now)) (content 0 (lines text.now))
+    ensures header { IfOk result (λ found.
+        from_header (length (lines text.now)) (content 0 (lines text.now))
         ≡ after_header (length (lines text.now)) (content found.1 (lines found.2.now)) found.0) }
-    ensures fault { IfErr result (λ fault. from_header (length (lines text.now)) (content 0 (lines text.now)) ≡ Err fault) }
-    ensures last { IfOk result (λ found. found.1 + length (lines found.2.now) ≡ length (lines text.now)) }
+    ensures fault { IfErr result (λ fault.
+        from_header (length (lines text.now)) (content 0 (lines text.now)) ≡ Err fault) }
+    ensures last { IfOk result (λ found.
+        found.1 + length (lines found.2.now) ≡ length (lines text.now)) }
     ensures size { IfOk result (λ found. found.1 + length found.2.now ≤ length text.now) }
 {
     let mut line = 0;
@@ -80,8 +85,9 @@ fn finish(body: Body, header: Header, last: u32) -> Result<Formula, CnfFault>
     })
 }
 
-/// The formula that a text in DIMACS form writes, or its first fault. Lines that begin with `c` are comments. The
-/// first other line is the header `p cnf V C`; then come C clauses, each closed by 0, over any lines.
+/// The formula that a text in DIMACS form writes, or its first fault. Lines that begin with `c` are
+/// comments. The first other line is the header `p cnf V C`; then come C clauses, each closed by 0,
+/// over any lines.
 pub fn formula(alloc: Global, bytes: &[u8]) -> Result<Formula, CnfFault>
     requires { length bytes.now < 2 ^ 32 }
     ensures formula { IfOk result (λ f. reading bytes.now ≡ Ok f) }

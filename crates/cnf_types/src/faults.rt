@@ -2,10 +2,12 @@ ghost use Rattle.std.specs.Prelude.{◌≡◌};
 
 use arc_base::{LimitKind, Memory};
 
-/// Why a text is no formula in DIMACS form. Lines count from 1; a text without lines has its fault at line 0.
+/// Why a text is no formula in DIMACS form. Lines count from 1; a text without lines has its fault
+/// at line 0.
 #[derive(Clone, Copy, Debug, PartialEq, Eq)]
 pub enum CnfFault {
-    /// The first line that is no comment is no header `p cnf V C`: its line, or the last line of a text of comments.
+    /// The first line that is no comment is no header `p cnf V C`: its line, or the last line of a
+    /// text of comments.
     BadHeader(u32),
     /// A word after the header is no whole number, or its absolute value is above V: its line.
     BadNumber(u32),

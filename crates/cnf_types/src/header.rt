@@ -1,5 +1,6 @@
 //! The header of a DIMACS text.
-ghost use Rattle.std.specs.Prelude.{◌≡◌, ◌+◌, ◌<◌, ◌≤◌, ◌^◌, ℕ, [], ◌∷◌, length, IfOk, IfErr, Some, None};
+ghost use Rattle.std.specs.Prelude.{◌≡◌, ◌+◌, ◌<◌, ◌≤◌, ◌^◌, ℕ, [], ◌∷◌, length, IfOk, IfErr, Some};
+ghost use Rattle.std.specs.Prelude.{None};
 ghost use Rattle.cnf_types.specs.Words.{lines};
 ghost use Rattle.arc_base.specs.Words.{words};
 ghost use Rattle.cnf_types.specs.Dimacs.{count, header, content, is_comment, line_words};

@@ -1,6 +1,6 @@
-//! Formulas in conjunctive normal form, and how they are read from a DIMACS text: literals, clauses and formulas,
-//! the lines and words of a text, and the numbers that words write. Contracts see a formula as its clauses, and an
-//! assignment as a truth value for each variable.
+//! Formulas in conjunctive normal form, and how they are read from a DIMACS text: literals, clauses
+//! and formulas, the lines and words of a text, and the numbers that words write. Contracts see a
+//! formula as its clauses, and an assignment as a truth value for each variable.
 #![tactic(auto)]
 
 mod body;

@@ -1,6 +1,7 @@
 ghost use Rattle.std.specs.Prelude.{◌≡◌, ◌<◌, ◌≤◌, ◌^◌};
 
-/// A literal: a variable or its negation. Variable v is written 2 v, and its negation 2 v + 1. Variables count from 1.
+/// A literal: a variable or its negation. Variable v is written 2 v, and its negation 2 v + 1.
+/// Variables count from 1.
 #[derive(Clone, Copy, Debug, PartialEq, Eq)]
 pub struct Lit {
     pub code: u64,

@@ -1,12 +1,15 @@
 //! The numbers that words write.
-ghost use Rattle.std.specs.Prelude.{◌≡◌, ◌<◌, ◌≤◌, ◌^◌, ◌&&◌, nat_le, if◌then◌else◌, IfSome, unsigned_abs};
+ghost use Rattle.std.specs.Prelude.{◌≡◌, ◌<◌, ◌≤◌, ◌^◌, ◌&&◌, nat_le, if◌then◌else◌, IfSome};
+ghost use Rattle.std.specs.Prelude.{unsigned_abs};
 ghost use Rattle.std.specs.Char.{is_ascii_digit};
 ghost use Rattle.cnf_types.specs.Numbers.{natural, number, with_digit};
 
-/// The number with one more digit, or `None` where the byte is no digit or the number is then above the limit.
+/// The number with one more digit, or `None` where the byte is no digit or the number is then above
+/// the limit.
 fn with_digit(value: u64, byte: u8, limit: u64) -> Option<u64>
     requires { limit < 2 ^ 63 }
-    ensures { result ≡ (if is_ascii_digit byte && nat_le (with_digit value byte) limit then Some (with_digit value byte) else None) }
+    ensures { result ≡ (if is_ascii_digit byte && nat_le (with_digit value byte) limit
+        then Some (with_digit value byte) else None) }
 {
     if !byte.is_ascii_digit() || value > limit / 10 {
         return None;
@@ -15,8 +18,8 @@ fn with_digit(value: u64, byte: u8, limit: u64) -> Option<u64>
     if value <= limit { Some(value) } else { None }
 }
 
-/// The number that a word of decimal digits writes, or `None` where the word is no such number or the number is
-/// above the limit. Leading zeros may stand.
+/// The number that a word of decimal digits writes, or `None` where the word is no such number or
+/// the number is above the limit. Leading zeros may stand.
 pub fn natural(word: &[u8], limit: u64) -> Option<u64>
     requires { limit < 2 ^ 63 }
     ensures { result ≡ natural limit word.now }
@@ -31,8 +34,9 @@ pub fn natural(word: &[u8], limit: u64) -> Option<u64>
     Some(value)
 }
 
-/// The whole number that a word writes, decimal digits with or without a minus sign, or `None` where the word is no
-/// such number or its absolute value is above the limit. Minus zero is no number.
+/// The whole number that a word writes, decimal digits with or without a minus sign, or `None`
+/// where the word is no such number or its absolute value is above the limit. Minus zero is no
+/// number.
 pub fn number(word: &[u8], limit: u64) -> Option<i64>
     requires { limit < 2 ^ 63 }
     ensures number { result ≡ number limit word.now }

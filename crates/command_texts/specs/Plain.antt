@@ -1,11 +1,19 @@
 -- The plain line of each command of a router file, and in which blocks it may stand.
-use Rattle.std.specs.Prelude.{◌≡◌, ◌≢◌, ℕ, ◌-◌, ◌^◌, Bool, true, false, if◌then◌else◌, List, [], ◌∷◌, ◌++◌, codes, decimal, Option, Some, None, IsTrue}
+use Rattle.std.specs.Prelude.{◌≡◌, ◌≢◌, ℕ, ◌-◌, ◌^◌, Bool, true, false, if◌then◌else◌, List, []}
+use Rattle.std.specs.Prelude.{◌∷◌, ◌++◌, codes, decimal, Option, Some, None, IsTrue}
 use Rattle.arc_base.specs.declared.prefix.Prefix.{Prefix}
 use Rattle.arc_base.specs.PrefixText.{address_text, number_of, prefix_text}
 use Rattle.ios_lines.specs.Kinds.{IsHead, IsInner, IsSingle}
 use Rattle.ios_lines.specs.Written.{IsWritten, spaced}
 use Rattle.ios_words.specs.declared.commands.Command.{Command}
-use Rattle.ios_words.specs.declared.commands.Command.TheVariants.{Hostname, Interface, RouterOspf, RouterBgp, ListBlock, ListLine, PrefixLine, Address, NoAddress, Shutdown, Bandwidth, Cost, Area, Point, Group, Covers, Passive, Reference, RouterId, RemoteAs, NeighborDown, NeighborList, Tells, Entry}
+use Rattle.ios_words.specs.declared.commands.Command.TheVariants.{Hostname, Interface, RouterOspf}
+use Rattle.ios_words.specs.declared.commands.Command.TheVariants.{RouterBgp, ListBlock, ListLine}
+use Rattle.ios_words.specs.declared.commands.Command.TheVariants.{PrefixLine, Address, NoAddress}
+use Rattle.ios_words.specs.declared.commands.Command.TheVariants.{Shutdown, Bandwidth, Cost, Area}
+use Rattle.ios_words.specs.declared.commands.Command.TheVariants.{Point, Group, Covers, Passive}
+use Rattle.ios_words.specs.declared.commands.Command.TheVariants.{Reference, RouterId, RemoteAs}
+use Rattle.ios_words.specs.declared.commands.Command.TheVariants.{NeighborDown, NeighborList, Tells}
+use Rattle.ios_words.specs.declared.commands.Command.TheVariants.{Entry}
 use Rattle.ios_words.specs.declared.commands.PacketText.{PacketText}
 use Rattle.ios_words.specs.declared.commands.RouteText.{RouteText}
 use Rattle.ios_words.specs.declared.kinds.BlockKind.{BlockKind}
@@ -15,7 +23,8 @@ use Rattle.ios_words.specs.Forms.{AddressesFit, IsInForm}
 use Rattle.ios_words.specs.Language.{rows}
 use Rattle.ios_words.specs.Laws.{heads_block}
 use Rattle.ios_words.specs.Numbers.{list_kind, mask}
-use Rattle.ios_words.specs.Printed.{neighbor_list_words, neighbor_words, order_words, packet_words, sequence_words, side_words, top_line, unless, verdict_word}
+use Rattle.ios_words.specs.Printed.{neighbor_list_words, neighbor_words, order_words, packet_words}
+use Rattle.ios_words.specs.Printed.{sequence_words, side_words, top_line, unless, verdict_word}
 use Rattle.ios_words.specs.Services.{IsWritable, are_all}
 
 -- whether a list is extended, as it is written
@@ -35,14 +44,17 @@ abbrev pub interface_word : Option (List ℕ) → List ℕ
 interface_word None = codes "default"
 interface_word (Some name) = name
 
--- an entry of a list of this kind: an extended list tells the protocol, where packets go to and which ports they are for
+-- an entry of a list of this kind: an extended list tells the protocol, where packets go to and
+-- which ports they are for
 abbrev pub entry_words : Option Bool → PacketText → List (List ℕ)
 entry_words (Some true) e = packet_words e
 entry_words _ e = verdict_word e.permit ∷ side_words e.from
 
 -- an entry of a prefix list, with both lengths
 abbrev pub route_words : RouteText → List (List ℕ)
-route_words e = verdict_word e.permit ∷ prefix_text e.prefix ∷ codes "ge" ∷ decimal e.low ∷ codes "le" ∷ decimal e.high ∷ []
+route_words e =
+    verdict_word e.permit ∷ prefix_text e.prefix ∷ codes "ge" ∷ decimal e.low ∷
+    codes "le" ∷ decimal e.high ∷ []
 
 -- the wildcard of a prefix's length
 abbrev pub wildcard_text : Prefix → List ℕ
@@ -54,37 +66,52 @@ plain_words blocks.Top (Hostname name) = codes "hostname" ∷ name ∷ []
 plain_words blocks.Top (Interface name) = codes "interface" ∷ name ∷ []
 plain_words blocks.Top (RouterOspf number) = codes "router" ∷ codes "ospf" ∷ decimal number ∷ []
 plain_words blocks.Top (RouterBgp number) = codes "router" ∷ codes "bgp" ∷ decimal number ∷ []
-plain_words blocks.Top (ListBlock extended name) = codes "ip" ∷ codes "access-list" ∷ kind_word extended ∷ name ∷ []
-plain_words blocks.Top (ListLine number e) = codes "access-list" ∷ number ∷ entry_words (list_kind (number_of number)) e
-plain_words blocks.Top (PrefixLine name order e) = codes "ip" ∷ codes "prefix-list" ∷ name ∷ sequence_words order ++ route_words e
-plain_words blocks.Interface (Address address length) = codes "ip" ∷ codes "address" ∷ address_text address ∷ address_text (mask length) ∷ []
+plain_words blocks.Top (ListBlock extended name) =
+    codes "ip" ∷ codes "access-list" ∷ kind_word extended ∷ name ∷ []
+plain_words blocks.Top (ListLine number e) =
+    codes "access-list" ∷ number ∷ entry_words (list_kind (number_of number)) e
+plain_words blocks.Top (PrefixLine name order e) =
+    codes "ip" ∷ codes "prefix-list" ∷ name ∷ sequence_words order ++ route_words e
+plain_words blocks.Interface (Address address length) =
+    codes "ip" ∷ codes "address" ∷ address_text address ∷ address_text (mask length) ∷ []
 plain_words blocks.Interface NoAddress = codes "no" ∷ codes "ip" ∷ codes "address" ∷ []
 plain_words blocks.Interface (Shutdown down) = unless down (codes "shutdown" ∷ [])
 plain_words blocks.Interface (Bandwidth number) = codes "bandwidth" ∷ decimal number ∷ []
-plain_words blocks.Interface (Cost number) = codes "ip" ∷ codes "ospf" ∷ codes "cost" ∷ decimal number ∷ []
-plain_words blocks.Interface (Area area) = codes "ip" ∷ codes "ospf" ∷ decimal area.process ∷ codes "area" ∷ decimal area.area ∷ []
-plain_words blocks.Interface (Point point) = codes "ip" ∷ codes "ospf" ∷ codes "network" ∷ network_word point ∷ []
-plain_words blocks.Interface (Group name inbound) = codes "ip" ∷ codes "access-group" ∷ name ∷ direction_word inbound ∷ []
-plain_words blocks.Ospf (Covers p area) = codes "network" ∷ address_text p.addr ∷ wildcard_text p ∷ codes "area" ∷ decimal area ∷ []
-plain_words blocks.Ospf (Passive passive name) = unless passive (codes "passive-interface" ∷ interface_word name ∷ [])
-plain_words blocks.Ospf (Reference number) = codes "auto-cost" ∷ codes "reference-bandwidth" ∷ decimal number ∷ []
+plain_words blocks.Interface (Cost number) =
+    codes "ip" ∷ codes "ospf" ∷ codes "cost" ∷ decimal number ∷ []
+plain_words blocks.Interface (Area area) =
+    codes "ip" ∷ codes "ospf" ∷ decimal area.process ∷ codes "area" ∷ decimal area.area ∷ []
+plain_words blocks.Interface (Point point) =
+    codes "ip" ∷ codes "ospf" ∷ codes "network" ∷ network_word point ∷ []
+plain_words blocks.Interface (Group name inbound) =
+    codes "ip" ∷ codes "access-group" ∷ name ∷ direction_word inbound ∷ []
+plain_words blocks.Ospf (Covers p area) =
+    codes "network" ∷ address_text p.addr ∷ wildcard_text p ∷ codes "area" ∷ decimal area ∷ []
+plain_words blocks.Ospf (Passive passive name) =
+    unless passive (codes "passive-interface" ∷ interface_word name ∷ [])
+plain_words blocks.Ospf (Reference number) =
+    codes "auto-cost" ∷ codes "reference-bandwidth" ∷ decimal number ∷ []
 plain_words blocks.Ospf (RouterId address) = codes "router-id" ∷ address_text address ∷ []
-plain_words blocks.Bgp (RemoteAs address number) = codes "neighbor" ∷ address_text address ∷ codes "remote-as" ∷ decimal number ∷ []
+plain_words blocks.Bgp (RemoteAs address number) =
+    codes "neighbor" ∷ address_text address ∷ codes "remote-as" ∷ decimal number ∷ []
 plain_words blocks.Bgp (NeighborDown address down) = neighbor_words address down
 plain_words blocks.Bgp (NeighborList address name) = neighbor_list_words address name
-plain_words blocks.Bgp (Tells p) = codes "network" ∷ address_text p.addr ∷ codes "mask" ∷ address_text (mask p.len) ∷ []
-plain_words blocks.Bgp (RouterId address) = codes "bgp" ∷ codes "router-id" ∷ address_text address ∷ []
+plain_words blocks.Bgp (Tells p) =
+    codes "network" ∷ address_text p.addr ∷ codes "mask" ∷ address_text (mask p.len) ∷ []
+plain_words blocks.Bgp (RouterId address) =
+    codes "bgp" ∷ codes "router-id" ∷ address_text address ∷ []
 plain_words blocks.Extended (Entry order e) = order_words order ++ entry_words (Some true) e
 plain_words blocks.Standard (Entry order e) = order_words order ++ entry_words (Some false) e
 plain_words _ _ = []
 
--- the entry may stand in a list of this kind. One entry of an extended list says services that are writable; a standard
--- list tells neither where packets go to nor which services they have.
+-- the entry may stand in a list of this kind. One entry of an extended list says services that are
+-- writable; a standard list tells neither where packets go to nor which services they have.
 abbrev pub FitsIn : Option Bool → PacketText → Type 0
 FitsIn (Some true) e = IsWritable e
 FitsIn _ e = (e.to.len ≡ 0) × IsTrue (are_all e.low e.high)
 
--- the command may stand in a block of this kind. No prefix list has the name of a line that says nothing.
+-- the command may stand in a block of this kind. No prefix list has the name of a line that says
+-- nothing.
 abbrev pub StandsIn : BlockKind → Command → Type 0
 StandsIn blocks.Top (Hostname name) = Unit {0}
 StandsIn blocks.Top (Interface name) = Unit {0}
@@ -124,13 +151,14 @@ abbrev pub IsTopLine : Bool → List ℕ → Type 0
 IsTopLine true line = IsHead line
 IsTopLine false line = IsSingle line
 
--- the line is a top line that heads a block exactly where the command does, or it is a line of a block
+-- the line is a top line that heads a block exactly where the command does, or it is a line of a
+-- block
 abbrev pub HasKind : BlockKind → Command → List ℕ → Type 0
 HasKind blocks.Top command line = IsTopLine (heads_block command) line
 HasKind _ command line = IsInner line
 
--- the plain line of a command in a block of this kind has the command's words, it is a line of the kind that the
--- command asks for, and its words are read as the command
+-- the plain line of a command in a block of this kind has the command's words, it is a line of the
+-- kind that the command asks for, and its words are read as the command
 pub record IsReadAs (within : BlockKind) (command : Command) : Type 0 where
   pub written : IsWritten (line_of within (plain_words within command)) (plain_words within command)
   pub kind : HasKind within command (line_of within (plain_words within command))
@@ -139,4 +167,5 @@ pub record IsReadAs (within : BlockKind) (command : Command) : Type 0 where
 -- the plain line of each command in form is read as the command, wherever it may stand
 abbrev pub PlainLinesAreRead : Type 0
 PlainLinesAreRead =
-    (within : BlockKind) (command : Command) → StandsIn within command → IsInForm command → AddressesFit command → IsReadAs within command
+    (within : BlockKind) (command : Command) → StandsIn within command → IsInForm command →
+    AddressesFit command → IsReadAs within command

@@ -1,11 +1,15 @@
 -- The command that the words after the program's name match.
-use Rattle.std.specs.Prelude.{ℕ, ◌≤◌, List, [], ◌∷◌, ◌++◌, Option, Some, None, find, option_and_then, bytes_eq, codes, if◌then◌else◌}
+use Rattle.std.specs.Prelude.{ℕ, ◌≤◌, List, [], ◌∷◌, ◌++◌, Option, Some, None, find}
+use Rattle.std.specs.Prelude.{option_and_then, bytes_eq, codes, if◌then◌else◌}
 use Rattle.std.specs.List.{list_all}
 use Rattle.std.specs.Str.{is_utf8}
-use Rattle.command_words.specs.Values.{conflict_limit, generate_of, link_numbers, nodes_of, prefers_of, price_bound, repair_of, solve_of, trace_of}
+use Rattle.command_words.specs.Values.{conflict_limit, generate_of, link_numbers, nodes_of}
+use Rattle.command_words.specs.Values.{prefers_of, price_bound, repair_of, solve_of, trace_of}
 use Rattle.command_words.specs.Words.{Given, arguments_of, positionals, value_of}
 use Rattle.command_words.specs.declared.commands.Command.{Command}
-use Rattle.command_words.specs.declared.commands.Command.TheVariants.{Verify, Trace, Repair, Check, Apply, Solve, Lrat, Generate, Nodes, Prefers, Recheck}
+use Rattle.command_words.specs.declared.commands.Command.TheVariants.{Verify, Trace, Repair, Check}
+use Rattle.command_words.specs.declared.commands.Command.TheVariants.{Apply, Solve, Lrat, Generate}
+use Rattle.command_words.specs.declared.commands.Command.TheVariants.{Nodes, Prefers, Recheck}
 
 -- `verify DOC`
 abbrev pub verify_by : List (List ℕ) → Option Command
@@ -48,13 +52,16 @@ bound_by None = Some 32
 bound_by (Some text) = price_bound text
 
 -- `repair DOC --out SUFFIX --proof NAME [--max-price N] [--conflicts N]`
-abbrev pub repair_by : Option (List ℕ) → Option (List ℕ) → Option (List ℕ) → Option (List ℕ) → List (List ℕ) → Option Command
-repair_by (Some suffix) (Some proof) price conflicts (document ∷ []) = repair_of document suffix proof (bound_by price) (conflicts_by conflicts)
+abbrev pub repair_by : Option (List ℕ) → Option (List ℕ) → Option (List ℕ) → Option (List ℕ) →
+    List (List ℕ) → Option Command
+repair_by (Some suffix) (Some proof) price conflicts (document ∷ []) =
+    repair_of document suffix proof (bound_by price) (conflicts_by conflicts)
 repair_by _ _ price conflicts _ = None
 
 -- `apply DOC EDITS --out SUFFIX`
 abbrev pub apply_by : Option (List ℕ) → List (List ℕ) → Option Command
-apply_by (Some suffix) (document ∷ edits ∷ []) = Some (Apply (record { document = document; edits = edits; suffix = suffix }))
+apply_by (Some suffix) (document ∷ edits ∷ []) =
+    Some (Apply (record { document = document; edits = edits; suffix = suffix }))
 apply_by _ _ = None
 
 -- `generate N --proof NAME`
@@ -74,11 +81,12 @@ prefers_by _ = None
 
 -- `recheck DOC REPORT`
 abbrev pub recheck_by : List (List ℕ) → Option Command
-recheck_by (document ∷ report ∷ []) = Some (Recheck (record { document = document; report = report }))
+recheck_by (document ∷ report ∷ []) =
+    Some (Recheck (record { document = document; report = report }))
 recheck_by _ = None
 
--- A command of the table: its name; what its positional words stand for, in order, each of them required; the options that must
--- stand, and those that may; and what all of these mean.
+-- A command of the table: its name; what its positional words stand for, in order, each of them
+-- required; the options that must stand, and those that may; and what all of these mean.
 pub record Form : Type 0 where
   pub name : List ℕ
   pub places : List (List ℕ)
@@ -88,7 +96,13 @@ pub record Form : Type 0 where
 
 -- a command with no options
 abbrev pub plain : List ℕ → List (List ℕ) → (List (List ℕ) → Option Command) → Form
-plain name places by = record { name = name; places = places; needed = []; optional = []; means = λ given. by (positionals given) }
+plain name places by = record {
+  name = name;
+  places = places;
+  needed = [];
+  optional = [];
+  means = λ given. by (positionals given);
+}
 
 -- the commands
 abbrev pub verify_form : Form
@@ -109,8 +123,9 @@ repair_form = record {
   places = codes "document" ∷ [];
   needed = codes "out" ∷ codes "proof" ∷ [];
   optional = codes "max-price" ∷ codes "conflicts" ∷ [];
-  means = λ given. repair_by (value_of (codes "out") given) (value_of (codes "proof") given) (value_of (codes "max-price") given)
-      (value_of (codes "conflicts") given) (positionals given);
+  means =
+      λ given. repair_by (value_of (codes "out") given) (value_of (codes "proof") given)
+      (value_of (codes "max-price") given) (value_of (codes "conflicts") given) (positionals given);
 }
 
 abbrev pub check_form : Form
@@ -131,7 +146,9 @@ solve_form = record {
   places = codes "formula" ∷ [];
   needed = codes "proof" ∷ [];
   optional = codes "conflicts" ∷ [];
-  means = λ given. solve_by (value_of (codes "proof") given) (value_of (codes "conflicts") given) (positionals given);
+  means =
+      λ given. solve_by (value_of (codes "proof") given)
+      (value_of (codes "conflicts") given) (positionals given);
 }
 
 abbrev pub lrat_form : Form
@@ -147,10 +164,14 @@ generate_form = record {
 }
 
 abbrev pub nodes_form : Form
-nodes_form = plain (codes "nodes") (codes "document" ∷ codes "from" ∷ codes "to" ∷ codes "failures" ∷ []) nodes_by
+nodes_form =
+    plain (codes "nodes")
+    (codes "document" ∷ codes "from" ∷ codes "to" ∷ codes "failures" ∷ []) nodes_by
 
 abbrev pub prefers_form : Form
-prefers_form = plain (codes "prefers") (codes "document" ∷ codes "from" ∷ codes "to" ∷ codes "routers" ∷ []) prefers_by
+prefers_form =
+    plain (codes "prefers")
+    (codes "document" ∷ codes "from" ∷ codes "to" ∷ codes "routers" ∷ []) prefers_by
 
 abbrev pub recheck_form : Form
 recheck_form = plain (codes "recheck") (codes "document" ∷ codes "report" ∷ []) recheck_by
@@ -158,7 +179,8 @@ recheck_form = plain (codes "recheck") (codes "document" ∷ codes "report" ∷ 
 -- all of them
 abbrev pub forms : List Form
 forms =
-    verify_form ∷ trace_form ∷ repair_form ∷ check_form ∷ apply_form ∷ solve_form ∷ lrat_form ∷ generate_form ∷ nodes_form ∷ prefers_form ∷ recheck_form ∷ []
+    verify_form ∷ trace_form ∷ repair_form ∷ check_form ∷ apply_form ∷ solve_form ∷ lrat_form ∷
+    generate_form ∷ nodes_form ∷ prefers_form ∷ recheck_form ∷ []
 
 -- what the words that follow a command's name mean
 abbrev pub meaning : Form → List (List ℕ) → Option Command
@@ -166,7 +188,8 @@ meaning form words = option_and_then form.means (arguments_of (form.needed ++ fo
 
 -- the first word names a command of the table
 abbrev pub command_among : List Form → List ℕ → List (List ℕ) → Option Command
-command_among table name words = option_and_then (λ form. meaning form words) (find (λ form. bytes_eq form.name name) table)
+command_among table name words =
+    option_and_then (λ form. meaning form words) (find (λ form. bytes_eq form.name name) table)
 
 abbrev pub command_in : List (List ℕ) → Option Command
 command_in [] = None
@@ -176,8 +199,8 @@ command_in (name ∷ words) = command_among forms name words
 abbrev pub command_of : List (List ℕ) → Option Command
 command_of words = if list_all is_utf8 words then command_in words else None
 
--- the numbers of a command are in their ranges: a search may learn from 1 to 200,000 conflicts, a repair cost at most 512, a
--- network that is made has 6 to 40 routers, and at most 16 routers fail
+-- the numbers of a command are in their ranges: a search may learn from 1 to 200,000 conflicts, a
+-- repair cost at most 512, a network that is made has 6 to 40 routers, and at most 16 routers fail
 abbrev pub HasLimit : Command → Type 0
 HasLimit (Verify document) = Unit {0}
 HasLimit (Trace words) = Unit {0}

@@ -16,15 +16,19 @@ pub data Gives : List (List ℕ) → List (List ℕ) → List Given → Type 0 w
   -- no words give nothing
   no_words : {options : List (List ℕ)} → Gives options [] []
   -- a text is a positional word
-  stands : {options : List (List ℕ)} {word : List ℕ} {words : List (List ℕ)} {given : List Given}
-      → IsText word → Gives options words given → Gives options (word ∷ words) (positional word ∷ given)
+  stands : {options : List (List ℕ)} {word : List ℕ} {words : List (List ℕ)} {given : List Given} →
+      IsText word → Gives options words given
+      → Gives options (word ∷ words) (positional word ∷ given)
   -- `--NAME=VALUE`, whatever the value is
-  beside : {options : List (List ℕ)} {word name value : List ℕ} {words : List (List ℕ)} {given : List Given}
-      → names_one options name ≡ true → (has_equals name → ⊥) → word ≡ codes "--" ++ (name ++ (codes "=" ++ value))
+  beside : {options : List (List ℕ)} {word name value : List ℕ} {words : List (List ℕ)}
+      {given : List Given} → names_one options name ≡ true → (has_equals name → ⊥)
+      → word ≡ codes "--" ++ (name ++ (codes "=" ++ value))
       → Gives options words given → Gives options (word ∷ words) (option name value ∷ given)
   -- `--NAME VALUE`, where the value is a text
-  apart : {options : List (List ℕ)} {word name value : List ℕ} {words : List (List ℕ)} {given : List Given}
-      → names_one options name ≡ true → (has_equals name → ⊥) → (name ≡ [] → ⊥) → word ≡ codes "--" ++ name → IsText value
+  apart : {options : List (List ℕ)} {word name value : List ℕ} {words : List (List ℕ)}
+      {given : List Given} → names_one options name ≡ true → (has_equals name → ⊥) → (name ≡ [] → ⊥)
+      → word ≡ codes "--" ++ name → IsText value
       → Gives options words given → Gives options (word ∷ value ∷ words) (option name value ∷ given)
   -- after `--` every word is positional
-  after : {options : List (List ℕ)} {words : List (List ℕ)} → Gives options (codes "--" ∷ words) (map positional words)
+  after : {options : List (List ℕ)} {words : List (List ℕ)} →
+      Gives options (codes "--" ∷ words) (map positional words)

@@ -1,11 +1,14 @@
 -- The command with the values that `clap` found.
-use Rattle.std.specs.Prelude.{List, Option, Some, None, option_and_then, bytes_eq, codes, if◌then◌else◌}
+use Rattle.std.specs.Prelude.{List, Option, Some, None, option_and_then, bytes_eq, codes}
+use Rattle.std.specs.Prelude.{if◌then◌else◌}
 use Rattle.arc_base.specs.Options.{◌>>=◌}
 use Rattle.clap.specs.Walk.{Row, Text, first_of}
 use Rattle.command_words.specs.Commands.{bound_by, conflicts_by, down_by}
-use Rattle.command_words.specs.Values.{generate_of, nodes_of, prefers_of, repair_of, solve_of, trace_of}
+use Rattle.command_words.specs.Values.{generate_of, nodes_of, prefers_of, repair_of, solve_of}
+use Rattle.command_words.specs.Values.{trace_of}
 use Rattle.command_words.specs.declared.commands.Command.{Command}
-use Rattle.command_words.specs.declared.commands.Command.TheVariants.{Apply, Check, Lrat, Recheck, Verify}
+use Rattle.command_words.specs.declared.commands.Command.TheVariants.{Apply, Check, Lrat, Recheck}
+use Rattle.command_words.specs.declared.commands.Command.TheVariants.{Verify}
 
 abbrev pub matched_verify : List Row → Option Command
 matched_verify rows = do
@@ -42,7 +45,8 @@ matched_repair rows = do
   document ← first_of (codes "document") rows
   suffix ← first_of (codes "out") rows
   proof ← first_of (codes "proof") rows
-  repair_of document suffix proof (bound_by (first_of (codes "max-price") rows)) (conflicts_by (first_of (codes "conflicts") rows))
+  repair_of document suffix proof (bound_by (first_of (codes "max-price") rows))
+      (conflicts_by (first_of (codes "conflicts") rows))
 
 abbrev pub matched_apply : List Row → Option Command
 matched_apply rows = do

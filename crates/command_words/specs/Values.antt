@@ -1,12 +1,14 @@
 -- The values that words are read as.
-use Rattle.std.specs.Prelude.{ℕ, ◌==◌, ◌&&◌, nat_le, List, [], ◌∷◌, length, Option, Some, None, if◌then◌else◌}
+use Rattle.std.specs.Prelude.{ℕ, ◌==◌, ◌&&◌, nat_le, List, [], ◌∷◌, length, Option, Some, None}
+use Rattle.std.specs.Prelude.{if◌then◌else◌}
 use Rattle.std.specs.List.{list_all, slice_split}
 use Rattle.arc_base.specs.PrefixText.{prefix_of}
 use Rattle.arc_base.specs.Options.{◌>>=◌}
 use Rattle.arc_base.specs.NameForms.{is_name}
 use Rattle.cnf_types.specs.Numbers.{natural}
 use Rattle.command_words.specs.declared.commands.Command.{Command}
-use Rattle.command_words.specs.declared.commands.Command.TheVariants.{Generate, Nodes, Prefers, Repair, Solve, Trace}
+use Rattle.command_words.specs.declared.commands.Command.TheVariants.{Generate, Nodes, Prefers}
+use Rattle.command_words.specs.declared.commands.Command.TheVariants.{Repair, Solve, Trace}
 
 -- a number of 1 to 10 decimal digits in a range; zeros may lead
 abbrev pub number_within : ℕ → ℕ → List ℕ → Option ℕ
@@ -62,14 +64,24 @@ comma_words text = slice_split (λ b. b == 44) text
 
 -- the names of routers that commas join, at most 256
 abbrev pub router_names : List ℕ → Option (List (List ℕ))
-router_names text = if nat_le (length (comma_words text)) 256 && list_all is_name (comma_words text) then Some (comma_words text) else None
+router_names text =
+    if nat_le (length (comma_words text)) 256 && list_all is_name (comma_words text)
+    then Some (comma_words text) else None
 
--- a repair: the document, the suffix of changed files, the name of the certificate, the highest price and the limit of its search
+-- a repair: the document, the suffix of changed files, the name of the certificate, the highest
+-- price and the limit of its search
 abbrev pub repair_of : List ℕ → List ℕ → List ℕ → Option ℕ → Option ℕ → Option Command
 repair_of document suffix proof highest limit = do
   bound ← highest
   conflicts ← limit
-  Some (Repair (record { document = document; suffix = suffix; proof = proof; bound = bound; conflicts = conflicts }))
+  Some (Repair (record {
+    document = document;
+    suffix = suffix;
+    proof = proof;
+    bound =
+        bound;
+    conflicts = conflicts;
+  }))
 
 -- how many routers a network that is made has
 abbrev pub router_count : List ℕ → Option ℕ
@@ -87,7 +99,8 @@ nodes_of document from to count = do
   origin ← prefix_of from
   destination ← prefix_of to
   failures ← failed_routers count
-  Some (Nodes (record { document = document; from = origin; to = destination; failures = failures }))
+  Some
+      (Nodes (record { document = document; from = origin; to = destination; failures = failures }))
 
 -- a judgement of a preferred path: the document, the two prefixes, and the path's routers
 abbrev pub prefers_of : List ℕ → List ℕ → List ℕ → List ℕ → Option Command
@@ -95,4 +108,5 @@ prefers_of document from to path = do
   origin ← prefix_of from
   destination ← prefix_of to
   routers ← router_names path
-  Some (Prefers (record { document = document; from = origin; to = destination; routers = routers }))
+  Some
+      (Prefers (record { document = document; from = origin; to = destination; routers = routers }))

@@ -33,7 +33,8 @@ pub struct TraceWords {
     pub document: Name,
     pub from: Prefix,
     pub to: Prefix,
-    /// The numbers of the links that are down, counted from 1, in the order in which they are written.
+    /// The numbers of the links that are down, counted from 1, in the order in which they are
+    /// written.
     pub down: List<u32>,
 }
 

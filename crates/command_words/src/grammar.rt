@@ -1,5 +1,5 @@
-//! The command line as `clap` knows it. Help is no command and no flag here: a request for it is refused as any other
-//! word, so that it matches no command.
+//! The command line as `clap` knows it. Help is no command and no flag here: a request for it is
+//! refused as any other word, so that it matches no command.
 ghost use Rattle.std.specs.Prelude.{◌≡◌, IfOk, false};
 ghost use Rattle.clap.specs.Words.{app_of, rule_of};
 ghost use Rattle.command_words.specs.Grammar.{

@@ -5,5 +5,6 @@ ghost use Rattle.command_words.specs.Words.{Given, given_by};
 
 /// The words give what the manual page says, and nothing else.
 pub fn words_give_what_the_manual_says()
-    ensures { (options words : List (List ℕ)) (given : List Given) → (given_by options words None ≡ Some given) ↔ Gives options words given }
+    ensures { (options words : List (List ℕ)) (given : List Given) →
+        (given_by options words None ≡ Some given) ↔ Gives options words given }
 {}

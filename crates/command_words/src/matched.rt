@@ -36,7 +36,8 @@ const BOUND: u32 = 32;
 
 // The value of an argument.
 fn value<'a>(found: &ArgMatches<'a>, id: &str) -> Option<&'a str>
-    ensures { MatchOption result (first_of id.now (rows_of (found_of found.now)) ≡ None) (λ text. first_of id.now (rows_of (found_of found.now)) ≡ Some text.now) }
+    ensures { MatchOption result (first_of id.now (rows_of (found_of found.now)) ≡ None) (λ text.
+        first_of id.now (rows_of (found_of found.now)) ≡ Some text.now) }
 {
     found.get_str(id)
 }
@@ -260,7 +261,8 @@ fn recheck(alloc: Global, found: &ArgMatches<'_>) -> Result<Option<Command>, Mem
 
 // The command of this name, where it edits files or makes some, or judges beyond failed links.
 fn later(alloc: Global, name: &str, found: &ArgMatches<'_>) -> Result<Option<Command>, Memory>
-    ensures { IfOk result (λ command. command ≡ matched_later name.now (rows_of (found_of found.now))) }
+    ensures { IfOk result (λ command.
+        command ≡ matched_later name.now (rows_of (found_of found.now))) }
 {
     if name == "repair" {
         return repair(alloc, found);
@@ -285,7 +287,8 @@ fn later(alloc: Global, name: &str, found: &ArgMatches<'_>) -> Result<Option<Com
 
 // The command of this name.
 fn named(alloc: Global, name: &str, found: &ArgMatches<'_>) -> Result<Option<Command>, Memory>
-    ensures { IfOk result (λ command. command ≡ matched_named name.now (rows_of (found_of found.now))) }
+    ensures { IfOk result (λ command.
+        command ≡ matched_named name.now (rows_of (found_of found.now))) }
 {
     if name == "verify" {
         return verify(alloc, found);

@@ -120,7 +120,8 @@ pub fn repair_of(
     bound: Option<u32>,
     conflicts: Option<u64>,
 ) -> Result<Option<Command>, Memory>
-    ensures { IfOk result (λ command. command ≡ repair_of document.now suffix.now proof.now bound conflicts) }
+    ensures { IfOk result (λ command.
+        command ≡ repair_of document.now suffix.now proof.now bound conflicts) }
 {
     let Some(bound) = bound else {
         return Ok(None);

@@ -1,5 +1,7 @@
 -- Clauses over conditions: their parts, and how they are written.
-use Rattle.std.specs.Prelude.{ℕ, ◌+◌, Bool, true, false, not, if◌then◌else◌, ◌==◌, IsTrue, List, [], ◌∷◌, ◌++◌, map, fold, filter_map, Option, Some, None, Contains, length, sum_by}
+use Rattle.std.specs.Prelude.{ℕ, ◌+◌, Bool, true, false, not, if◌then◌else◌, ◌==◌, IsTrue, List, []}
+use Rattle.std.specs.Prelude.{◌∷◌, ◌++◌, map, fold, filter_map, Option, Some, None, Contains}
+use Rattle.std.specs.Prelude.{length, sum_by}
 use Rattle.std.specs.List.{list_any}
 use Rattle.cnf_types.specs.declared.literal.Lit.{Lit}
 use Rattle.cnf_types.specs.declared.clauses.Clause.{Clause}
@@ -7,7 +9,8 @@ use Rattle.cnf_types.specs.Literals.{literal}
 use Rattle.condition_formula.specs.declared.part.Part.{Part}
 use Rattle.condition_formula.specs.declared.part.Part.TheVariants.{Fixed, Literal}
 use Rattle.condition_formula.specs.declared.condition.Condition.{Condition}
-use Rattle.condition_formula.specs.declared.condition.Condition.TheVariants.{Always, Never, If, Unless}
+use Rattle.condition_formula.specs.declared.condition.Condition.TheVariants.{Always, Never, If}
+use Rattle.condition_formula.specs.declared.condition.Condition.TheVariants.{Unless}
 
 -- the variable itself
 abbrev pub yes : ℕ → Part
@@ -47,7 +50,8 @@ parts_value assignment parts = list_any (part_value assignment) parts
 
 -- the assignment makes each of the clauses true
 abbrev pub Fulfils : (ℕ → Bool) → List (List Part) → Type 0
-Fulfils assignment clauses = (parts : List Part) → Contains clauses parts → IsTrue (parts_value assignment parts)
+Fulfils assignment clauses =
+    (parts : List Part) → Contains clauses parts → IsTrue (parts_value assignment parts)
 
 -- whether the part makes a clause true by itself
 abbrev pub is_fixed_true : Part → Bool
@@ -69,7 +73,8 @@ distinct lits = fold with_literal [] lits
 
 -- the literals of a clause, unless a part makes it true by itself
 abbrev pub written : List Part → Option (List Lit)
-written parts = if list_any is_fixed_true parts then None else Some (distinct (filter_map literal_of parts))
+written parts =
+    if list_any is_fixed_true parts then None else Some (distinct (filter_map literal_of parts))
 
 -- the clauses that have to be written
 abbrev pub written_clauses : List (List Part) → List Clause

@@ -1,11 +1,14 @@
--- A network of conditions under a choice of edits: which arcs are open, and whether a question is met.
-use Rattle.std.specs.Prelude.{◌≢◌, ℕ, ◌<◌, Bool, true, false, not, IsTrue, List, [], ◌∷◌, ◌++◌, length, map, filter, slice_index_or, All, Contains}
+-- A network of conditions under a choice of edits: which arcs are open, and whether a question is
+-- met.
+use Rattle.std.specs.Prelude.{◌≢◌, ℕ, ◌<◌, Bool, true, false, not, IsTrue, List, [], ◌∷◌, ◌++◌}
+use Rattle.std.specs.Prelude.{length, map, filter, slice_index_or, All, Contains}
 use Rattle.std.specs.List.{list_all}
 use Rattle.graph_flow.specs.declared.arcs.Arc.{Arc}
 use Rattle.graph_flow.specs.Paths.{Leads, IsGraph}
 use Rattle.graph_flow.specs.Laws.{HavePaths}
 use Rattle.condition_formula.specs.declared.condition.Condition.{Condition}
-use Rattle.condition_formula.specs.declared.condition.Condition.TheVariants.{Always, Never, If, Unless}
+use Rattle.condition_formula.specs.declared.condition.Condition.TheVariants.{Always, Never, If}
+use Rattle.condition_formula.specs.declared.condition.Condition.TheVariants.{Unless}
 use Rattle.condition_formula.specs.declared.condition.ArcLists.{ArcLists}
 use Rattle.condition_formula.specs.declared.condition.ClassEnds.{ClassEnds}
 use Rattle.condition_formula.specs.declared.network.ConditionArc.{ConditionArc}
@@ -33,7 +36,8 @@ lists_of arc class = slice_index_or arc.lists class (record { outbound = Always;
 
 -- all conditions under which the packets of the class go over the arc
 abbrev pub conditions_of : ConditionArc → ℕ → List Condition
-conditions_of arc class = arc.routing ++ (lists_of arc class).outbound ∷ (lists_of arc class).inbound ∷ []
+conditions_of arc class =
+    arc.routing ++ (lists_of arc class).outbound ∷ (lists_of arc class).inbound ∷ []
 
 -- where the packets of the class enter and leave
 abbrev pub ends_of : Question → ℕ → ClassEnds
@@ -89,10 +93,13 @@ pub record IsClear (chosen : ℕ → Bool) (class : ℕ) (arc : ConditionArc) : 
   pub outbound : IsTrue (holds chosen (lists_of arc class).outbound)
   pub inbound : IsTrue (holds chosen (lists_of arc class).inbound)
 
--- all packets enter and leave; and where the two nodes differ, every routed arc is clear, and so many paths share no link
+-- all packets enter and leave; and where the two nodes differ, every routed arc is clear, and so
+-- many paths share no link
 pub record AreReached (chosen : ℕ → Bool) (q : Question) (many : ℕ) : Type 0 where
   pub ends : (class : ℕ) → class < length q.classes → Passes chosen q class
-  pub clear : q.source ≢ q.target → (class : ℕ) → class < length q.classes → (arc : ConditionArc) → Contains q.arcs arc → IsTrue (is_routed chosen arc) → IsClear chosen class arc
+  pub clear : q.source ≢ q.target → (class : ℕ) → class < length q.classes →
+      (arc : ConditionArc) → Contains q.arcs arc → IsTrue (is_routed chosen arc) →
+      IsClear chosen class arc
   pub paths : q.source ≢ q.target → HavePaths (routed_arcs chosen q) q.source q.target many
 
 -- the demand is met
@@ -108,7 +115,8 @@ IsMet chosen q = MeetsDemand chosen q q.demand
 -- the conditions of the arc speak of so many edits
 pub record HasEdits (edits : ℕ) (arc : ConditionArc) : Type 0 where
   pub routing : All (IsOf edits) arc.routing
-  pub lists : (class : ℕ) → IsOf edits (lists_of arc class).outbound × IsOf edits (lists_of arc class).inbound
+  pub lists : (class : ℕ) →
+      IsOf edits (lists_of arc class).outbound × IsOf edits (lists_of arc class).inbound
 
 -- the question is one over these nodes, links and edits
 pub record IsSound (nodes links edits : ℕ) (q : Question) : Type 0 where

@@ -1,6 +1,7 @@
--- The repair formula: its clauses in order, and its variables. Edits have the first variables, then come those of each
--- question in order, and then those that count prices.
-use Rattle.std.specs.Prelude.{ℕ, ◌+◌, ◌*◌, ◌-◌, true, if◌then◌else◌, ◌==◌, List, [], ◌∷◌, ◌++◌, length, map, sum_by}
+-- The repair formula: its clauses in order, and its variables. Edits have the first variables, then
+-- come those of each question in order, and then those that count prices.
+use Rattle.std.specs.Prelude.{ℕ, ◌+◌, ◌*◌, ◌-◌, true, if◌then◌else◌, ◌==◌, List, [], ◌∷◌, ◌++◌}
+use Rattle.std.specs.Prelude.{length, map, sum_by}
 use Rattle.cnf_types.specs.declared.literal.Lit.{Lit}
 use Rattle.cnf_types.specs.declared.clauses.Formula.{Formula}
 use Rattle.cnf_types.specs.Literals.{literal}
@@ -23,7 +24,8 @@ cell first columns row column = first + (row * columns + column)
 abbrev pub demand_parts : Question → ℕ → ℕ → ℕ → Demand → List (List Part)
 demand_parts q nodes links first Blocked = kept_off_parts q (cell first nodes)
 demand_parts q nodes links first Through = kept_off_parts q (cell first nodes)
-demand_parts q nodes links first (Reach many) = reached_parts q nodes links many (cell first (length q.arcs))
+demand_parts q nodes links first (Reach many) =
+    reached_parts q nodes links many (cell first (length q.arcs))
 
 -- how many variables the question has
 abbrev pub demand_size : Question → ℕ → Demand → ℕ
@@ -38,7 +40,8 @@ question_size nodes q = demand_size q nodes q.demand
 abbrev pub questions_parts : (nodes links first : ℕ) → List Question → List (List Part)
 questions_parts nodes links first [] = []
 questions_parts nodes links first (q ∷ qs) =
-    demand_parts q nodes links first q.demand ++ questions_parts nodes links (first + question_size nodes q) qs
+    demand_parts q nodes links first q.demand ++
+    questions_parts nodes links (first + question_size nodes q) qs
 
 -- the first variable after those of edits and questions
 abbrev pub first_price : ConditionNet → ℕ
@@ -52,14 +55,19 @@ all_parts net bound =
 
 -- how many variables there are
 abbrev pub variable_count : ConditionNet → ℕ → ℕ
-variable_count net bound = length net.weights + sum_by (question_size net.nodes) net.questions + length net.weights * (bound + 1)
+variable_count net bound =
+    length net.weights + sum_by (question_size net.nodes) net.questions +
+    length net.weights * (bound + 1)
 
 -- the repair formula
 abbrev pub repair_formula : ConditionNet → ℕ → Formula
-repair_formula net bound = record { vars = variable_count net bound; clauses = written_clauses (all_parts net bound) }
+repair_formula net bound =
+    record { vars = variable_count net bound; clauses = written_clauses (all_parts net bound) }
 
--- for each number up to the bound the literal that the whole price is above it; none where there are no edits
+-- for each number up to the bound the literal that the whole price is above it; none where there
+-- are no edits
 abbrev pub tops_of : ConditionNet → ℕ → List Lit
 tops_of net bound =
-    if length net.weights == 0 then []
-    else map (λ number. literal (cell (first_price net) (bound + 1) (length net.weights - 1) number) true) (upto (bound + 1))
+    if length net.weights == 0 then [] else map (λ number.
+    literal (cell (first_price net) (bound + 1) (length net.weights - 1) number) true)
+    (upto (bound + 1))

@@ -1,5 +1,6 @@
 -- What the repair formula says of a network.
-use Rattle.std.specs.Prelude.{◌≡◌, ◌↔◌, ℕ, ◌+◌, ◌<◌, ◌≤◌, Bool, false, IsTrue, nat_lt, List, length, slice_index_or, slice_get, All, IfSome}
+use Rattle.std.specs.Prelude.{◌≡◌, ◌↔◌, ℕ, ◌+◌, ◌<◌, ◌≤◌, Bool, false, IsTrue, nat_lt, List, length}
+use Rattle.std.specs.Prelude.{slice_index_or, slice_get, All, IfSome}
 use Rattle.cnf_types.specs.declared.literal.Lit.{Lit}
 use Rattle.cnf_types.specs.Literals.{variable, negated}
 use Rattle.cnf_types.specs.Formulas.{value, clause_value, Satisfies}
@@ -18,11 +19,13 @@ chosen_in flags edit = slice_index_or flags edit false
 
 -- the first variables are the flags of the edits
 abbrev pub BeginsWith : (ℕ → Bool) → List Bool → Type 0
-BeginsWith assignment flags = (edit : ℕ) → edit < length flags → assignment (edit_variable edit) ≡ chosen_in flags edit
+BeginsWith assignment flags =
+    (edit : ℕ) → edit < length flags → assignment (edit_variable edit) ≡ chosen_in flags edit
 
 -- the assignment keeps the bound: it says that the price is not above it
 abbrev pub KeepsBound : (ℕ → Bool) → List Lit → ℕ → Type 0
-KeepsBound assignment tops bound = IfSome (slice_get tops bound) (λ top. IsTrue (value assignment (negated top)))
+KeepsBound assignment tops bound =
+    IfSome (slice_get tops bound) (λ top. IsTrue (value assignment (negated top)))
 
 -- each question is one over the network
 abbrev pub IsSoundNet : ConditionNet → Type 0
@@ -44,9 +47,12 @@ pub record IsRepair (net : ConditionNet) (flags : List Bool) (bound : ℕ) : Typ
   pub met : AreMet net flags
   pub affordable : price (chosen_in flags) net.weights ≤ bound
 
--- the formula with a bound has a model that begins with the flags exactly where they are a repair of at most that price
+-- the formula with a bound has a model that begins with the flags exactly where they are a repair
+-- of at most that price
 abbrev pub ModelsAreRepairs : Type 0
-ModelsAreRepairs = (net : ConditionNet) (most : ℕ) (flags : List Bool) (bound : ℕ) → IsSoundNet net → length flags ≡ length net.weights → bound ≤ most →
+ModelsAreRepairs =
+    (net : ConditionNet) (most : ℕ) (flags : List Bool) (bound : ℕ) → IsSoundNet net →
+    length flags ≡ length net.weights → bound ≤ most →
     HasModel net most flags bound ↔ IsRepair net flags bound
 
 -- one model keeps all bounds at once
@@ -54,26 +60,35 @@ pub record HasOneModel (net : ConditionNet) (most : ℕ) (flags : List Bool) : T
   pub assignment : ℕ → Bool
   pub begins : BeginsWith assignment flags
   pub satisfies : Satisfies assignment (repair_formula net most)
-  pub keeps : (bound : ℕ) → price (chosen_in flags) net.weights ≤ bound → bound ≤ most → KeepsBound assignment (tops_of net most) bound
+  pub keeps : (bound : ℕ) → price (chosen_in flags) net.weights ≤ bound → bound ≤ most →
+      KeepsBound assignment (tops_of net most) bound
 
 -- where the edits meet every question, one model keeps each bound from their price on
 abbrev pub OneModelServes : Type 0
-OneModelServes = (net : ConditionNet) (most : ℕ) (flags : List Bool) → IsSoundNet net → length flags ≡ length net.weights →
-    AreMet net flags → HasOneModel net most flags
+OneModelServes =
+    (net : ConditionNet) (most : ℕ) (flags : List Bool) → IsSoundNet net →
+    length flags ≡ length net.weights → AreMet net flags → HasOneModel net most flags
 
--- an assignment makes the written clauses true exactly where it makes true what they were written from
+-- an assignment makes the written clauses true exactly where it makes true what they were written
+-- from
 abbrev pub WritingKeepsMeaning : Type 0
-WritingKeepsMeaning = (assignment : ℕ → Bool) (clauses : List (List Part)) →
-    Fulfils assignment clauses ↔ All (λ c. IsTrue (clause_value assignment c.lits)) (written_clauses clauses)
+WritingKeepsMeaning =
+    (assignment : ℕ → Bool) (clauses : List (List Part)) →
+    Fulfils assignment clauses ↔
+    All (λ c. IsTrue (clause_value assignment c.lits)) (written_clauses clauses)
 
 -- some assignment says of each edit whether it is chosen, and makes the clauses true
 abbrev pub HaveModel : (ℕ → Bool) → ℕ → List (List Part) → Type 0
 HaveModel chosen edits clauses =
-    (assignment : ℕ → Bool) × ((edit : ℕ) → edit < edits → assignment (edit_variable edit) ≡ chosen edit) × Fulfils assignment clauses
+    (assignment : ℕ → Bool) × ((edit : ℕ) → edit < edits →
+    assignment (edit_variable edit) ≡ chosen edit) × Fulfils assignment clauses
 
--- the clauses of a question, whose variables follow those of the edits, have a model exactly where the question is met
+-- the clauses of a question, whose variables follow those of the edits, have a model exactly where
+-- the question is met
 abbrev pub QuestionsAreExact : Type 0
-QuestionsAreExact = (chosen : ℕ → Bool) (nodes links edits first : ℕ) (q : Question) → IsSound nodes links edits q → edits < first →
+QuestionsAreExact =
+    (chosen : ℕ → Bool) (nodes links edits first : ℕ) (q : Question) →
+    IsSound nodes links edits q → edits < first →
     HaveModel chosen edits (demand_parts q nodes links first q.demand) ↔ IsMet chosen q
 
 -- whether the chosen edits up to this one cost more than the number
@@ -83,11 +98,14 @@ costs_more chosen weights edit number = nat_lt number (price_of_first chosen wei
 -- the clauses that count force each variable that has to be true, and hold where just these are
 pub record PricesAreCounted : Type 0 where
   pub forced : (assignment chosen : ℕ → Bool) (weights : List ℕ) (bound : ℕ) (above : ℕ → ℕ → ℕ) →
-      ((edit : ℕ) → edit < length weights → assignment (edit_variable edit) ≡ chosen edit) → Fulfils assignment (price_parts weights bound above) →
-      (edit number : ℕ) → edit < length weights → number ≤ bound → IsTrue (costs_more chosen weights edit number) → IsTrue (assignment (above edit number))
+      ((edit : ℕ) → edit < length weights → assignment (edit_variable edit) ≡ chosen edit) →
+      Fulfils assignment (price_parts weights bound above) →
+      (edit number : ℕ) → edit < length weights → number ≤ bound →
+      IsTrue (costs_more chosen weights edit number) → IsTrue (assignment (above edit number))
   pub enough : (assignment chosen : ℕ → Bool) (weights : List ℕ) (bound : ℕ) (above : ℕ → ℕ → ℕ) →
       ((edit : ℕ) → edit < length weights → assignment (edit_variable edit) ≡ chosen edit) →
-      ((edit number : ℕ) → edit < length weights → number ≤ bound → assignment (above edit number) ≡ costs_more chosen weights edit number) →
+      ((edit number : ℕ) → edit < length weights → number ≤ bound →
+      assignment (above edit number) ≡ costs_more chosen weights edit number) →
       Fulfils assignment (price_parts weights bound above)
 
 -- the variable of the literal is one of so many
@@ -97,9 +115,11 @@ pub record IsVariableOf (vars : ℕ) (lit : Lit) : Type 0 where
 
 -- the formula is over its variables
 pub record IsOverVariables (net : ConditionNet) (most : ℕ) : Type 0 where
-  pub clauses : All (λ c. All (IsVariableOf (repair_formula net most).vars) c.lits) (repair_formula net most).clauses
+  pub clauses : All (λ c. All (IsVariableOf (repair_formula net most).vars) c.lits)
+      (repair_formula net most).clauses
   pub tops : All (IsVariableOf (repair_formula net most).vars) (tops_of net most)
 
 -- of each network whose questions are over it
 abbrev pub FormulasAreOverVariables : Type 0
-FormulasAreOverVariables = (net : ConditionNet) (most : ℕ) → IsSoundNet net → IsOverVariables net most
+FormulasAreOverVariables =
+    (net : ConditionNet) (most : ℕ) → IsSoundNet net → IsOverVariables net most

@@ -1,6 +1,9 @@
 -- How large a network of conditions may be, and when there is no formula of it.
 use Rattle.std.specs.Prelude.{◌≡◌, ℕ, ◌-◌, ◌<◌, ◌≤◌, ◌^◌, min, length, All}
-use Rattle.arc_base.specs.declared.refusal.LimitKind.TheVariants.{Routers, Interfaces, Links, Policies, Failures, Entries, Classes, Edits, Literals, Variables}
+use Rattle.arc_base.specs.declared.refusal.LimitKind.TheVariants.{Routers, Interfaces, Links}
+use Rattle.arc_base.specs.declared.refusal.LimitKind.TheVariants.{Policies, Failures, Entries}
+use Rattle.arc_base.specs.declared.refusal.LimitKind.TheVariants.{Classes, Edits, Literals}
+use Rattle.arc_base.specs.declared.refusal.LimitKind.TheVariants.{Variables}
 use Rattle.condition_formula.specs.declared.network.ConditionNet.{ConditionNet}
 use Rattle.condition_formula.specs.declared.fault.EncodeFault.{EncodeFault}
 use Rattle.condition_formula.specs.declared.fault.EncodeFault.TheVariants.{Limit, Memory}

@@ -1,6 +1,7 @@
--- Prices of edits, and the clauses that count them. `above` is the variable of an edit and a number: the chosen edits up to this
--- one cost more than the number.
-use Rattle.std.specs.Prelude.{ℕ, ◌+◌, ◌-◌, if◌then◌else◌, ◌==◌, nat_lt, List, [], ◌∷◌, ◌++◌, length, flat_map, sum_by, slice_index_or, Bool}
+-- Prices of edits, and the clauses that count them. `above` is the variable of an edit and a
+-- number: the chosen edits up to this one cost more than the number.
+use Rattle.std.specs.Prelude.{ℕ, ◌+◌, ◌-◌, if◌then◌else◌, ◌==◌, nat_lt, List, [], ◌∷◌, ◌++◌, length}
+use Rattle.std.specs.Prelude.{flat_map, sum_by, slice_index_or, Bool}
 use Rattle.condition_formula.specs.Lists.{upto}
 use Rattle.condition_formula.specs.declared.part.Part.{Part}
 use Rattle.condition_formula.specs.Clauses.{yes, no, edit_variable}
@@ -19,16 +20,19 @@ price chosen weights = price_of_first chosen weights (length weights)
 
 -- what the edits before cost more than, these with the edit do
 abbrev pub kept_parts : (ℕ → ℕ → ℕ) → ℕ → ℕ → List (List Part)
-kept_parts above edit number = if edit == 0 then [] else (no (above (edit - 1) number) ∷ yes (above edit number) ∷ []) ∷ []
+kept_parts above edit number =
+    if edit == 0 then [] else (no (above (edit - 1) number) ∷ yes (above edit number) ∷ []) ∷ []
 
 -- a chosen edit adds its weight
 abbrev pub added_parts : (ℕ → ℕ → ℕ) → ℕ → ℕ → ℕ → List (List Part)
 added_parts above weight edit number =
     if nat_lt number weight then (no (edit_variable edit) ∷ yes (above edit number) ∷ []) ∷ []
-    else if edit == 0 then []
-    else (no (edit_variable edit) ∷ no (above (edit - 1) (number - weight)) ∷ yes (above edit number) ∷ []) ∷ []
+    else if edit == 0 then [] else (no (edit_variable edit) ∷
+    no (above (edit - 1) (number - weight)) ∷ yes (above edit number) ∷ []) ∷ []
 
 -- the clauses that count, up to the bound
 abbrev pub price_parts : List ℕ → ℕ → (ℕ → ℕ → ℕ) → List (List Part)
 price_parts weights bound above =
-    flat_map (λ edit. flat_map (λ number. kept_parts above edit number ++ added_parts above (slice_index_or weights edit 0) edit number) (upto (bound + 1))) (upto (length weights))
+    flat_map (λ edit. flat_map (λ number. kept_parts above edit number ++
+    added_parts above (slice_index_or weights edit 0) edit number) (upto (bound + 1)))
+    (upto (length weights))

@@ -1,6 +1,7 @@
--- Clauses of reach: families of arcs that make link-disjoint paths. `used` is the variable of an arc's place, or of a family and
--- a place: the family goes over the arc.
-use Rattle.std.specs.Prelude.{ℕ, false, not, if◌then◌else◌, ◌==◌, ◌&&◌, List, [], ◌∷◌, ◌++◌, length, map, filter, flat_map, slice_index_or}
+-- Clauses of reach: families of arcs that make link-disjoint paths. `used` is the variable of an
+-- arc's place, or of a family and a place: the family goes over the arc.
+use Rattle.std.specs.Prelude.{ℕ, false, not, if◌then◌else◌, ◌==◌, ◌&&◌, List, [], ◌∷◌, ◌++◌, length}
+use Rattle.std.specs.Prelude.{map, filter, flat_map, slice_index_or}
 use Rattle.condition_formula.specs.declared.network.ConditionArc.{ConditionArc}
 use Rattle.condition_formula.specs.declared.network.Question.{Question}
 use Rattle.condition_formula.specs.Lists.{upto, pairs}
@@ -10,7 +11,14 @@ use Rattle.condition_formula.specs.Clauses.{yes, no, affirmed, denied}
 
 -- what stands in the place of an arc where there is none
 abbrev pub no_arc : ConditionArc
-no_arc = record { link = record { 0 = 0 }; tail = 0; head = 0; waypoint = false; routing = []; lists = [] }
+no_arc = record {
+  link = record { 0 = 0 };
+  tail = 0;
+  head = 0;
+  waypoint = false;
+  routing = [];
+  lists = [];
+}
 
 -- the arc at a place
 abbrev pub arc_at : Question → ℕ → ConditionArc
@@ -30,19 +38,25 @@ into q node = filter (λ place. (arc_at q place).head == node) (places q)
 
 -- of each pair of the items not both variables are true
 abbrev pub exclusions : {X : Type 0} → (X → ℕ) → List X → List (List Part)
-exclusions variable items = map (λ pair. no (variable pair.0) ∷ no (variable pair.1) ∷ []) (pairs items)
+exclusions variable items =
+    map (λ pair. no (variable pair.0) ∷ no (variable pair.1) ∷ []) (pairs items)
 
 -- where the one is used, so is some of the others
 abbrev pub implications : (ℕ → ℕ) → List ℕ → List ℕ → List (List Part)
-implications used ones others = map (λ place. no (used place) ∷ map (λ other. yes (used other)) others) ones
+implications used ones others =
+    map (λ place. no (used place) ∷ map (λ other. yes (used other)) others) ones
 
 -- a used arc is routed
 abbrev pub routed_parts : Question → (ℕ → ℕ) → List (List Part)
-routed_parts q used = flat_map (λ place. map (λ condition. no (used place) ∷ affirmed condition ∷ []) (arc_at q place).routing) (places q)
+routed_parts q used = flat_map
+    (λ place. map (λ condition. no (used place) ∷ affirmed condition ∷ []) (arc_at q place).routing)
+    (places q)
 
 -- at a node between, a used arc goes on and comes from somewhere
 abbrev pub node_parts : Question → (ℕ → ℕ) → ℕ → List (List Part)
-node_parts q used node = implications used (into q node) (out_of q node) ++ implications used (out_of q node) (into q node)
+node_parts q used node =
+    implications used (into q node) (out_of q node) ++
+    implications used (out_of q node) (into q node)
 
 -- at most one used arc leaves the node, and at most one enters it
 abbrev pub once_parts : Question → (ℕ → ℕ) → ℕ → List (List Part)
@@ -55,20 +69,22 @@ between q nodes = filter (λ node. not (node == q.source) && not (node == q.targ
 -- the used arcs are routed, and make a path from the source to the target
 abbrev pub family_parts : Question → ℕ → (ℕ → ℕ) → List (List Part)
 family_parts q nodes used =
-    routed_parts q used
-    ++ (map (λ place. yes (used place)) (out_of q q.source) ∷ map (λ place. yes (used place)) (into q q.target) ∷ [])
+    routed_parts q used ++ (map (λ place. yes (used place)) (out_of q q.source)
+    ∷ map (λ place. yes (used place)) (into q q.target) ∷ [])
     ++ map (λ place. no (used place) ∷ []) (into q q.source)
     ++ map (λ place. no (used place) ∷ []) (out_of q q.target)
-    ++ flat_map (node_parts q used) (between q nodes)
-    ++ flat_map (once_parts q used) (upto nodes)
+    ++ flat_map (node_parts q used) (between q nodes) ++ flat_map (once_parts q used) (upto nodes)
 
 -- the families and places over the link, the families in order
 abbrev pub over_link : Question → ℕ → ℕ → List (ℕ × ℕ)
-over_link q many link = flat_map (λ family. map (λ place. (family, place)) (filter (λ place. (arc_at q place).link.0 == link) (places q))) (upto many)
+over_link q many link = flat_map (λ family.
+    map (λ place. (family, place)) (filter (λ place. (arc_at q place).link.0 == link) (places q)))
+    (upto many)
 
 -- the packets of the class enter and leave
 abbrev pub ends_parts : Question → ℕ → List (List Part)
-ends_parts q class = (affirmed (ends_of q class).enter ∷ []) ∷ (affirmed (ends_of q class).leave ∷ []) ∷ []
+ends_parts q class =
+    (affirmed (ends_of q class).enter ∷ []) ∷ (affirmed (ends_of q class).leave ∷ []) ∷ []
 
 -- a routed arc is clear to the class
 abbrev pub clear_parts : ℕ → ConditionArc → List (List Part)
@@ -81,7 +97,8 @@ abbrev pub paths_parts : Question → ℕ → ℕ → ℕ → (ℕ → ℕ → �
 paths_parts q nodes links many used =
     flat_map (λ class. flat_map (clear_parts class) q.arcs) (upto (length q.classes))
     ++ flat_map (λ family. family_parts q nodes (used family)) (upto many)
-    ++ flat_map (λ link. exclusions (λ item. used item.0 item.1) (over_link q many link)) (upto links)
+    ++ flat_map (λ link. exclusions (λ item. used item.0 item.1) (over_link q many link))
+    (upto links)
 
 -- the packets enter and leave, and where the two nodes differ there are paths
 abbrev pub reached_parts : Question → ℕ → ℕ → ℕ → (ℕ → ℕ → ℕ) → List (List Part)

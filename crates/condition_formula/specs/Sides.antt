@@ -1,5 +1,5 @@
--- Clauses of blocked and through: for each class a side that packets do not leave. `reached` is the variable of a node, or of a
--- class and a node: packets come there.
+-- Clauses of blocked and through: for each class a side that packets do not leave. `reached` is the
+-- variable of a node, or of a class and a node: packets come there.
 use Rattle.std.specs.Prelude.{ℕ, List, [], ◌∷◌, ◌++◌, length, map, flat_map}
 use Rattle.condition_formula.specs.declared.network.ConditionArc.{ConditionArc}
 use Rattle.condition_formula.specs.declared.network.Question.{Question}
@@ -10,7 +10,8 @@ use Rattle.condition_formula.specs.Clauses.{yes, no, denied}
 
 -- packets that come to the tail of an open arc come to its head
 abbrev pub step_parts : (ℕ → ℕ) → ℕ → ConditionArc → List Part
-step_parts reached class arc = no (reached arc.tail) ∷ map denied (conditions_of arc class) ++ yes (reached arc.head) ∷ []
+step_parts reached class arc =
+    no (reached arc.tail) ∷ map denied (conditions_of arc class) ++ yes (reached arc.head) ∷ []
 
 -- packets that enter come to the source, go over open arcs, and leave at no target
 abbrev pub side_parts : Question → (ℕ → ℕ) → ℕ → List (List Part)
@@ -21,4 +22,5 @@ side_parts q reached class =
 
 -- the same for each class; `reached` is the variable of a class and a node
 abbrev pub kept_off_parts : Question → (ℕ → ℕ → ℕ) → List (List Part)
-kept_off_parts q reached = flat_map (λ class. side_parts q (reached class) class) (upto (length q.classes))
+kept_off_parts q reached =
+    flat_map (λ class. side_parts q (reached class) class) (upto (length q.classes))

@@ -1,5 +1,7 @@
--- How clauses are written one after the other, and their literals counted. Contracts of helpers cite these.
-use Rattle.std.specs.Prelude.{◌≡◌, ℕ, ◌+◌, ◌-◌, ◌<◌, ◌≤◌, ◌^◌, min, ◌==◌, Bool, List, [], ◌∷◌, ◌++◌, length, map, filter, slice_index_or, All}
+-- How clauses are written one after the other, and their literals counted. Contracts of helpers
+-- cite these.
+use Rattle.std.specs.Prelude.{◌≡◌, ℕ, ◌+◌, ◌-◌, ◌<◌, ◌≤◌, ◌^◌, min, ◌==◌, Bool, List, [], ◌∷◌, ◌++◌}
+use Rattle.std.specs.Prelude.{length, map, filter, slice_index_or, All}
 use Rattle.condition_formula.specs.declared.part.Part.{Part}
 use Rattle.condition_formula.specs.declared.part.Part.TheVariants.{Fixed, Literal}
 use Rattle.condition_formula.specs.declared.pick.Pick.{Pick}
@@ -18,7 +20,8 @@ abbrev pub IsSmall : Part → Type 0
 IsSmall (Fixed truth) = Unit {0}
 IsSmall (Literal variable positive) = variable < 2 ^ 62
 
--- the clauses were written after the others, unless there are too many literals, and these were counted
+-- the clauses were written after the others, unless there are too many literals, and these were
+-- counted
 pub record Adds (old new : Writer) (clauses : List (List Part)) : Type 0 where
   pub counted : new.literals ≡ min (old.literals + literal_count clauses) (2 ^ 64 - 1)
   pub kept : new.literals ≤ 32000000 → new.clauses ≡ old.clauses ++ written_clauses clauses

@@ -1,5 +1,6 @@
 //! Clauses that count prices.
-ghost use Rattle.std.specs.Prelude.{◌≡◌, ◌<◌, ◌≤◌, ◌+◌, ◌^◌, [], ◌∷◌, ◌++◌, if◌then◌else◌, ◌-◌, length, flat_map, slice_index_or, OnOk};
+ghost use Rattle.std.specs.Prelude.{◌≡◌, ◌<◌, ◌≤◌, ◌+◌, ◌^◌, [], ◌∷◌, ◌++◌, if◌then◌else◌, ◌-◌};
+ghost use Rattle.std.specs.Prelude.{length, flat_map, slice_index_or, OnOk};
 ghost use Rattle.condition_formula.specs.Clauses.{yes, no, edit_variable};
 ghost use Rattle.condition_formula.specs.Lists.{upto};
 ghost use Rattle.condition_formula.specs.Formulas.{cell};
@@ -14,7 +15,8 @@ use std::alloc::Global;
 
 /// What the edits before cost more than, these with the edit do.
 fn kept(alloc: Global, out: &mut Writer, above: Table, edit: u32, number: u32) -> Result<(), Memory>
-    ensures { OnOk result (Adds out.old out.new (kept_parts (cell above.first above.columns) edit number)) }
+    ensures { OnOk result
+        (Adds out.old out.new (kept_parts (cell above.first above.columns) edit number)) }
 {
     if edit == 0 {
         return Ok(());
@@ -33,7 +35,8 @@ fn added_alone(
     edit: u32,
     number: u32,
 ) -> Result<(), Memory>
-    ensures { OnOk result (Adds out.old out.new ((no (edit_variable edit) ∷ yes (cell above.first above.columns edit number) ∷ []) ∷ [])) }
+    ensures { OnOk result (Adds out.old out.new
+        ((no (edit_variable edit) ∷ yes (cell above.first above.columns edit number) ∷ []) ∷ [])) }
 {
     let mut draft = Draft::make(alloc);
     draft.no(u64::from(edit) + 1)?;
@@ -52,7 +55,9 @@ fn added_on_top(
 ) -> Result<(), Memory>
     requires edit { 0 < edit }
     requires weight { weight ≤ number }
-    ensures { OnOk result (Adds out.old out.new ((no (edit_variable edit) ∷ no (cell above.first above.columns (edit - 1) (number - weight)) ∷ yes (cell above.first above.columns edit number) ∷ []) ∷ [])) }
+    ensures { OnOk result (Adds out.old out.new ((no (edit_variable edit) ∷
+        no (cell above.first above.columns (edit - 1) (number - weight)) ∷
+        yes (cell above.first above.columns edit number) ∷ []) ∷ [])) }
 {
     let mut draft = Draft::make(alloc);
     draft.no(u64::from(edit) + 1)?;
@@ -70,7 +75,8 @@ fn added(
     edit: u32,
     number: u32,
 ) -> Result<(), Memory>
-    ensures { OnOk result (Adds out.old out.new (added_parts (cell above.first above.columns) weight edit number)) }
+    ensures { OnOk result
+        (Adds out.old out.new (added_parts (cell above.first above.columns) weight edit number)) }
 {
     if number < weight {
         return added_alone(alloc, out, above, edit, number);
@@ -90,7 +96,9 @@ fn counted_at(
     edit: u32,
     number: u32,
 ) -> Result<(), Memory>
-    ensures { OnOk result (Adds out.old out.new (kept_parts (cell above.first above.columns) edit number ++ added_parts (cell above.first above.columns) weight edit number)) }
+    ensures { OnOk result
+        (Adds out.old out.new (kept_parts (cell above.first above.columns) edit number ++
+        added_parts (cell above.first above.columns) weight edit number)) }
 {
     kept(alloc, out, above, edit, number)?;
     added(alloc, out, above, weight, edit, number)?;
@@ -107,7 +115,9 @@ fn counted(
     edit: u32,
 ) -> Result<(), Memory>
     requires { bound ≤ 65535 }
-    ensures { OnOk result (Adds out.old out.new (flat_map (λ number. kept_parts (cell above.first above.columns) edit number ++ added_parts (cell above.first above.columns) weight edit number) (upto (bound + 1)))) }
+    ensures { OnOk result (Adds out.old out.new
+        (flat_map (λ number. kept_parts (cell above.first above.columns) edit number ++
+        added_parts (cell above.first above.columns) weight edit number) (upto (bound + 1)))) }
 {
     for number in 0..bound + 1 {
         counted_at(alloc, out, above, weight, edit, number)?;
@@ -135,7 +145,8 @@ pub(crate) fn prices(
 ) -> Result<(), Memory>
     requires bound { bound ≤ 65535 }
     requires few { length weights.now < 2 ^ 32 }
-    ensures { OnOk result (Adds out.old out.new (price_parts weights.now bound (cell above.first above.columns))) }
+    ensures { OnOk result
+        (Adds out.old out.new (price_parts weights.now bound (cell above.first above.columns))) }
 {
     for edit in 0..weights.len() as u32 {
         counted(alloc, out, above, bound, weight_at(weights, edit), edit)?;

@@ -1,9 +1,11 @@
 //! A clause in the making, and the literals that it comes to.
-ghost use Rattle.std.specs.Prelude.{◌≡◌, ◌==◌, ◌<◌, ◌^◌, ◌++◌, [], ◌∷◌, map, fold, filter_map, All, OnOk, OnErr, IfOk};
+ghost use Rattle.std.specs.Prelude.{◌≡◌, ◌==◌, ◌<◌, ◌^◌, ◌++◌, [], ◌∷◌, map, fold, filter_map, All};
+ghost use Rattle.std.specs.Prelude.{OnOk, OnErr, IfOk};
 ghost use Rattle.std.specs.List.{list_any};
 ghost use Rattle.cnf_types.specs.Literals.{literal};
 ghost use Rattle.condition_formula.specs.declared.part.Part.TheVariants.{Fixed, Literal};
-ghost use Rattle.condition_formula.specs.Clauses.{yes, no, affirmed, denied, is_fixed_true, literal_of, with_literal, distinct};
+ghost use Rattle.condition_formula.specs.Clauses.{yes, no, affirmed, denied, is_fixed_true};
+ghost use Rattle.condition_formula.specs.Clauses.{literal_of, with_literal, distinct};
 ghost use Rattle.condition_formula.specs.Writing.{IsSmall};
 
 use crate::condition::Condition;
@@ -178,7 +180,8 @@ pub(crate) fn literal(variable: u64, positive: bool) -> Lit
 /// Adds the literal of a part, where it is one, unless it stands there already.
 fn add_part(lits: &mut List<Lit>, part: Part) -> Result<(), Memory>
     requires { IsSmall part }
-    ensures { OnOk result (lits.new ≡ fold with_literal lits.old (filter_map literal_of (part ∷ []))) }
+    ensures { OnOk result
+        (lits.new ≡ fold with_literal lits.old (filter_map literal_of (part ∷ []))) }
 {
     match part {
         Part::Fixed(_) => Ok(()),

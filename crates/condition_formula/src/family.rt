@@ -1,10 +1,12 @@
 //! Clauses of reach: the arcs of one family make a path.
-ghost use Rattle.std.specs.Prelude.{◌≡◌, ◌==◌, ◌<◌, ◌&&◌, not, [], ◌∷◌, ◌++◌, if◌then◌else◌, length, map, flat_map, OnOk, ◌^◌};
+ghost use Rattle.std.specs.Prelude.{◌≡◌, ◌==◌, ◌<◌, ◌&&◌, not, [], ◌∷◌, ◌++◌, if◌then◌else◌};
+ghost use Rattle.std.specs.Prelude.{length, map, flat_map, OnOk, ◌^◌};
 ghost use Rattle.condition_formula.specs.Lists.{upto};
 ghost use Rattle.condition_formula.specs.declared.pick.Pick.TheVariants.{OutOf, Into};
 ghost use Rattle.condition_formula.specs.Clauses.{yes, no, affirmed};
 ghost use Rattle.condition_formula.specs.Formulas.{cell};
-ghost use Rattle.condition_formula.specs.Reaching.{arc_at, routed_parts, node_parts, once_parts, between, family_parts, out_of, into};
+ghost use Rattle.condition_formula.specs.Reaching.{arc_at, routed_parts, node_parts, once_parts};
+ghost use Rattle.condition_formula.specs.Reaching.{between, family_parts, out_of, into};
 ghost use Rattle.condition_formula.specs.Writing.{Adds, row_at, rows_of};
 
 use crate::condition::Condition;
@@ -43,7 +45,8 @@ fn requires_all(
     conditions: &[Condition],
 ) -> Result<(), Memory>
     requires { variable < 2 ^ 62 }
-    ensures { OnOk result (Adds out.old out.new (map (λ condition. no variable ∷ affirmed condition ∷ []) conditions.now)) }
+    ensures { OnOk result (Adds out.old out.new
+        (map (λ condition. no variable ∷ affirmed condition ∷ []) conditions.now)) }
 {
     for condition in conditions {
         requires_condition(alloc, out, variable, *condition)?;
@@ -60,7 +63,8 @@ fn routed_at(
     place: u32,
 ) -> Result<(), Memory>
     requires small { variable < 2 ^ 62 }
-    ensures { OnOk result (Adds out.old out.new (map (λ condition. no variable ∷ affirmed condition ∷ []) (arc_at q.now place).routing)) }
+    ensures { OnOk result (Adds out.old out.new
+        (map (λ condition. no variable ∷ affirmed condition ∷ []) (arc_at q.now place).routing)) }
 {
     match q.arcs.get(place) {
         Some(arc) => requires_all(alloc, out, variable, arc.routing.slice()),
@@ -76,7 +80,8 @@ fn routed(
     used: Table,
     family: u32,
 ) -> Result<(), Memory>
-    ensures { OnOk result (Adds out.old out.new (routed_parts q.now (cell used.first used.columns family))) }
+    ensures { OnOk result
+        (Adds out.old out.new (routed_parts q.now (cell used.first used.columns family))) }
 {
     for place in 0..q.arcs.len() {
         routed_at(alloc, out, q, used.at(family, place), place)?;
@@ -96,7 +101,8 @@ fn goes_on(
 ) -> Result<(), Memory>
     requires out_of { row_at index.now.out_of node ≡ out_of q.now node }
     requires into { row_at index.now.into node ≡ into q.now node }
-    ensures { OnOk result (Adds out.old out.new (node_parts q.now (cell used.first used.columns family) node)) }
+    ensures { OnOk result
+        (Adds out.old out.new (node_parts q.now (cell used.first used.columns family) node)) }
 {
     let ins = row_variables(alloc, &index.into, node, used, family)?;
     let outs = row_variables(alloc, &index.out_of, node, used, family)?;
@@ -117,7 +123,9 @@ fn goes_on_between(
 ) -> Result<(), Memory>
     requires out_of { row_at index.now.out_of node ≡ out_of q.now node }
     requires into { row_at index.now.into node ≡ into q.now node }
-    ensures { OnOk result (Adds out.old out.new (if not (node == q.now.source) && not (node == q.now.target) then node_parts q.now (cell used.first used.columns family) node else [])) }
+    ensures { OnOk result
+        (Adds out.old out.new (if not (node == q.now.source) && not (node == q.now.target)
+        then node_parts q.now (cell used.first used.columns family) node else [])) }
 {
     if node == q.source || node == q.target {
         return Ok(());
@@ -137,7 +145,8 @@ fn all_go_on(
 ) -> Result<(), Memory>
     requires out_of { index.now.out_of ≡ rows_of q.now OutOf nodes }
     requires into { index.now.into ≡ rows_of q.now Into nodes }
-    ensures { OnOk result (Adds out.old out.new (flat_map (node_parts q.now (cell used.first used.columns family)) (between q.now nodes))) }
+    ensures { OnOk result (Adds out.old out.new
+        (flat_map (node_parts q.now (cell used.first used.columns family)) (between q.now nodes))) }
 {
     for node in 0..nodes {
         goes_on_between(alloc, out, q, index, used, family, node)?;
@@ -157,7 +166,8 @@ fn once(
 ) -> Result<(), Memory>
     requires out_of { row_at index.now.out_of node ≡ out_of q.now node }
     requires into { row_at index.now.into node ≡ into q.now node }
-    ensures { OnOk result (Adds out.old out.new (once_parts q.now (cell used.first used.columns family) node)) }
+    ensures { OnOk result
+        (Adds out.old out.new (once_parts q.now (cell used.first used.columns family) node)) }
 {
     let outs = row_variables(alloc, &index.out_of, node, used, family)?;
     exclusions(alloc, out, outs.slice())?;
@@ -178,7 +188,8 @@ fn all_once(
 ) -> Result<(), Memory>
     requires out_of { index.now.out_of ≡ rows_of q.now OutOf nodes }
     requires into { index.now.into ≡ rows_of q.now Into nodes }
-    ensures { OnOk result (Adds out.old out.new (flat_map (once_parts q.now (cell used.first used.columns family)) (upto nodes))) }
+    ensures { OnOk result (Adds out.old out.new
+        (flat_map (once_parts q.now (cell used.first used.columns family)) (upto nodes))) }
 {
     for node in 0..nodes {
         once(alloc, out, q, index, used, family, node)?;
@@ -194,7 +205,11 @@ fn ends(
     used: Table,
     family: u32,
 ) -> Result<(), Memory>
-    ensures { OnOk result (Adds out.old out.new (map (λ place. yes (cell used.first used.columns family place)) (out_of q.now q.now.source) ∷ map (λ place. yes (cell used.first used.columns family place)) (into q.now q.now.target) ∷ [])) }
+    ensures { OnOk result
+        (Adds out.old out.new (map (λ place. yes (cell used.first used.columns family place))
+        (out_of q.now q.now.source) ∷
+        map (λ place. yes (cell used.first used.columns family place)) (into q.now q.now.target) ∷
+        [])) }
 {
     let outs = searched(alloc, q, Pick::OutOf, q.source, used, family)?;
     some_of(alloc, out, outs.slice())?;
@@ -211,7 +226,9 @@ fn not_back(
     used: Table,
     family: u32,
 ) -> Result<(), Memory>
-    ensures { OnOk result (Adds out.old out.new (map (λ place. no (cell used.first used.columns family place) ∷ []) (into q.now q.now.source))) }
+    ensures { OnOk result
+        (Adds out.old out.new (map (λ place. no (cell used.first used.columns family place) ∷ [])
+        (into q.now q.now.source))) }
 {
     let ins = searched(alloc, q, Pick::Into, q.source, used, family)?;
     none_of(alloc, out, ins.slice())?;
@@ -226,7 +243,9 @@ fn not_on(
     used: Table,
     family: u32,
 ) -> Result<(), Memory>
-    ensures { OnOk result (Adds out.old out.new (map (λ place. no (cell used.first used.columns family place) ∷ []) (out_of q.now q.now.target))) }
+    ensures { OnOk result
+        (Adds out.old out.new (map (λ place. no (cell used.first used.columns family place) ∷ [])
+        (out_of q.now q.now.target))) }
 {
     let outs = searched(alloc, q, Pick::OutOf, q.target, used, family)?;
     none_of(alloc, out, outs.slice())?;
@@ -245,7 +264,8 @@ pub(crate) fn family(
 ) -> Result<(), Memory>
     requires out_of { index.now.out_of ≡ rows_of q.now OutOf nodes }
     requires into { index.now.into ≡ rows_of q.now Into nodes }
-    ensures { OnOk result (Adds out.old out.new (family_parts q.now nodes (cell used.first used.columns family))) }
+    ensures { OnOk result
+        (Adds out.old out.new (family_parts q.now nodes (cell used.first used.columns family))) }
 {
     routed(alloc, out, q, used, family)?;
     ends(alloc, out, q, used, family)?;

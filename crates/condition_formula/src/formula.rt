@@ -1,5 +1,6 @@
 //! The repair formula of a network of conditions.
-ghost use Rattle.std.specs.Prelude.{◌≡◌, ◌<◌, ◌≤◌, ◌+◌, ◌-◌, ◌^◌, [], ◌∷◌, ◌++◌, ◌==◌, if◌then◌else◌, true, length, map, take, OnOk, IfOk, IfErr};
+ghost use Rattle.std.specs.Prelude.{◌≡◌, ◌<◌, ◌≤◌, ◌+◌, ◌-◌, ◌^◌, [], ◌∷◌, ◌++◌, ◌==◌};
+ghost use Rattle.std.specs.Prelude.{if◌then◌else◌, true, length, map, take, OnOk, IfOk, IfErr};
 ghost use Rattle.cnf_types.specs.Literals.{literal};
 ghost use Rattle.condition_formula.specs.Lists.{upto};
 ghost use Rattle.condition_formula.specs.Formulas.{cell, repair_formula, tops_of};
@@ -17,8 +18,8 @@ use arc_base::{LimitKind, List, Memory};
 use cnf_types::{Formula, Lit};
 use std::alloc::Global;
 
-/// The repair formula, and for each number up to the bound the literal that the price is above it; none where there are no
-/// edits.
+/// The repair formula, and for each number up to the bound the literal that the price is above it;
+/// none where there are no edits.
 #[derive(Debug, Drop)]
 pub struct Encoded {
     pub formula: Formula,
@@ -28,7 +29,9 @@ pub struct Encoded {
 /// For each number up to the bound the literal that the price of all edits is above it.
 fn tops(alloc: Global, edits: u32, bound: u32, above: Table) -> Result<List<Lit>, Memory>
     requires { bound ≤ 512 }
-    ensures { IfOk result (λ tops. tops ≡ (if edits == 0 then [] else map (λ number. literal (cell above.first above.columns (edits - 1) number) true) (upto (bound + 1)))) }
+    ensures { IfOk result (λ tops. tops ≡ (if edits == 0 then []
+        else map (λ number. literal (cell above.first above.columns (edits - 1) number) true)
+        (upto (bound + 1)))) }
 {
     let mut tops = List::make(alloc);
     if edits == 0 {

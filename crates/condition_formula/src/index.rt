@@ -1,8 +1,10 @@
 //! How the places of a question's arcs are found.
-ghost use Rattle.std.specs.Prelude.{◌≡◌, ◌<◌, ◌^◌, [], ◌∷◌, ◌++◌, if◌then◌else◌, length, map, OnOk, IfOk};
+ghost use Rattle.std.specs.Prelude.{◌≡◌, ◌<◌, ◌^◌, [], ◌∷◌, ◌++◌, if◌then◌else◌, length, map, OnOk};
+ghost use Rattle.std.specs.Prelude.{IfOk};
 ghost use Rattle.condition_formula.specs.Formulas.{cell};
 ghost use Rattle.condition_formula.specs.Reaching.{arc_at};
-ghost use Rattle.condition_formula.specs.Writing.{AreSmall, picks, picked, rows_of, row_at, IsIndex};
+ghost use Rattle.condition_formula.specs.Writing.{AreSmall, picks, picked, rows_of, row_at};
+ghost use Rattle.condition_formula.specs.Writing.{IsIndex};
 
 use crate::draft::push;
 use crate::network::{ConditionArc, Question};
@@ -84,7 +86,8 @@ fn variables_of(
     used: Table,
     family: u32,
 ) -> Result<List<u64>, Memory>
-    ensures variables { IfOk result (λ vs. vs ≡ map (cell used.first used.columns family) places.now) }
+    ensures variables { IfOk result (λ vs.
+        vs ≡ map (cell used.first used.columns family) places.now) }
     ensures small { IfOk result AreSmall }
 {
     let mut variables = List::make(alloc);
@@ -102,7 +105,8 @@ pub(crate) fn row_variables(
     used: Table,
     family: u32,
 ) -> Result<List<u64>, Memory>
-    ensures variables { IfOk result (λ vs. vs ≡ map (cell used.first used.columns family) (row_at rows.now number)) }
+    ensures variables { IfOk result (λ vs.
+        vs ≡ map (cell used.first used.columns family) (row_at rows.now number)) }
     ensures small { IfOk result AreSmall }
 {
     match rows.get(number) {
@@ -120,7 +124,8 @@ pub(crate) fn searched(
     used: Table,
     family: u32,
 ) -> Result<List<u64>, Memory>
-    ensures variables { IfOk result (λ vs. vs ≡ map (cell used.first used.columns family) (picked q.now pick number)) }
+    ensures variables { IfOk result (λ vs.
+        vs ≡ map (cell used.first used.columns family) (picked q.now pick number)) }
     ensures small { IfOk result AreSmall }
 {
     let places = picked(alloc, q, pick, number)?;

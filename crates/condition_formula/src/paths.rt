@@ -1,11 +1,13 @@
 //! Clauses of reach: so many families of arcs that share no link, over routed arcs that are clear.
-ghost use Rattle.std.specs.Prelude.{◌≡◌, ◌==◌, ◌<◌, ◌^◌, [], ◌∷◌, ◌++◌, if◌then◌else◌, length, map, flat_map, OnOk, IfOk};
+ghost use Rattle.std.specs.Prelude.{◌≡◌, ◌==◌, ◌<◌, ◌^◌, [], ◌∷◌, ◌++◌, if◌then◌else◌, length, map};
+ghost use Rattle.std.specs.Prelude.{flat_map, OnOk, IfOk};
 ghost use Rattle.condition_formula.specs.Lists.{upto};
 ghost use Rattle.condition_formula.specs.declared.pick.Pick.TheVariants.{OutOf, Into, Over};
 ghost use Rattle.condition_formula.specs.Clauses.{affirmed, denied};
 ghost use Rattle.condition_formula.specs.Conditions.{lists_of, ends_of};
 ghost use Rattle.condition_formula.specs.Formulas.{cell};
-ghost use Rattle.condition_formula.specs.Reaching.{over_link, exclusions, ends_parts, clear_parts, family_parts, paths_parts, reached_parts};
+ghost use Rattle.condition_formula.specs.Reaching.{over_link, exclusions, ends_parts, clear_parts};
+ghost use Rattle.condition_formula.specs.Reaching.{family_parts, paths_parts, reached_parts};
 ghost use Rattle.condition_formula.specs.Writing.{Adds, AreSmall, row_at, rows_of, picked};
 
 use crate::condition::Condition;
@@ -42,7 +44,8 @@ fn ends(alloc: Global, out: &mut Writer, q: &Question, class: u32) -> Result<(),
 
 /// The same for each class.
 fn all_ends(alloc: Global, out: &mut Writer, q: &Question) -> Result<(), Memory>
-    ensures { OnOk result (Adds out.old out.new (flat_map (ends_parts q.now) (upto (length q.now.classes)))) }
+    ensures { OnOk result
+        (Adds out.old out.new (flat_map (ends_parts q.now) (upto (length q.now.classes)))) }
 {
     for class in 0..q.classes.len() {
         ends(alloc, out, q, class)?;
@@ -57,7 +60,8 @@ fn all_require(
     conditions: &[Condition],
     one: Condition,
 ) -> Result<(), Memory>
-    ensures { OnOk result (Adds out.old out.new ((map denied conditions.now ++ affirmed one ∷ []) ∷ [])) }
+    ensures { OnOk result
+        (Adds out.old out.new ((map denied conditions.now ++ affirmed one ∷ []) ∷ [])) }
 {
     let mut draft = Draft::make(alloc);
     draft.deny_all(conditions)?;
@@ -87,7 +91,9 @@ fn arcs_clear(alloc: Global, out: &mut Writer, q: &Question, class: u32) -> Resu
 
 /// The same for each class.
 fn all_clear(alloc: Global, out: &mut Writer, q: &Question) -> Result<(), Memory>
-    ensures { OnOk result (Adds out.old out.new (flat_map (λ class. flat_map (clear_parts class) q.now.arcs) (upto (length q.now.classes)))) }
+    ensures { OnOk result
+        (Adds out.old out.new (flat_map (λ class. flat_map (clear_parts class) q.now.arcs)
+        (upto (length q.now.classes)))) }
 {
     for class in 0..q.classes.len() {
         arcs_clear(alloc, out, q, class)?;
@@ -107,7 +113,8 @@ fn families(
 ) -> Result<(), Memory>
     requires out_of { index.now.out_of ≡ rows_of q.now OutOf nodes }
     requires into { index.now.into ≡ rows_of q.now Into nodes }
-    ensures { OnOk result (Adds out.old out.new (flat_map (λ f. family_parts q.now nodes (cell used.first used.columns f)) (upto many))) }
+    ensures { OnOk result (Adds out.old out.new
+        (flat_map (λ f. family_parts q.now nodes (cell used.first used.columns f)) (upto many))) }
 {
     for number in 0..many {
         family(alloc, out, q, index, nodes, used, number)?;
@@ -138,7 +145,8 @@ fn over_link(
     link: u32,
 ) -> Result<List<u64>, Memory>
     requires { row_at index.now.over link ≡ picked q.now Over link }
-    ensures variables { IfOk result (λ vs. vs ≡ map (λ item. cell used.first used.columns item.0 item.1) (over_link q.now many link)) }
+    ensures variables { IfOk result (λ vs.
+        vs ≡ map (λ item. cell used.first used.columns item.0 item.1) (over_link q.now many link)) }
     ensures small { IfOk result AreSmall }
 {
     let mut variables = List::make(alloc);
@@ -160,7 +168,9 @@ fn own_link(
     link: u32,
 ) -> Result<(), Memory>
     requires { row_at index.now.over link ≡ picked q.now Over link }
-    ensures { OnOk result (Adds out.old out.new (exclusions (λ item. cell used.first used.columns item.0 item.1) (over_link q.now many link))) }
+    ensures { OnOk result
+        (Adds out.old out.new (exclusions (λ item. cell used.first used.columns item.0 item.1)
+        (over_link q.now many link))) }
 {
     let variables = over_link(alloc, q, index, many, used, link)?;
     exclusions(alloc, out, variables.slice())?;
@@ -178,7 +188,9 @@ fn own_links(
     used: Table,
 ) -> Result<(), Memory>
     requires { index.now.over ≡ rows_of q.now Over links }
-    ensures { OnOk result (Adds out.old out.new (flat_map (λ link. exclusions (λ item. cell used.first used.columns item.0 item.1) (over_link q.now many link)) (upto links))) }
+    ensures { OnOk result (Adds out.old out.new (flat_map (λ link.
+        exclusions (λ item. cell used.first used.columns item.0 item.1) (over_link q.now many link))
+        (upto links))) }
 {
     for link in 0..links {
         own_link(alloc, out, q, index, many, used, link)?;
@@ -196,7 +208,8 @@ fn paths(
     many: u32,
     used: Table,
 ) -> Result<(), Memory>
-    ensures { OnOk result (Adds out.old out.new (paths_parts q.now nodes links many (cell used.first used.columns))) }
+    ensures { OnOk result
+        (Adds out.old out.new (paths_parts q.now nodes links many (cell used.first used.columns))) }
 {
     all_clear(alloc, out, q)?;
     let index = index(alloc, q, nodes, links)?;
@@ -215,7 +228,8 @@ fn paths_between(
     many: u32,
     used: Table,
 ) -> Result<(), Memory>
-    ensures { OnOk result (Adds out.old out.new (if q.now.source == q.now.target then [] else paths_parts q.now nodes links many (cell used.first used.columns))) }
+    ensures { OnOk result (Adds out.old out.new (if q.now.source == q.now.target then []
+        else paths_parts q.now nodes links many (cell used.first used.columns))) }
 {
     if q.source == q.target {
         return Ok(());
@@ -233,7 +247,8 @@ pub(crate) fn reached(
     many: u32,
     used: Table,
 ) -> Result<(), Memory>
-    ensures { OnOk result (Adds out.old out.new (reached_parts q.now nodes links many (cell used.first used.columns))) }
+    ensures { OnOk result (Adds out.old out.new
+        (reached_parts q.now nodes links many (cell used.first used.columns))) }
 {
     all_ends(alloc, out, q)?;
     paths_between(alloc, out, q, nodes, links, many, used)?;

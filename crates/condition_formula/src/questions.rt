@@ -1,6 +1,8 @@
 //! The variables and clauses of all questions.
-ghost use Rattle.std.specs.Prelude.{◌≡◌, ◌<◌, ◌≤◌, ◌+◌, ◌*◌, ◌^◌, [], ◌∷◌, ◌++◌, length, sum_by, All, OnOk, IfOk};
-ghost use Rattle.condition_formula.specs.Formulas.{demand_parts, question_size, questions_parts, variable_count};
+ghost use Rattle.std.specs.Prelude.{◌≡◌, ◌<◌, ◌≤◌, ◌+◌, ◌*◌, ◌^◌, [], ◌∷◌, ◌++◌, length, sum_by};
+ghost use Rattle.std.specs.Prelude.{All, OnOk, IfOk};
+ghost use Rattle.condition_formula.specs.Formulas.{demand_parts, question_size, questions_parts};
+ghost use Rattle.condition_formula.specs.Formulas.{variable_count};
 ghost use Rattle.condition_formula.specs.Limits.{IsSmallNet};
 ghost use Rattle.condition_formula.specs.Writing.{Adds};
 
@@ -68,7 +70,8 @@ fn question(
     requires nodes { nodes ≤ 65536 }
     requires arcs { length q.now.arcs ≤ 65536 }
     requires first { first < 2 ^ 60 }
-    ensures { OnOk result (Adds out.old out.new (demand_parts q.now nodes links first q.now.demand)) }
+    ensures { OnOk result
+        (Adds out.old out.new (demand_parts q.now nodes links first q.now.demand)) }
 {
     match q.demand {
         Demand::Blocked | Demand::Through => {
@@ -82,7 +85,8 @@ fn question(
     }
 }
 
-/// The clauses of all questions, whose variables begin with the given one, and the variable after theirs.
+/// The clauses of all questions, whose variables begin with the given one, and the variable after
+/// theirs.
 pub(crate) fn questions(
     alloc: Global,
     out: &mut Writer,
@@ -94,7 +98,8 @@ pub(crate) fn questions(
     requires nodes { nodes ≤ 65536 }
     requires arcs { All (λ q. length q.arcs ≤ 65536) questions.now }
     requires first { first + sum_by (question_size nodes) questions.now < 2 ^ 60 }
-    ensures clauses { OnOk result (Adds out.old out.new (questions_parts nodes links first questions.now)) }
+    ensures clauses { OnOk result
+        (Adds out.old out.new (questions_parts nodes links first questions.now)) }
     ensures next { IfOk result (λ next. next ≡ first + sum_by (question_size nodes) questions.now) }
 {
     let mut next = first;

@@ -1,5 +1,6 @@
 //! Clauses of blocked and through: closed sides.
-ghost use Rattle.std.specs.Prelude.{◌≡◌, ◌≤◌, [], ◌∷◌, ◌++◌, if◌then◌else◌, length, map, flat_map, OnOk};
+ghost use Rattle.std.specs.Prelude.{◌≡◌, ◌≤◌, [], ◌∷◌, ◌++◌, if◌then◌else◌, length, map, flat_map};
+ghost use Rattle.std.specs.Prelude.{OnOk};
 ghost use Rattle.condition_formula.specs.Clauses.{yes, no, denied};
 ghost use Rattle.condition_formula.specs.Lists.{upto};
 ghost use Rattle.condition_formula.specs.Conditions.{lists_of, ends_of, is_counted, counted};
@@ -59,7 +60,8 @@ fn step(
     class: u32,
     arc: &ConditionArc,
 ) -> Result<(), Memory>
-    ensures { OnOk result (Adds out.old out.new (step_parts (cell reached.first reached.columns class) class arc.now ∷ [])) }
+    ensures { OnOk result (Adds out.old out.new
+        (step_parts (cell reached.first reached.columns class) class arc.now ∷ [])) }
 {
     let lists = lists_of(arc, class);
     let mut draft = Draft::make(alloc);
@@ -80,7 +82,8 @@ fn counted_step(
     class: u32,
     arc: &ConditionArc,
 ) -> Result<(), Memory>
-    ensures { OnOk result (Adds out.old out.new (if is_counted demand arc.now then step_parts (cell reached.first reached.columns class) class arc.now ∷ [] else [])) }
+    ensures { OnOk result (Adds out.old out.new (if is_counted demand arc.now
+        then step_parts (cell reached.first reached.columns class) class arc.now ∷ [] else [])) }
 {
     if !is_counted(demand, arc) {
         return Ok(());
@@ -96,7 +99,8 @@ fn steps(
     reached: Table,
     class: u32,
 ) -> Result<(), Memory>
-    ensures { OnOk result (Adds out.old out.new (map (step_parts (cell reached.first reached.columns class) class) (counted q.now))) }
+    ensures { OnOk result (Adds out.old out.new
+        (map (step_parts (cell reached.first reached.columns class) class) (counted q.now))) }
 {
     for arc in q.arcs.slice() {
         counted_step(alloc, out, q.demand, reached, class, arc)?;
@@ -112,7 +116,8 @@ fn enters(
     reached: Table,
     class: u32,
 ) -> Result<(), Memory>
-    ensures { OnOk result (Adds out.old out.new ((denied (ends_of q.now class).enter ∷ yes (cell reached.first reached.columns class q.now.source) ∷ []) ∷ [])) }
+    ensures { OnOk result (Adds out.old out.new ((denied (ends_of q.now class).enter ∷
+        yes (cell reached.first reached.columns class q.now.source) ∷ []) ∷ [])) }
 {
     let mut draft = Draft::make(alloc);
     draft.deny(ends_of(q, class).enter)?;
@@ -128,7 +133,9 @@ fn leaves(
     reached: Table,
     class: u32,
 ) -> Result<(), Memory>
-    ensures { OnOk result (Adds out.old out.new ((no (cell reached.first reached.columns class q.now.target) ∷ denied (ends_of q.now class).leave ∷ []) ∷ [])) }
+    ensures { OnOk result
+        (Adds out.old out.new ((no (cell reached.first reached.columns class q.now.target) ∷
+        denied (ends_of q.now class).leave ∷ []) ∷ [])) }
 {
     let mut draft = Draft::make(alloc);
     draft.no(reached.at(class, q.target))?;
@@ -144,7 +151,8 @@ fn side(
     reached: Table,
     class: u32,
 ) -> Result<(), Memory>
-    ensures { OnOk result (Adds out.old out.new (side_parts q.now (cell reached.first reached.columns class) class)) }
+    ensures { OnOk result
+        (Adds out.old out.new (side_parts q.now (cell reached.first reached.columns class) class)) }
 {
     enters(alloc, out, q, reached, class)?;
     steps(alloc, out, q, reached, class)?;
@@ -159,7 +167,8 @@ pub(crate) fn kept_off(
     q: &Question,
     reached: Table,
 ) -> Result<(), Memory>
-    ensures { OnOk result (Adds out.old out.new (kept_off_parts q.now (cell reached.first reached.columns))) }
+    ensures { OnOk result
+        (Adds out.old out.new (kept_off_parts q.now (cell reached.first reached.columns))) }
 {
     for class in 0..q.classes.len() {
         side(alloc, out, q, reached, class)?;

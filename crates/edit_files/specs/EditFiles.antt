@@ -1,5 +1,6 @@
 -- The edits that the lines of an edit file name.
-use Rattle.std.specs.Prelude.{◌≡◌, ◌≢◌, ℕ, ◌+◌, ◌<◌, ◌==◌, Bool, false, not, Option, IsSome, List, All, AllPairs, map, take, length}
+use Rattle.std.specs.Prelude.{◌≡◌, ◌≢◌, ℕ, ◌+◌, ◌<◌, ◌==◌, Bool, false, not, Option, IsSome, List}
+use Rattle.std.specs.Prelude.{All, AllPairs, map, take, length}
 use Rattle.std.specs.List.{filter, list_all, list_any, range_with_len}
 use Rattle.std.specs.Option.{option_map_or}
 use Rattle.cnf_types.specs.Words.{lines, without_return}
@@ -33,10 +34,13 @@ is_at place named = option_map_or (λ p. p == place) named false
 
 -- for each edit whether some line names it
 abbrev pub chosen_by : Network → List Edit → List (List ℕ) → List Bool
-chosen_by net edits ls = map (λ place. list_any (is_at place) (named_by net edits ls)) (range_with_len 0 (length edits))
+chosen_by net edits ls =
+    map (λ place. list_any (is_at place) (named_by net edits ls)) (range_with_len 0 (length edits))
 
--- the line of this number, counted from 1, is the first that names no edit, or one that a line before names
-pub record IsWrongLine (net : Network) (edits : List Edit) (ls : List (List ℕ)) (number : ℕ) : Type 0 where
+-- the line of this number, counted from 1, is the first that names no edit, or one that a line
+-- before names
+pub record IsWrongLine (net : Network) (edits : List Edit) (ls : List (List ℕ))
+    (number : ℕ) : Type 0 where
   pub place : ℕ
   pub within : place < length ls
   pub number_is : number ≡ place + 1
@@ -50,7 +54,8 @@ ReadsEdits net edits text (Edits chosen) =
 ReadsEdits net edits text (Wrong number) = IsWrongLine net edits (line_texts text) number
 
 -- the lines so far name edits, each once, and just these are marked
-pub record AreMarked (net : Network) (edits : List Edit) (ls : List (List ℕ)) (flags : List Bool) : Type 0 where
+pub record AreMarked (net : Network) (edits : List Edit) (ls : List (List ℕ))
+    (flags : List Bool) : Type 0 where
   pub lines : AreEditLines net edits ls
   pub chosen : flags ≡ chosen_by net edits ls
 

@@ -1,6 +1,7 @@
 //! The edits that an edit file names.
 ghost use Rattle.std.specs.Prelude.{◌≡◌, ◌^◌, ◌<◌, ◌++◌, [], ◌∷◌, List, ℕ, length, IfOk, MatchBool};
-ghost use Rattle.edit_files.specs.EditFiles.{is_blank_line, AreEditLines, AreMarked, HasFlags, ReadsEdits};
+ghost use Rattle.edit_files.specs.EditFiles.{is_blank_line, AreEditLines, AreMarked, HasFlags};
+ghost use Rattle.edit_files.specs.EditFiles.{ReadsEdits};
 
 use arc_base::{List, Memory};
 use cnf_types::{first_line, without_return};
@@ -14,7 +15,8 @@ use std::alloc::Global;
 pub enum Named {
     /// For each edit whether a line names it.
     Edits(List<bool>),
-    /// The number of the first wrong line, counted from 1: it names no edit, or one that a line before names.
+    /// The number of the first wrong line, counted from 1: it names no edit, or one that a line
+    /// before names.
     Wrong(u32),
 }
 
@@ -24,7 +26,8 @@ fn is_blank_line(line: &[u8]) -> bool
     line.iter().all(|byte| *byte == b' ' || *byte == b'\t')
 }
 
-/// Marks the edit that the line names. It answers `false` where the line is not blank and names no edit, or one that is marked.
+/// Marks the edit that the line names. It answers `false` where the line is not blank and names no
+/// edit, or one that is marked.
 fn mark(
     alloc: Global,
     net: &Network,
@@ -34,9 +37,9 @@ fn mark(
 ) -> Result<bool, Memory>
     requires { length chosen.old.items ≡ length edits.now }
     ensures whole { length chosen.new.items ≡ length edits.now }
-    ensures marked { IfOk result (λ right. (before : List (List ℕ)) → AreMarked net.now edits.now before chosen.old.items →
-        MatchBool right
-        (AreMarked net.now edits.now (before ++ line.now ∷ []) chosen.new.items)
+    ensures marked { IfOk result (λ right. (before : List (List ℕ)) →
+        AreMarked net.now edits.now before chosen.old.items →
+        MatchBool right (AreMarked net.now edits.now (before ++ line.now ∷ []) chosen.new.items)
         (¬ AreEditLines net.now edits.now (before ++ line.now ∷ []))) }
 {
     if is_blank_line(line) {
@@ -52,8 +55,9 @@ fn mark(
     Ok(true)
 }
 
-/// The edits that the lines of a text name, each line one by its text. Lines may end in a carriage return and a line feed, and
-/// lines of spaces and tabs alone are skipped. The time is that of a look at each edit for each line.
+/// The edits that the lines of a text name, each line one by its text. Lines may end in a carriage
+/// return and a line feed, and lines of spaces and tabs alone are skipped. The time is that of a
+/// look at each edit for each line.
 pub fn named_edits(
     alloc: Global,
     net: &Network,

@@ -1,4 +1,5 @@
--- Laws of single edits: which answers a new list gives, which edits turn a session or an entry of a list, and how new lists are named.
+-- Laws of single edits: which answers a new list gives, which edits turn a session or an entry of a
+-- list, and how new lists are named.
 use Rattle.std.specs.Prelude.{◌≡◌, ◌↔◌, ℕ, true, false, IsTrue, List, Contains}
 use Rattle.arc_base.specs.declared.place.Face.{Face}
 use Rattle.arc_base.specs.declared.place.ListId.{ListId}
@@ -14,45 +15,66 @@ use Rattle.edit_space.specs.declared.edit_kinds.Edit.{Edit}
 use Rattle.edit_space.specs.declared.edit_kinds.Edit.TheVariants as edits
 use Rattle.edit_space.specs.declared.new_lists.NewList.{NewList}
 use Rattle.edit_space.specs.After.{new_packet_entries, new_route_entries}
-use Rattle.edit_space.specs.Changes.{turns_session, list_prefixes, new_prefixes, list_classes, new_classes}
+use Rattle.edit_space.specs.Changes.{turns_session, list_prefixes, new_prefixes, list_classes}
+use Rattle.edit_space.specs.Changes.{new_classes}
 use Rattle.edit_space.specs.Determined.{IsCountable}
 use Rattle.edit_space.specs.NewLists.{names_of, IsNewList}
 
 -- a new packet list denies the packets of its classes
 abbrev pub NewClassesAreDenied : Type 0
-NewClassesAreDenied = (classes : List Class) (class : Class) → Contains classes class → (p : Packet) → IsOf class p → permits (new_packet_entries classes) p ≡ false
+NewClassesAreDenied =
+    (classes : List Class) (class : Class) → Contains classes class →
+    (p : Packet) → IsOf class p → permits (new_packet_entries classes) p ≡ false
 
 -- and permits every other packet that there is
 abbrev pub OtherPacketsArePermitted : Type 0
-OtherPacketsArePermitted = (classes : List Class) (whole : Class) (p : Packet) → IsOf whole p → ((class : Class) → Contains classes class → ¬ IsOf class p) → permits (new_packet_entries classes) p ≡ true
+OtherPacketsArePermitted =
+    (classes : List Class) (whole : Class) (p : Packet) → IsOf whole p →
+    ((class : Class) → Contains classes class → ¬ IsOf class p) →
+    permits (new_packet_entries classes) p ≡ true
 
 -- a new route list denies its prefixes
 abbrev pub NewPrefixesAreDenied : Type 0
-NewPrefixesAreDenied = (prefixes : List Prefix) (prefix : Prefix) → Contains prefixes prefix → route_permits (new_route_entries prefixes) prefix ≡ false
+NewPrefixesAreDenied =
+    (prefixes : List Prefix) (prefix : Prefix) → Contains prefixes prefix →
+    route_permits (new_route_entries prefixes) prefix ≡ false
 
 -- and permits every other prefix
 abbrev pub OtherPrefixesArePermitted : Type 0
-OtherPrefixesArePermitted = (prefixes : List Prefix) (prefix : Prefix) → ¬ Contains prefixes prefix → route_permits (new_route_entries prefixes) prefix ≡ true
+OtherPrefixesArePermitted =
+    (prefixes : List Prefix) (prefix : Prefix) → ¬ Contains prefixes prefix →
+    route_permits (new_route_entries prefixes) prefix ≡ true
 
 -- the session of an interface is turned exactly where its own edit is chosen
 abbrev pub SessionsTurnByTheirEdit : Type 0
-SessionsTurnByTheirEdit = (chosen : List Edit) (face : Face) → IsTrue (turns_session chosen face.0) ↔ Contains chosen (edits.Session face)
+SessionsTurnByTheirEdit =
+    (chosen : List Edit) (face : Face) →
+    IsTrue (turns_session chosen face.0) ↔ Contains chosen (edits.Session face)
 
 -- a list gets exactly the entries of its own edits that are chosen
 pub record EntriesAreOfTheirEdits (chosen : List Edit) : Type 0 where
-  pub route_lists : (list : ListId) (prefix : Prefix) → Contains (list_prefixes chosen list.0) prefix ↔ Contains chosen (edits.RouteList list prefix)
-  pub new_routes : (face : Face) (prefix : Prefix) → Contains (new_prefixes chosen face.0) prefix ↔ Contains chosen (edits.RouteNew face prefix)
-  pub packet_lists : (list : ListId) (class : Class) → Contains (list_classes chosen list.0) class ↔ Contains chosen (edits.PacketList list class)
-  pub new_packets : (face : Face) (class : Class) → Contains (new_classes chosen face.0) class ↔ Contains chosen (edits.PacketNew face class)
+  pub route_lists : (list : ListId) (prefix : Prefix) →
+      Contains (list_prefixes chosen list.0) prefix ↔ Contains chosen (edits.RouteList list prefix)
+  pub new_routes : (face : Face) (prefix : Prefix) →
+      Contains (new_prefixes chosen face.0) prefix ↔ Contains chosen (edits.RouteNew face prefix)
+  pub packet_lists : (list : ListId) (class : Class) →
+      Contains (list_classes chosen list.0) class ↔ Contains chosen (edits.PacketList list class)
+  pub new_packets : (face : Face) (class : Class) →
+      Contains (new_classes chosen face.0) class ↔ Contains chosen (edits.PacketNew face class)
 
 abbrev pub ListsGetTheirEntries : Type 0
 ListsGetTheirEntries = (chosen : List Edit) → EntriesAreOfTheirEdits chosen
 
 -- the name of a new list is none that the router's file gives or binds, and well formed
 abbrev pub NewNamesAreNew : Type 0
-NewNamesAreNew = (net : Network) → IsValid net → IsCountable net → (chosen : List Edit) (router : ℕ) (list : NewList) (name : List ℕ) → IsNewList net chosen router list name → (¬ Contains (names_of net router) name) × IsName name
+NewNamesAreNew =
+    (net : Network) → IsValid net → IsCountable net →
+    (chosen : List Edit) (router : ℕ) (list : NewList) (name : List ℕ) →
+    IsNewList net chosen router list name → (¬ Contains (names_of net router) name) × IsName name
 
 -- and no two new lists of a router have one name
 abbrev pub NewNamesDiffer : Type 0
-NewNamesDiffer = (net : Network) → IsValid net → IsCountable net → (chosen : List Edit) (router : ℕ) (one other : NewList) (name : List ℕ) →
+NewNamesDiffer =
+    (net : Network) → IsValid net → IsCountable net →
+    (chosen : List Edit) (router : ℕ) (one other : NewList) (name : List ℕ) →
     IsNewList net chosen router one name → IsNewList net chosen router other name → one ≡ other

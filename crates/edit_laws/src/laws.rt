@@ -1,9 +1,12 @@
 //! The laws of edits.
 ghost use Rattle.edit_laws.specs.Acting.{PacketListsActWhereverBound, RouteListsActWhereverBound};
-ghost use Rattle.edit_laws.specs.Turned.{NewClassesAreDenied, OtherPacketsArePermitted, NewPrefixesAreDenied, OtherPrefixesArePermitted, SessionsTurnByTheirEdit, ListsGetTheirEntries, NewNamesAreNew, NewNamesDiffer};
+ghost use Rattle.edit_laws.specs.Turned.{NewClassesAreDenied, OtherPacketsArePermitted};
+ghost use Rattle.edit_laws.specs.Turned.{NewPrefixesAreDenied, OtherPrefixesArePermitted};
+ghost use Rattle.edit_laws.specs.Turned.{SessionsTurnByTheirEdit, ListsGetTheirEntries};
+ghost use Rattle.edit_laws.specs.Turned.{NewNamesAreNew, NewNamesDiffer};
 
-/// A new list denies what its edits name and permits all else. A session is turned, and a list gets an entry, exactly where
-/// the edit of it is chosen.
+/// A new list denies what its edits name and permits all else. A session is turned, and a list gets
+/// an entry, exactly where the edit of it is chosen.
 pub fn edits_turn_their_own()
     ensures new_classes { NewClassesAreDenied }
     ensures other_packets { OtherPacketsArePermitted }
@@ -13,14 +16,16 @@ pub fn edits_turn_their_own()
     ensures entries { ListsGetTheirEntries }
 {}
 
-/// A new list has a name that its router's file does not give or bind, and no other new list of the router has it.
+/// A new list has a name that its router's file does not give or bind, and no other new list of the
+/// router has it.
 pub fn new_names_clash_with_none()
     ensures new { NewNamesAreNew }
     ensures differ { NewNamesDiffer }
 {}
 
-/// A list that edits put entries into acts with them wherever it is bound: at each interface, inbound and outbound, and at each
-/// session it answers the opposite for what the entries are for, and as before for all else.
+/// A list that edits put entries into acts with them wherever it is bound: at each interface,
+/// inbound and outbound, and at each session it answers the opposite for what the entries are for,
+/// and as before for all else.
 pub fn bound_lists_act()
     ensures packets { PacketListsActWhereverBound }
     ensures routes { RouteListsActWhereverBound }

@@ -1,6 +1,6 @@
-//! Laws over the definitions of `edit_space`, each the contract of a function that does nothing. They show that the network
-//! after edits is the right one: each edit turns its own answers and no others, wherever its list is bound, and new lists have
-//! names that clash with none.
+//! Laws over the definitions of `edit_space`, each the contract of a function that does nothing.
+//! They show that the network after edits is the right one: each edit turns its own answers and no
+//! others, wherever its list is bound, and new lists have names that clash with none.
 #![tactic(auto)]
 
 mod laws;

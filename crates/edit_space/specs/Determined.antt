@@ -8,7 +8,8 @@ use Rattle.edit_space.specs.After.{IsAfter}
 use Rattle.edit_space.specs.EditLists.{AreEdits}
 use Rattle.edit_space.specs.NewLists.{names_of}
 
--- the interfaces, the sessions and the names of each router can be counted in 32 bits, as those of every network in memory can
+-- the interfaces, the sessions and the names of each router can be counted in 32 bits, as those of
+-- every network in memory can
 pub record IsCountable (net : Network) : Type 0 where
   pub faces : length net.faces < 2 ^ 32
   pub sessions : length net.sessions < 2 ^ 32
@@ -21,16 +22,25 @@ pub record IsValidAfter (net : Network) (chosen : List Edit) (after : Network) :
 
 -- there is a network after any edits of a valid network
 abbrev pub AfterIsThere : Type 0
-AfterIsThere = (net : Network) → IsValid net → IsCountable net → (chosen : List Edit) → (after : Network) × IsValidAfter net chosen after
+AfterIsThere =
+    (net : Network) → IsValid net → IsCountable net → (chosen : List Edit) →
+    (after : Network) × IsValidAfter net chosen after
 
 -- it is valid
 abbrev pub AfterIsValid : Type 0
-AfterIsValid = (net : Network) → IsValid net → IsCountable net → (chosen : List Edit) (after : Network) → IsAfter net chosen after → IsValid after
+AfterIsValid =
+    (net : Network) → IsValid net → IsCountable net →
+    (chosen : List Edit) (after : Network) → IsAfter net chosen after → IsValid after
 
 -- and there is no other
 abbrev pub AfterIsOne : Type 0
-AfterIsOne = (net : Network) → IsValid net → IsCountable net → (chosen : List Edit) (after other : Network) → IsAfter net chosen after → IsAfter net chosen other → after ≡ other
+AfterIsOne =
+    (net : Network) → IsValid net → IsCountable net →
+    (chosen : List Edit) (after other : Network) → IsAfter net chosen after →
+    IsAfter net chosen other → after ≡ other
 
 -- a valid network has one list of edits for a document
 abbrev pub EditListsAreOne : Type 0
-EditListsAreOne = (net : Network) (doc : Document) (list other : List Edit) → IsValid net → AreEdits net doc list → AreEdits net doc other → list ≡ other
+EditListsAreOne =
+    (net : Network) (doc : Document) (list other : List Edit) → IsValid net →
+    AreEdits net doc list → AreEdits net doc other → list ≡ other

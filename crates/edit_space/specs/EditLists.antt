@@ -1,5 +1,7 @@
--- The edits of a network for a document, in their order: sessions, then entries for routes, then entries for packets.
-use Rattle.std.specs.Prelude.{◌≡◌, ℕ, ◌<◌, ◌≤◌, ◌&&◌, nat_eq, Bool, false, is_some, Some, List, [], ◌∷◌, ◌++◌, map, filter, fold, length, slice_get, Any, if◌then◌else◌}
+-- The edits of a network for a document, in their order: sessions, then entries for routes, then
+-- entries for packets.
+use Rattle.std.specs.Prelude.{◌≡◌, ℕ, ◌<◌, ◌≤◌, ◌&&◌, nat_eq, Bool, false, is_some, Some, List, []}
+use Rattle.std.specs.Prelude.{◌∷◌, ◌++◌, map, filter, fold, length, slice_get, Any, if◌then◌else◌}
 use Rattle.std.specs.List.{flat_map, list_any, AllZip}
 use Rattle.std.specs.Option.{option_map_or}
 use Rattle.arc_base.specs.Addresses.{IsInside}
@@ -26,7 +28,8 @@ use Rattle.edit_space.specs.declared.sites.Site.TheVariants.{Bound, New}
 use Rattle.edit_space.specs.Sites.{route_sites, packet_sites}
 use Rattle.edit_space.specs.Writable.{is_writable}
 
--- whether the interface runs the protocol with a neighbour: under OSPF it is enabled, under eBGP a neighbour is configured at it
+-- whether the interface runs the protocol with a neighbour: under OSPF it is enabled, under eBGP a
+-- neighbour is configured at it
 abbrev pub has_session : Protocol → Network → Face → Bool
 has_session Ospf net face = option_map_or (λ f. f.enabled) (slice_get net.faces face.0) false
 has_session Bgp net face = is_some (session_at net face)
@@ -53,7 +56,8 @@ packet_edit (New face) class = edits.PacketNew face class
 abbrev pub writable_classes : List Class → List Class
 writable_classes classes = filter (λ class. is_writable class.service) classes
 
--- all edits, where these are the destinations and the classes: sessions by link, routes by site, packets by site
+-- all edits, where these are the destinations and the classes: sessions by link, routes by site,
+-- packets by site
 abbrev pub all_edits : Network → List Prefix → List Class → List Edit
 all_edits net destinations classes =
     flat_map (link_edits net) net.links ++
@@ -70,10 +74,13 @@ is_same p q = nat_eq p.addr q.addr && nat_eq p.len q.len
 
 -- the list with the prefix at its end, where it is not there yet
 abbrev pub with_prefix : List Prefix → Prefix → List Prefix
-with_prefix prefixes prefix = if list_any (is_same prefix) prefixes then prefixes else prefixes ++ prefix ∷ []
+with_prefix prefixes prefix =
+    if list_any (is_same prefix) prefixes then prefixes else prefixes ++ prefix ∷ []
 
--- the destinations of the policies: the host networks in which their destinations lie, each once, where it stands first
-pub record AreDestinations (net : Network) (policies : List Policy) (destinations : List Prefix) : Type 0 where
+-- the destinations of the policies: the host networks in which their destinations lie, each once,
+-- where it stands first
+pub record AreDestinations (net : Network) (policies : List Policy)
+    (destinations : List Prefix) : Type 0 where
   pub hosts : List Prefix
   pub are : AllZip (λ policy host. LiesInHost net policy.to host) policies hosts
   pub once : destinations ≡ fold with_prefix [] hosts
@@ -94,7 +101,9 @@ pub record HasEdits (net : Network) (doc : Document) (count : ℕ) : Type 0 wher
 
 -- the document has at most 4,096 classes in the network
 abbrev pub HasFewClasses : Network → Document → Type 0
-HasFewClasses net doc = (classes : List Class) → AreAllClasses net doc.policies doc.policies classes → length classes ≤ 4096
+HasFewClasses net doc =
+    (classes : List Class) → AreAllClasses net doc.policies doc.policies classes →
+    length classes ≤ 4096
 
 -- the fault of a list of edits that comes of a fault of its classes
 abbrev pub fault_of : ClassFault → EditFault
@@ -103,7 +112,8 @@ fault_of classes.Memory = Memory
 
 -- the fault names the limit that is passed: more than 4,096 classes, or more than 8,192 edits
 abbrev pub NamesLimit : Network → Document → EditFault → Type 0
-NamesLimit net doc (Limit limits.Classes count) = FirstHaveMore net doc.policies count × (4096 < count)
+NamesLimit net doc (Limit limits.Classes count) =
+    FirstHaveMore net doc.policies count × (4096 < count)
 NamesLimit net doc (Limit limits.Edits count) = HasEdits net doc count × (8192 < count)
 NamesLimit net doc (Limit other count) = ⊥
 NamesLimit net doc Memory = Unit {0}

@@ -6,4 +6,6 @@ use Rattle.net_model.specs.Routing.{session_at}
 
 -- the flags tell, for each interface within them, whether a session stands at it
 abbrev pub KnowsSessions : Network → List Bool → Type 0
-KnowsSessions net flags = (face : Face) → face.0 < length flags → slice_get flags face.0 ≡ Some (is_some (session_at net face))
+KnowsSessions net flags =
+    (face : Face) → face.0 < length flags →
+    slice_get flags face.0 ≡ Some (is_some (session_at net face))

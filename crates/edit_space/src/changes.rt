@@ -1,7 +1,9 @@
 //! What the chosen edits change at each interface and in each list.
 ghost use Rattle.std.specs.Prelude.{◌≡◌, length, IfOk};
 ghost use Rattle.std.specs.List.{filter_map};
-ghost use Rattle.edit_space.specs.Changes.{session_change, route_list_change, new_route_change, packet_list_change, new_packet_change, turns_session, list_prefixes, new_prefixes, list_classes, new_classes};
+ghost use Rattle.edit_space.specs.Changes.{session_change, route_list_change, new_route_change};
+ghost use Rattle.edit_space.specs.Changes.{packet_list_change, new_packet_change, turns_session};
+ghost use Rattle.edit_space.specs.Changes.{list_prefixes, new_prefixes, list_classes, new_classes};
 ghost use Rattle.edit_space.specs.Numbered.{Tells};
 ghost use Rattle.edit_space.specs.Working.{AreChanges};
 
@@ -129,7 +131,8 @@ fn new_packet_changes(alloc: Global, edits: &[Edit]) -> Result<Vec<(u32, Class)>
 
 /// For each interface whether its session is turned.
 fn turned_sessions(alloc: Global, net: &Network, edits: &[Edit]) -> Result<Vec<bool>, Memory>
-    ensures { IfOk result (λ flags. Tells (length net.now.faces) (turns_session edits.now) flags.items) }
+    ensures { IfOk result (λ flags.
+        Tells (length net.now.faces) (turns_session edits.now) flags.items) }
 {
     let faces = session_changes(alloc, edits)?;
     marked(alloc, net.faces.len(), &faces)
@@ -141,7 +144,8 @@ fn route_list_entries(
     net: &Network,
     edits: &[Edit],
 ) -> Result<Vec<Group<Prefix>>, Memory>
-    ensures { IfOk result (λ groups. Tells (length net.now.route_lists) (list_prefixes edits.now) groups.items) }
+    ensures { IfOk result (λ groups.
+        Tells (length net.now.route_lists) (list_prefixes edits.now) groups.items) }
 {
     let changes = route_list_changes(alloc, edits)?;
     grouped(alloc, net.route_lists.len(), &changes)
@@ -153,7 +157,8 @@ fn new_route_entries(
     net: &Network,
     edits: &[Edit],
 ) -> Result<Vec<Group<Prefix>>, Memory>
-    ensures { IfOk result (λ groups. Tells (length net.now.faces) (new_prefixes edits.now) groups.items) }
+    ensures { IfOk result (λ groups.
+        Tells (length net.now.faces) (new_prefixes edits.now) groups.items) }
 {
     let changes = new_route_changes(alloc, edits)?;
     grouped(alloc, net.faces.len(), &changes)
@@ -165,7 +170,8 @@ fn packet_list_entries(
     net: &Network,
     edits: &[Edit],
 ) -> Result<Vec<Group<Class>>, Memory>
-    ensures { IfOk result (λ groups. Tells (length net.now.packet_lists) (list_classes edits.now) groups.items) }
+    ensures { IfOk result (λ groups.
+        Tells (length net.now.packet_lists) (list_classes edits.now) groups.items) }
 {
     let changes = packet_list_changes(alloc, edits)?;
     grouped(alloc, net.packet_lists.len(), &changes)
@@ -177,7 +183,8 @@ fn new_packet_entries(
     net: &Network,
     edits: &[Edit],
 ) -> Result<Vec<Group<Class>>, Memory>
-    ensures { IfOk result (λ groups. Tells (length net.now.faces) (new_classes edits.now) groups.items) }
+    ensures { IfOk result (λ groups.
+        Tells (length net.now.faces) (new_classes edits.now) groups.items) }
 {
     let changes = new_packet_changes(alloc, edits)?;
     grouped(alloc, net.faces.len(), &changes)

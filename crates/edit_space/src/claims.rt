@@ -1,8 +1,8 @@
 use arc_base::List;
 use net_model::Verdict;
 
-/// What a repair claims: the cheapest edits that make the network meet the document, or that there are none of a price up to
-/// the bound.
+/// What a repair claims: the cheapest edits that make the network meet the document, or that there
+/// are none of a price up to the bound.
 #[derive(Debug, Drop)]
 pub enum Claim {
     /// The edits with a flag have this price, which is the least; after them these verdicts hold.

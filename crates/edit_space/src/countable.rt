@@ -2,7 +2,8 @@ ghost use Rattle.edit_space.specs.Determined.{IsCountable};
 
 use net_model::Network;
 
-/// Counts the rows of the network and the names of its routers, to show that each of these lists counts itself in 32 bits.
+/// Counts the rows of the network and the names of its routers, to show that each of these lists
+/// counts itself in 32 bits.
 pub fn count_rows(net: &Network)
     ensures { IsCountable net.now }
 {

@@ -42,7 +42,8 @@ fn add_prefix(prefixes: &mut Vec<Prefix>, prefix: Prefix) -> Result<(), Memory>
     Ok(())
 }
 
-/// The host networks in which the destinations of policies lie, each once, in the order of the first policy.
+/// The host networks in which the destinations of policies lie, each once, in the order of the
+/// first policy.
 pub fn destinations(
     alloc: Global,
     net: &Network,

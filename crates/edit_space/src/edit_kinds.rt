@@ -11,8 +11,8 @@ pub const LIMIT: u64 = 8192;
 /// A modelled edit of router files.
 #[derive(Clone, Copy, Debug, PartialEq, Eq)]
 pub enum Edit {
-    /// Turns the session of an interface on or off: under OSPF it becomes passive or active, under eBGP its neighbour is shut
-    /// down or no longer is.
+    /// Turns the session of an interface on or off: under OSPF it becomes passive or active, under
+    /// eBGP its neighbour is shut down or no longer is.
     Session(Face),
     /// Turns the answer of a route list for a host network, by an entry at its front.
     RouteList(ListId, Prefix),

@@ -1,6 +1,8 @@
 //! Entries that edits make.
 ghost use Rattle.std.specs.Prelude.{◌≡◌, false, map, IfOk};
-ghost use Rattle.edit_space.specs.After.{any, exact_entry, class_entry, opposite_route_entry, opposite_packet_entry, with_prefixes, with_classes, new_route_entries, new_packet_entries};
+ghost use Rattle.edit_space.specs.After.{any, exact_entry, class_entry, opposite_route_entry};
+ghost use Rattle.edit_space.specs.After.{opposite_packet_entry, with_prefixes, with_classes};
+ghost use Rattle.edit_space.specs.After.{new_route_entries, new_packet_entries};
 
 use crate::numbered::append;
 use arc_base::{List, Memory, Prefix};
@@ -56,7 +58,8 @@ fn opposite_route_entries(
     list: &RouteList,
     prefixes: &[Prefix],
 ) -> Result<Vec<RouteEntry>, Memory>
-    ensures { IfOk result (λ entries. entries.items ≡ map (opposite_route_entry list.now.entries) prefixes.now) }
+    ensures { IfOk result (λ entries.
+        entries.items ≡ map (opposite_route_entry list.now.entries) prefixes.now) }
 {
     Ok(
         prefixes
@@ -71,7 +74,8 @@ fn opposite_packet_entries(
     list: &PacketList,
     classes: &[Class],
 ) -> Result<Vec<PacketEntry>, Memory>
-    ensures { IfOk result (λ entries. entries.items ≡ map (opposite_packet_entry list.now.entries) classes.now) }
+    ensures { IfOk result (λ entries.
+        entries.items ≡ map (opposite_packet_entry list.now.entries) classes.now) }
 {
     Ok(
         classes

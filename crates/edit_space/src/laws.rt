@@ -1,9 +1,14 @@
 //! Laws over the definitions alone: each is the contract of a function that does nothing.
-ghost use Rattle.edit_space.specs.Determined.{AfterIsThere, AfterIsValid, AfterIsOne, EditListsAreOne};
-ghost use Rattle.edit_space.specs.Kept.{HostsStay, EndsStay, ClassesStay, AllClassesStay, ListsStayUniform};
-ghost use Rattle.edit_space.specs.Laws.{ClassesTurn, OthersStay, PrefixesTurn, OtherPrefixesStay, NoEditsChangeNothing, NoEditsCostNothing, PacketEditsAreWritable, ChosenClassesAreWritable};
+ghost use Rattle.edit_space.specs.Determined.{AfterIsThere, AfterIsValid, AfterIsOne};
+ghost use Rattle.edit_space.specs.Determined.{EditListsAreOne};
+ghost use Rattle.edit_space.specs.Kept.{HostsStay, EndsStay, ClassesStay, AllClassesStay};
+ghost use Rattle.edit_space.specs.Kept.{ListsStayUniform};
+ghost use Rattle.edit_space.specs.Laws.{ClassesTurn, OthersStay, PrefixesTurn, OtherPrefixesStay};
+ghost use Rattle.edit_space.specs.Laws.{NoEditsChangeNothing, NoEditsCostNothing};
+ghost use Rattle.edit_space.specs.Laws.{PacketEditsAreWritable, ChosenClassesAreWritable};
 
-/// An entry at the front of a list turns its answer for the packets of its class, or for its prefix, and for no others.
+/// An entry at the front of a list turns its answer for the packets of its class, or for its
+/// prefix, and for no others.
 pub fn entries_turn_answers()
     ensures classes { ClassesTurn }
     ensures other_packets { OthersStay }
@@ -17,8 +22,8 @@ pub fn no_edits_change_nothing()
     ensures price { NoEditsCostNothing }
 {}
 
-/// After edits for a document the network has the same host networks, its policies keep their ends and their traffic classes,
-/// and each packet list is uniform on each of these.
+/// After edits for a document the network has the same host networks, its policies keep their ends
+/// and their traffic classes, and each packet list is uniform on each of these.
 pub fn edits_keep_classes()
     ensures hosts { HostsStay }
     ensures ends { EndsStay }

@@ -1,6 +1,6 @@
-//! The modelled edits of a network: sessions that are turned, and entries that are put at the front of lists that stand or into
-//! new ones. It lists the edits of a network for a document in their one order, tells what a set of them costs, and makes the
-//! network after them.
+//! The modelled edits of a network: sessions that are turned, and entries that are put at the front
+//! of lists that stand or into new ones. It lists the edits of a network for a document in their
+//! one order, tells what a set of them costs, and makes the network after them.
 #![tactic(auto)]
 
 mod changes;

@@ -1,11 +1,13 @@
 //! The list of all edits.
-ghost use Rattle.std.specs.Prelude.{◌≡◌, ◌≤◌, ◌<◌, ◌+◌, ◌*◌, ◌^◌, ◌++◌, length, map, All, IfOk, IfErr, OnOk};
+ghost use Rattle.std.specs.Prelude.{◌≡◌, ◌≤◌, ◌<◌, ◌+◌, ◌*◌, ◌^◌, ◌++◌, length, map, All, IfOk};
+ghost use Rattle.std.specs.Prelude.{IfErr, OnOk};
 ghost use Rattle.std.specs.List.{flat_map};
 ghost use Rattle.net_model.specs.Forwarding.{HasHost, HasEnds};
 ghost use Rattle.net_model.specs.Packets.{subject};
 ghost use Rattle.net_model.specs.Validity.{IsValid};
 ghost use Rattle.edit_space.specs.Determined.{IsCountable};
-ghost use Rattle.edit_space.specs.EditLists.{has_session, edits_at, link_edits, route_edit, packet_edit, AreEdits, NamesLimit, HasFewClasses};
+ghost use Rattle.edit_space.specs.EditLists.{has_session, edits_at, link_edits, route_edit};
+ghost use Rattle.edit_space.specs.EditLists.{packet_edit, AreEdits, NamesLimit, HasFewClasses};
 ghost use Rattle.edit_space.specs.Listing.{KnowsSessions};
 
 use crate::countable::count_rows;
@@ -121,7 +123,8 @@ fn add_route_edits(
     sites: &[Site],
     prefixes: &[Prefix],
 ) -> Result<(), Memory>
-    ensures { OnOk result (list.new.items ≡ list.old.items ++ flat_map (λ site. map (route_edit site) prefixes.now) sites.now) }
+    ensures { OnOk result (list.new.items ≡ list.old.items ++
+        flat_map (λ site. map (route_edit site) prefixes.now) sites.now) }
 {
     for site in sites {
         append(list, &routes_at(alloc, *site, prefixes)?)?;
@@ -147,7 +150,8 @@ fn add_packet_edits(
     sites: &[Site],
     classes: &[Class],
 ) -> Result<(), Memory>
-    ensures { OnOk result (list.new.items ≡ list.old.items ++ flat_map (λ site. map (packet_edit site) classes.now) sites.now) }
+    ensures { OnOk result (list.new.items ≡ list.old.items ++
+        flat_map (λ site. map (packet_edit site) classes.now) sites.now) }
 {
     for site in sites {
         append(list, &packets_at(alloc, *site, classes)?)?;
@@ -155,9 +159,9 @@ fn add_packet_edits(
     Ok(())
 }
 
-/// The edits of the network for the document, in their order: sessions by link; then entries for the host networks that are
-/// destinations of policies, by router, list and neighbour; then entries for those classes of all policies for which one entry
-/// can speak, by router, list and interface.
+/// The edits of the network for the document, in their order: sessions by link; then entries for
+/// the host networks that are destinations of policies, by router, list and neighbour; then entries
+/// for those classes of all policies for which one entry can speak, by router, list and interface.
 pub fn edits(alloc: Global, net: &Network, doc: &Document) -> Result<List<Edit>, EditFault>
     requires valid { IsValid net.now }
     requires few { length doc.now.policies ≤ 256 }

@@ -1,5 +1,6 @@
 //! The names of new lists.
-ghost use Rattle.std.specs.Prelude.{◌≡◌, ◌<◌, ◌^◌, AllPairs, IfOk, OnOk, length, map, take, filter, not};
+ghost use Rattle.std.specs.Prelude.{◌≡◌, ◌<◌, ◌^◌, AllPairs, IfOk, OnOk, length, map, take, filter};
+ghost use Rattle.std.specs.Prelude.{not};
 ghost use Rattle.std.specs.List.{range_with_len};
 ghost use Rattle.edit_space.specs.NewLists.{new_name, is_among, free_names};
 ghost use Rattle.arc_base.specs.NameForms.{IsNameBefore, texts_at};
@@ -50,7 +51,8 @@ fn first_free<'a>(
     candidates: &'a [Name],
     count: usize,
 ) -> Result<List<Name>, Memory>
-    ensures { IfOk result (λ free. free ≡ take count (filter (λ name. not (is_among names.now name)) candidates.now)) }
+    ensures { IfOk result (λ free.
+        free ≡ take count (filter (λ name. not (is_among names.now name)) candidates.now)) }
 {
     let mut taken = BTreeSet::new(alloc);
     add_names(&mut taken, names)?;

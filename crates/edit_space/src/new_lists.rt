@@ -1,5 +1,6 @@
 //! The new lists that the edits make, with their names.
-ghost use Rattle.std.specs.Prelude.{◌≡◌, ◌<◌, ◌+◌, ◌^◌, [], Some, All, length, slice_get, slice_set, slice_index, slice_index_or, IfOk, OnOk};
+ghost use Rattle.std.specs.Prelude.{◌≡◌, ◌<◌, ◌+◌, ◌^◌, [], Some, All, length, slice_get};
+ghost use Rattle.std.specs.Prelude.{slice_set, slice_index, slice_index_or, IfOk, OnOk};
 ghost use Rattle.std.specs.List.{filter_map};
 ghost use Rattle.edit_space.specs.NewLists.{new_route_list, new_packet_list, new_lists};
 ghost use Rattle.edit_space.specs.Numbered.{placed};
@@ -12,7 +13,8 @@ use arc_base::{Face, List, Memory, Name};
 use net_model::{FaceRow, Network, SessionRow};
 use std::alloc::Global;
 
-/// A new list: a route list for the session of an interface, or an inbound packet list of an interface.
+/// A new list: a route list for the session of an interface, or an inbound packet list of an
+/// interface.
 #[derive(Clone, Copy, Debug, PartialEq, Eq)]
 pub enum NewList {
     Route(Face),
@@ -63,7 +65,8 @@ fn new_route_lists(
     sessions: &[SessionRow],
 ) -> Result<Vec<(u32, NewList)>, Memory>
     requires { AreChanges net.now changes.now }
-    ensures { IfOk result (λ lists. lists.items ≡ filter_map (new_route_list net.now changes.now.edits.items) sessions.now) }
+    ensures { IfOk result (λ lists.
+        lists.items ≡ filter_map (new_route_list net.now changes.now.edits.items) sessions.now) }
 {
     Ok(
         sessions
@@ -82,7 +85,8 @@ fn new_packet_lists(
     requires changes { AreChanges net.now changes.now }
     requires faces { faces.now ≡ net.now.faces }
     requires few { length faces.now < 2 ^ 32 }
-    ensures { IfOk result (λ lists. lists.items ≡ filter_map (new_packet_list changes.now.edits.items) (placed faces.now)) }
+    ensures { IfOk result (λ lists.
+        lists.items ≡ filter_map (new_packet_list changes.now.edits.items) (placed faces.now)) }
 {
     let mut lists = Vec::new(alloc);
     for (place, face) in faces.iter().enumerate() {
@@ -131,7 +135,8 @@ pub fn new_names(
 fn name_at(alloc: Global, names: &[List<Name>], router: u32, next: u32) -> Result<Name, Memory>
     requires router { router < length names.now }
     requires next { next < length (slice_index_or names.now router []) }
-    ensures name { IfOk result (λ name. slice_get (slice_index_or names.now router []) next ≡ Some name) }
+    ensures name { IfOk result (λ name.
+        slice_get (slice_index_or names.now router []) next ≡ Some name) }
     ensures bound { next + 1 < 2 ^ 32 }
 {
     let names = names[router as usize].slice();
@@ -146,8 +151,11 @@ fn take_name(
     router: u32,
 ) -> Result<Name, Memory>
     requires { HasNext names.now used.old.items router }
-    ensures used { OnOk result (used.new.items ≡ slice_set used.old.items router (slice_index used.old.items router + 1)) }
-    ensures name { IfOk result (λ name. slice_get (slice_index_or names.now router []) (slice_index used.old.items router) ≡ Some name) }
+    ensures used { OnOk result
+        (used.new.items ≡ slice_set used.old.items router (slice_index used.old.items router + 1)) }
+    ensures name { IfOk result (λ name.
+        slice_get (slice_index_or names.now router []) (slice_index used.old.items router)
+        ≡ Some name) }
 {
     let at = router as usize;
     let next = used[at];

@@ -1,5 +1,6 @@
 //! Things that each have a number, put together by their numbers.
-ghost use Rattle.std.specs.Prelude.{◌≡◌, ◌==◌, ◌++◌, ◌∷◌, [], true, slice_get, slice_set, slice_index_or, unwrap_or, not, IfOk, OnOk};
+ghost use Rattle.std.specs.Prelude.{◌≡◌, ◌==◌, ◌++◌, ◌∷◌, [], true, slice_get, slice_set};
+ghost use Rattle.std.specs.Prelude.{slice_index_or, unwrap_or, not, IfOk, OnOk};
 ghost use Rattle.std.specs.List.{list_any};
 ghost use Rattle.edit_space.specs.Numbered.{of_number, by_number, is_empty, Tells};
 
@@ -67,7 +68,8 @@ where
 pub fn add<T>(groups: &mut Vec<Group<T>>, number: u32, thing: T) -> Result<(), Memory>
 where
     T: Drop,
-    ensures { OnOk result (groups.new.items ≡ slice_set groups.old.items number (slice_index_or groups.old.items number [] ++ thing ∷ [])) }
+    ensures { OnOk result (groups.new.items ≡ slice_set groups.old.items number
+        (slice_index_or groups.old.items number [] ++ thing ∷ [])) }
 {
     let at = number as usize;
     if at < groups.len() {
@@ -81,7 +83,8 @@ where
 pub fn grouped<T>(alloc: Global, count: u32, things: &[(u32, T)]) -> Result<Vec<Group<T>>, Memory>
 where
     T: Copy + Drop,
-    ensures { IfOk result (λ groups. Tells count (λ number. of_number number things.now) groups.items) }
+    ensures { IfOk result (λ groups.
+        Tells count (λ number. of_number number things.now) groups.items) }
 {
     let mut groups = empty_groups(alloc, count)?;
     for (number, thing) in things {
@@ -118,7 +121,8 @@ where
 
 /// For each number below the count, whether it is one of these.
 pub fn marked(alloc: Global, count: u32, numbers: &[u32]) -> Result<Vec<bool>, Memory>
-    ensures { IfOk result (λ flags. Tells count (λ number. list_any (λ n. n == number) numbers.now) flags.items) }
+    ensures { IfOk result (λ flags.
+        Tells count (λ number. list_any (λ n. n == number) numbers.now) flags.items) }
 {
     let mut flags = Vec::from_elem(alloc, false, count as usize)?;
     for number in numbers {

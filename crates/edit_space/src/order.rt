@@ -1,5 +1,6 @@
 //! The order of lists: by router, and then in byte order of names.
-ghost use Rattle.std.specs.Prelude.{◌≡◌, ◌≢◌, ◌↔◌, ◌<◌, ◌^◌, length, slice_set, Contains, All, AllPairs, IfOk};
+ghost use Rattle.std.specs.Prelude.{◌≡◌, ◌≢◌, ◌↔◌, ◌<◌, ◌^◌, length, slice_set, Contains, All};
+ghost use Rattle.std.specs.Prelude.{AllPairs, IfOk};
 ghost use Rattle.edit_space.specs.Ordered.{IsKeyBefore};
 ghost use Rattle.edit_space.specs.Working.{key_of, compare_keys, IsWithin, ArePlaces};
 
@@ -29,7 +30,8 @@ fn compare(a: &Keyed, b: &Keyed) -> Ordering
 pub fn in_order(lists: Vec<Keyed>) -> Result<List<Keyed>, Memory>
     requires { AllPairs (λ x y. key_of x ≢ key_of y) lists.items }
     ensures order { IfOk result (AllPairs (λ x y. IsKeyBefore (key_of x) (key_of y))) }
-    ensures same { IfOk result (λ sorted. (x : Keyed) → Contains sorted x ↔ Contains lists.items x) }
+    ensures same { IfOk result (λ sorted. (x : Keyed) →
+        Contains sorted x ↔ Contains lists.items x) }
 {
     let mut sorted = lists;
     sorted.sort_by(|a, b| compare(a, b))?;

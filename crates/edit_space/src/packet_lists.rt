@@ -2,7 +2,8 @@
 ghost use Rattle.std.specs.Prelude.{◌≡◌, ◌++◌, All, length, map, IfOk, OnOk};
 ghost use Rattle.std.specs.List.{filter_map};
 ghost use Rattle.edit_space.specs.Numbered.{EachRow};
-ghost use Rattle.edit_space.specs.Working.{AreChanges, IsWithin, packet_keys, new_packet_key, IsPacketListFor};
+ghost use Rattle.edit_space.specs.Working.{AreChanges, IsWithin, packet_keys, new_packet_key};
+ghost use Rattle.edit_space.specs.Working.{IsPacketListFor};
 
 use crate::changes::Changes;
 use crate::entries::{new_packet_entries, with_classes};
@@ -14,7 +15,8 @@ use arc_base::{List, ListId, Memory, Name, Router};
 use net_model::{Network, PacketList};
 use std::alloc::Global;
 
-/// The packet lists after the edits, without an order: those that there were, and then the new ones.
+/// The packet lists after the edits, without an order: those that there were, and then the new
+/// ones.
 pub fn keyed_packet_lists(
     alloc: Global,
     net: &Network,
@@ -39,7 +41,8 @@ fn add_new_packet_lists(
     keyed: &mut Vec<Keyed>,
     named: &[Named],
 ) -> Result<(), Memory>
-    ensures { OnOk result (keyed.new.items ≡ keyed.old.items ++ filter_map new_packet_key named.now) }
+    ensures { OnOk result
+        (keyed.new.items ≡ keyed.old.items ++ filter_map new_packet_key named.now) }
 {
     for new in named {
         if let NewList::Packet(face) = new.list {
@@ -93,8 +96,11 @@ pub fn packet_lists_after(
     keyed: &[Keyed],
 ) -> Result<List<PacketList>, Memory>
     requires changes { AreChanges net.now changes.now }
-    requires within { All (λ list. IsWithin (length net.now.packet_lists) (length net.now.faces) list.site) keyed.now }
-    ensures { IfOk result (EachRow (λ place. IsPacketListFor net.now changes.now.edits.items) keyed.now) }
+    requires within { All
+        (λ list. IsWithin (length net.now.packet_lists) (length net.now.faces) list.site)
+        keyed.now }
+    ensures { IfOk result
+        (EachRow (λ place. IsPacketListFor net.now changes.now.edits.items) keyed.now) }
 {
     let mut lists = Vec::new(alloc);
     for key in keyed {

@@ -2,7 +2,8 @@
 ghost use Rattle.std.specs.Prelude.{◌≡◌, ◌++◌, All, length, map, IfOk, OnOk};
 ghost use Rattle.std.specs.List.{filter_map};
 ghost use Rattle.edit_space.specs.Numbered.{EachRow};
-ghost use Rattle.edit_space.specs.Working.{AreChanges, IsWithin, route_keys, new_route_key, IsRouteListFor};
+ghost use Rattle.edit_space.specs.Working.{AreChanges, IsWithin, route_keys, new_route_key};
+ghost use Rattle.edit_space.specs.Working.{IsRouteListFor};
 
 use crate::changes::Changes;
 use crate::entries::{new_route_entries, with_prefixes};
@@ -35,7 +36,8 @@ pub fn keyed_route_lists(
 }
 
 fn add_new_route_lists(alloc: Global, keyed: &mut Vec<Keyed>, named: &[Named]) -> Result<(), Memory>
-    ensures { OnOk result (keyed.new.items ≡ keyed.old.items ++ filter_map new_route_key named.now) }
+    ensures { OnOk result
+        (keyed.new.items ≡ keyed.old.items ++ filter_map new_route_key named.now) }
 {
     for new in named {
         if let NewList::Route(face) = new.list {
@@ -87,8 +89,10 @@ pub fn route_lists_after(
     keyed: &[Keyed],
 ) -> Result<List<RouteList>, Memory>
     requires changes { AreChanges net.now changes.now }
-    requires within { All (λ list. IsWithin (length net.now.route_lists) (length net.now.faces) list.site) keyed.now }
-    ensures { IfOk result (EachRow (λ place. IsRouteListFor net.now changes.now.edits.items) keyed.now) }
+    requires within { All
+        (λ list. IsWithin (length net.now.route_lists) (length net.now.faces) list.site) keyed.now }
+    ensures { IfOk result
+        (EachRow (λ place. IsRouteListFor net.now changes.now.edits.items) keyed.now) }
 {
     let mut lists = Vec::new(alloc);
     for key in keyed {

@@ -21,8 +21,10 @@ pub fn routers_after(
     changes: &Changes,
     names: &[List<Name>],
 ) -> Result<List<RouterRow>, Memory>
-    requires { Tells (length net.now.routers) (new_names_of net.now changes.now.edits.items) names.now }
-    ensures { IfOk result (EachRow (IsRouterAfter net.now changes.now.edits.items) net.now.routers) }
+    requires { Tells (length net.now.routers)
+        (new_names_of net.now changes.now.edits.items) names.now }
+    ensures { IfOk result
+        (EachRow (IsRouterAfter net.now changes.now.edits.items) net.now.routers) }
 {
     let mut routers = Vec::new(alloc);
     for (place, router) in net.routers.slice().iter().enumerate() {
@@ -111,7 +113,8 @@ fn face_after(
 ) -> Result<FaceRow, Memory>
     requires changes { AreChanges net.now changes.now }
     requires within { place.0 < length net.now.faces }
-    ensures { IfOk result (λ row. row ≡ face_after net.now.protocol changes.now.edits.items places.now (place.0, face.now)) }
+    ensures { IfOk result (λ row.
+        row ≡ face_after net.now.protocol changes.now.edits.items places.now (place.0, face.now)) }
 {
     let new = has_new_packet_list(net, changes, place);
     let passive = passive_after(net, changes, place, face.passive);
@@ -142,7 +145,9 @@ pub fn faces_after(
     places: &Places,
 ) -> Result<List<FaceRow>, Memory>
     requires { AreChanges net.now changes.now }
-    ensures { IfOk result (λ faces. faces ≡ map (face_after net.now.protocol changes.now.edits.items places.now) (placed net.now.faces)) }
+    ensures { IfOk result (λ faces.
+        faces ≡ map (face_after net.now.protocol changes.now.edits.items places.now)
+        (placed net.now.faces)) }
 {
     let mut faces = Vec::new(alloc);
     for (place, face) in net.faces.slice().iter().enumerate() {
@@ -183,7 +188,8 @@ pub fn sessions_after(
 ) -> Result<List<SessionRow>, Memory>
     requires changes { AreChanges net.now changes.now }
     requires within { All (λ session. session.face.0 < length net.now.faces) net.now.sessions }
-    ensures { IfOk result (λ sessions. sessions ≡ map (session_after changes.now.edits.items places.now) net.now.sessions) }
+    ensures { IfOk result (λ sessions.
+        sessions ≡ map (session_after changes.now.edits.items places.now) net.now.sessions) }
 {
     let mut sessions = Vec::new(alloc);
     for session in net.sessions.slice() {

@@ -2,14 +2,16 @@
 ghost use Rattle.std.specs.Prelude.{◌≡◌, ◌<◌, ◌^◌, ◌++◌, length, map, IfOk};
 ghost use Rattle.std.specs.List.{filter_map};
 ghost use Rattle.edit_space.specs.Numbered.{placed};
-ghost use Rattle.edit_space.specs.Sites.{route_list_site, neighbor_site, packet_list_site, face_site, route_sites, packet_sites};
+ghost use Rattle.edit_space.specs.Sites.{route_list_site, neighbor_site, packet_list_site};
+ghost use Rattle.edit_space.specs.Sites.{face_site, route_sites, packet_sites};
 
 use crate::numbered::{append, by_number};
 use arc_base::{Face, ListId, Memory};
 use net_model::{FaceRow, Network, PacketList, RouteList, SessionRow};
 use std::alloc::Global;
 
-/// Where an entry can be put: in a list that stands, or in a new one at an interface or at its neighbour.
+/// Where an entry can be put: in a list that stands, or in a new one at an interface or at its
+/// neighbour.
 #[derive(Clone, Copy, Debug, PartialEq, Eq)]
 pub enum Site {
     Bound(ListId),
@@ -108,7 +110,8 @@ fn face_sites(alloc: Global, faces: &[FaceRow]) -> Result<RouterSites, Memory>
     )
 }
 
-/// The sites of routes: for each router its route lists, and then its neighbours at which none is bound.
+/// The sites of routes: for each router its route lists, and then its neighbours at which none is
+/// bound.
 pub fn route_sites(alloc: Global, net: &Network) -> Result<Vec<Site>, Memory>
     ensures sites { IfOk result (λ sites. sites.items ≡ route_sites net.now) }
     ensures few { IfOk result (λ sites. length sites.items < 2 ^ 33) }
@@ -119,7 +122,8 @@ pub fn route_sites(alloc: Global, net: &Network) -> Result<Vec<Site>, Memory>
     by_number(alloc, net.routers.len(), &sites)
 }
 
-/// The sites of packets: for each router its extended packet lists, and then its interfaces at which one can be bound.
+/// The sites of packets: for each router its extended packet lists, and then its interfaces at
+/// which one can be bound.
 pub fn packet_sites(alloc: Global, net: &Network) -> Result<Vec<Site>, Memory>
     ensures sites { IfOk result (λ sites. sites.items ≡ packet_sites net.now) }
     ensures few { IfOk result (λ sites. length sites.items < 2 ^ 33) }

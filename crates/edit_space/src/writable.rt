@@ -13,7 +13,8 @@ const PORTS: u32 = 65_536;
 /// The last service of all.
 const LAST: u32 = 0xff_ffff;
 
-/// Whether one entry of a packet list can say the range: all services, all of one protocol but 0, or ports of TCP or of UDP.
+/// Whether one entry of a packet list can say the range: all services, all of one protocol but 0,
+/// or ports of TCP or of UDP.
 pub fn is_writable(service: &Service) -> bool
     ensures { result ≡ is_writable service.now }
 {

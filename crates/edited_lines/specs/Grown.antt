@@ -11,19 +11,25 @@ pub record IsGrown (grow : FileCommand → List FileCommand) (c : FileCommand) :
 
 -- no part of the new commands is one of the old ones
 abbrev pub AreFreshParts : List FileCommand → List FileCommand → Type 0
-AreFreshParts cs added = (t c : FileCommand) → Contains added t → Contains cs c → is_same (part_of t) (part_of c) ≡ false
+AreFreshParts cs added =
+    (t c : FileCommand) → Contains added t → Contains cs c → is_same (part_of t) (part_of c) ≡ false
 
--- the groups are the old ones, each with what stands for its commands, and the new ones together among them
-pub record HasGrownGroups (grow : FileCommand → List FileCommand) (front back added : List FileCommand) : Type 0 where
+-- the groups are the old ones, each with what stands for its commands, and the new ones together
+-- among them
+pub record HasGrownGroups (grow : FileCommand → List FileCommand)
+    (front back added : List FileCommand) : Type 0 where
   pub before : List Part
   pub after : List Part
   pub old : distinct (map part_of (front ++ back)) ≡ before ++ after
   pub new : groups (flat_map grow front ++ (added ++ flat_map grow back)) ≡
       map (λ q. flat_map grow (members (front ++ back) q)) before ++
-      (map (members added) (distinct (map part_of added)) ++ map (λ q. flat_map grow (members (front ++ back) q)) after)
+      (map (members added) (distinct (map part_of added)) ++
+      map (λ q. flat_map grow (members (front ++ back) q)) after)
 
--- commands that stand with others of their parts, and new ones of other parts among them, have these groups
+-- commands that stand with others of their parts, and new ones of other parts among them, have
+-- these groups
 abbrev pub CommandsGrow : Type 0
 CommandsGrow =
-    (grow : FileCommand → List FileCommand) (front back added : List FileCommand) → AllByRecursion (IsGrown grow) front → AllByRecursion (IsGrown grow) back →
+    (grow : FileCommand → List FileCommand) (front back added : List FileCommand) →
+    AllByRecursion (IsGrown grow) front → AllByRecursion (IsGrown grow) back →
     AreFreshParts (front ++ back) added → HasGrownGroups grow front back added

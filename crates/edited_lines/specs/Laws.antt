@@ -19,5 +19,7 @@ pub record SayTheSame (lines : List (List ℕ)) (commands : List FileCommand) : 
 -- lines with good edits at their commands say what the commands with these edits say
 abbrev pub EditedLinesAreRead : Type 0
 EditedLinesAreRead =
-    (lines : List (List ℕ)) (commands : List FileCommand) (put : FileCommand → Site) → AreCommandsIn lines commands → open_banner lines ≡ None → AreGood commands put 1 lines commands →
+    (lines : List (List ℕ)) (commands : List FileCommand) (put : FileCommand → Site) →
+    AreCommandsIn lines commands →
+    open_banner lines ≡ None → AreGood commands put 1 lines commands →
     SayTheSame (new_lines put 1 lines commands) (new_commands put commands)

@@ -1,6 +1,7 @@
--- What edits put at the command lines of a file, and the commands of the file with them. The numbers of blocks are those of
--- the old file, and greater ones are those of new blocks.
-use Rattle.std.specs.Prelude.{◌≡◌, ◌≢◌, ℕ, ◌+◌, ◌<◌, ◌==◌, ◌⊎◌, false, List, [], ◌∷◌, ◌++◌, map, Contains, MatchBool, if◌then◌else◌}
+-- What edits put at the command lines of a file, and the commands of the file with them. The
+-- numbers of blocks are those of the old file, and greater ones are those of new blocks.
+use Rattle.std.specs.Prelude.{◌≡◌, ◌≢◌, ℕ, ◌+◌, ◌<◌, ◌==◌, ◌⊎◌, false, List, [], ◌∷◌, ◌++◌, map}
+use Rattle.std.specs.Prelude.{Contains, MatchBool, if◌then◌else◌}
 use Rattle.std.specs.List.{AllByRecursion, flat_map}
 use Rattle.ios_lines.specs.Kinds.{kind, IsInner, IsHead, IsSingle, IsClosing}
 use Rattle.arc_base.specs.Words.{words}
@@ -18,12 +19,14 @@ pub record Written : Type 0 where
   pub line : List ℕ
   pub command : Command
 
--- what is put before a top line: a line of a list that stands as lines, or a block with a line that closes it
+-- what is put before a top line: a line of a list that stands as lines, or a block with a line that
+-- closes it
 pub data Chunk : Type 0 where
   Single : (w : Written) → Chunk
   NewBlock : (key : ℕ) (head : Written) (rest : List Written) (close : List ℕ) → Chunk
 
--- what stands for a command line: chunks and lines of its block before it, its bytes and command, and lines of its block after it
+-- what stands for a command line: chunks and lines of its block before it, its bytes and command,
+-- and lines of its block after it
 pub record Site : Type 0 where
   pub tops : List Chunk
   pub entries : List Written
@@ -56,7 +59,8 @@ says_other c command = record { line = c.line; block = c.block; command = comman
 
 -- the commands of a site from the old command's place on
 abbrev pub own_commands : FileCommand → Site → List FileCommand
-own_commands c s = map (in_block c.block) s.entries ++ (says_other c s.command ∷ map (in_block c.block) s.after)
+own_commands c s =
+    map (in_block c.block) s.entries ++ (says_other c s.command ∷ map (in_block c.block) s.after)
 
 -- the commands of a site
 abbrev pub site_commands : FileCommand → Site → List FileCommand
@@ -67,7 +71,8 @@ abbrev pub new_lines : (FileCommand → Site) → ℕ → List (List ℕ) → Li
 new_lines put n [] cs = []
 new_lines put n (l ∷ ls) [] = l ∷ ls
 new_lines put n (l ∷ ls) (c ∷ cs) =
-    if c.line == n then site_lines (put c) ++ new_lines put (n + 1) ls cs else l ∷ new_lines put (n + 1) ls (c ∷ cs)
+    if c.line == n then site_lines (put c) ++ new_lines put (n + 1) ls cs
+    else l ∷ new_lines put (n + 1) ls (c ∷ cs)
 
 abbrev pub new_commands : (FileCommand → Site) → List FileCommand → List FileCommand
 new_commands put cs = flat_map (λ c. site_commands c (put c)) cs
@@ -103,8 +108,10 @@ pub record IsBlockLine (within : BlockKind) (w : Written) : Type 0 where
   pub reads : ReadBy (is_extended_block within) (words w.line) (rows within) w.command
   pub part : (block : ℕ) → part_in block w.command ≡ Block block
 
--- the lines are a new block before the line of this number; its number here is that of no other command that stands later
-pub record IsNewBlock (number : ℕ) (later : List FileCommand) (key : ℕ) (head : Written) (rest : List Written) (close : List ℕ) : Type 0 where
+-- the lines are a new block before the line of this number; its number here is that of no other
+-- command that stands later
+pub record IsNewBlock (number : ℕ) (later : List FileCommand) (key : ℕ) (head : Written)
+    (rest : List Written) (close : List ℕ) : Type 0 where
   pub heads : IsHead head.line
   pub reads : ReadBy false (words head.line) (rows kinds.Top) head.command
   pub within : BlockKind
@@ -121,7 +128,8 @@ IsChunk number later (NewBlock key head rest close) = IsNewBlock number later ke
 
 abbrev pub AreChunks : ℕ → List FileCommand → List Chunk → Type 0
 AreChunks number later [] = Unit {0}
-AreChunks number later (t ∷ ts) = IsChunk number (flat_map chunk_commands ts ++ later) t × AreChunks number later ts
+AreChunks number later (t ∷ ts) =
+    IsChunk number (flat_map chunk_commands ts ++ later) t × AreChunks number later ts
 
 -- the command stands in a block of this kind
 pub record IsOfBlock (cs : List FileCommand) (c : FileCommand) (within : BlockKind) : Type 0 where
@@ -132,25 +140,33 @@ pub record IsOfBlock (cs : List FileCommand) (c : FileCommand) (within : BlockKi
   pub opens : opened_by head.command ≡ within
   pub known : within ≢ kinds.Inert
 
--- the line of a command that heads no block is another of its kind, and is read where the old one is read as the command
-pub record IsRewrittenFor (cs : List FileCommand) (c : FileCommand) (line : List ℕ) (s : Site) : Type 0 where
+-- the line of a command that heads no block is another of its kind, and is read where the old one
+-- is read as the command
+pub record IsRewrittenFor (cs : List FileCommand) (c : FileCommand) (line : List ℕ)
+    (s : Site) : Type 0 where
   pub no_head : c.block ≢ c.line
   pub alike : kind line ≡ kind s.line
   pub within : BlockKind
   pub stands : ((c.block ≡ 0) × (within ≡ kinds.Top)) ⊎ IsOfBlock cs c within
-  pub reads : ReadBy (is_extended_block within) (words line) (rows within) c.command → ReadBy (is_extended_block within) (words s.line) (rows within) s.command
+  pub reads : ReadBy (is_extended_block within) (words line) (rows within) c.command →
+      ReadBy (is_extended_block within) (words s.line) (rows within) s.command
   pub part : part_in c.block s.command ≡ part_of c
 
 -- what a site asks of a command of this line, where these commands stand later
-pub record IsGood (cs : List FileCommand) (c : FileCommand) (line : List ℕ) (s : Site) (later : List FileCommand) : Type 0 where
+pub record IsGood (cs : List FileCommand) (c : FileCommand) (line : List ℕ) (s : Site)
+    (later : List FileCommand) : Type 0 where
   pub after : AllByRecursion (IsInnerOf cs c) s.after
   pub entries : AllByRecursion (IsEntryOf cs c) s.entries
-  pub tops : (s.tops ≡ []) ⊎ ((s.entries ≡ []) × ((c.block ≡ 0) ⊎ (c.block ≡ c.line)) × AreChunks c.line (own_commands c s ++ later) s.tops)
+  pub tops : (s.tops ≡ []) ⊎ ((s.entries ≡ []) × ((c.block ≡ 0) ⊎ (c.block ≡ c.line)) ×
+      AreChunks c.line (own_commands c s ++ later) s.tops)
   pub written : ((s.line ≡ line) × (s.command ≡ c.command)) ⊎ IsRewrittenFor cs c line s
 
 -- all sites are good, where the lines from a number on have these commands
-abbrev pub AreGood : List FileCommand → (FileCommand → Site) → ℕ → List (List ℕ) → List FileCommand → Type 0
+abbrev pub AreGood : List FileCommand → (FileCommand → Site) → ℕ → List (List ℕ) →
+    List FileCommand → Type 0
 AreGood cs put n [] ds = Unit {0}
 AreGood cs put n (l ∷ ls) [] = Unit {0}
 AreGood cs put n (l ∷ ls) (c ∷ ds) =
-    MatchBool (c.line == n) (IsGood cs c l (put c) (new_commands put ds) × AreGood cs put (n + 1) ls ds) (AreGood cs put (n + 1) ls (c ∷ ds))
+    MatchBool (c.line == n)
+    (IsGood cs c l (put c) (new_commands put ds) × AreGood cs put (n + 1) ls ds)
+    (AreGood cs put (n + 1) ls (c ∷ ds))

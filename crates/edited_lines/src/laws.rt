@@ -7,7 +7,8 @@ pub fn edited_lines_are_read()
     ensures { EditedLinesAreRead }
 {}
 
-/// Commands around others join the groups of these, and new parts stand together among the old ones.
+/// Commands around others join the groups of these, and new parts stand together among the old
+/// ones.
 pub fn commands_grow()
     ensures { CommandsGrow }
 {}

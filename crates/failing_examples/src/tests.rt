@@ -11,8 +11,8 @@ use cases::CASES;
 use std::alloc::Global;
 use std::test::Fail;
 
-// A command: the files, the words, the text that is put, the status, how often the store is called, and which files are
-// written by the last of these calls.
+// A command: the files, the words, the text that is put, the status, how often the store is called,
+// and which files are written by the last of these calls.
 struct Case {
     files: &'static [(&'static [u8], &'static [u8])],
     words: &'static [&'static [u8]],
@@ -75,7 +75,8 @@ fn ended_by_store(alloc: Global, case: &Case, call: u64) -> Result<Ended, Memory
     run_case(alloc, case, store, MemSink::make(alloc, List::make(alloc)))
 }
 
-// The run over a sink that takes so many bytes a call, of which the call of this number fails, if there is one.
+// The run over a sink that takes so many bytes a call, of which the call of this number fails, if
+// there is one.
 fn ended_by_sink(alloc: Global, case: &Case, step: u32, call: u64) -> Result<Ended, Memory>
     requires { 1 ≤ step }
 {
@@ -109,8 +110,8 @@ fn keeps_files(alloc: Global, case: &Case, store: &MemStore) -> Result<bool, Mem
     Ok(true)
 }
 
-// Whether of the files that the case writes the first ones stand, so many of them: whole, as after the other run, but for the
-// last of them, which holds its first half.
+// Whether of the files that the case writes the first ones stand, so many of them: whole, as after
+// the other run, but for the last of them, which holds its first half.
 fn holds_front(
     alloc: Global,
     case: &Case,
@@ -148,8 +149,9 @@ fn is_answered(alloc: Global, case: &Case, it: &Ended) -> Result<bool, Memory> {
     Ok(is_put && keeps_files(alloc, case, &it.store)?)
 }
 
-// The first call of the store that fails and does not end the run as it has to: with status 6, nothing put, and of the files
-// that are written those before the failing one whole. After the last call none is left to fail.
+// The first call of the store that fails and does not end the run as it has to: with status 6,
+// nothing put, and of the files that are written those before the failing one whole. After the last
+// call none is left to fail.
 fn wrong_fault(alloc: Global, case: &Case, whole: &Ended) -> Result<Option<u64>, Memory> {
     let reads = case.calls.saturating_sub(case.outputs.len() as u64);
     for call in 1..1000 {
@@ -170,8 +172,8 @@ fn wrong_fault(alloc: Global, case: &Case, whole: &Ended) -> Result<Option<u64>,
     Ok(Some(1000))
 }
 
-// The first put of so many bytes that fails and does not end the run as it has to: with status 7, the bytes before it put, and
-// the files written. After the last put none is left to fail.
+// The first put of so many bytes that fails and does not end the run as it has to: with status 7,
+// the bytes before it put, and the files written. After the last put none is left to fail.
 fn wrong_put(alloc: Global, case: &Case, whole: &Ended, step: u32) -> Result<Option<u64>, Memory>
     requires { 1 ≤ step }
 {

@@ -1,5 +1,6 @@
 -- How a formula is written in DIMACS form.
-use Rattle.std.specs.Prelude.{◌≡◌, ℕ, ◌≤◌, List, ◌++◌, All, codes, decimal, flat_map, length, map, sum_by, Ok}
+use Rattle.std.specs.Prelude.{◌≡◌, ℕ, ◌≤◌, List, ◌++◌, All, codes, decimal, flat_map, length, map}
+use Rattle.std.specs.Prelude.{sum_by, Ok}
 use Rattle.cnf_types.specs.declared.clauses.Clause.{Clause}
 use Rattle.cnf_types.specs.declared.clauses.Formula.{Formula}
 use Rattle.cnf_types.specs.declared.literal.Lit.{Lit}
@@ -9,7 +10,8 @@ use Rattle.proof_log.specs.Texts.{before_spaces, literal_text}
 
 -- the header: how many variables and clauses there are
 abbrev pub header_line : Formula → List ℕ
-header_line f = codes "p cnf " ++ decimal f.vars ++ codes " " ++ decimal (length f.clauses) ++ codes "\n"
+header_line f =
+    codes "p cnf " ++ decimal f.vars ++ codes " " ++ decimal (length f.clauses) ++ codes "\n"
 
 -- a clause: its literals, each with a space behind it, and a 0
 abbrev pub clause_line : Clause → List ℕ
@@ -23,8 +25,9 @@ formula_text f = header_line f ++ flat_map clause_line f.clauses
 abbrev pub IsOfVariables : ℕ → Lit → Type 0
 IsOfVariables vars l = (1 ≤ variable l) × (variable l ≤ vars)
 
--- the formula is within the limits of the reader: each literal is of one of its variables, it has at most 2^24 variables and
--- 32,000,000 literals, and the number of its clauses has at most 18 digits
+-- the formula is within the limits of the reader: each literal is of one of its variables, it has
+-- at most 2^24 variables and 32,000,000 literals, and the number of its clauses has at most 18
+-- digits
 pub record IsWithinLimits (f : Formula) : Type 0 where
   pub literals : All (λ c. All (IsOfVariables f.vars) c.lits) f.clauses
   pub few_variables : f.vars ≤ 16777216

@@ -27,10 +27,12 @@ use Rattle.run_files.specs.Limits.{proof_limit}
 use Rattle.run_files.specs.Refusals.{refusal_of}
 use Rattle.repair_commands.specs.Repairs.{IsAnswered}
 use Rattle.generate_commands.specs.declared.tallies.Tally.{Tally}
-use Rattle.generate_commands.specs.Summaries.{budget_line, made_line, none_line, repair_line, tally_line}
+use Rattle.generate_commands.specs.Summaries.{budget_line, made_line, none_line, repair_line}
+use Rattle.generate_commands.specs.Summaries.{tally_line}
 use Rattle.generate_commands.specs.Tallies.{IsTally}
 
--- the highest price of a repair whose words name none, and how many conflicts its search may learn from
+-- the highest price of a repair whose words name none, and how many conflicts its search may learn
+-- from
 abbrev pub default_bound : ℕ
 default_bound = 32
 
@@ -56,23 +58,27 @@ status_of (Claimed (Repaired price bound flags verdicts) log) = 0
 status_of (Claimed (NoRepair bound) log) = 2
 status_of (Budget log) = 3
 
--- the lines of a repair: its price and how many edits it has, and how many policies the network after these edits meets, breaks and
--- has unclear
-pub record TellsAfter (net : Network) (doc : Document) (list : List Edit) (price : ℕ) (flags : List Bool) (lines : List ℕ) : Type 0 where
+-- the lines of a repair: its price and how many edits it has, and how many policies the network
+-- after these edits meets, breaks and has unclear
+pub record TellsAfter (net : Network) (doc : Document) (list : List Edit) (price : ℕ)
+    (flags : List Bool) (lines : List ℕ) : Type 0 where
   pub after : Network
   pub is_after : IsAfter net (chosen_of list flags) after
   pub tally : Tally
   pub is_tally : IsTally after doc.policies tally
-  pub lines_are : lines ≡ repair_line price (length (chosen_of list flags)) ++ tally_line (codes "after") tally
+  pub lines_are :
+      lines ≡ repair_line price (length (chosen_of list flags)) ++ tally_line (codes "after") tally
 
 -- the lines of an answer
 abbrev pub TellsAnswer : Network → Document → List Edit → Answer → List ℕ → Type 0
-TellsAnswer net doc list (Claimed (Repaired price bound flags verdicts) log) lines = TellsAfter net doc list price flags lines
+TellsAnswer net doc list (Claimed (Repaired price bound flags verdicts) log) lines =
+    TellsAfter net doc list price flags lines
 TellsAnswer net doc list (Claimed (NoRepair bound) log) lines = lines ≡ none_line
 TellsAnswer net doc list (Budget log) lines = lines ≡ budget_line
 
--- The answer: what was made; how many of its policies its network meets, breaks and has unclear; and what its repair came to, which is
--- one of the answers that `repair` gives where its words name neither a bound nor a limit. The certificate is written, and nothing else.
+-- The answer: what was made; how many of its policies its network meets, breaks and has unclear;
+-- and what its repair came to, which is one of the answers that `repair` gives where its words name
+-- neither a bound nor a limit. The certificate is written, and nothing else.
 pub record IsSummary (words : GenerateWords) (done : Done) : Type 0 where
   pub made : Generated
   pub built : Built
@@ -87,7 +93,9 @@ pub record IsSummary (words : GenerateWords) (done : Done) : Type 0 where
   pub tells : TellsAnswer built.net made.doc list answer lines
   pub writes : done.writes ≡ (words.proof, certificate_of built.net made.doc list answer) ∷ []
   pub short : length (certificate_of built.net made.doc list answer) ≤ proof_limit
-  pub text : done.text ≡ (made_line words.number ++ (tally_line (codes "verdicts") tally ++ lines)) ++ wrote_lines done.writes
+  pub text :
+      done.text ≡ (made_line words.number ++ (tally_line (codes "verdicts") tally ++ lines)) ++
+      wrote_lines done.writes
   pub status : done.status ≡ status_of answer
 
 -- an answer of the command: status 0, 2 or 3, and the certificate alone is written
@@ -96,7 +104,8 @@ pub record WritesOne (words : GenerateWords) (done : Done) : Type 0 where
   pub certificate : List ℕ
   pub writes : done.writes ≡ (words.proof, certificate) ∷ []
 
--- what the command would be refused for: the classes of what it made, its edits, or the variables or literals of its formula are too many
+-- what the command would be refused for: the classes of what it made, its edits, or the variables
+-- or literals of its formula are too many
 pub record IsGenerateRefusal (words : GenerateWords) (r : FileRefusal) : Type 0 where
   pub made : Generated
   pub built : Built

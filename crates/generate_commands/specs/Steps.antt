@@ -15,7 +15,8 @@ abbrev pub IsSomeGenerated : Generated → Type 0
 IsSomeGenerated made = (n : ℕ) × IsGeneratedWithin n made
 
 -- the edits of the network, and what its repair answers
-pub record IsFound (net : Network) (doc : Document) (list : List Edit) (answer : Answer) : Type 0 where
+pub record IsFound (net : Network) (doc : Document) (list : List Edit)
+    (answer : Answer) : Type 0 where
   pub answered : IsAnswered default_bound default_conflicts net doc list answer
   pub few : length list ≤ 8192
   pub countable : IsCountable net

@@ -12,16 +12,19 @@ use Rattle.generate_commands.specs.Tallies.{tally_of}
 -- what was made of a number of routers
 abbrev pub made_line : ℕ → List ℕ
 made_line n =
-    line (codes "generated") (decimal n ∷ codes "routers" ∷ decimal (link_count n) ∷ codes "links" ∷ decimal (n + 1) ∷ codes "policies" ∷ [])
+    line (codes "generated") (decimal n ∷ codes "routers" ∷ decimal (link_count n) ∷ codes "links" ∷
+    decimal (n + 1) ∷ codes "policies" ∷ [])
 
 -- how many policies are met, broken and not clear
 abbrev pub tally_line : List ℕ → Tally → List ℕ
 tally_line word tally =
-    line word (codes "yes" ∷ decimal tally.yes ∷ codes "no" ∷ decimal tally.no ∷ codes "refused" ∷ decimal tally.refused ∷ [])
+    line word (codes "yes" ∷ decimal tally.yes ∷ codes "no" ∷ decimal tally.no ∷ codes "refused" ∷
+    decimal tally.refused ∷ [])
 
 -- what a repair costs, and how many edits it has
 abbrev pub repair_line : ℕ → ℕ → List ℕ
-repair_line price edits = line (codes "repair") (codes "price" ∷ decimal price ∷ codes "edits" ∷ decimal edits ∷ [])
+repair_line price edits =
+    line (codes "repair") (codes "price" ∷ decimal price ∷ codes "edits" ∷ decimal edits ∷ [])
 
 -- that there is none within the bound, and that the search was given up
 abbrev pub none_line : List ℕ
@@ -36,6 +39,7 @@ flags_set flags = count_by (λ flag. flag) flags
 
 -- the lines of an answer, by what its claim holds
 abbrev pub answer_lines : Answer → List ℕ
-answer_lines (Claimed (Repaired price bound flags verdicts) log) = repair_line price (flags_set flags) ++ tally_line (codes "after") (tally_of verdicts)
+answer_lines (Claimed (Repaired price bound flags verdicts) log) =
+    repair_line price (flags_set flags) ++ tally_line (codes "after") (tally_of verdicts)
 answer_lines (Claimed (NoRepair bound) log) = none_line
 answer_lines (Budget log) = budget_line

@@ -1,5 +1,6 @@
 -- How many policies a network meets, how many it breaks, and how many are not clear in it.
-use Rattle.std.specs.Prelude.{◌≡◌, ◌⊎◌, ℕ, suc, ◌+◌, Bool, true, false, cond, List, [], ◌∷◌, count_by}
+use Rattle.std.specs.Prelude.{◌≡◌, ◌⊎◌, ℕ, suc, ◌+◌, Bool, true, false, cond, List, [], ◌∷◌}
+use Rattle.std.specs.Prelude.{count_by}
 use Rattle.net_model.specs.declared.policies.Policy.{Policy}
 use Rattle.net_model.specs.declared.policies.PolicyKind.TheVariants.{Reach}
 use Rattle.net_model.specs.declared.rows.Network.{Network}
@@ -14,7 +15,8 @@ use Rattle.generate_commands.specs.declared.tallies.Tally.{Tally}
 -- so many of the items have the property, and none of the others has
 abbrev pub HasSoMany : {X : Type 0} → (X → Type 0) → List X → ℕ → Type 0
 HasSoMany P [] n = n ≡ 0
-HasSoMany P (x ∷ xs) n = (P x × ((m : ℕ) × (n ≡ suc m) × HasSoMany P xs m)) ⊎ ((¬ P x) × HasSoMany P xs n)
+HasSoMany P (x ∷ xs) n =
+    (P x × ((m : ℕ) × (n ≡ suc m) × HasSoMany P xs m)) ⊎ ((¬ P x) × HasSoMany P xs n)
 
 -- a reach policy that is not clear: some routed arc denies packets of it
 pub record IsUnclear (net : Network) (policy : Policy) : Type 0 where
@@ -41,7 +43,11 @@ is_refused _ = false
 
 -- how many of the verdicts are of each sort
 abbrev pub tally_of : List Verdict → Tally
-tally_of verdicts = record { yes = count_by is_yes verdicts; no = count_by is_no verdicts; refused = count_by is_refused verdicts }
+tally_of verdicts = record {
+  yes = count_by is_yes verdicts;
+  no = count_by is_no verdicts;
+  refused = count_by is_refused verdicts;
+}
 
 -- and with one verdict more
 abbrev pub one_more : Tally → Verdict → Tally

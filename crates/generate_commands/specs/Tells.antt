@@ -23,17 +23,19 @@ use Rattle.arc_repair.specs.Claims.{IsCertificate}
 use Rattle.arc_repair.specs.Repairs.{IsLeast, Mends, cost}
 use Rattle.command_words.specs.declared.commands.GenerateWords.{GenerateWords}
 use Rattle.run_files.specs.declared.outcome.FileRefusal.{FileRefusal}
-use Rattle.generate_commands.specs.Generates.{IsGenerateRefusal, IsMade, default_bound, default_conflicts}
+use Rattle.generate_commands.specs.Generates.{IsGenerateRefusal, IsMade, default_bound}
+use Rattle.generate_commands.specs.Generates.{default_conflicts}
 
 -- what is made has this network, with these edits, and nothing passes its limit
-pub record IsRepairable (words : GenerateWords) (made : Generated) (built : Built) (list : List Edit) : Type 0 where
+pub record IsRepairable (words : GenerateWords) (made : Generated) (built : Built)
+    (list : List Edit) : Type 0 where
   pub is_made : IsMade words made built
   pub edits : AreEdits built.net made.doc list
   pub limits : KeepsLimits built.net made.doc list default_bound
 
 -- the certificate of this claim was written
-pub record HoldsCertificate (words : GenerateWords) (net : Network) (doc : Document) (list : List Edit) (claim : Claim)
-    (after : Files) : Type 0 where
+pub record HoldsCertificate (words : GenerateWords) (net : Network) (doc : Document)
+    (list : List Edit) (claim : Claim) (after : Files) : Type 0 where
   pub log : Log
   pub certificate : IsCertificate net doc list claim log.steps
   pub lines : All HasLine log.steps
@@ -43,9 +45,10 @@ pub record HoldsCertificate (words : GenerateWords) (net : Network) (doc : Docum
 abbrev pub KeepsOthers : GenerateWords → Files → Files → Type 0
 KeepsOthers words before after = (name : List ℕ) → ¬ (name ≡ words.proof) → after name ≡ before name
 
--- These are the edits of the network that are the cheapest after which it meets every policy, at a price within the bound. The patches by
--- these edits of the router files that are made, read, have exactly the network after these edits, which meets every policy. The
--- certificate of this was written, and nothing else.
+-- These are the edits of the network that are the cheapest after which it meets every policy, at a
+-- price within the bound. The patches by these edits of the router files that are made, read, have
+-- exactly the network after these edits, which meets every policy. The certificate of this was
+-- written, and nothing else.
 pub record HasCheapest (words : GenerateWords) (before after : Files) : Type 0 where
   pub made : Generated
   pub built : Built
@@ -59,23 +62,28 @@ pub record HasCheapest (words : GenerateWords) (before after : Files) : Type 0 w
   pub repaired : Network
   pub is_after : IsAfter built.net (chosen_of list flags) repaired
   pub meets : MeetsDocument repaired made.doc
-  pub read_again : (new : List (List ℕ)) → ArePatched built (chosen_of list flags) made.files new → IsNetworkOf made.doc new repaired
+  pub read_again : (new : List (List ℕ)) → ArePatched built (chosen_of list flags) made.files new →
+      IsNetworkOf made.doc new repaired
   pub verdicts : List Verdict
-  pub certified : HoldsCertificate words built.net made.doc list (Repaired price default_bound flags verdicts) after
+  pub certified : HoldsCertificate words built.net made.doc list
+      (Repaired price default_bound flags verdicts) after
   pub kept : KeepsOthers words before after
 
--- no edits within the bound make the network meet every policy; the certificate of this was written, and nothing else
+-- no edits within the bound make the network meet every policy; the certificate of this was
+-- written, and nothing else
 pub record HasNone (words : GenerateWords) (before after : Files) : Type 0 where
   pub made : Generated
   pub built : Built
   pub list : List Edit
   pub repairable : IsRepairable words made built list
-  pub none : (flags : List Bool) → Mends built.net made.doc list flags → default_bound < cost made.doc list flags
+  pub none : (flags : List Bool) → Mends built.net made.doc list flags →
+      default_bound < cost made.doc list flags
   pub certified : HoldsCertificate words built.net made.doc list (NoRepair default_bound) after
   pub kept : KeepsOthers words before after
 
--- what was written is a log that is spent for the repair formula, and nothing else: each of its bounds is the one that holds where none
--- is named, or one less than the price of edits after which the network meets every policy, and as it is it does not
+-- what was written is a log that is spent for the repair formula, and nothing else: each of its
+-- bounds is the one that holds where none is named, or one less than the price of edits after which
+-- the network meets every policy, and as it is it does not
 pub record HoldsSpentLog (words : GenerateWords) (before after : Files) : Type 0 where
   pub made : Generated
   pub built : Built
@@ -103,15 +111,17 @@ pub record CannotBeRepaired (words : GenerateWords) : Type 0 where
   pub built : Built
   pub list : List Edit
   pub repairable : IsRepairable words made built list
-  pub none : (flags : List Bool) → Mends built.net made.doc list flags → default_bound < cost made.doc list flags
+  pub none : (flags : List Bool) → Mends built.net made.doc list flags →
+      default_bound < cost made.doc list flags
 
 -- what is made is too large to be repaired
 pub record IsGenerateRefused (words : GenerateWords) : Type 0 where
   pub refusal : FileRefusal
   pub refused : IsGenerateRefusal words refusal
 
--- What the status tells, of the files before and after: 0 for the cheapest repair of what was made, 2 where there is none within the
--- bound, 3 in place of either where what was written is a spent log, and 5 for refused, with nothing written.
+-- What the status tells, of the files before and after: 0 for the cheapest repair of what was made,
+-- 2 where there is none within the bound, 3 in place of either where what was written is a spent
+-- log, and 5 for refused, with nothing written.
 pub record TellsGenerate (words : GenerateWords) (status : ℕ) (before after : Files) : Type 0 where
   pub repaired : status ≡ 0 → HasCheapest words before after
   pub none : status ≡ 2 → HasNone words before after

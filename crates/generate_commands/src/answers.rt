@@ -3,7 +3,8 @@ ghost use Rattle.std.specs.Prelude.{◌≡◌, ◌∷◌, [], ◌++◌, ◌≤�
 ghost use Rattle.output_files.specs.Outputs.{wrote_lines};
 ghost use Rattle.repair_commands.specs.Steps.{IsWholeAnswer};
 ghost use Rattle.run_files.specs.Limits.{proof_limit};
-ghost use Rattle.generate_commands.specs.Generates.{certificate_of, default_bound, default_conflicts, status_of};
+ghost use Rattle.generate_commands.specs.Generates.{certificate_of, default_bound};
+ghost use Rattle.generate_commands.specs.Generates.{default_conflicts, status_of};
 ghost use Rattle.generate_commands.specs.Summaries.{answer_lines, made_line, tally_line};
 ghost use Rattle.generate_commands.specs.Tallies.{tally_of};
 
@@ -34,7 +35,8 @@ fn certificate_of(
     answer: &Answer,
 ) -> Result<Vec<u8>, Memory>
     requires { IsWholeAnswer doc.now list.now answer.now }
-    ensures { IfOk result (λ text. text.items ≡ certificate_of net.now doc.now list.now answer.now) }
+    ensures { IfOk result (λ text.
+        text.items ≡ certificate_of net.now doc.now list.now answer.now) }
 {
     match answer {
         Answer::Done(claim, log) => certificate(alloc, net, doc, list, claim, log),
@@ -61,8 +63,8 @@ fn summary(
     answer: &Answer,
 ) -> Result<Vec<u8>, Memory>
     requires { words.now.number ≤ 40 }
-    ensures { IfOk result (λ text. text.items
-        ≡ made_line words.now.number ++ (tally_line (codes "verdicts") tally ++ answer_lines answer.now)) }
+    ensures { IfOk result (λ text. text.items ≡ made_line words.now.number ++
+        (tally_line (codes "verdicts") tally ++ answer_lines answer.now)) }
 {
     let mut text = Vec::new(alloc);
     push_made(alloc, &mut text, words.number)?;
@@ -71,8 +73,8 @@ fn summary(
     Ok(text)
 }
 
-/// What is told of the answer, and the certificate that is written. Want of memory stands for a certificate that is longer than
-/// one may be.
+/// What is told of the answer, and the certificate that is written. Want of memory stands for a
+/// certificate that is longer than one may be.
 pub fn answer_done(
     alloc: Global,
     words: &GenerateWords,
@@ -84,10 +86,13 @@ pub fn answer_done(
 ) -> Result<Done, Memory>
     requires number { words.now.number ≤ 40 }
     requires whole { IsWholeAnswer doc.now list.now answer.now }
-    ensures writes { IfOk result (λ done. done.writes ≡ (words.now.proof, certificate_of net.now doc.now list.now answer.now) ∷ []) }
-    ensures short { IfOk result (λ done. length (certificate_of net.now doc.now list.now answer.now) ≤ proof_limit) }
-    ensures text { IfOk result (λ done. done.text
-        ≡ (made_line words.now.number ++ (tally_line (codes "verdicts") (tally_of verdicts.now) ++ answer_lines answer.now)) ++ wrote_lines done.writes) }
+    ensures writes { IfOk result (λ done.
+        done.writes ≡ (words.now.proof, certificate_of net.now doc.now list.now answer.now) ∷ []) }
+    ensures short { IfOk result (λ done.
+        length (certificate_of net.now doc.now list.now answer.now) ≤ proof_limit) }
+    ensures text { IfOk result (λ done. done.text ≡ (made_line words.now.number ++
+        (tally_line (codes "verdicts") (tally_of verdicts.now) ++ answer_lines answer.now)) ++
+        wrote_lines done.writes) }
     ensures status { IfOk result (λ done. done.status ≡ status_of answer.now) }
 {
     let certificate = certificate_of(alloc, net, doc, list, answer)?;

@@ -8,7 +8,8 @@ ghost use Rattle.net_model.specs.Policies.{HasFewFailures};
 ghost use Rattle.arc_repair.specs.Answers.{IsRepairFault};
 ghost use Rattle.run_files.specs.Answers.{Gives, HasStopCause};
 ghost use Rattle.repair_commands.specs.Steps.{StopsFor};
-ghost use Rattle.generate_commands.specs.Generates.{default_bound, document_name, IsGenerateRefusal, IsSummary};
+ghost use Rattle.generate_commands.specs.Generates.{default_bound, document_name};
+ghost use Rattle.generate_commands.specs.Generates.{IsGenerateRefusal, IsSummary};
 ghost use Rattle.generate_commands.specs.Steps.{IsFound, IsSomeGenerated};
 
 use crate::answers::{BOUND, CONFLICTS, answer_done};
@@ -40,7 +41,8 @@ fn build(alloc: Global, made: &Generated) -> Result<Built, Memory>
     requires policies { length made.now.doc.policies ≤ 256 }
     ensures built { IfOk result (IsBuiltWithin [] 2048 made.now.doc made.now.files) }
     ensures valid { IfOk result (λ built. IsValid built.net) }
-    ensures ends { IfOk result (λ built. All (λ policy. HasEnds built.net (subject policy)) made.now.doc.policies) }
+    ensures ends { IfOk result (λ built.
+        All (λ policy. HasEnds built.net (subject policy)) made.now.doc.policies) }
 {
     generated_files_are_not_refused();
     let entries = Limits::Editing.entries();
@@ -82,9 +84,9 @@ fn fault_stop(alloc: Global, fault: EditFault) -> Stop
     }
 }
 
-/// Makes the network of so many routers, judges its policies, and repairs it with the highest price and the most conflicts that
-/// `repair` has where none are named. It reads nothing, and the certificate is all that is to be written. The time is that of the
-/// search.
+/// Makes the network of so many routers, judges its policies, and repairs it with the highest price
+/// and the most conflicts that `repair` has where none are named. It reads nothing, and the
+/// certificate is all that is to be written. The time is that of the search.
 pub fn generate(alloc: Global, words: &GenerateWords) -> Result<Done, Stop>
     requires some { 6 ≤ words.now.number }
     requires few { words.now.number ≤ 40 }

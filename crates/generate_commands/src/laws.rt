@@ -8,5 +8,6 @@ ghost use Rattle.generate_commands.specs.Tells.{TellsGenerate};
 
 /// What the status of `generate` tells.
 pub fn generate_is_told()
-    ensures { (words : GenerateWords) → IsTold (λ files. IsGenerateRefusal words) (λ files. IsSummary words) (TellsGenerate words) }
+    ensures { (words : GenerateWords) →
+        IsTold (λ files. IsGenerateRefusal words) (λ files. IsSummary words) (TellsGenerate words) }
 {}

@@ -1,7 +1,8 @@
 //! The lines that the command puts.
 ghost use Rattle.std.specs.Prelude.{◌≡◌, ◌∷◌, [], ◌++◌, ◌≤◌, OnOk, codes, decimal};
 ghost use Rattle.policy_report.specs.Lines.{after_spaces, line};
-ghost use Rattle.generate_commands.specs.Summaries.{answer_lines, flags_set, made_line, repair_line, tally_line};
+ghost use Rattle.generate_commands.specs.Summaries.{answer_lines, flags_set, made_line};
+ghost use Rattle.generate_commands.specs.Summaries.{repair_line, tally_line};
 ghost use Rattle.generate_commands.specs.Tallies.{tally_of};
 
 use crate::tallies::{Tally, counted};
@@ -14,7 +15,8 @@ use std::alloc::Global;
 
 // A word and a number.
 fn push_field(alloc: Global, text: &mut Vec<u8>, word: &[u8], count: u64) -> Result<(), Memory>
-    ensures { OnOk result (text.new.items ≡ text.old.items ++ after_spaces (word.now ∷ decimal count ∷ [])) }
+    ensures { OnOk result
+        (text.new.items ≡ text.old.items ++ after_spaces (word.now ∷ decimal count ∷ [])) }
 {
     push_word(text, word)?;
     push_count(alloc, text, count)
@@ -73,8 +75,8 @@ fn push_cost(
     price: u64,
     edits: u64,
 ) -> Result<(), Memory>
-    ensures { OnOk result (text.new.items
-        ≡ text.old.items ++ line word.now (codes "price" ∷ decimal price ∷ codes "edits" ∷ decimal edits ∷ [])) }
+    ensures { OnOk result (text.new.items ≡ text.old.items ++
+        line word.now (codes "price" ∷ decimal price ∷ codes "edits" ∷ decimal edits ∷ [])) }
 {
     text.extend_from_slice(word)?;
     push_field(alloc, text, b"price", price)?;
@@ -85,7 +87,8 @@ fn push_cost(
 
 // The line of a repair.
 fn push_repair(alloc: Global, text: &mut Vec<u8>, price: u32, chosen: &[bool]) -> Result<(), Memory>
-    ensures { OnOk result (text.new.items ≡ text.old.items ++ repair_line price (flags_set chosen.now)) }
+    ensures { OnOk result
+        (text.new.items ≡ text.old.items ++ repair_line price (flags_set chosen.now)) }
 {
     let edits = flags_set(chosen);
     push_cost(alloc, text, b"repair", u64::from(price), edits)
@@ -100,13 +103,15 @@ fn push_after(
     verdicts: &[Verdict],
 ) -> Result<(), Memory>
     ensures { OnOk result (text.new.items
-        ≡ text.old.items ++ (repair_line price (flags_set chosen.now) ++ tally_line (codes "after") (tally_of verdicts.now))) }
+        ≡ text.old.items ++ (repair_line price (flags_set chosen.now) ++
+        tally_line (codes "after") (tally_of verdicts.now))) }
 {
     push_repair(alloc, text, price, chosen)?;
     push_tally(alloc, text, b"after", counted(verdicts))
 }
 
-/// The lines of what a repair came to. The verdicts of its claim are those in the network after the edits.
+/// The lines of what a repair came to. The verdicts of its claim are those in the network after the
+/// edits.
 pub fn push_answer(alloc: Global, text: &mut Vec<u8>, answer: &Answer) -> Result<(), Memory>
     ensures { OnOk result (text.new.items ≡ text.old.items ++ answer_lines answer.now) }
 {

@@ -16,13 +16,17 @@ pub record IsGeneratedWithin (n : ℕ) (generated : Generated) : Type 0 where
 -- its files are refused for no reason, however many entries a list may have
 abbrev pub GeneratedFilesAreNotRefused : Type 0
 GeneratedFilesAreNotRefused =
-    (n most : ℕ) (generated : Generated) (r : Refusal) → IsGeneratedWithin n generated → ¬ IsFirstRefusalWithin [] most generated.doc generated.files r
+    (n most : ℕ) (generated : Generated) (r : Refusal) → IsGeneratedWithin n generated →
+    ¬ IsFirstRefusalWithin [] most generated.doc generated.files r
 
 -- the network of its files is the one that its number describes
 abbrev pub GeneratedNetworksHaveTheirPlan : Type 0
 GeneratedNetworksHaveTheirPlan =
-    (n most : ℕ) (generated : Generated) (net : Network) → IsGeneratedWithin n generated → IsNetworkWithin [] most generated.doc generated.files net → HasPlan n net
+    (n most : ℕ) (generated : Generated) (net : Network) → IsGeneratedWithin n generated →
+    IsNetworkWithin [] most generated.doc generated.files net → HasPlan n net
 
 -- its document has one policy more than routers
 abbrev pub GeneratedDocumentsHaveTheirPolicies : Type 0
-GeneratedDocumentsHaveTheirPolicies = (n : ℕ) (generated : Generated) → IsGeneratedWithin n generated → length generated.doc.policies ≡ n + 1
+GeneratedDocumentsHaveTheirPolicies =
+    (n : ℕ) (generated : Generated) → IsGeneratedWithin n generated →
+    length generated.doc.policies ≡ n + 1

@@ -1,5 +1,6 @@
 -- The network that a number describes, as its files give it.
-use Rattle.std.specs.Prelude.{◌≡◌, ℕ, ◌+◌, ◌*◌, ◌^◌, ◌≤◌, true, false, Some, [], length, map, slice_get, IsTrue, IsSomeAnd}
+use Rattle.std.specs.Prelude.{◌≡◌, ℕ, ◌+◌, ◌*◌, ◌^◌, ◌≤◌, true, false, Some, [], length, map}
+use Rattle.std.specs.Prelude.{slice_get, IsTrue, IsSomeAnd}
 use Rattle.net_model.specs.declared.rows.FaceRow.{FaceRow}
 use Rattle.net_model.specs.declared.rows.LinkRow.{LinkRow}
 use Rattle.net_model.specs.declared.rows.Network.{Network}
@@ -8,7 +9,8 @@ use Rattle.net_gen.specs.Generated.{IsHostNetwork}
 use Rattle.net_gen.specs.Plans.{numbers, link_count, a_router, b_router, port}
 use Rattle.net_gen.specs.RouterFiles.{host_name, face_name}
 
--- The interface at this place is the router's over the link: it has its name and the address 10.0.LINK.END, is up, takes part in OSPF and is not passive.
+-- The interface at this place is the router's over the link: it has its name and the address
+-- 10.0.LINK.END, is up, takes part in OSPF and is not passive.
 pub record IsEndAt (n : ℕ) (net : Network) (router link end place : ℕ) : Type 0 where
   pub face : FaceRow
   pub at_place : slice_get net.faces place ≡ Some face
@@ -33,13 +35,15 @@ pub record HasHostNetwork (net : Network) (router : ℕ) : Type 0 where
   pub own : face.router.0 + 1 ≡ router
   pub host : IsSomeAnd face.host (IsHostNetwork router)
 
--- the network runs OSPF, has these routers in their order, their host networks and the links between them, and no lists and no sessions
+-- the network runs OSPF, has these routers in their order, their host networks and the links
+-- between them, and no lists and no sessions
 pub record HasPlan (n : ℕ) (net : Network) : Type 0 where
   pub protocol : net.protocol ≡ Ospf
   pub names : map (λ router. router.name) net.routers ≡ map host_name (numbers n)
   pub routers : length net.routers ≡ n
   pub links : length net.links ≡ link_count n
-  pub joined : (place : ℕ) (row : LinkRow) → slice_get net.links place ≡ Some row → JoinsRouters n net (place + 1) row
+  pub joined : (place : ℕ) (row : LinkRow) → slice_get net.links place ≡ Some row →
+      JoinsRouters n net (place + 1) row
   pub hosts : (router : ℕ) → 1 ≤ router → router ≤ n → HasHostNetwork net router
   pub packet_lists : net.packet_lists ≡ []
   pub route_lists : net.route_lists ≡ []

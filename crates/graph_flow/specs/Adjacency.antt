@@ -11,7 +11,8 @@ digraph_of g = record { nodes = length g.rows.items; arcs = g.arcs.items }
 
 -- each node's row holds the arcs that begin or end there, in the order of the list
 abbrev pub AreRows : List Arc → List (List Arc) → Type 0
-AreRows arcs rows = (node : ℕ) → node < length rows → slice_index_or rows node [] ≡ touching arcs node
+AreRows arcs rows =
+    (node : ℕ) → node < length rows → slice_index_or rows node [] ≡ touching arcs node
 
 -- the arcs make a graph, the rows are theirs, and their links are below the bound
 pub record IsKept (g : Inside) : Type 0 where

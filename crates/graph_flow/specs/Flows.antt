@@ -1,5 +1,7 @@
 -- Flows of units over links, of which each carries at most one, in one of its directions.
-use Rattle.std.specs.Prelude.{◌≡◌, ℕ, ◌+◌, ◌<◌, ◌≤◌, ◌==◌, Bool, false, if◌then◌else◌, List, length, sum_by, slice_index_or, All, Contains, Option, Some, None, filter_map, ◌&&◌, not}
+use Rattle.std.specs.Prelude.{◌≡◌, ℕ, ◌+◌, ◌<◌, ◌≤◌, ◌==◌, Bool, false, if◌then◌else◌, List, length}
+use Rattle.std.specs.Prelude.{sum_by, slice_index_or, All, Contains, Option, Some, None, filter_map}
+use Rattle.std.specs.Prelude.{◌&&◌, not}
 use Rattle.arc_base.specs.declared.place.Link.{Link}
 use Rattle.graph_flow.specs.declared.arcs.Arc.{Arc}
 use Rattle.graph_flow.specs.Paths.{Digraph}
@@ -40,7 +42,8 @@ only_at many place node = if node == place then many else 0
 pub record IsFlow (arcs : List Arc) (s t many : ℕ) (units : Units) : Type 0 where
   pub is_arc : (link : ℕ) (arc : Arc) → unit_at units link ≡ Some arc → Contains arcs arc
   pub of_link : (link : ℕ) (arc : Arc) → unit_at units link ≡ Some arc → arc.link.0 ≡ link
-  pub balanced : (node : ℕ) → leaving units node + only_at many t node ≡ entering units node + only_at many s node
+  pub balanced : (node : ℕ) →
+      leaving units node + only_at many t node ≡ entering units node + only_at many s node
 
 -- no flow from s to t has more units
 abbrev pub IsGreatest : List Arc → ℕ → ℕ → ℕ → Type 0
@@ -69,8 +72,10 @@ out_link side (Some arc) = if side arc.tail && not (side arc.head) then Some arc
 abbrev pub links_out : Units → (ℕ → Bool) → List Link
 links_out units side = filter_map (out_link side) units
 
--- the flagged nodes are the least side, and it is left over the links of the units that lead out of it, so many
-pub record EndsAt (arcs : List Arc) (s t many : ℕ) (units : Units) (flags : List Bool) : Type 0 where
+-- the flagged nodes are the least side, and it is left over the links of the units that lead out of
+-- it, so many
+pub record EndsAt (arcs : List Arc) (s t many : ℕ) (units : Units)
+    (flags : List Bool) : Type 0 where
   pub least_side : IsLeastSide arcs s t (flagged flags) (links_out units (flagged flags))
   pub few : length (links_out units (flagged flags)) ≡ many
 

@@ -29,9 +29,13 @@ NotBoth = (g : Digraph) → IsGraph g → (s t want : ℕ) → s < g.nodes → t
 
 -- the nodes to which a path leads are those of a list
 abbrev pub ReachedAreListed : Type 0
-ReachedAreListed = (arcs : List Arc) (s : ℕ) → (nodes : List ℕ) × ((node : ℕ) → Leads arcs s node ↔ Contains nodes node)
+ReachedAreListed =
+    (arcs : List Arc) (s : ℕ) →
+    (nodes : List ℕ) × ((node : ℕ) → Leads arcs s node ↔ Contains nodes node)
 
 -- between two nodes there is one least side
 abbrev pub HasOneLeastSide : Type 0
-HasOneLeastSide = (arcs : List Arc) (s t : ℕ) (side other : ℕ → Bool) (links others : List Link) →
-    IsLeastSide arcs s t side links → IsLeastSide arcs s t other others → (node : ℕ) → side node ≡ other node
+HasOneLeastSide =
+    (arcs : List Arc) (s t : ℕ) (side other : ℕ → Bool) (links others : List Link) →
+    IsLeastSide arcs s t side links → IsLeastSide arcs s t other others →
+    (node : ℕ) → side node ≡ other node

@@ -1,5 +1,8 @@
--- What a search has found: for each node whether and over which arc it was reached. Contracts of helpers cite these.
-use Rattle.std.specs.Prelude.{◌≡◌, ℕ, zero, suc, ◌+◌, ◌<◌, Bool, true, false, if◌then◌else◌, IsTrue, List, [], ◌∷◌, ◌++◌, length, map, slice_index_or, slice_index, Contains, Option, Some, None, sum_by, ◌≤◌, ◌⊎◌, IsFalse, slice_set}
+-- What a search has found: for each node whether and over which arc it was reached. Contracts of
+-- helpers cite these.
+use Rattle.std.specs.Prelude.{◌≡◌, ℕ, zero, suc, ◌+◌, ◌<◌, Bool, true, false, if◌then◌else◌, IsTrue}
+use Rattle.std.specs.Prelude.{List, [], ◌∷◌, ◌++◌, length, map, slice_index_or, slice_index}
+use Rattle.std.specs.Prelude.{Contains, Option, Some, None, sum_by, ◌≤◌, ◌⊎◌, IsFalse, slice_set}
 use Rattle.arc_base.specs.declared.place.Link.{Link}
 use Rattle.graph_flow.specs.declared.arcs.Arc.{Arc}
 use Rattle.graph_flow.specs.declared.search.Mark.{Mark}
@@ -35,7 +38,8 @@ way_to marks node = way_by marks (depth_of (mark_at marks node)) (mark_at marks 
 
 -- the links of these arcs, if the node was reached
 abbrev pub path_by : List Mark → Mark → Option (List Link)
-path_by marks mark = if is_seen mark then Some (links_of (way_by marks (depth_of mark) mark)) else None
+path_by marks mark =
+    if is_seen mark then Some (links_of (way_by marks (depth_of mark) mark)) else None
 
 -- for each node the links of the path to it, if it was reached
 abbrev pub paths_by : List Mark → List (Option (List Link))
@@ -49,50 +53,65 @@ pub record IsAfter (marks : List Mark) (node : ℕ) (arc : Arc) (depth : ℕ) : 
 
 -- each mark tells of the step before it
 abbrev pub AreSteps : List Mark → Type 0
-AreSteps marks = (node : ℕ) (arc : Arc) (depth : ℕ) → mark_at marks node ≡ After arc depth → IsAfter marks node arc depth
+AreSteps marks =
+    (node : ℕ) (arc : Arc) (depth : ℕ) → mark_at marks node ≡ After arc depth →
+    IsAfter marks node arc depth
 
--- the reached nodes are those to which the arcs lead from s, and each was reached over one of the arcs
+-- the reached nodes are those to which the arcs lead from s, and each was reached over one of the
+-- arcs
 pub record IsSpread (arcs : List Arc) (s : ℕ) (marks : List Mark) : Type 0 where
   pub start : mark_at marks s ≡ Start
   pub one_start : (node : ℕ) → mark_at marks node ≡ Start → node ≡ s
   pub steps : AreSteps marks
-  pub over : (node : ℕ) (arc : Arc) (depth : ℕ) → mark_at marks node ≡ After arc depth → Contains arcs arc
+  pub over : (node : ℕ) (arc : Arc) (depth : ℕ) →
+      mark_at marks node ≡ After arc depth → Contains arcs arc
   pub shallow : (node : ℕ) → depth_of (mark_at marks node) ≤ length marks
-  pub closed : (arc : Arc) → Contains arcs arc → IsTrue (is_seen (mark_at marks arc.tail)) → IsTrue (is_seen (mark_at marks arc.head))
+  pub closed : (arc : Arc) → Contains arcs arc → IsTrue (is_seen (mark_at marks arc.tail)) →
+      IsTrue (is_seen (mark_at marks arc.head))
 
 -- one for a reached node
 abbrev pub seen_once : Mark → ℕ
 seen_once mark = if is_seen mark then 1 else 0
 
--- a search that has reached so many nodes, which stand in the queue, and has looked at the arcs of the first few of them
-pub record IsSearch (arcs : List Arc) (s : ℕ) (marks : List Mark) (queue : List ℕ) (count looked : ℕ) : Type 0 where
+-- a search that has reached so many nodes, which stand in the queue, and has looked at the arcs of
+-- the first few of them
+pub record IsSearch (arcs : List Arc) (s : ℕ) (marks : List Mark) (queue : List ℕ)
+    (count looked : ℕ) : Type 0 where
   pub start : mark_at marks s ≡ Start
   pub one_start : (node : ℕ) → mark_at marks node ≡ Start → node ≡ s
   pub steps : AreSteps marks
-  pub over : (node : ℕ) (arc : Arc) (depth : ℕ) → mark_at marks node ≡ After arc depth → Contains arcs arc
-  pub shallow : (node : ℕ) → IsTrue (is_seen (mark_at marks node)) → depth_of (mark_at marks node) < count
-  pub queued : (node : ℕ) → IsTrue (is_seen (mark_at marks node)) → (k : ℕ) × (k < count) × (slice_index queue k ≡ node)
+  pub over : (node : ℕ) (arc : Arc) (depth : ℕ) →
+      mark_at marks node ≡ After arc depth → Contains arcs arc
+  pub shallow : (node : ℕ) → IsTrue (is_seen (mark_at marks node)) →
+      depth_of (mark_at marks node) < count
+  pub queued : (node : ℕ) → IsTrue (is_seen (mark_at marks node)) →
+      (k : ℕ) × (k < count) × (slice_index queue k ≡ node)
   pub reached : (k : ℕ) → k < count → IsTrue (is_seen (mark_at marks (slice_index queue k)))
   pub counted : count ≡ sum_by seen_once marks
-  pub looked_at : (k : ℕ) → k < looked → (arc : Arc) → Contains arcs arc → arc.tail ≡ slice_index queue k → IsTrue (is_seen (mark_at marks arc.head))
+  pub looked_at : (k : ℕ) → k < looked →
+      (arc : Arc) → Contains arcs arc → arc.tail ≡ slice_index queue k →
+      IsTrue (is_seen (mark_at marks arc.head))
 
 -- the arc leads from elsewhere or its head is seen already, and nothing changes
-pub record Stays (marks : List Mark) (queue : List ℕ) (count : ℕ) (arc : Arc) (node : ℕ) (new_marks : List Mark) (new_queue : List ℕ) (new_count : ℕ) : Type 0 where
+pub record Stays (marks : List Mark) (queue : List ℕ) (count : ℕ) (arc : Arc) (node : ℕ)
+    (new_marks : List Mark) (new_queue : List ℕ) (new_count : ℕ) : Type 0 where
   pub seen : arc.tail ≡ node → IsTrue (is_seen (mark_at marks arc.head))
   pub same_marks : new_marks ≡ marks
   pub same_queue : new_queue ≡ queue
   pub same_count : new_count ≡ count
 
 -- the arc leads to a node that was not seen, which is marked and put into the queue
-pub record Finds (marks : List Mark) (queue : List ℕ) (count : ℕ) (arc : Arc) (node : ℕ) (new_marks : List Mark) (new_queue : List ℕ) (new_count : ℕ) : Type 0 where
+pub record Finds (marks : List Mark) (queue : List ℕ) (count : ℕ) (arc : Arc) (node : ℕ)
+    (new_marks : List Mark) (new_queue : List ℕ) (new_count : ℕ) : Type 0 where
   pub tail : arc.tail ≡ node
   pub unseen : IsFalse (is_seen (mark_at marks arc.head))
   pub marked : new_marks ≡ slice_set marks arc.head (After arc (depth_of (mark_at marks node) + 1))
   pub put : new_queue ≡ slice_set queue count arc.head
   pub one_more : new_count ≡ count + 1
 
--- what a search does with an arc: nothing if it does not lead from the node or its head is seen already, or else it
--- marks the head and puts it into the queue
+-- what a search does with an arc: nothing if it does not lead from the node or its head is seen
+-- already, or else it marks the head and puts it into the queue
 abbrev pub Follows : List Mark → List ℕ → ℕ → Arc → ℕ → List Mark → List ℕ → ℕ → Type 0
 Follows marks queue count arc node new_marks new_queue new_count =
-    Stays marks queue count arc node new_marks new_queue new_count ⊎ Finds marks queue count arc node new_marks new_queue new_count
+    Stays marks queue count arc node new_marks new_queue new_count ⊎
+    Finds marks queue count arc node new_marks new_queue new_count

@@ -1,5 +1,8 @@
--- Where one more unit can go: the arcs of the residual network of a flow. Contracts of helpers cite these.
-use Rattle.std.specs.Prelude.{ℕ, ◌≡◌, ◌+◌, Contains, IsSome, ◌==◌, ◌||◌, Bool, if◌then◌else◌, List, slice_set, filter, filter_map, Option, Some, None, [], ◌∷◌, ◌++◌, slice_index_or, not}
+-- Where one more unit can go: the arcs of the residual network of a flow. Contracts of helpers cite
+-- these.
+use Rattle.std.specs.Prelude.{ℕ, ◌≡◌, ◌+◌, Contains, IsSome, ◌==◌, ◌||◌, Bool, if◌then◌else◌, List}
+use Rattle.std.specs.Prelude.{slice_set, filter, filter_map, Option, Some, None, [], ◌∷◌, ◌++◌}
+use Rattle.std.specs.Prelude.{slice_index_or, not}
 use Rattle.arc_base.specs.declared.place.Link.{Link}
 use Rattle.graph_flow.specs.declared.arcs.Arc.{Arc}
 use Rattle.graph_flow.specs.Paths.{IsPath}
@@ -24,7 +27,8 @@ residual_of units arc = taken_back (unit_at units arc.link.0) arc
 abbrev pub residual : Units → List Arc → List Arc
 residual units arcs = filter_map (residual_of units) arcs
 
--- what the link carries after one more unit went over an arc of it: the arc, or nothing if it carried the opposite one
+-- what the link carries after one more unit went over an arc of it: the arc, or nothing if it
+-- carried the opposite one
 abbrev pub turned : Option Arc → Arc → Option Arc
 turned None arc = Some arc
 turned (Some used) arc = None
@@ -52,7 +56,8 @@ abbrev pub sent : Units → List Arc → Units
 sent units [] = units
 sent units (arc ∷ way) = turn (sent units way) arc
 
--- whether a path of units whose first arc is given may go over the arc: from the first arc's tail only the first arc itself
+-- whether a path of units whose first arc is given may go over the arc: from the first arc's tail
+-- only the first arc itself
 abbrev pub may_pass : Arc → Arc → Bool
 may_pass first arc = not (arc.tail == first.tail) || (arc.link.0 == first.link.0)
 
@@ -76,7 +81,8 @@ cleared units [] = units
 cleared units (link ∷ links) = cleared (slice_set units link.0 None) links
 
 -- what is left of the units once a path that begins with the given arc was taken out
-pub record TakesPath (arcs : List Arc) (first : Arc) (t : ℕ) (units : Units) (links : List Link) (rest : Units) : Type 0 where
+pub record TakesPath (arcs : List Arc) (first : Arc) (t : ℕ) (units : Units) (links : List Link)
+    (rest : Units) : Type 0 where
   pub path : IsPath arcs first.tail links t
   pub begins : first_link links ≡ first.link.0
   pub different : AreDistinct links

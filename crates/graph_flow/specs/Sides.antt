@@ -1,5 +1,6 @@
 -- Sets of nodes that hold a source and not a target, and the links of the arcs that leave them.
-use Rattle.std.specs.Prelude.{◌≡◌, ℕ, ◌<◌, ◌≤◌, Bool, IsTrue, IsFalse, List, length, All, AllPairs, Contains}
+use Rattle.std.specs.Prelude.{◌≡◌, ℕ, ◌<◌, ◌≤◌, Bool, IsTrue, IsFalse, List, length, All, AllPairs}
+use Rattle.std.specs.Prelude.{Contains}
 use Rattle.arc_base.specs.declared.place.Link.{Link}
 use Rattle.graph_flow.specs.declared.arcs.Arc.{Arc}
 
@@ -26,10 +27,14 @@ pub record AreLeftOver (arcs : List Arc) (side : ℕ → Bool) (links : List Lin
   pub each : (arc : Arc) → Contains arcs arc → Leaves side arc → Contains links arc.link
   pub rising : AllPairs (λ k l. k.0 < l.0) links
 
--- the links separate the target from the source, no fewer links separate them, and the set is part of every set that so few links leave
-pub record IsLeastSide (arcs : List Arc) (s t : ℕ) (side : ℕ → Bool) (links : List Link) : Type 0 where
+-- the links separate the target from the source, no fewer links separate them, and the set is part
+-- of every set that so few links leave
+pub record IsLeastSide (arcs : List Arc) (s t : ℕ) (side : ℕ → Bool)
+    (links : List Link) : Type 0 where
   pub separates : Separates s t side
   pub left_over : AreLeftOver arcs side links
-  pub fewest : (other : ℕ → Bool) (others : List Link) → Separates s t other → AreLeftOver arcs other others → length links ≤ length others
-  pub least : (other : ℕ → Bool) (others : List Link) → Separates s t other → AreLeftOver arcs other others →
-      length others ≤ length links → (node : ℕ) → IsTrue (side node) → IsTrue (other node)
+  pub fewest : (other : ℕ → Bool) (others : List Link) → Separates s t other →
+      AreLeftOver arcs other others → length links ≤ length others
+  pub least : (other : ℕ → Bool) (others : List Link) → Separates s t other →
+      AreLeftOver arcs other others → length others ≤ length links →
+      (node : ℕ) → IsTrue (side node) → IsTrue (other node)

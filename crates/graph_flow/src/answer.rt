@@ -3,8 +3,8 @@
 use crate::arcs::LinkRow2;
 use arc_base::{Link, List};
 
-/// Link-disjoint paths, or why there are not so many: the links that leave a side, and for each node whether it is on
-/// that side.
+/// Link-disjoint paths, or why there are not so many: the links that leave a side, and for each
+/// node whether it is on that side.
 #[derive(Debug, Drop)]
 pub enum FlowAnswer {
     Paths(List<LinkRow2>),

@@ -2,7 +2,8 @@
 
 use arc_base::{Link, List};
 
-/// One direction of a link: from the node `tail` to the node `head`. The cost is what a path pays for it.
+/// One direction of a link: from the node `tail` to the node `head`. The cost is what a path pays
+/// for it.
 #[derive(Clone, Copy, Debug, PartialEq, Eq)]
 pub struct Arc {
     pub link: Link,

@@ -1,5 +1,6 @@
 //! Which nodes paths reach from a node, and one path to each.
-ghost use Rattle.std.specs.Prelude.{◌≡◌, ℕ, ◌<◌, length, IfOk, IsSome, IsTrue, Some, None, Option, List, ◌↔◌, ◌^◌, slice_index_or, replicate, reverse, vec_len};
+ghost use Rattle.std.specs.Prelude.{◌≡◌, ℕ, ◌<◌, length, IfOk, IsSome, IsTrue, Some, None, Option};
+ghost use Rattle.std.specs.Prelude.{List, ◌↔◌, ◌^◌, slice_index_or, replicate, reverse, vec_len};
 ghost use Rattle.graph_flow.specs.Paths.{Leads, IsPath, links_of};
 ghost use Rattle.graph_flow.specs.Marks.{AreSteps, depth_of, mark_at, way_to};
 ghost use Rattle.arc_base.specs.declared.place.Link.{Link};
@@ -11,8 +12,8 @@ use arc_base::{Link, List, Memory};
 use std::alloc::Global;
 use std::marker::Model;
 
-/// The nodes that paths lead to from a node of a graph. It belongs to the graph that it was made for. Contracts see,
-/// for each node, the links of a path to it, or none where it is not reached.
+/// The nodes that paths lead to from a node of a graph. It belongs to the graph that it was made
+/// for. Contracts see, for each node, the links of a path to it, or none where it is not reached.
 #[derive(Debug, Drop)]
 pub struct Closure {
     search: Search,
@@ -47,8 +48,10 @@ impl Closure {
         requires from { from < g.now.nodes }
         requires graph { length self.old ≡ g.now.nodes }
         ensures room { length self.new ≡ length self.old }
-        ensures reached { (node : ℕ) → node < g.now.nodes → IsSome (slice_index_or self.new node None) ↔ Leads g.now.arcs from node }
-        ensures paths { (node : ℕ) (links : List Link) → slice_index_or self.new node None ≡ Some links → IsPath g.now.arcs from links node }
+        ensures reached { (node : ℕ) → node < g.now.nodes →
+            IsSome (slice_index_or self.new node None) ↔ Leads g.now.arcs from node }
+        ensures paths { (node : ℕ) (links : List Link) →
+            slice_index_or self.new node None ≡ Some links → IsPath g.now.arcs from links node }
     {
         self.search.run(g, &[], from);
     }

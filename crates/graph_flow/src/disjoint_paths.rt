@@ -1,8 +1,10 @@
 //! Link-disjoint paths between two nodes, or the cut that rules them out.
-ghost use Rattle.std.specs.Prelude.{◌≡◌, ◌≢◌, ℕ, ◌≤◌, ◌<◌, ◌+◌, ◌-◌, ◌^◌, length, IfOk, IsTrue, IsFalse, Some};
+ghost use Rattle.std.specs.Prelude.{◌≡◌, ◌≢◌, ℕ, ◌≤◌, ◌<◌, ◌+◌, ◌-◌, ◌^◌, length, IfOk, IsTrue};
+ghost use Rattle.std.specs.Prelude.{IsFalse, Some};
 ghost use Rattle.graph_flow.specs.Paths.{AreDisjointPaths};
 ghost use Rattle.graph_flow.specs.Sides.{IsLeastSide};
-ghost use Rattle.graph_flow.specs.Flows.{IsFlow, IsMadeFor, EndsAt, leaving, flagged, links_out, out_link, unit_at, AreWithin};
+ghost use Rattle.graph_flow.specs.Flows.{IsFlow, IsMadeFor, EndsAt, leaving, flagged, links_out};
+ghost use Rattle.graph_flow.specs.Flows.{out_link, unit_at, AreWithin};
 ghost use Rattle.graph_flow.specs.Laws.{HavePaths};
 ghost use Rattle.graph_flow.specs.Answers.{IfPaths, IfCut, AreInOrder};
 ghost use Rattle.graph_flow.specs.declared.arcs.Arc.{Arc};
@@ -15,7 +17,8 @@ use crate::units::into_paths;
 use arc_base::{Link, List, Memory};
 use std::alloc::Global;
 
-/// So many link-disjoint paths from `s` to `t`, or else the fewer links that leave the least source side.
+/// So many link-disjoint paths from `s` to `t`, or else the fewer links that leave the least source
+/// side.
 pub fn disjoint(alloc: Global, g: &Graph, s: u32, t: u32, want: u32) -> Result<FlowAnswer, Memory>
     requires source { s < g.now.nodes }
     requires target { t < g.now.nodes }
@@ -23,10 +26,12 @@ pub fn disjoint(alloc: Global, g: &Graph, s: u32, t: u32, want: u32) -> Result<F
     requires some { 1 ≤ want }
     ensures paths { IfOk result (λ answer. IfPaths answer (AreDisjointPaths g.now.arcs s t want)) }
     ensures order { IfOk result (λ answer. IfPaths answer AreInOrder) }
-    ensures cut { IfOk result (λ answer. IfCut answer (λ links side. IsLeastSide g.now.arcs s t (flagged side) links)) }
+    ensures cut { IfOk result (λ answer.
+        IfCut answer (λ links side. IsLeastSide g.now.arcs s t (flagged side) links)) }
     ensures fewer { IfOk result (λ answer. IfCut answer (λ links side. length links < want)) }
     ensures flags { IfOk result (λ answer. IfCut answer (λ links side. length side ≡ g.now.nodes)) }
-    ensures only_then { IfOk result (λ answer. IfCut answer (λ links side. HavePaths g.now.arcs s t want → ⊥)) }
+    ensures only_then { IfOk result (λ answer.
+        IfCut answer (λ links side. HavePaths g.now.arcs s t want → ⊥)) }
 {
     let mut flow = Flow::make(alloc, g)?;
     if fill(&mut flow, g, s, t, want) {
@@ -49,7 +54,8 @@ fn fill(flow: &mut Flow, g: &Graph, s: u32, t: u32, want: u32) -> bool
     ensures room { IsMadeFor g.now flow.new }
     ensures full { IsTrue result → leaving flow.new.units s ≡ want }
     ensures fewer { IsFalse result → leaving flow.new.units s < want }
-    ensures side { IsFalse result → EndsAt g.now.arcs s t (leaving flow.new.units s) flow.new.units flow.new.reached }
+    ensures side { IsFalse result →
+        EndsAt g.now.arcs s t (leaving flow.new.units s) flow.new.units flow.new.reached }
 {
     for _grown in 0..want {
         if !flow.grow(g, s, t) {
@@ -76,10 +82,12 @@ fn cut(
     requires fewer { leaving flow.units s < want }
     requires side { EndsAt g.now.arcs s t (leaving flow.units s) flow.units flow.reached }
     ensures paths { IfOk result (λ answer. IfPaths answer (λ paths. ⊥)) }
-    ensures cut { IfOk result (λ answer. IfCut answer (λ links side. IsLeastSide g.now.arcs s t (flagged side) links)) }
+    ensures cut { IfOk result (λ answer.
+        IfCut answer (λ links side. IsLeastSide g.now.arcs s t (flagged side) links)) }
     ensures fewer { IfOk result (λ answer. IfCut answer (λ links side. length links < want)) }
     ensures flags { IfOk result (λ answer. IfCut answer (λ links side. length side ≡ g.now.nodes)) }
-    ensures only_then { IfOk result (λ answer. IfCut answer (λ links side. HavePaths g.now.arcs s t want → ⊥)) }
+    ensures only_then { IfOk result (λ answer.
+        IfCut answer (λ links side. HavePaths g.now.arcs s t want → ⊥)) }
 {
     let side = flags(alloc, &flow, g.nodes())?;
     let units = flow.into_units();
@@ -101,7 +109,8 @@ fn flags(alloc: Global, flow: &Flow, nodes: u32) -> Result<List<bool>, Memory>
 
 /// The links over which units lead out of the side.
 fn links_out(alloc: Global, units: &[Option<Arc>], side: &[bool]) -> Result<List<Link>, Memory>
-    requires ends { (link : ℕ) (arc : Arc) → unit_at units.now link ≡ Some arc → AreWithin side.now arc }
+    requires ends { (link : ℕ) (arc : Arc) → unit_at units.now link ≡ Some arc →
+        AreWithin side.now arc }
     requires few { length (links_out units.now (flagged side.now)) < 2 ^ 32 - 1 }
     ensures { IfOk result (λ links. links ≡ links_out units.now (flagged side.now)) }
 {

@@ -13,8 +13,8 @@ use arc_base::Memory;
 use std::alloc::Global;
 use std::marker::Model;
 
-/// A flow of units over the links of a graph, each of which carries at most one. It belongs to the graph that it was
-/// made for, and to the two nodes that its first `grow` names.
+/// A flow of units over the links of a graph, each of which carries at most one. It belongs to the
+/// graph that it was made for, and to the two nodes that its first `grow` names.
 #[derive(Debug, Drop)]
 pub struct Flow {
     units: Vec<Option<Arc>>,
@@ -29,7 +29,8 @@ impl Model for Flow {
 
     ghost use Rattle.graph_flow.specs.Marks.{is_seen};
 
-    ghost view = { λ f. record { units = f.units.items; reached = map is_seen f.search.marks.items } };
+    ghost view = { λ f.
+        record { units = f.units.items; reached = map is_seen f.search.marks.items } };
 
     ghost invariant = { λ f. length f.search.queue.items ≡ length f.search.marks.items };
 }
@@ -47,7 +48,8 @@ impl Flow {
         })
     }
 
-    /// Sends one more unit from `s` to `t`, or changes no unit where no flow has more. It takes no memory.
+    /// Sends one more unit from `s` to `t`, or changes no unit where no flow has more. It takes no
+    /// memory.
     pub fn grow(&mut self, g: &Graph, s: u32, t: u32) -> bool
         requires source { s < g.now.nodes }
         requires target { t < g.now.nodes }
@@ -58,7 +60,8 @@ impl Flow {
         ensures unchanged { IsFalse result → self.new.units ≡ self.old.units }
         ensures raised { IsTrue result → leaving self.new.units s ≡ leaving self.old.units s + 1 }
         ensures flow { IsFlow g.now.arcs s t (leaving self.new.units s) self.new.units }
-        ensures side { IsFalse result → EndsAt g.now.arcs s t (leaving self.new.units s) self.new.units self.new.reached }
+        ensures side { IsFalse result →
+            EndsAt g.now.arcs s t (leaving self.new.units s) self.new.units self.new.reached }
         ensures room { IsMadeFor g.now self.new }
     {
         prove!(t < g.nodes());
@@ -70,8 +73,8 @@ impl Flow {
         true
     }
 
-    /// Whether the last search for room reached the node. After a `grow` that answered false these are the nodes of
-    /// the least source side.
+    /// Whether the last search for room reached the node. After a `grow` that answered false these
+    /// are the nodes of the least source side.
     pub fn side(&self, node: u32) -> bool
         requires { node < length self.now.reached }
         ensures { result ≡ flagged self.now.reached node }
@@ -89,11 +92,13 @@ impl Flow {
     }
 }
 
-/// Sends one more unit over the arcs by which a node was reached, from the last one back to the first.
+/// Sends one more unit over the arcs by which a node was reached, from the last one back to the
+/// first.
 fn send(units: &mut [Option<Arc>], marks: &[Mark], node: u32)
     requires node { node < length marks.now }
     requires steps { AreSteps marks.now }
-    requires links { (at : ℕ) (arc : Arc) (depth : ℕ) → mark_at marks.now at ≡ Mark.After arc depth → arc.link.0 < length units.old }
+    requires links { (at : ℕ) (arc : Arc) (depth : ℕ) →
+        mark_at marks.now at ≡ Mark.After arc depth → arc.link.0 < length units.old }
     ensures { units.new ≡ sent units.old (way_to marks.now node) }
 {
     let mut at = node;

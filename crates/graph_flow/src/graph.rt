@@ -1,5 +1,6 @@
 //! Directed graphs whose arcs belong to links, as the rest of the crate walks them.
-ghost use Rattle.std.specs.Prelude.{◌≡◌, ◌≢◌, ◌<◌, ◌^◌, [], ◌∷◌, ◌++◌, length, IfOk, OnOk, OnErr, All, IsTrue, ◌↔◌};
+ghost use Rattle.std.specs.Prelude.{◌≡◌, ◌≢◌, ◌<◌, ◌^◌, [], ◌∷◌, ◌++◌, length, IfOk, OnOk, OnErr};
+ghost use Rattle.std.specs.Prelude.{All, IsTrue, ◌↔◌};
 ghost use Rattle.graph_flow.specs.Paths.{Joins, MayShare, IsGraph, Digraph};
 ghost use Rattle.graph_flow.specs.Residual.{touching, with_arc};
 
@@ -9,7 +10,8 @@ use arc_base::Memory;
 use std::alloc::Global;
 use std::marker::Model;
 
-/// A directed graph whose arcs belong to links. Contracts see how many nodes it has and the list of its arcs.
+/// A directed graph whose arcs belong to links. Contracts see how many nodes it has and the list of
+/// its arcs.
 #[derive(Debug, Drop)]
 pub struct Graph {
     arcs: Vec<Arc>,
@@ -45,10 +47,12 @@ impl Graph {
         })
     }
 
-    /// Whether an arc can be added: it leads from a node to another, and its link has at most the opposite arc yet.
+    /// Whether an arc can be added: it leads from a node to another, and its link has at most the
+    /// opposite arc yet.
     /// It looks at all arcs.
     pub fn has_place(&self, arc: &Arc) -> bool
-        ensures { IsTrue result ↔ (Joins self.now.nodes arc.now × All (λ other. MayShare other arc.now) self.now.arcs) }
+        ensures { IsTrue result ↔
+            (Joins self.now.nodes arc.now × All (λ other. MayShare other arc.now) self.now.arcs) }
     {
         joins(self.rows.len(), arc) && may_share_all(&self.arcs, arc)
     }

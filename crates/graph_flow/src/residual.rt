@@ -4,8 +4,9 @@ ghost use Rattle.graph_flow.specs.Residual.{residual_of, reversed, turn};
 
 use crate::arcs::Arc;
 
-/// The arc over which one more unit can go by way of an arc of the graph: the arc itself where its link carries
-/// nothing, and the arc turned round where it carries a unit, which is then taken back.
+/// The arc over which one more unit can go by way of an arc of the graph: the arc itself where its
+/// link carries nothing, and the arc turned round where it carries a unit, which is then taken
+/// back.
 pub(crate) fn residual_of(carried: &[Option<Arc>], arc: &Arc) -> Option<Arc>
     ensures { result ≡ residual_of carried.now arc.now }
 {

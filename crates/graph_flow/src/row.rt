@@ -1,5 +1,6 @@
 //! The arcs at one node, kept without an allocation where they are few.
-ghost use Rattle.std.specs.Prelude.{◌≡◌, ◌-◌, ◌<◌, [], ◌∷◌, ◌++◌, length, take, OnOk, OnErr, slice_set, slice_index_or, List as Items};
+ghost use Rattle.std.specs.Prelude.{◌≡◌, ◌-◌, ◌<◌, [], ◌∷◌, ◌++◌, length, take, OnOk, OnErr};
+ghost use Rattle.std.specs.Prelude.{slice_set, slice_index_or, List as Items};
 ghost use Rattle.graph_flow.specs.declared.arcs.Arc.{Arc};
 
 use crate::arcs::Arc;
@@ -8,7 +9,8 @@ use smallvec::SmallVec;
 use std::alloc::Global;
 use std::marker::Model;
 
-/// The arcs that begin or end at one node. Most nodes have few, which need no allocation of their own.
+/// The arcs that begin or end at one node. Most nodes have few, which need no allocation of their
+/// own.
 #[derive(Debug, Drop)]
 pub(crate) struct Row {
     arcs: SmallVec<Arc, 8>,

@@ -1,5 +1,6 @@
 //! The search in breadth that finds what can be reached over links that have room.
-ghost use Rattle.std.specs.Prelude.{◌≡◌, ◌≤◌, ◌<◌, ◌+◌, ◌^◌, length, IfOk, IsTrue, IsFalse, replicate, List, vec_len, ℕ, Contains, Some};
+ghost use Rattle.std.specs.Prelude.{◌≡◌, ◌≤◌, ◌<◌, ◌+◌, ◌^◌, length, IfOk, IsTrue, IsFalse};
+ghost use Rattle.std.specs.Prelude.{replicate, List, vec_len, ℕ, Contains, Some};
 ghost use Rattle.graph_flow.specs.Flows.{unit_at};
 ghost use Rattle.graph_flow.specs.Residual.{residual};
 ghost use Rattle.graph_flow.specs.Marks.{is_seen, depth_of, mark_at, IsSpread, IsSearch, Follows};
@@ -11,7 +12,8 @@ use crate::residual::residual_of;
 use arc_base::Memory;
 use std::alloc::Global;
 
-/// What a search knows of a node: nothing yet, that it began there, or over which arc and after how many it came there.
+/// What a search knows of a node: nothing yet, that it began there, or over which arc and after how
+/// many it came there.
 #[derive(Clone, Copy, Debug, PartialEq, Eq)]
 pub(crate) enum Mark {
     Unseen,
@@ -19,7 +21,8 @@ pub(crate) enum Mark {
     After(Arc, u32),
 }
 
-/// The room of a search in breadth: what it knows of each node, and the nodes in the order in which it came to them.
+/// The room of a search in breadth: what it knows of each node, and the nodes in the order in which
+/// it came to them.
 #[derive(Debug, Drop)]
 pub(crate) struct Search {
     pub(crate) marks: Vec<Mark>,
@@ -50,7 +53,8 @@ impl Search {
         requires from { from < g.now.nodes }
         requires marks { vec_len self.old.marks ≡ g.now.nodes }
         requires queue { vec_len self.old.queue ≡ g.now.nodes }
-        requires units { (link : ℕ) (arc : Arc) → unit_at carried.now link ≡ Some arc → Contains g.now.arcs arc }
+        requires units { (link : ℕ) (arc : Arc) → unit_at carried.now link ≡ Some arc →
+            Contains g.now.arcs arc }
         ensures spread { IsSpread (residual carried.now g.now.arcs) from self.new.marks.items }
         ensures marks { vec_len self.new.marks ≡ vec_len self.old.marks }
         ensures queue { vec_len self.new.queue ≡ vec_len self.old.queue }
@@ -68,7 +72,8 @@ impl Search {
     fn begin(&mut self, from: u32)
         requires marks { from < vec_len self.old.marks }
         requires queue { vec_len self.old.queue ≡ vec_len self.old.marks }
-        ensures search { (arcs : List Arc) → IsSearch arcs from self.new.marks.items self.new.queue.items 1 0 }
+        ensures search { (arcs : List Arc) →
+            IsSearch arcs from self.new.marks.items self.new.queue.items 1 0 }
         ensures marks { vec_len self.new.marks ≡ vec_len self.old.marks }
         ensures queue { vec_len self.new.queue ≡ vec_len self.old.queue }
     {
@@ -91,9 +96,12 @@ impl Search {
         requires place { looked < count }
         requires marks { vec_len self.old.marks ≡ g.now.nodes }
         requires queue { vec_len self.old.queue ≡ g.now.nodes }
-        requires units { (link : ℕ) (arc : Arc) → unit_at carried.now link ≡ Some arc → Contains g.now.arcs arc }
-        requires search { IsSearch (residual carried.now g.now.arcs) from self.old.marks.items self.old.queue.items count looked }
-        ensures search { IsSearch (residual carried.now g.now.arcs) from self.new.marks.items self.new.queue.items result (looked + 1) }
+        requires units { (link : ℕ) (arc : Arc) → unit_at carried.now link ≡ Some arc →
+            Contains g.now.arcs arc }
+        requires search { IsSearch (residual carried.now g.now.arcs) from self.old.marks.items
+            self.old.queue.items count looked }
+        ensures search { IsSearch (residual carried.now g.now.arcs) from self.new.marks.items
+            self.new.queue.items result (looked + 1) }
         ensures more { count ≤ result }
         ensures marks { vec_len self.new.marks ≡ vec_len self.old.marks }
         ensures queue { vec_len self.new.queue ≡ vec_len self.old.queue }
@@ -108,15 +116,18 @@ impl Search {
         count
     }
 
-    /// Puts the head of an arc into the queue, where the arc leads from the node and its head was not seen before.
+    /// Puts the head of an arc into the queue, where the arc leads from the node and its head was
+    /// not seen before.
     fn follow(&mut self, arc: Arc, node: u32, count: usize) -> usize
         requires head { arc.head < vec_len self.old.marks }
         requires node { IsTrue (is_seen (mark_at self.old.marks.items node)) }
         requires shallow { depth_of (mark_at self.old.marks.items node) < count }
         requires queue { vec_len self.old.queue ≡ vec_len self.old.marks }
         requires few { vec_len self.old.marks < 2 ^ 32 }
-        requires room { IsFalse (is_seen (mark_at self.old.marks.items arc.head)) → count < vec_len self.old.queue }
-        ensures follows { Follows self.old.marks.items self.old.queue.items count arc node self.new.marks.items self.new.queue.items result }
+        requires room { IsFalse (is_seen (mark_at self.old.marks.items arc.head)) →
+            count < vec_len self.old.queue }
+        ensures follows { Follows self.old.marks.items self.old.queue.items count arc node
+            self.new.marks.items self.new.queue.items result }
         ensures marks { vec_len self.new.marks ≡ vec_len self.old.marks }
         ensures queue { vec_len self.new.queue ≡ vec_len self.old.queue }
     {

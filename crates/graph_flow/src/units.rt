@@ -25,7 +25,8 @@ pub(crate) fn into_paths(
     requires apart { s ≢ t }
     requires flow { IsFlow g.now.arcs s t (leaving units.old s) units.old }
     requires few { leaving units.old s < 2 ^ 32 }
-    ensures paths { IfOk result (λ paths. AreDisjointPaths g.now.arcs s t (leaving units.old s) (rows_of paths)) }
+    ensures paths { IfOk result (λ paths.
+        AreDisjointPaths g.now.arcs s t (leaving units.old s) (rows_of paths)) }
     ensures order { IfOk result (λ paths. AreInOrder (rows_of paths)) }
 {
     let mut paths = List::make(alloc);
@@ -70,10 +71,12 @@ fn take_path(
     Ok(path)
 }
 
-/// The graph of the arcs that carry units, without those that leave the tail of the given one beside it.
+/// The graph of the arcs that carry units, without those that leave the tail of the given one
+/// beside it.
 fn passable(alloc: Global, units: &[Option<Arc>], nodes: u32, first: Arc) -> Result<Graph, Memory>
     requires joins { (link : ℕ) (arc : Arc) → unit_at units.now link ≡ Some arc → Joins nodes arc }
-    requires of_link { (link : ℕ) (arc : Arc) → unit_at units.now link ≡ Some arc → arc.link.0 ≡ link }
+    requires of_link { (link : ℕ) (arc : Arc) →
+        unit_at units.now link ≡ Some arc → arc.link.0 ≡ link }
     ensures { IfOk result (λ g. g ≡ record { nodes = nodes; arcs = passable units.now first }) }
 {
     let mut g = Graph::make(alloc, nodes)?;

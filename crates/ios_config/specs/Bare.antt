@@ -1,5 +1,6 @@
 -- What a file sets, without the numbers of its lines.
-use Rattle.std.specs.Prelude.{◌≡◌, ℕ, false, List, [], ◌∷◌, ◌++◌, map, Option, option_map, None, flat_map}
+use Rattle.std.specs.Prelude.{◌≡◌, ℕ, false, List, [], ◌∷◌, ◌++◌, map, Option, option_map, None}
+use Rattle.std.specs.Prelude.{flat_map}
 use Rattle.std.specs.List.{list_any}
 use Rattle.ios_words.specs.declared.commands.Command.{Command}
 use Rattle.ios_config.specs.declared.commands.FileCommand.{FileCommand}
@@ -48,40 +49,63 @@ bare_face f = record {
 }
 
 abbrev pub bare_list : ListText → ListText
-bare_list l = record { name = l.name; kind = l.kind; form = l.form; numbered = l.numbered; entries = map bare_given l.entries }
+bare_list l = record {
+  name = l.name;
+  kind = l.kind;
+  form = l.form;
+  numbered = l.numbered;
+  entries = map bare_given l.entries;
+}
 
 abbrev pub bare_process : ProcessText → ProcessText
-bare_process p = record { kind = p.kind; number = p.number; head = 0; last = 0; lines = map bare_given p.lines }
+bare_process p =
+    record { kind = p.kind; number = p.number; head = 0; last = 0; lines = map bare_given p.lines }
 
 abbrev pub bare_setting : Setting → Setting
 bare_setting s = record { name = s.name; line = 0 }
 
 -- the settings of a file without their numbers
 abbrev pub bare_config : Config → Config
-bare_config c = record { hostname = option_map bare_setting c.hostname; faces = map bare_face c.faces; lists = map bare_list c.lists; process = map bare_process c.process }
+bare_config c = record {
+  hostname = option_map bare_setting c.hostname;
+  faces = map bare_face c.faces;
+  lists = map bare_list c.lists;
+  process = map bare_process c.process;
+}
 
 -- what groups of commands set
 abbrev pub config_from : Option Setting → List (List FileCommand) → Config
-config_from hostname gs = record { hostname = hostname; faces = flat_map face_of gs; lists = flat_map list_of gs; process = flat_map process_of gs }
+config_from hostname gs = record {
+  hostname = hostname;
+  faces = flat_map face_of gs;
+  lists = flat_map list_of gs;
+  process = flat_map process_of gs;
+}
 
 -- the bare settings of a file are those of its bare groups
 abbrev pub BareGroupsSetTheSame : Type 0
-BareGroupsSetTheSame = (commands : List FileCommand) → bare_config (config_of commands) ≡ config_from (option_map bare_setting (router_name commands)) (bare_groups commands)
+BareGroupsSetTheSame =
+    (commands : List FileCommand) → bare_config (config_of commands)
+    ≡ config_from (option_map bare_setting (router_name commands)) (bare_groups commands)
 
 -- one of the bare groups has one command more, after those of the front
-pub record HasJoined (front : List FileCommand) (c : FileCommand) (back : List FileCommand) (part : Part) (more : List FileCommand) : Type 0 where
+pub record HasJoined (front : List FileCommand) (c : FileCommand) (back : List FileCommand)
+    (part : Part) (more : List FileCommand) : Type 0 where
   pub before : List (List FileCommand)
   pub after : List (List FileCommand)
   pub old : bare_groups (front ++ back) ≡ before ++ map bare (members (front ++ back) part) ∷ after
-  pub new : bare_groups more ≡ before ++ (map bare (members front part) ++ bare c ∷ map bare (members back part)) ∷ after
+  pub new : bare_groups more ≡ before ++
+      (map bare (members front part) ++ bare c ∷ map bare (members back part)) ∷ after
 
 -- a command of the part of an earlier one or of the next one joins its group, and changes no other
 abbrev pub ACommandJoinsOneGroup : Type 0
 ACommandJoinsOneGroup =
-    (place : ℕ) (front : List FileCommand) (c : FileCommand) (back : List FileCommand) (part : Part) → part_of c ≡ part_moved place part → StandsBeside part front back →
+    (place : ℕ) (front : List FileCommand) (c : FileCommand) (back : List FileCommand)
+    (part : Part) → part_of c ≡ part_moved place part → StandsBeside part front back →
     HasJoined front c back part (between place front c back)
 
--- the settings of a file of which one group of commands is another: what the other groups set stands before and after what this one sets
+-- the settings of a file of which one group of commands is another: what the other groups set
+-- stands before and after what this one sets
 pub record HasOneOther (old new : Config) (group other : List FileCommand) : Type 0 where
   pub faces_before : List FaceText
   pub faces_after : List FaceText
@@ -99,16 +123,25 @@ pub record HasOneOther (old new : Config) (group other : List FileCommand) : Typ
 -- a command that joins a group changes what that group sets and nothing else
 abbrev pub OneGroupSetsOther : Type 0
 OneGroupSetsOther =
-    (place : ℕ) (front : List FileCommand) (c : FileCommand) (back : List FileCommand) (part : Part) → part_of c ≡ part_moved place part → StandsBeside part front back →
-    HasOneOther (bare_config (config_of (front ++ back))) (bare_config (config_of (between place front c back))) (map bare (members (front ++ back) part)) (map bare (members front part) ++ bare c ∷ map bare (members back part))
+    (place : ℕ) (front : List FileCommand) (c : FileCommand) (back : List FileCommand)
+    (part : Part) → part_of c ≡ part_moved place part → StandsBeside part front back →
+    HasOneOther (bare_config (config_of (front ++ back)))
+    (bare_config (config_of (between place front c back))) (map bare (members (front ++ back) part))
+    (map bare (members front part) ++ bare c ∷ map bare (members back part))
 
 -- a command of a new part adds what it sets alone: nothing stands for the group before
 abbrev pub ANewGroupSetsItsOwn : Type 0
 ANewGroupSetsItsOwn =
-    (place : ℕ) (front : List FileCommand) (c : FileCommand) (back : List FileCommand) → list_any (is_same (part_of c)) (map part_of (map (command_moved place) (front ++ back))) ≡ false →
-    HasOneOther (bare_config (config_of (front ++ back))) (bare_config (config_of (between place front c back))) [] (bare c ∷ [])
+    (place : ℕ) (front : List FileCommand) (c : FileCommand) (back : List FileCommand) →
+    list_any (is_same (part_of c)) (map part_of (map (command_moved place) (front ++ back)))
+    ≡ false →
+    HasOneOther (bare_config (config_of (front ++ back)))
+    (bare_config (config_of (between place front c back))) [] (bare c ∷ [])
 
 -- a command that is no hostname line leaves the name of the router
 abbrev pub TheHostnameStays : Type 0
 TheHostnameStays =
-    (place : ℕ) (front : List FileCommand) (c : FileCommand) (back : List FileCommand) → says_hostname c.command ≡ None → (bare_config (config_of (between place front c back))).hostname ≡ (bare_config (config_of (front ++ back))).hostname
+    (place : ℕ) (front : List FileCommand) (c : FileCommand) (back : List FileCommand) →
+    says_hostname c.command ≡ None →
+    (bare_config (config_of (between place front c back))).hostname
+    ≡ (bare_config (config_of (front ++ back))).hostname

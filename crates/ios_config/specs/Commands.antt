@@ -1,14 +1,17 @@
 -- The commands of a file, line for line, and its first line that is none.
-use Rattle.std.specs.Prelude.{◌≡◌, ℕ, ◌==◌, ◌||◌, ◌⊎◌, not, Bool, true, false, List, ◌∷◌, ◌++◌, filter, Contains, MatchBool}
+use Rattle.std.specs.Prelude.{◌≡◌, ℕ, ◌==◌, ◌||◌, ◌⊎◌, not, Bool, true, false, List, ◌∷◌, ◌++◌}
+use Rattle.std.specs.Prelude.{filter, Contains, MatchBool}
 use Rattle.std.specs.List.{AllZip, enumerate_from}
 use Rattle.arc_base.specs.declared.refusal.Kind.{Kind}
-use Rattle.arc_base.specs.declared.refusal.Kind.TheVariants.{UnknownLine, BadWord, WildcardNotPrefix}
+use Rattle.arc_base.specs.declared.refusal.Kind.TheVariants.{UnknownLine, BadWord}
+use Rattle.arc_base.specs.declared.refusal.Kind.TheVariants.{WildcardNotPrefix}
 use Rattle.ios_lines.specs.declared.line.Lines.{Lines}
 use Rattle.ios_lines.specs.declared.line.Line.{Line}
 use Rattle.ios_words.specs.declared.kinds.BlockKind.{BlockKind}
 use Rattle.ios_words.specs.declared.kinds.BlockKind.TheVariants as kinds
 use Rattle.ios_words.specs.declared.commands.Command.{Command}
-use Rattle.ios_words.specs.declared.commands.Command.TheVariants.{Interface, RouterOspf, RouterBgp, ListBlock}
+use Rattle.ios_words.specs.declared.commands.Command.TheVariants.{Interface, RouterOspf, RouterBgp}
+use Rattle.ios_words.specs.declared.commands.Command.TheVariants.{ListBlock}
 use Rattle.ios_words.specs.Commands.{Reads, IsUnknown, HasBadWord, HasBadWildcard}
 use Rattle.ios_config.specs.declared.fault.ConfigFault.{ConfigFault}
 use Rattle.ios_config.specs.declared.fault.ConfigFault.TheVariants.{Refused, Memory}
@@ -45,7 +48,8 @@ is_top line = line.head || (line.block == 0)
 
 -- the line stands at the top, or in a block of this kind
 abbrev pub IsWithin : List ℕ → Lines → Line → BlockKind → Type 0
-IsWithin text lines line kind = MatchBool (is_top line) (kind ≡ kinds.Top) (Opens text lines line.block kind)
+IsWithin text lines line kind =
+    MatchBool (is_top line) (kind ≡ kinds.Top) (Opens text lines line.block kind)
 
 -- the numbered line is read as this command of the file
 pub record IsReadAs (text : List ℕ) (lines : Lines) (l : ℕ × Line) (c : FileCommand) : Type 0 where

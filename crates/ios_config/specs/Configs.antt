@@ -12,7 +12,8 @@ use Rattle.ios_config.specs.Texts.{config_of}
 use Rattle.ios_config.specs.Twice.{StandOnce, IsFirstDuplicate}
 use Rattle.ios_config.specs.Rising.{NumbersRise, IsFirstNotRising}
 
--- each line is a command, no block or list stands twice, the numbers of entries rise, and the commands set this
+-- each line is a command, no block or list stands twice, the numbers of entries rise, and the
+-- commands set this
 pub record IsConfigOf (text : List ℕ) (lines : Lines) (config : Config) : Type 0 where
   pub commands : List FileCommand
   pub read : AreCommandsOf text lines commands
@@ -40,7 +41,8 @@ IsRefused text lines line kind =
     (((kind ≡ DuplicateBlock) × HasDuplicate text lines line) ⊎
     ((kind ≡ SequenceNotRising) × HasNumberNotRising text lines line))
 
--- the answer is the settings of the file, or its first refusal; want of memory may come in place of either
+-- the answer is the settings of the file, or its first refusal; want of memory may come in place of
+-- either
 abbrev pub Configures : List ℕ → Lines → Result Config ConfigFault → Type 0
 Configures text lines (Ok config) = IsConfigOf text lines config
 Configures text lines (Err (Refused line kind)) = IsRefused text lines line kind

@@ -6,4 +6,7 @@ use Rattle.ios_config.specs.LineLists.{AreCommandsIn}
 
 -- a command that heads a block which is read stands in the block of its own number
 abbrev pub HeadsStandInTheirBlocks : Type 0
-HeadsStandInTheirBlocks = (lines : List (List ℕ)) (commands : List FileCommand) (c : FileCommand) → AreCommandsIn lines commands → Contains commands c → IsTrue (heads_block c.command) → c.block ≡ c.line
+HeadsStandInTheirBlocks =
+    (lines : List (List ℕ)) (commands : List FileCommand) (c : FileCommand) →
+    AreCommandsIn lines commands →
+    Contains commands c → IsTrue (heads_block c.command) → c.block ≡ c.line

@@ -1,5 +1,7 @@
 -- The commands of a file into which a line is inserted, seen from what its rows say.
-use Rattle.std.specs.Prelude.{◌≡◌, ◌≢◌, ℕ, ◌+◌, ◌≤◌, ◌==◌, take, ◌↔◌, true, ◌||◌, not, Bool, false, if◌then◌else◌, nat_le, List, [], ◌∷◌, filter, map, Contains, MatchBool, length}
+use Rattle.std.specs.Prelude.{◌≡◌, ◌≢◌, ℕ, ◌+◌, ◌≤◌, ◌==◌, take, ◌↔◌, true, ◌||◌, not, Bool, false}
+use Rattle.std.specs.Prelude.{if◌then◌else◌, nat_le, List, [], ◌∷◌, filter, map, Contains}
+use Rattle.std.specs.Prelude.{MatchBool, length}
 use Rattle.std.specs.List.{AllZip, enumerate_from}
 use Rattle.ios_lines.specs.declared.line.Lines.{Lines}
 use Rattle.ios_lines.specs.Texts.{text_lines}
@@ -38,7 +40,8 @@ abbrev pub is_top_mark : Mark → Bool
 is_top_mark m = m.head || (m.block == 0)
 
 abbrev pub IsMarkWithin : List Mark → Mark → BlockKind → Type 0
-IsMarkWithin marks m kind = MatchBool (is_top_mark m) (kind ≡ kinds.Top) (MarkOpens marks m.block kind)
+IsMarkWithin marks m kind =
+    MatchBool (is_top_mark m) (kind ≡ kinds.Top) (MarkOpens marks m.block kind)
 
 -- the numbered row is read as this command of the file
 pub record IsMarkRead (marks : List Mark) (l : ℕ × Mark) (c : FileCommand) : Type 0 where
@@ -54,12 +57,15 @@ AreMarksRead marks commands = AllZip (IsMarkRead marks) (command_marks marks) co
 
 -- the command with its numbers moved, where one line is inserted after so many
 abbrev pub command_moved : ℕ → FileCommand → FileCommand
-command_moved place c = record { line = moved place c.line; block = moved place c.block; command = c.command }
+command_moved place c =
+    record { line = moved place c.line; block = moved place c.block; command = c.command }
 
 -- the commands with one more, which comes before those of later lines
 abbrev pub with_command : ℕ → FileCommand → List FileCommand → List FileCommand
 with_command place c [] = c ∷ []
-with_command place c (d ∷ commands) = if nat_le d.line place then command_moved place d ∷ with_command place c commands else c ∷ map (command_moved place) (d ∷ commands)
+with_command place c (d ∷ commands) =
+    if nat_le d.line place then command_moved place d ∷ with_command place c commands
+    else c ∷ map (command_moved place) (d ∷ commands)
 
 -- the rows of the new text are those of the old one and one more
 pub record HasOneMore (old new : List ℕ) (lines more : Lines) (place : ℕ) (m : Mark) : Type 0 where
@@ -68,18 +74,23 @@ pub record HasOneMore (old new : List ℕ) (lines more : Lines) (place : ℕ) (m
 
 -- commands are those of a text exactly where they are those of what its rows say
 abbrev pub CommandsAreOfMarks : Type 0
-CommandsAreOfMarks = (text : List ℕ) (lines : Lines) (commands : List FileCommand) → AreCommandsOf text lines commands ↔ AreMarksRead (marks_of text lines) commands
+CommandsAreOfMarks =
+    (text : List ℕ) (lines : Lines) (commands : List FileCommand) →
+    AreCommandsOf text lines commands ↔ AreMarksRead (marks_of text lines) commands
 
 -- a row that says nothing leaves the commands, but for their numbers
 abbrev pub AnInertLineLeavesCommands : Type 0
 AnInertLineLeavesCommands =
-    (old new : List ℕ) (lines more : Lines) (place : ℕ) (m : Mark) (commands : List FileCommand) → HasOneMore old new lines more place m → m.inert ≡ true → AreCommandsOf old lines commands →
+    (old new : List ℕ) (lines more : Lines) (place : ℕ) (m : Mark) (commands : List FileCommand) →
+    HasOneMore old new lines more place m → m.inert ≡ true → AreCommandsOf old lines commands →
     AreCommandsOf new more (map (command_moved place) commands)
 
 -- a row that is read as a command adds it to them
 abbrev pub AnInsertedLineAddsItsCommand : Type 0
 AnInsertedLineAddsItsCommand =
-    (old new : List ℕ) (lines more : Lines) (place : ℕ) (m : Mark) (c : FileCommand) (commands : List FileCommand) → HasOneMore old new lines more place m → m.inert ≡ false → IsMarkRead (marks_of new more) (place + 1, m) c → AreCommandsOf old lines commands →
+    (old new : List ℕ) (lines more : Lines) (place : ℕ) (m : Mark) (c : FileCommand)
+    (commands : List FileCommand) → HasOneMore old new lines more place m → m.inert ≡ false →
+    IsMarkRead (marks_of new more) (place + 1, m) c → AreCommandsOf old lines commands →
     AreCommandsOf new more (with_command place c commands)
 
 -- a command of this line and block
@@ -93,12 +104,14 @@ pub record IsPut (old new : List ℕ) (place : ℕ) (line : List ℕ) : Type 0 w
   pub cut : CanBeCut old
 
 -- the texts have these lines, and the old one these commands
-pub record HaveLines (old new : List ℕ) (lines more : Lines) (commands : List FileCommand) : Type 0 where
+pub record HaveLines (old new : List ℕ) (lines more : Lines)
+    (commands : List FileCommand) : Type 0 where
   pub old_lines : AreLinesOf old lines
   pub new_lines : AreLinesOf new more
   pub reads : AreCommandsOf old lines commands
 
--- one of the commands heads the block of this number, in which lines are read by the rows of this kind
+-- one of the commands heads the block of this number, in which lines are read by the rows of this
+-- kind
 pub record Opened (commands : List FileCommand) (block : ℕ) (within : BlockKind) : Type 0 where
   pub head : FileCommand
   pub among : Contains commands head
@@ -109,24 +122,36 @@ pub record Opened (commands : List FileCommand) (block : ℕ) (within : BlockKin
 -- a line of the block that is open adds its command to it
 abbrev pub AnInnerLineAddsItsCommand : Type 0
 AnInnerLineAddsItsCommand =
-    (old new : List ℕ) (lines more : Lines) (commands : List FileCommand) (place : ℕ) (line : List ℕ) (within : BlockKind) (command : Command) → IsPut old new place line → HaveLines old new lines more commands → IsInner line →
-    Opened commands (open_block (take place (text_lines old))) within → ReadBy (is_extended_block within) (words line) (rows within) command →
-    AreCommandsOf new more (with_command place (command_at (place + 1) (open_block (take place (text_lines old))) command) commands)
+    (old new : List ℕ) (lines more : Lines) (commands : List FileCommand) (place : ℕ)
+    (line : List ℕ) (within : BlockKind) (command : Command) → IsPut old new place line →
+    HaveLines old new lines more commands → IsInner line →
+    Opened commands (open_block (take place (text_lines old))) within →
+    ReadBy (is_extended_block within) (words line) (rows within) command →
+    AreCommandsOf new more (with_command place
+    (command_at (place + 1) (open_block (take place (text_lines old))) command) commands)
 
 -- a top line that heads a block adds its command as that block's first
 abbrev pub AHeadAddsItsCommand : Type 0
 AHeadAddsItsCommand =
-    (old new : List ℕ) (lines more : Lines) (commands : List FileCommand) (place : ℕ) (line : List ℕ) (command : Command) → IsPut old new place line → HaveLines old new lines more commands → IsHead line →
-    ReadBy false (words line) (rows kinds.Top) command → AreCommandsOf new more (with_command place (command_at (place + 1) (place + 1) command) commands)
+    (old new : List ℕ) (lines more : Lines) (commands : List FileCommand) (place : ℕ)
+    (line : List ℕ) (command : Command) → IsPut old new place line →
+    HaveLines old new lines more commands → IsHead line →
+    ReadBy false (words line) (rows kinds.Top) command →
+    AreCommandsOf new more
+    (with_command place (command_at (place + 1) (place + 1) command) commands)
 
 -- a top line that heads none adds its command outside of blocks
 abbrev pub ASingleLineAddsItsCommand : Type 0
 ASingleLineAddsItsCommand =
-    (old new : List ℕ) (lines more : Lines) (commands : List FileCommand) (place : ℕ) (line : List ℕ) (command : Command) → IsPut old new place line → HaveLines old new lines more commands → IsSingle line →
-    ReadBy false (words line) (rows kinds.Top) command → AreCommandsOf new more (with_command place (command_at (place + 1) 0 command) commands)
+    (old new : List ℕ) (lines more : Lines) (commands : List FileCommand) (place : ℕ)
+    (line : List ℕ) (command : Command) → IsPut old new place line →
+    HaveLines old new lines more commands → IsSingle line →
+    ReadBy false (words line) (rows kinds.Top) command →
+    AreCommandsOf new more (with_command place (command_at (place + 1) 0 command) commands)
 
 -- a line that only closes a block adds none
 abbrev pub AClosingLineAddsNone : Type 0
 AClosingLineAddsNone =
-    (old new : List ℕ) (lines more : Lines) (commands : List FileCommand) (place : ℕ) (line : List ℕ) → IsPut old new place line → HaveLines old new lines more commands → IsClosing line →
-    AreCommandsOf new more (map (command_moved place) commands)
+    (old new : List ℕ) (lines more : Lines) (commands : List FileCommand) (place : ℕ)
+    (line : List ℕ) → IsPut old new place line → HaveLines old new lines more commands →
+    IsClosing line → AreCommandsOf new more (map (command_moved place) commands)

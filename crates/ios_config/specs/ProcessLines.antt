@@ -1,6 +1,7 @@
 -- Lines that are put one after another at the end of a process.
 use Rattle.ios_lines.specs.Changes.{Change, Insert, lines_after_all, MayAllCome}
-use Rattle.std.specs.Prelude.{◌≡◌, ℕ, ◌+◌, ◌⊎◌, List, [], ◌∷◌, ◌++◌, map, take, drop, None, Contains}
+use Rattle.std.specs.Prelude.{◌≡◌, ℕ, ◌+◌, ◌⊎◌, List, [], ◌∷◌, ◌++◌, map, take, drop, None}
+use Rattle.std.specs.Prelude.{Contains}
 use Rattle.ios_config.specs.declared.settings.ProcessKind.TheVariants.{Ospf, Bgp}
 use Rattle.std.specs.List.{AllZip, AllByRecursion}
 use Rattle.ios_words.specs.declared.kinds.BlockKind.{BlockKind}
@@ -23,9 +24,11 @@ pub record IsQuiet (command : Command) : Type 0 where
   pub excludes : excluded command ≡ []
   pub unnamed : says_hostname command ≡ None
 
--- the lines belong to the block of this head, and are read in a block of this kind as these commands
+-- the lines belong to the block of this head, and are read in a block of this kind as these
+-- commands
 abbrev pub AreLinesIn : BlockKind → ℕ → List (List ℕ) → List Command → Type 0
-AreLinesIn within block lines commands = AllZip (λ line command. IsLineOf line within block command × IsQuiet command) lines commands
+AreLinesIn within block lines commands =
+    AllZip (λ line command. IsLineOf line within block command × IsQuiet command) lines commands
 
 -- a process's block is of this kind
 abbrev pub IsProcessKind : BlockKind → Type 0
@@ -46,7 +49,13 @@ unnumbered command = record { value = command; line = 0 }
 
 -- a process with more lines, without the number of its last one
 abbrev pub with_lines : List Command → ProcessText → ProcessText
-with_lines commands p = record { kind = p.kind; number = p.number; head = p.head; last = 0; lines = p.lines ++ map unnumbered commands }
+with_lines commands p = record {
+  kind = p.kind;
+  number = p.number;
+  head = p.head;
+  last = 0;
+  lines = p.lines ++ map unnumbered commands;
+}
 
 -- the process has these lines more at its end, and all other settings stay
 pub record HasLonger (old new : Config) (commands : List Command) : Type 0 where
@@ -55,8 +64,10 @@ pub record HasLonger (old new : Config) (commands : List Command) : Type 0 where
   pub lists : new.lists ≡ old.lists
   pub process : new.process ≡ map (with_lines commands) old.process
 
--- the lines with others at the end of a block have commands; they set the same, but that the process has these lines more
-pub record AreAppendedIn (lines : List (List ℕ)) (commands : List FileCommand) (place : ℕ) (added : List (List ℕ)) (more : List Command) : Type 0 where
+-- the lines with others at the end of a block have commands; they set the same, but that the
+-- process has these lines more
+pub record AreAppendedIn (lines : List (List ℕ)) (commands : List FileCommand) (place : ℕ)
+    (added : List (List ℕ)) (more : List Command) : Type 0 where
   pub all : List FileCommand
   pub may : MayAllCome (insertions place added) lines
   pub changed : lines_after_all (insertions place added) lines ≡ inserted_all place added lines
@@ -67,8 +78,11 @@ pub record AreAppendedIn (lines : List (List ℕ)) (commands : List FileCommand)
 -- lines that are put after the last command line of the file's one process are lines of it
 abbrev pub ProcessLinesAreAppended : Type 0
 ProcessLinesAreAppended =
-    (lines : List (List ℕ)) (commands : List FileCommand) (head last : FileCommand) (within : BlockKind) (process : ProcessText) (added : List (List ℕ)) (more : List Command) → AreCommandsIn lines commands → HasBlock commands head last within →
-    IsProcessKind within → (bare_config (config_of commands)).process ≡ process ∷ [] → AreLinesIn within head.line added more → AreAppendedIn lines commands last.line added more
+    (lines : List (List ℕ)) (commands : List FileCommand) (head last : FileCommand)
+    (within : BlockKind) (process : ProcessText) (added : List (List ℕ)) (more : List Command) →
+    AreCommandsIn lines commands → HasBlock commands head last within →
+    IsProcessKind within → (bare_config (config_of commands)).process ≡ process ∷ [] →
+    AreLinesIn within head.line added more → AreAppendedIn lines commands last.line added more
 
 -- the block of a process among the commands: its head and its last command
 pub record HasProcess (commands : List FileCommand) (process : ProcessText) : Type 0 where
@@ -76,10 +90,14 @@ pub record HasProcess (commands : List FileCommand) (process : ProcessText) : Ty
   pub last : FileCommand
   pub within : BlockKind
   pub block : HasBlock commands head last within
-  pub kind : ((within ≡ kinds.Ospf) × (process.kind ≡ Ospf)) ⊎ ((within ≡ kinds.Bgp) × (process.kind ≡ Bgp))
+  pub kind : ((within ≡ kinds.Ospf) × (process.kind ≡ Ospf)) ⊎
+      ((within ≡ kinds.Bgp) × (process.kind ≡ Bgp))
   pub head_line : process.head ≡ head.line
   pub last_line : process.last ≡ last.line
 
 -- each process that the commands set has its block among them
 abbrev pub ProcessesHaveBlocks : Type 0
-ProcessesHaveBlocks = (lines : List (List ℕ)) (commands : List FileCommand) (process : ProcessText) → AreCommandsIn lines commands → Contains (config_of commands).process process → HasProcess commands process
+ProcessesHaveBlocks =
+    (lines : List (List ℕ)) (commands : List FileCommand) (process : ProcessText) →
+    AreCommandsIn lines commands →
+    Contains (config_of commands).process process → HasProcess commands process

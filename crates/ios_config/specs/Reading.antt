@@ -5,7 +5,8 @@ use Rattle.ios_lines.specs.declared.line.Line.{Line}
 use Rattle.ios_words.specs.declared.kinds.BlockKind.{BlockKind}
 use Rattle.ios_words.specs.declared.kinds.BlockKind.TheVariants as kinds
 use Rattle.ios_words.specs.declared.kinds.WordFault.{WordFault}
-use Rattle.ios_words.specs.declared.kinds.WordFault.TheVariants.{Unknown, BadWord, WildcardNotPrefix, Memory}
+use Rattle.ios_words.specs.declared.kinds.WordFault.TheVariants.{Unknown, BadWord}
+use Rattle.ios_words.specs.declared.kinds.WordFault.TheVariants.{WildcardNotPrefix, Memory}
 use Rattle.ios_words.specs.declared.commands.Command.{Command}
 use Rattle.ios_words.specs.Commands.{Reads}
 use Rattle.ios_config.specs.declared.fault.ConfigFault.{ConfigFault}
@@ -29,7 +30,8 @@ refusal number WildcardNotPrefix = faults.Refused number reasons.WildcardNotPref
 refusal number Memory = faults.Memory
 
 -- the command that the line is read as in a block of this kind
-pub record IsCommandAt (text : List ℕ) (line : Line) (number : ℕ) (within : BlockKind) (c : FileCommand) : Type 0 where
+pub record IsCommandAt (text : List ℕ) (line : Line) (number : ℕ) (within : BlockKind)
+    (c : FileCommand) : Type 0 where
   pub number_is : c.line ≡ number
   pub block_is : c.block ≡ line.block
   pub reads : Reads text line within c.command
@@ -37,5 +39,6 @@ pub record IsCommandAt (text : List ℕ) (line : Line) (number : ℕ) (within : 
 -- it is answered what the line of this number is read as, or why it is no command
 abbrev pub IsReading : List ℕ → Line → ℕ → BlockKind → Result FileCommand ConfigFault → Type 0
 IsReading text line number within (Ok c) = IsCommandAt text line number within c
-IsReading text line number within (Err (faults.Refused n kind)) = (n ≡ number) × IsNoCommand text line within kind
+IsReading text line number within (Err (faults.Refused n kind)) =
+    (n ≡ number) × IsNoCommand text line within kind
 IsReading text line number within (Err faults.Memory) = Unit {0}

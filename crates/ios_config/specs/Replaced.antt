@@ -12,16 +12,20 @@ use Rattle.ios_config.specs.declared.commands.FileCommand.{FileCommand}
 use Rattle.ios_config.specs.Commands.{AreCommandsOf}
 use Rattle.ios_config.specs.Inserted.{IsMarkWithin, command_at}
 
--- the rows of the new text are those of the old one, but for the words of one that says something and heads no block
-pub record HasOtherWords (old new : List ℕ) (lines more : Lines) (place : ℕ) (m : Mark) (ws : List (List ℕ)) : Type 0 where
+-- the rows of the new text are those of the old one, but for the words of one that says something
+-- and heads no block
+pub record HasOtherWords (old new : List ℕ) (lines more : Lines) (place : ℕ) (m : Mark)
+    (ws : List (List ℕ)) : Type 0 where
   pub old_lines : AreLinesOf old lines
   pub rows : marks_of new more ≡ changed place (mark_worded ws) (marks_of old lines)
   pub at_place : slice_get (marks_of old lines) place ≡ Some m
   pub says : m.inert ≡ false
   pub no_head : m.head ≡ false
 
--- the command of the line stands among the others; where the new words are read as another one, that stands in its place
-pub record HasOtherCommand (old new : List ℕ) (lines more : Lines) (place : ℕ) (m : Mark) (ws : List (List ℕ)) (commands : List FileCommand) : Type 0 where
+-- the command of the line stands among the others; where the new words are read as another one,
+-- that stands in its place
+pub record HasOtherCommand (old new : List ℕ) (lines more : Lines) (place : ℕ) (m : Mark)
+    (ws : List (List ℕ)) (commands : List FileCommand) : Type 0 where
   pub front : List FileCommand
   pub command : FileCommand
   pub back : List FileCommand
@@ -31,10 +35,12 @@ pub record HasOtherCommand (old new : List ℕ) (lines more : Lines) (place : �
   pub within : BlockKind
   pub stands : IsMarkWithin (marks_of old lines) m within
   pub reads : ReadBy (is_extended_block within) m.words (rows within) command.command
-  pub other : (c : Command) → ReadBy (is_extended_block within) ws (rows within) c → AreCommandsOf new more (front ++ command_at command.line command.block c ∷ back)
+  pub other : (c : Command) → ReadBy (is_extended_block within) ws (rows within) c →
+      AreCommandsOf new more (front ++ command_at command.line command.block c ∷ back)
 
 -- a line of other words has another command, and the other lines have theirs
 abbrev pub AReplacedLineHasAnotherCommand : Type 0
 AReplacedLineHasAnotherCommand =
-    (old new : List ℕ) (lines more : Lines) (place : ℕ) (m : Mark) (ws : List (List ℕ)) (commands : List FileCommand) → HasOtherWords old new lines more place m ws → AreCommandsOf old lines commands →
-    HasOtherCommand old new lines more place m ws commands
+    (old new : List ℕ) (lines more : Lines) (place : ℕ) (m : Mark) (ws : List (List ℕ))
+    (commands : List FileCommand) → HasOtherWords old new lines more place m ws →
+    AreCommandsOf old lines commands → HasOtherCommand old new lines more place m ws commands

@@ -11,8 +11,10 @@ use Rattle.ios_config.specs.declared.commands.FileCommand.{FileCommand}
 use Rattle.ios_config.specs.Inserted.{IsMarkWithin, command_at}
 use Rattle.ios_config.specs.LineLists.{marks_in, AreCommandsIn}
 
--- the command of the line stands among the others; where the new line is read as another one, that stands in its place
-pub record IsReplacedIn (lines : List (List ℕ)) (commands : List FileCommand) (place : ℕ) (m : Mark) (line : List ℕ) : Type 0 where
+-- the command of the line stands among the others; where the new line is read as another one, that
+-- stands in its place
+pub record IsReplacedIn (lines : List (List ℕ)) (commands : List FileCommand) (place : ℕ) (m : Mark)
+    (line : List ℕ) : Type 0 where
   pub front : List FileCommand
   pub command : FileCommand
   pub back : List FileCommand
@@ -22,10 +24,15 @@ pub record IsReplacedIn (lines : List (List ℕ)) (commands : List FileCommand) 
   pub within : BlockKind
   pub stands : IsMarkWithin (marks_in lines) m within
   pub reads : ReadBy (is_extended_block within) m.words (rows within) command.command
-  pub other : (c : Command) → ReadBy (is_extended_block within) (words line) (rows within) c → AreCommandsIn (replaced place line lines) (front ++ command_at command.line command.block c ∷ back)
+  pub other : (c : Command) → ReadBy (is_extended_block within) (words line) (rows within) c →
+      AreCommandsIn (replaced place line lines)
+      (front ++ command_at command.line command.block c ∷ back)
 
--- a line that takes the place of another of its kind, which says something and heads no block, has another command, and the other lines have theirs
+-- a line that takes the place of another of its kind, which says something and heads no block, has
+-- another command, and the other lines have theirs
 abbrev pub AReplacedLineIsIn : Type 0
 AReplacedLineIsIn =
-    (lines : List (List ℕ)) (commands : List FileCommand) (place : ℕ) (m : Mark) (line : List ℕ) → AreCommandsIn lines commands → MayReplaceAt lines place line → slice_get (marks_in lines) place ≡ Some m → m.inert ≡ false → m.head ≡ false →
+    (lines : List (List ℕ)) (commands : List FileCommand) (place : ℕ) (m : Mark) (line : List ℕ) →
+    AreCommandsIn lines commands → MayReplaceAt lines place line →
+    slice_get (marks_in lines) place ≡ Some m → m.inert ≡ false → m.head ≡ false →
     IsReplacedIn lines commands place m line

@@ -1,10 +1,15 @@
--- What the commands of a file make of it: the settings of its interfaces, its lists and its processes.
-use Rattle.std.specs.Prelude.{ℕ, ◌-◌, ◌&&◌, ◌||◌, nat_le, Bool, true, false, List, [], ◌∷◌, map, length, slice_get, Option, Some, None, option_map, is_some, if◌then◌else◌}
+-- What the commands of a file make of it: the settings of its interfaces, its lists and its
+-- processes.
+use Rattle.std.specs.Prelude.{ℕ, ◌-◌, ◌&&◌, ◌||◌, nat_le, Bool, true, false, List, [], ◌∷◌, map}
+use Rattle.std.specs.Prelude.{length, slice_get, Option, Some, None, option_map, is_some}
+use Rattle.std.specs.Prelude.{if◌then◌else◌}
 use Rattle.std.specs.Option.{option_map_or}
 use Rattle.std.specs.List.{flat_map, filter_map}
 use Rattle.arc_base.specs.PrefixText.{number_of}
 use Rattle.ios_words.specs.declared.commands.Command.{Command}
-use Rattle.ios_words.specs.declared.commands.Command.TheVariants.{Interface, RouterOspf, RouterBgp, ListBlock, ListLine, PrefixLine, Entry}
+use Rattle.ios_words.specs.declared.commands.Command.TheVariants.{Interface, RouterOspf, RouterBgp}
+use Rattle.ios_words.specs.declared.commands.Command.TheVariants.{ListBlock, ListLine, PrefixLine}
+use Rattle.ios_words.specs.declared.commands.Command.TheVariants.{Entry}
 use Rattle.ios_config.specs.declared.commands.FileCommand.{FileCommand}
 use Rattle.ios_config.specs.declared.settings.Given.{Given}
 use Rattle.ios_config.specs.declared.settings.Setting.{Setting}
@@ -18,7 +23,9 @@ use Rattle.ios_config.specs.declared.settings.ListForm.TheVariants as forms
 use Rattle.ios_config.specs.declared.settings.ProcessText.{ProcessText}
 use Rattle.ios_config.specs.declared.settings.ProcessKind.{ProcessKind}
 use Rattle.ios_config.specs.declared.settings.ProcessKind.TheVariants.{Ospf, Bgp}
-use Rattle.ios_config.specs.Values.{last_setting, hostname, address, mask_length, shut_down, bandwidth, ospf_cost, ospf_area, point_to_point, inbound, outbound}
+use Rattle.ios_config.specs.Values.{last_setting, hostname, address, mask_length, shut_down}
+use Rattle.ios_config.specs.Values.{bandwidth, ospf_cost, ospf_area, point_to_point, inbound}
+use Rattle.ios_config.specs.Values.{outbound}
 use Rattle.ios_config.specs.Groups.{groups}
 
 -- the line of the last command
@@ -82,7 +89,8 @@ abbrev pub is_standard : ℕ → Bool
 is_standard n = (nat_le 1 n && nat_le n 99) || (nat_le 1300 n && nat_le n 1999)
 
 abbrev pub kind_of_number : List ℕ → ListKind
-kind_of_number name = if option_map_or is_standard (number_of name) false then Standard else Extended
+kind_of_number name =
+    if option_map_or is_standard (number_of name) false then Standard else Extended
 
 -- the list of this name, whose commands these are
 abbrev pub list_text : List ℕ → ListKind → ListForm → List FileCommand → ListText
@@ -96,9 +104,12 @@ list_text name kind form commands = record {
 
 -- the list that a block or the lines of one name are, if they are one
 abbrev pub list_by : Command → List FileCommand → List ListText
-list_by (ListBlock extended name) commands = list_text name (if extended then Extended else Standard) forms.Block commands ∷ []
-list_by (ListLine name entry) commands = list_text name (kind_of_number name) forms.Lines commands ∷ []
-list_by (PrefixLine name number entry) commands = list_text name Prefix forms.PrefixLines commands ∷ []
+list_by (ListBlock extended name) commands =
+    list_text name (if extended then Extended else Standard) forms.Block commands ∷ []
+list_by (ListLine name entry) commands =
+    list_text name (kind_of_number name) forms.Lines commands ∷ []
+list_by (PrefixLine name number entry) commands =
+    list_text name Prefix forms.PrefixLines commands ∷ []
 list_by _ commands = []
 
 abbrev pub list_of : List FileCommand → List ListText
@@ -127,7 +138,8 @@ process_of (head ∷ rest) = process_by head.command head rest
 
 -- the name of the router, with its line
 abbrev pub router_name : List FileCommand → Option Setting
-router_name commands = option_map (λ g. record { name = g.value; line = g.line }) (last_setting hostname commands)
+router_name commands =
+    option_map (λ g. record { name = g.value; line = g.line }) (last_setting hostname commands)
 
 -- what the commands of a file set
 abbrev pub config_of : List FileCommand → Config

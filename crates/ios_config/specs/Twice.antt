@@ -4,7 +4,8 @@ use Rattle.ios_words.specs.declared.commands.Command.{Command}
 use Rattle.ios_words.specs.declared.commands.Command.TheVariants as commands
 use Rattle.ios_config.specs.declared.commands.FileCommand.{FileCommand}
 
--- what may stand but once in a file: an interface, a process, a list as a block, and a list as lines
+-- what may stand but once in a file: an interface, a process, a list as a block, and a list as
+-- lines
 pub data Stand : Type 0 where
   Interface : List ℕ → Stand
   Ospf : ℕ → Stand
@@ -21,7 +22,8 @@ stand_of (commands.ListBlock extended name) = Some (ListBlock name)
 stand_of (commands.ListLine name entry) = Some (ListLines name)
 stand_of _ = None
 
--- What may not stand already where a command comes. Many lines make one list, but not beside a block of its name.
+-- What may not stand already where a command comes. Many lines make one list, but not beside a
+-- block of its name.
 abbrev pub excluded : Command → List Stand
 excluded (commands.Interface name) = Interface name ∷ []
 excluded (commands.RouterOspf number) = Ospf number ∷ []

@@ -3,7 +3,8 @@ use Rattle.std.specs.Prelude.{◌≡◌, ℕ, Option, Some, None}
 use Rattle.ios_config.specs.declared.commands.FileCommand.{FileCommand}
 use Rattle.ios_config.specs.declared.settings.Given.{Given}
 use Rattle.ios_config.specs.declared.settings.FaceText.{FaceText}
-use Rattle.ios_config.specs.Values.{given_at, address, mask_length, shut_down, bandwidth, ospf_cost, ospf_area, point_to_point, inbound, outbound}
+use Rattle.ios_config.specs.Values.{given_at, address, mask_length, shut_down, bandwidth, ospf_cost}
+use Rattle.ios_config.specs.Values.{ospf_area, point_to_point, inbound, outbound}
 
 -- the value that is said at this line, or the one before where nothing is said
 abbrev pub replaced : {V : Type 0} → ℕ → Option (Option V) → Option (Given V) → Option (Given V)

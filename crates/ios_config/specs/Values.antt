@@ -1,8 +1,11 @@
 -- The value of a setting: what the last command that speaks of it gives.
-use Rattle.std.specs.Prelude.{ℕ, Bool, true, false, List, find, reverse, Option, Some, None, option_and_then, is_some}
+use Rattle.std.specs.Prelude.{ℕ, Bool, true, false, List, find, reverse, Option, Some, None}
+use Rattle.std.specs.Prelude.{option_and_then, is_some}
 use Rattle.ios_words.specs.declared.commands.AreaText.{AreaText}
 use Rattle.ios_words.specs.declared.commands.Command.{Command}
-use Rattle.ios_words.specs.declared.commands.Command.TheVariants.{Hostname, Address, NoAddress, Shutdown, Bandwidth, Cost, Area, Point, Group}
+use Rattle.ios_words.specs.declared.commands.Command.TheVariants.{Hostname, Address, NoAddress}
+use Rattle.ios_words.specs.declared.commands.Command.TheVariants.{Shutdown, Bandwidth, Cost, Area}
+use Rattle.ios_words.specs.declared.commands.Command.TheVariants.{Point, Group}
 use Rattle.ios_config.specs.declared.commands.FileCommand.{FileCommand}
 use Rattle.ios_config.specs.declared.settings.Given.{Given}
 
@@ -19,7 +22,8 @@ given_at line None = None
 -- the last of the commands that sets or removes the value gives it
 abbrev pub last_setting : {V : Type 0} → Says V → List FileCommand → Option (Given V)
 last_setting says commands =
-    option_and_then (λ c. given_at c.line (says c.command)) (find (λ c. is_some (says c.command)) (reverse commands))
+    option_and_then (λ c. given_at c.line (says c.command))
+    (find (λ c. is_some (says c.command)) (reverse commands))
 
 -- the name of the router
 abbrev pub hostname : Says (List ℕ)

@@ -11,7 +11,8 @@ use ios_lines::{Line, Lines};
 use ios_words::{BlockKind, Command, WordFault, command};
 use std::alloc::Global;
 
-/// A command of a file, with its line and the line that heads its block, which is 0 where it stands in none.
+/// A command of a file, with its line and the line that heads its block, which is 0 where it stands
+/// in none.
 #[derive(Debug, Drop)]
 pub struct FileCommand {
     pub line: u32,

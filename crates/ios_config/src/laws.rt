@@ -1,15 +1,24 @@
 //! Laws over the definitions alone: each is the contract of a function that does nothing.
 ghost use Rattle.ios_config.specs.Appended.{ALineIsAppended};
-ghost use Rattle.ios_config.specs.Bare.{ACommandJoinsOneGroup, ANewGroupSetsItsOwn, BareGroupsSetTheSame, OneGroupSetsOther, TheHostnameStays};
-ghost use Rattle.ios_config.specs.Effects.{AFirstEntryIsTheLists, AFirstListLineIsTheLists, AFirstPrefixLineIsTheLists, ALastBindingIsSet, ALastLineIsTheProcesss, CommandsAreSplit, NoNumbersRise, PlacesRise, SilentCommandsClashWithNone, StillStandsOnce};
+ghost use Rattle.ios_config.specs.Bare.{ACommandJoinsOneGroup, ANewGroupSetsItsOwn};
+ghost use Rattle.ios_config.specs.Bare.{BareGroupsSetTheSame, OneGroupSetsOther, TheHostnameStays};
+ghost use Rattle.ios_config.specs.Effects.{AFirstEntryIsTheLists, AFirstListLineIsTheLists};
+ghost use Rattle.ios_config.specs.Effects.{AFirstPrefixLineIsTheLists, ALastBindingIsSet};
+ghost use Rattle.ios_config.specs.Effects.{ALastLineIsTheProcesss, CommandsAreSplit, NoNumbersRise};
+ghost use Rattle.ios_config.specs.Effects.{PlacesRise, SilentCommandsClashWithNone};
+ghost use Rattle.ios_config.specs.Effects.{StillStandsOnce};
 ghost use Rattle.ios_config.specs.HeadBlocks.{HeadsStandInTheirBlocks};
 ghost use Rattle.ios_config.specs.Joined.{ACommandBeginsItsGroup, ACommandJoinsItsGroup};
-ghost use Rattle.ios_config.specs.LineLists.{AClosingLineIsIn, AHeadIsIn, ALineIsAppendedIn, ALineIsPutBeforeIn, AnInnerLineIsIn, ASingleLineIsIn, ASingleLineIsPutBeforeIn, CommandsAreOfLines};
+ghost use Rattle.ios_config.specs.LineLists.{AClosingLineIsIn, AHeadIsIn, ALineIsAppendedIn};
+ghost use Rattle.ios_config.specs.LineLists.{ALineIsPutBeforeIn, AnInnerLineIsIn, ASingleLineIsIn};
+ghost use Rattle.ios_config.specs.LineLists.{ASingleLineIsPutBeforeIn, CommandsAreOfLines};
 ghost use Rattle.ios_config.specs.Prepended.{ALineIsPutBefore};
 ghost use Rattle.ios_config.specs.ReplacedIn.{AReplacedLineIsIn};
 ghost use Rattle.ios_config.specs.ProcessLines.{ProcessesHaveBlocks, ProcessLinesAreAppended};
 ghost use Rattle.ios_config.specs.Replaced.{AReplacedLineHasAnotherCommand};
-ghost use Rattle.ios_config.specs.Inserted.{AClosingLineAddsNone, AHeadAddsItsCommand, AnInnerLineAddsItsCommand, ASingleLineAddsItsCommand, CommandsAreOfMarks};
+ghost use Rattle.ios_config.specs.Inserted.{AClosingLineAddsNone, AHeadAddsItsCommand};
+ghost use Rattle.ios_config.specs.Inserted.{AnInnerLineAddsItsCommand, ASingleLineAddsItsCommand};
+ghost use Rattle.ios_config.specs.Inserted.{CommandsAreOfMarks};
 ghost use Rattle.ios_config.specs.Laws.{HasNoConfigWhereRefused, HasOneConfig, HasOneRefusal};
 
 /// The lines of a text set one thing at most.
@@ -28,8 +37,8 @@ pub fn commands_are_of_marks()
     ensures { CommandsAreOfMarks }
 {}
 
-/// A line that is inserted where it may stand adds its command to those of the file, in the block that is open there,
-/// and leaves the others, but for their numbers.
+/// A line that is inserted where it may stand adds its command to those of the file, in the block
+/// that is open there, and leaves the others, but for their numbers.
 pub fn an_inserted_line_adds_its_command()
     ensures inner { AnInnerLineAddsItsCommand }
     ensures head { AHeadAddsItsCommand }
@@ -49,8 +58,8 @@ pub fn one_group_changes()
     ensures begins { ACommandBeginsItsGroup }
 {}
 
-/// What a file sets, but for the numbers of its lines, is what its groups set one by one; so one command more changes
-/// what its own group sets, and nothing else.
+/// What a file sets, but for the numbers of its lines, is what its groups set one by one; so one
+/// command more changes what its own group sets, and nothing else.
 pub fn one_group_sets_other()
     ensures bare { BareGroupsSetTheSame }
     ensures joined { OneGroupSetsOther }
@@ -67,8 +76,8 @@ pub fn one_command_sets_its_own()
     ensures prefix_line { AFirstPrefixLineIsTheLists }
 {}
 
-/// One command more is not refused: nothing stands twice, and the numbers of entries rise that are numbered by their
-/// places.
+/// One command more is not refused: nothing stands twice, and the numbers of entries rise that are
+/// numbered by their places.
 pub fn one_command_is_not_refused()
     ensures once { StillStandsOnce }
     ensures silent { SilentCommandsClashWithNone }
@@ -76,19 +85,21 @@ pub fn one_command_is_not_refused()
     ensures none { NoNumbersRise }
 {}
 
-/// A line that is written anew has the command that its new words are read as, and the other lines have theirs.
+/// A line that is written anew has the command that its new words are read as, and the other lines
+/// have theirs.
 pub fn a_replaced_line_has_another_command()
     ensures { AReplacedLineHasAnotherCommand }
 {}
 
-/// A line that is put after the last command line of a block is that block's last command: the new text can be cut,
-/// its commands are the old ones and this one, and what it changes is what the block sets.
+/// A line that is put after the last command line of a block is that block's last command: the new
+/// text can be cut, its commands are the old ones and this one, and what it changes is what the
+/// block sets.
 pub fn a_line_is_appended()
     ensures { ALineIsAppended }
 {}
 
-/// A line of a block that is put before another line of it is a command of that block, and changes what the block sets
-/// and nothing else.
+/// A line of a block that is put before another line of it is a command of that block, and changes
+/// what the block sets and nothing else.
 pub fn a_line_is_put_before()
     ensures { ALineIsPutBefore }
 {}
@@ -106,8 +117,8 @@ pub fn lines_are_put_one_by_one()
     ensures replaced { AReplacedLineIsIn }
 {}
 
-/// Lines that are put one after another at the end of the file's one process are its last lines, in their order; nothing
-/// else that the file sets is another, and nothing stands twice that did not.
+/// Lines that are put one after another at the end of the file's one process are its last lines, in
+/// their order; nothing else that the file sets is another, and nothing stands twice that did not.
 pub fn process_lines_are_appended()
     ensures appended { ProcessLinesAreAppended }
     ensures blocks { ProcessesHaveBlocks }

@@ -1,6 +1,6 @@
-//! The settings of a router file: what its lines set, each value with the line that gave it. A later line of a setting
-//! replaces an earlier one, and a `no` form takes the value away. Else the file is refused at the first line that does
-//! not fit.
+//! The settings of a router file: what its lines set, each value with the line that gave it. A
+//! later line of a setting replaces an earlier one, and a `no` form takes the value away. Else the
+//! file is refused at the first line that does not fit.
 #![tactic(auto)]
 
 mod commands;

@@ -1,7 +1,8 @@
 //! The lists of a file.
 ghost use Rattle.std.specs.Prelude.{◌≡◌, IfOk, option_to_list};
 ghost use Rattle.ios_config.specs.Seen.{commands_seen};
-ghost use Rattle.ios_config.specs.Texts.{is_entry, is_numbered, is_standard, kind_of_number, entries, list_text, list_of, entry_number};
+ghost use Rattle.ios_config.specs.Texts.{is_entry, is_numbered, is_standard, kind_of_number};
+ghost use Rattle.ios_config.specs.Texts.{entries, list_text, list_of, entry_number};
 
 use crate::commands::FileCommand;
 use crate::copies::given;
@@ -85,7 +86,8 @@ fn list_text(
     form: ListForm,
     commands: &[&FileCommand],
 ) -> Result<ListText, Memory>
-    ensures { IfOk result (λ list. list ≡ list_text name.now kind form (commands_seen commands.now)) }
+    ensures { IfOk result (λ list.
+        list ≡ list_text name.now kind form (commands_seen commands.now)) }
 {
     let entries = entries(alloc, commands)?;
     Ok(ListText {

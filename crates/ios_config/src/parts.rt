@@ -1,5 +1,6 @@
 //! The commands of a file by their blocks and lists.
-ghost use Rattle.std.specs.Prelude.{◌≡◌, ◌<◌, [], ◌∷◌, ◌++◌, IfOk, OnOk, length, slice_set, slice_index_or};
+ghost use Rattle.std.specs.Prelude.{◌≡◌, ◌<◌, [], ◌∷◌, ◌++◌, IfOk, OnOk, length, slice_set};
+ghost use Rattle.std.specs.Prelude.{slice_index_or};
 ghost use Rattle.ios_config.specs.Groups.{part_of, groups};
 ghost use Rattle.ios_config.specs.Seen.{part_seen, group_list};
 
@@ -9,7 +10,8 @@ use indexmap::IndexSet;
 use ios_words::Command;
 use std::alloc::Global;
 
-/// Where a command belongs: to the block of this head, or to the list of this name that stands as lines.
+/// Where a command belongs: to the block of this head, or to the list of this name that stands as
+/// lines.
 #[derive(Clone, Copy, Debug, PartialEq, Eq, Hash)]
 pub enum Part<'a> {
     Block(u32),
@@ -35,7 +37,9 @@ fn add<'a>(
     command: &'a FileCommand,
 ) -> Result<(), Memory>
     requires { place < length groups.old.items }
-    ensures { OnOk result (group_list groups.new.items ≡ slice_set (group_list groups.old.items) place (slice_index_or (group_list groups.old.items) place [] ++ command.now ∷ [])) }
+    ensures { OnOk result
+        (group_list groups.new.items ≡ slice_set (group_list groups.old.items) place
+        (slice_index_or (group_list groups.old.items) place [] ++ command.now ∷ [])) }
 {
     let group: &mut Vec<&'a FileCommand> = &mut groups[place];
     group.push(command)?;

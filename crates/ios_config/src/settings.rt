@@ -27,14 +27,15 @@ pub struct Config {
     pub process: List<ProcessText>,
 }
 
-/// What an interface block sets. A setting is `None` where no line of the block gives it a value, or where the last
-/// line that speaks of it takes its value away.
+/// What an interface block sets. A setting is `None` where no line of the block gives it a value,
+/// or where the last line that speaks of it takes its value away.
 #[derive(Debug, Drop)]
 pub struct FaceText {
     pub name: Name,
     /// The line that heads the block.
     pub head: u32,
-    /// The block's last command line. Lines that are left aside count, comments and blank lines do not.
+    /// The block's last command line. Lines that are left aside count, comments and blank lines do
+    /// not.
     pub last: u32,
     pub addr: Option<Given<u32>>,
     /// The number of ones of the mask.
@@ -92,7 +93,8 @@ pub struct ProcessText {
     pub number: u32,
     /// The line that heads the block.
     pub head: u32,
-    /// The block's last command line. Lines that are left aside count, comments and blank lines do not.
+    /// The block's last command line. Lines that are left aside count, comments and blank lines do
+    /// not.
     pub last: u32,
     /// The commands of the block below its head in file order, with those that are left aside.
     pub lines: List<Given<Command>>,

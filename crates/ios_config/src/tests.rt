@@ -48,7 +48,8 @@ const REFUSED: [(&[u8], u32, Kind); 9] = [
     ),
 ];
 
-/// The file of a router with a host network and a link, with one line changed or added, and where it is refused and why.
+/// The file of a router with a host network and a link, with one line changed or added, and where
+/// it is refused and why.
 const ROWS: [(&[u8], u32, Kind); 10] = [
     (
         b" ip address 10.9.0.1 255.255.255.0\nhostname r1\n!\ninterface GigabitEthernet0/0\n ip address 10.1.0.1 255.255.255.0\n!\ninterface GigabitEthernet0/1\n ip address 10.0.1.1 255.255.255.252\n!\nrouter ospf 1\n network 0.0.0.0 255.255.255.255 area 0\n!\nend\n",

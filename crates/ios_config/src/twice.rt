@@ -1,5 +1,6 @@
 //! Blocks and lists that stand twice.
-ghost use Rattle.std.specs.Prelude.{◌≡◌, ◌↔◌, Any, Contains, IfOk, IsTrue, MatchOption, map, option_map};
+ghost use Rattle.std.specs.Prelude.{◌≡◌, ◌↔◌, Any, Contains, IfOk, IsTrue, MatchOption, map};
+ghost use Rattle.std.specs.Prelude.{option_map};
 ghost use Rattle.ios_config.specs.Seen.{stand_seen};
 ghost use Rattle.ios_config.specs.Twice.{stand_of, excluded, StandOnce, IsFirstDuplicate};
 
@@ -9,7 +10,8 @@ use indexmap::IndexSet;
 use ios_words::Command;
 use std::alloc::Global;
 
-/// What may stand but once in a file: an interface, a process, a list as a block, and a list as lines.
+/// What may stand but once in a file: an interface, a process, a list as a block, and a list as
+/// lines.
 #[derive(Clone, Copy, Debug, PartialEq, Eq, Hash)]
 pub enum Stand<'a> {
     Interface(&'a [u8]),
@@ -42,7 +44,8 @@ fn stands_as(stands: &IndexSet<Stand<'_>>, stand: Stand<'_>) -> bool
 
 /// Whether something stands already that may not where this command comes.
 fn is_excluded(stands: &IndexSet<Stand<'_>>, command: &Command) -> bool
-    ensures { IsTrue result ↔ Any (λ stand. Contains (map stand_seen stands.now.keys) stand) (excluded command.now) }
+    ensures { IsTrue result ↔
+        Any (λ stand. Contains (map stand_seen stands.now.keys) stand) (excluded command.now) }
 {
     match command {
         Command::Interface(name) => stands_as(stands, Stand::Interface(name.bytes())),
@@ -59,7 +62,8 @@ fn is_excluded(stands: &IndexSet<Stand<'_>>, command: &Command) -> bool
 
 /// The first line at which a block or list stands a second time, if there is one.
 pub fn first_duplicate(alloc: Global, commands: &[FileCommand]) -> Result<Option<u32>, Memory>
-    ensures { IfOk result (λ found. MatchOption found (StandOnce commands.now) (IsFirstDuplicate commands.now)) }
+    ensures { IfOk result (λ found.
+        MatchOption found (StandOnce commands.now) (IsFirstDuplicate commands.now)) }
 {
     let mut stands = IndexSet::new(alloc);
     for c in commands {

@@ -1,5 +1,6 @@
 -- Banners: texts of one line or more that a router shows, which begin and end with a delimiter.
-use Rattle.std.specs.Prelude.{ℕ, ◌==◌, ◌&&◌, Bool, false, if◌then◌else◌, List, [], ◌∷◌, drop, Option, Some, None, not}
+use Rattle.std.specs.Prelude.{ℕ, ◌==◌, ◌&&◌, Bool, false, if◌then◌else◌, List, [], ◌∷◌, drop}
+use Rattle.std.specs.Prelude.{Option, Some, None, not}
 use Rattle.std.specs.List.{list_any, zip}
 use Rattle.ios_lines.specs.declared.banner.Delimiter.{Delimiter}
 use Rattle.ios_lines.specs.declared.banner.Delimiter.TheVariants.{Pair, Byte, Missing}
@@ -28,7 +29,8 @@ stands Pair line = has_pair line
 stands (Byte b) line = list_any (λ c. c == b) line
 stands Missing line = false
 
--- the delimiter is the first two bytes of a banner's text where these are ^C, and else its first byte
+-- the delimiter is the first two bytes of a banner's text where these are ^C, and else its first
+-- byte
 abbrev pub delimiter : List ℕ → Delimiter
 delimiter [] = Missing
 delimiter (b ∷ []) = Byte b
@@ -42,4 +44,6 @@ size Missing = 0
 
 -- what ends the banner that begins with this text, unless it ends on the same line
 abbrev pub begun : List ℕ → Option Delimiter
-begun text = if stands (delimiter text) (drop (size (delimiter text)) text) then None else Some (delimiter text)
+begun text =
+    if stands (delimiter text) (drop (size (delimiter text)) text) then None
+    else Some (delimiter text)

@@ -1,5 +1,6 @@
 -- Blocks: a top line and the lines that belong to it.
-use Rattle.std.specs.Prelude.{◌≡◌, ℕ, zero, suc, ◌<◌, ◌≤◌, List, length, take, None, IsSome, IsFalse}
+use Rattle.std.specs.Prelude.{◌≡◌, ℕ, zero, suc, ◌<◌, ◌≤◌, List, length, take, None, IsSome}
+use Rattle.std.specs.Prelude.{IsFalse}
 use Rattle.ios_lines.specs.declared.kind.Kind.{Kind}
 use Rattle.ios_lines.specs.declared.kind.Kind.TheVariants.{Inner, Head}
 use Rattle.ios_lines.specs.Kinds.{kind_at, closes, open_banner}
@@ -10,7 +11,8 @@ pub record Heads (kinds : ℕ → Kind) (count head : ℕ) : Type 0 where
   pub opens : kinds head ≡ Head
   pub unclosed : (place : ℕ) → head < place → place < count → IsFalse (closes (kinds place))
 
--- the block that is open after the first so many lines is that of the line of this number, or there is none and the number is 0
+-- the block that is open after the first so many lines is that of the line of this number, or there
+-- is none and the number is 0
 abbrev pub IsOpen : (ℕ → Kind) → ℕ → ℕ → Type 0
 IsOpen kinds count zero = (head : ℕ) → ¬ Heads kinds count head
 IsOpen kinds count (suc head) = Heads kinds count head
@@ -24,9 +26,11 @@ pub record IsOrphan (lines : List (List ℕ)) (place : ℕ) : Type 0 where
 -- the line of this number is the first such line
 abbrev pub IsFirstOrphan : List (List ℕ) → ℕ → Type 0
 IsFirstOrphan lines zero = ⊥
-IsFirstOrphan lines (suc place) = IsOrphan lines place × ((earlier : ℕ) → earlier < place → ¬ IsOrphan lines earlier)
+IsFirstOrphan lines (suc place) =
+    IsOrphan lines place × ((earlier : ℕ) → earlier < place → ¬ IsOrphan lines earlier)
 
--- the line at a place begins a banner that is open after it and after each later one of the first so many lines
+-- the line at a place begins a banner that is open after it and after each later one of the first
+-- so many lines
 pub record Unclosed (lines : List (List ℕ)) (count place : ℕ) : Type 0 where
   pub within : place < count
   pub new : open_banner (take place lines) ≡ None

@@ -1,13 +1,17 @@
 -- Laws over texts of which a line changes.
-use Rattle.std.specs.Prelude.{◌≡◌, ◌≢◌, ℕ, ◌+◌, ◌<◌, ◌≤◌, ◌⊎◌, List, ◌∷◌, ◌++◌, length, map, take, slice_get, Some, None, true, false, IsTrue}
+use Rattle.std.specs.Prelude.{◌≡◌, ◌≢◌, ℕ, ◌+◌, ◌<◌, ◌≤◌, ◌⊎◌, List, ◌∷◌, ◌++◌, length, map, take}
+use Rattle.std.specs.Prelude.{slice_get, Some, None, true, false, IsTrue}
 use Rattle.std.specs.List.{AllByRecursion}
 use Rattle.ios_lines.specs.declared.line.Lines.{Lines}
 use Rattle.ios_lines.specs.Texts.{text_lines}
 use Rattle.arc_base.specs.Words.{words}
-use Rattle.ios_lines.specs.Kinds.{closes, kind_at, open_banner, IsInner, IsHead, IsSingle, IsClosing}
+use Rattle.ios_lines.specs.Kinds.{closes, kind_at, open_banner, IsInner, IsHead, IsSingle}
+use Rattle.ios_lines.specs.Kinds.{IsClosing}
 use Rattle.ios_lines.specs.Lines.{AreLinesOf, HasOrphanAt, HasOpenBannerAt}
 use Rattle.ios_lines.specs.Views.{Mark, marks_of, mark_seen, seen, open_block}
-use Rattle.ios_lines.specs.Changes.{Change, lines_after_all, marks_after_all, MayAllCome, inserted, changed, replaced, mark_moved, mark_worded, MayStandAt, MayReplaceAt, seen_there}
+use Rattle.ios_lines.specs.Changes.{Change, lines_after_all, marks_after_all, MayAllCome, inserted}
+use Rattle.ios_lines.specs.Changes.{changed, replaced, mark_moved, mark_worded, MayStandAt}
+use Rattle.ios_lines.specs.Changes.{MayReplaceAt, seen_there}
 use Rattle.ios_lines.specs.Ended.{IsEnded, Ended, text_of, AreEnded, ended_lines}
 
 -- no line of the text is an orphan, and each banner ends
@@ -17,11 +21,14 @@ pub record CanBeCut (text : List ℕ) : Type 0 where
 
 -- the rows of a text say what its lines are seen to say
 abbrev pub RowsAreSeen : Type 0
-RowsAreSeen = (text : List ℕ) (lines : Lines) → AreLinesOf text lines → marks_of text lines ≡ map mark_seen (seen (text_lines text))
+RowsAreSeen =
+    (text : List ℕ) (lines : Lines) → AreLinesOf text lines →
+    marks_of text lines ≡ map mark_seen (seen (text_lines text))
 
 -- the text that ended lines make has these lines
 abbrev pub EndedLinesAreLines : Type 0
-EndedLinesAreLines = (lines : List Ended) → AreEnded lines → text_lines (text_of lines) ≡ map (λ l. l.line) lines
+EndedLinesAreLines =
+    (lines : List Ended) → AreEnded lines → text_lines (text_of lines) ≡ map (λ l. l.line) lines
 
 -- ended lines make this text, and are its lines
 pub record Make (text : List ℕ) (lines : List Ended) : Type 0 where
@@ -31,7 +38,8 @@ pub record Make (text : List ℕ) (lines : List Ended) : Type 0 where
 
 -- each text is made of ended lines
 abbrev pub RowsAreEnded : Type 0
-RowsAreEnded = (text : List ℕ) (lines : Lines) → AreLinesOf text lines → Make text (ended_lines text lines)
+RowsAreEnded =
+    (text : List ℕ) (lines : Lines) → AreLinesOf text lines → Make text (ended_lines text lines)
 
 -- what is known of the places before and after a line that says something
 pub record IsPlaceOf (lines : List (List ℕ)) (place : ℕ) (m : Mark) : Type 0 where
@@ -46,56 +54,77 @@ pub record IsPlaceOf (lines : List (List ℕ)) (place : ℕ) (m : Mark) : Type 0
 -- the row of a line tells what is open before it and after it
 abbrev pub RowsTellPlaces : Type 0
 RowsTellPlaces =
-    (text : List ℕ) (lines : Lines) (place : ℕ) (m : Mark) → AreLinesOf text lines → CanBeCut text → slice_get (marks_of text lines) place ≡ Some m → m.inert ≡ false → IsPlaceOf (text_lines text) place m
+    (text : List ℕ) (lines : Lines) (place : ℕ) (m : Mark) → AreLinesOf text lines → CanBeCut text →
+    slice_get (marks_of text lines) place ≡ Some m → m.inert ≡ false →
+    IsPlaceOf (text_lines text) place m
 
--- the new text has the rows of the old one and the inserted line's between them, which stands in the block that is open there; the numbers of the other lines' blocks are moved
+-- the new text has the rows of the old one and the inserted line's between them, which stands in
+-- the block that is open there; the numbers of the other lines' blocks are moved
 pub record HasInserted (old new : List ℕ) (place : ℕ) (line : List ℕ) : Type 0 where
   pub cut : CanBeCut new
-  pub rows : (lines more : Lines) → AreLinesOf old lines → AreLinesOf new more → marks_of new more ≡ inserted place (mark_seen (seen_there (text_lines old) place line)) (map (mark_moved place) (marks_of old lines))
+  pub rows : (lines more : Lines) → AreLinesOf old lines → AreLinesOf new more →
+      marks_of new more ≡ inserted place (mark_seen (seen_there (text_lines old) place line))
+      (map (mark_moved place) (marks_of old lines))
 
 -- a line that is inserted where it may stand leaves the others
 abbrev pub AnInsertedLineStands : Type 0
 AnInsertedLineStands =
-    (old new : List ℕ) (place : ℕ) (line : List ℕ) → MayStandAt (text_lines old) place line → text_lines new ≡ inserted place line (text_lines old) → CanBeCut old → HasInserted old new place line
+    (old new : List ℕ) (place : ℕ) (line : List ℕ) → MayStandAt (text_lines old) place line →
+    text_lines new ≡ inserted place line (text_lines old) → CanBeCut old →
+    HasInserted old new place line
 
 -- the new text has the rows of the old one, with other words at one place
 pub record HasReplaced (old new : List ℕ) (place : ℕ) (line : List ℕ) : Type 0 where
   pub cut : CanBeCut new
-  pub rows : (lines more : Lines) → AreLinesOf old lines → AreLinesOf new more → marks_of new more ≡ changed place (mark_worded (words line)) (marks_of old lines)
+  pub rows : (lines more : Lines) → AreLinesOf old lines → AreLinesOf new more →
+      marks_of new more ≡ changed place (mark_worded (words line)) (marks_of old lines)
 
 -- a line that takes the place of another of its kind leaves all but that line's words
 abbrev pub AReplacedLineStands : Type 0
 AReplacedLineStands =
-    (old new : List ℕ) (place : ℕ) (line : List ℕ) → MayReplaceAt (text_lines old) place line → text_lines new ≡ replaced place line (text_lines old) → CanBeCut old → HasReplaced old new place line
+    (old new : List ℕ) (place : ℕ) (line : List ℕ) → MayReplaceAt (text_lines old) place line →
+    text_lines new ≡ replaced place line (text_lines old) → CanBeCut old →
+    HasReplaced old new place line
 
 -- the new text has the rows that the changes leave
 pub record HasChanged (old new : List ℕ) (changes : List Change) : Type 0 where
   pub cut : CanBeCut new
-  pub rows : (lines more : Lines) → AreLinesOf old lines → AreLinesOf new more → marks_of new more ≡ marks_after_all changes (text_lines old) (marks_of old lines)
+  pub rows : (lines more : Lines) → AreLinesOf old lines → AreLinesOf new more →
+      marks_of new more ≡ marks_after_all changes (text_lines old) (marks_of old lines)
 
 -- changes that may come one after another leave all else
 abbrev pub SeveralChangesStand : Type 0
 SeveralChangesStand =
-    (old new : List ℕ) (changes : List Change) → MayAllCome changes (text_lines old) → text_lines new ≡ lines_after_all changes (text_lines old) → CanBeCut old → HasChanged old new changes
+    (old new : List ℕ) (changes : List Change) → MayAllCome changes (text_lines old) →
+    text_lines new ≡ lines_after_all changes (text_lines old) → CanBeCut old →
+    HasChanged old new changes
 
 -- lines that are ended stand before others so
 abbrev pub EndedLinesJoin : Type 0
-EndedLinesJoin = (front back : List Ended) → AllByRecursion IsEnded front → AreEnded back → AreEnded (front ++ back)
+EndedLinesJoin =
+    (front back : List Ended) → AllByRecursion IsEnded front → AreEnded back →
+    AreEnded (front ++ back)
 
 -- and only a last line has no end
 abbrev pub EndedLinesPart : Type 0
-EndedLinesPart = (front : List Ended) (line : Ended) (back : List Ended) → AreEnded (front ++ line ∷ back) → AllByRecursion IsEnded front × AreEnded (line ∷ back)
+EndedLinesPart =
+    (front : List Ended) (line : Ended) (back : List Ended) → AreEnded (front ++ line ∷ back) →
+    AllByRecursion IsEnded front × AreEnded (line ∷ back)
 
 -- a line of a block may stand where one is open
 abbrev pub InnerLinesMayStand : Type 0
 InnerLinesMayStand =
-    (lines : List (List ℕ)) (place : ℕ) (line : List ℕ) → place ≤ length lines → open_banner (take place lines) ≡ None → open_block (take place lines) ≢ 0 → IsInner line → MayStandAt lines place line
+    (lines : List (List ℕ)) (place : ℕ) (line : List ℕ) → place ≤ length lines →
+    open_banner (take place lines) ≡ None → open_block (take place lines) ≢ 0 → IsInner line →
+    MayStandAt lines place line
 
 -- a top line or a closing one may stand before one that closes blocks, and at the end
 abbrev pub TopLinesMayStand : Type 0
 TopLinesMayStand =
-    (lines : List (List ℕ)) (place : ℕ) (line : List ℕ) → place ≤ length lines → open_banner (take place lines) ≡ None → (place < length lines → IsTrue (closes (kind_at lines place))) → IsHead line ⊎ (IsSingle line ⊎ IsClosing line) →
-    MayStandAt lines place line
+    (lines : List (List ℕ)) (place : ℕ) (line : List ℕ) → place ≤ length lines →
+    open_banner (take place lines) ≡ None →
+    (place < length lines → IsTrue (closes (kind_at lines place))) →
+    IsHead line ⊎ (IsSingle line ⊎ IsClosing line) → MayStandAt lines place line
 
 -- the row that a block is named by heads it
 pub record HasHead (marks : List Mark) (block : ℕ) : Type 0 where
@@ -107,4 +136,7 @@ pub record HasHead (marks : List Mark) (block : ℕ) : Type 0 where
 
 -- each row that stands in a block has the row that heads it
 abbrev pub BlocksHaveHeads : Type 0
-BlocksHaveHeads = (text : List ℕ) (lines : Lines) (place : ℕ) (m : Mark) → AreLinesOf text lines → slice_get (marks_of text lines) place ≡ Some m → m.block ≢ 0 → HasHead (marks_of text lines) m.block
+BlocksHaveHeads =
+    (text : List ℕ) (lines : Lines) (place : ℕ) (m : Mark) → AreLinesOf text lines →
+    slice_get (marks_of text lines) place ≡ Some m → m.block ≢ 0 →
+    HasHead (marks_of text lines) m.block

@@ -1,5 +1,6 @@
 -- Texts in which a line is inserted or replaced.
-use Rattle.std.specs.Prelude.{◌≡◌, ◌≢◌, ℕ, zero, suc, ◌+◌, ◌<◌, ◌≤◌, List, [], ◌∷◌, ◌++◌, length, take, drop, map, None, if◌then◌else◌, nat_le, IsTrue}
+use Rattle.std.specs.Prelude.{◌≡◌, ◌≢◌, ℕ, zero, suc, ◌+◌, ◌<◌, ◌≤◌, List, [], ◌∷◌, ◌++◌, length}
+use Rattle.std.specs.Prelude.{take, drop, map, None, if◌then◌else◌, nat_le, IsTrue}
 use Rattle.ios_lines.specs.declared.kind.Kind.TheVariants.{Inner, Banner}
 use Rattle.ios_lines.specs.Kinds.{closes, kind, kind_at, open_banner}
 use Rattle.arc_base.specs.Words.{words}
@@ -18,15 +19,18 @@ abbrev pub seen_moved : ℕ → Seen → Seen
 seen_moved place s = record { bytes = s.bytes; kind = s.kind; block = moved place s.block }
 
 abbrev pub mark_moved : ℕ → Mark → Mark
-mark_moved place m = record { words = m.words; block = moved place m.block; head = m.head; inert = m.inert }
+mark_moved place m =
+    record { words = m.words; block = moved place m.block; head = m.head; inert = m.inert }
 
--- A line may be put between lines, at a place that is in no banner. It is no banner line itself. Where it closes the open block, so does
--- the line that it is put before, if there is one; where it belongs to a block, one is open.
+-- A line may be put between lines, at a place that is in no banner. It is no banner line itself.
+-- Where it closes the open block, so does the line that it is put before, if there is one; where it
+-- belongs to a block, one is open.
 pub record MayStandAt (lines : List (List ℕ)) (place : ℕ) (line : List ℕ) : Type 0 where
   pub within : place ≤ length lines
   pub outside : open_banner (take place lines) ≡ None
   pub no_banner : kind line ≢ Banner
-  pub closing : IsTrue (closes (kind line)) → place < length lines → IsTrue (closes (kind_at lines place))
+  pub closing : IsTrue (closes (kind line)) → place < length lines →
+      IsTrue (closes (kind_at lines place))
   pub inner : kind line ≡ Inner → open_block (take place lines) ≢ 0
 
 -- what the inserted line is, in its place
@@ -78,13 +82,16 @@ MayCome (Write place line) lines = MayReplaceAt lines place line
 
 abbrev pub MayAllCome : List Change → List (List ℕ) → Type 0
 MayAllCome [] lines = Unit {0}
-MayAllCome (change ∷ changes) lines = MayCome change lines × MayAllCome changes (lines_after change lines)
+MayAllCome (change ∷ changes) lines =
+    MayCome change lines × MayAllCome changes (lines_after change lines)
 
 -- what the rows say after a change of these lines, and after several
 abbrev pub marks_after : Change → List (List ℕ) → List Mark → List Mark
-marks_after (Insert place line) lines marks = inserted place (mark_seen (seen_there lines place line)) (map (mark_moved place) marks)
+marks_after (Insert place line) lines marks =
+    inserted place (mark_seen (seen_there lines place line)) (map (mark_moved place) marks)
 marks_after (Write place line) lines marks = changed place (mark_worded (words line)) marks
 
 abbrev pub marks_after_all : List Change → List (List ℕ) → List Mark → List Mark
 marks_after_all [] lines marks = marks
-marks_after_all (change ∷ changes) lines marks = marks_after_all changes (lines_after change lines) (marks_after change lines marks)
+marks_after_all (change ∷ changes) lines marks =
+    marks_after_all changes (lines_after change lines) (marks_after change lines marks)

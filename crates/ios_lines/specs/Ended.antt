@@ -1,5 +1,6 @@
 -- Lines with their ends, and the text that they make.
-use Rattle.std.specs.Prelude.{◌≡◌, ◌≢◌, ℕ, ◌+◌, ◌-◌, ◌<◌, ◌⊎◌, List, [], ◌∷◌, ◌++◌, length, map, flat_map, slice_index, slice_range}
+use Rattle.std.specs.Prelude.{◌≡◌, ◌≢◌, ℕ, ◌+◌, ◌-◌, ◌<◌, ◌⊎◌, List, [], ◌∷◌, ◌++◌, length, map}
+use Rattle.std.specs.Prelude.{flat_map, slice_index, slice_range}
 use Rattle.ios_lines.specs.declared.line.Line.{Line}
 use Rattle.ios_lines.specs.declared.line.Lines.{Lines}
 use Rattle.ios_lines.specs.Texts.{part}
@@ -40,7 +41,10 @@ AreEnded (l ∷ m ∷ lines) = IsEnded l × AreEnded (m ∷ lines)
 
 -- a row of a text with its end
 abbrev pub ended_row : List ℕ → Line → Ended
-ended_row text line = record { line = part text line.span; end = slice_range text line.span.to (line.span.to + line.end) }
+ended_row text line = record {
+  line = part text line.span;
+  end = slice_range text line.span.to (line.span.to + line.end);
+}
 
 -- the lines of a text with their ends
 abbrev pub ended_lines : List ℕ → Lines → List Ended

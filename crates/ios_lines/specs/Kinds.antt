@@ -1,10 +1,13 @@
--- What each line of a router file is. A top line begins with no blank; other lines belong to the block of one.
-use Rattle.std.specs.Prelude.{◌≡◌, ℕ, ◌==◌, Bool, true, false, if◌then◌else◌, List, [], ◌∷◌, take, fold, codes, Option, Some, None, slice_index_or}
+-- What each line of a router file is. A top line begins with no blank; other lines belong to the
+-- block of one.
+use Rattle.std.specs.Prelude.{◌≡◌, ℕ, ◌==◌, Bool, true, false, if◌then◌else◌, List, [], ◌∷◌, take}
+use Rattle.std.specs.Prelude.{fold, codes, Option, Some, None, slice_index_or}
 use Rattle.std.specs.List.{starts_with, list_any}
 use Rattle.std.specs.Str.{bytes_eq}
 use Rattle.ios_lines.specs.declared.banner.Delimiter.{Delimiter}
 use Rattle.ios_lines.specs.declared.kind.Kind.{Kind}
-use Rattle.ios_lines.specs.declared.kind.Kind.TheVariants.{Blank, Comment, Remark, Inner, Single, Head, Banner}
+use Rattle.ios_lines.specs.declared.kind.Kind.TheVariants.{Blank, Comment, Remark, Inner, Single}
+use Rattle.ios_lines.specs.declared.kind.Kind.TheVariants.{Head, Banner}
 use Rattle.ios_lines.specs.Banners.{banner_text, begun, stands}
 use Rattle.arc_base.specs.Words.{is_blank, words}
 
@@ -20,11 +23,14 @@ is_mark (b ∷ word) = b == 33
 
 -- the words that a top line begins with where it opens no block
 abbrev pub single_heads : List (List (List ℕ))
-single_heads = (codes "hostname" ∷ []) ∷ (codes "access-list" ∷ []) ∷ (codes "ip" ∷ codes "prefix-list" ∷ []) ∷ []
+single_heads =
+    (codes "hostname" ∷ []) ∷ (codes "access-list" ∷ []) ∷
+    (codes "ip" ∷ codes "prefix-list" ∷ []) ∷ []
 
 -- a line with these words opens a block, where it is a top line and no banner
 abbrev pub opens_block : List (List ℕ) → Bool
-opens_block line = if list_any (λ head. starts_with bytes_eq line head) single_heads then false else true
+opens_block line =
+    if list_any (λ head. starts_with bytes_eq line head) single_heads then false else true
 
 -- a top line with these words begins a banner
 abbrev pub is_banner : List (List ℕ) → Bool
@@ -92,7 +98,8 @@ is_inert Single = false
 is_inert Head = false
 is_inert Banner = true
 
--- where no banner is open, the line belongs to a block; heads one; is a top line that opens none; is a comment that closes one
+-- where no banner is open, the line belongs to a block; heads one; is a top line that opens none;
+-- is a comment that closes one
 abbrev pub IsInner : List ℕ → Type 0
 IsInner line = kind line ≡ Inner
 

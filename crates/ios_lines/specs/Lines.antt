@@ -18,12 +18,14 @@ pub record IsRow (text : List ℕ) (place : ℕ) (line : Line) : Type 0 where
   pub head : line.head ≡ is_head (kind_at (text_lines text) place)
   pub inert : line.inert ≡ is_inert (kind_at (text_lines text) place)
 
--- these are the lines of the text: they join to it with their ends, their words lie in it, and each has its words and its marks
+-- these are the lines of the text: they join to it with their ends, their words lie in it, and each
+-- has its words and its marks
 pub record AreLinesOf (text : List ℕ) (lines : Lines) : Type 0 where
   pub join : Join text 0 lines.rows
   pub texts : bytes_of text lines.rows ≡ text_lines text
   pub inside : All (HasWordsIn text) lines.rows
-  pub rows : (place : ℕ) (line : Line) → slice_get lines.rows place ≡ Some line → IsRow text place line
+  pub rows : (place : ℕ) (line : Line) → slice_get lines.rows place ≡ Some line →
+      IsRow text place line
 
 -- the line of this number is the first that ought to belong to a block and has none
 abbrev pub HasOrphanAt : List ℕ → ℕ → Type 0
@@ -36,5 +38,6 @@ HasOpenBannerAt text number = IsUnclosed (text_lines text) (length (text_lines t
 -- the fault is the first of the text, or want of memory
 abbrev pub IsFaultOf : List ℕ → LineFault → Type 0
 IsFaultOf text (Orphan number) = HasOrphanAt text number
-IsFaultOf text (OpenBanner number) = HasOpenBannerAt text number × ((other : ℕ) → ¬ HasOrphanAt text other)
+IsFaultOf text (OpenBanner number) =
+    HasOpenBannerAt text number × ((other : ℕ) → ¬ HasOrphanAt text other)
 IsFaultOf text Memory = Unit {0}

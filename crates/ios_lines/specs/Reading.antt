@@ -1,8 +1,10 @@
 -- What is open between two lines of a file.
-use Rattle.std.specs.Prelude.{◌≡◌, ℕ, ◌+◌, ◌<◌, ◌≤◌, ◌==◌, Bool, false, Option, Some, None, List, ◌∷◌, length, take, drop, IsSome}
+use Rattle.std.specs.Prelude.{◌≡◌, ℕ, ◌+◌, ◌<◌, ◌≤◌, ◌==◌, Bool, false, Option, Some, None, List}
+use Rattle.std.specs.Prelude.{◌∷◌, length, take, drop, IsSome}
 use Rattle.ios_lines.specs.declared.banner.Delimiter.{Delimiter}
 use Rattle.ios_lines.specs.declared.kind.Kind.{Kind}
-use Rattle.ios_lines.specs.declared.kind.Kind.TheVariants.{Blank, Comment, Remark, Inner, Single, Head, Banner}
+use Rattle.ios_lines.specs.declared.kind.Kind.TheVariants.{Blank, Comment, Remark, Inner, Single}
+use Rattle.ios_lines.specs.declared.kind.Kind.TheVariants.{Head, Banner}
 use Rattle.ios_lines.specs.declared.line.Line.{Line}
 use Rattle.ios_lines.specs.declared.reading.Open.{Open}
 use Rattle.ios_lines.specs.Texts.{part, HasWordsIn, IsLine, text_lines}
@@ -35,7 +37,8 @@ is_alone Single block = false
 is_alone Head block = false
 is_alone Banner block = false
 
--- the first lines of the text end at a place, with this open after them, and none of them is an orphan
+-- the first lines of the text end at a place, with this open after them, and none of them is an
+-- orphan
 pub record Stands (text : List ℕ) (at : ℕ) (state : Open) : Type 0 where
   pub within : at ≤ length text
   pub few : state.count ≤ at
@@ -47,10 +50,12 @@ pub record Stands (text : List ℕ) (at : ℕ) (state : Open) : Type 0 where
   pub no_orphan : (place : ℕ) → place < state.count → ¬ IsOrphan (text_lines text) place
 
 -- this is the next line, with what is open after it
-pub record IsNext (text : List ℕ) (at : ℕ) (state : Open) (line : Line) (after : Open) : Type 0 where
+pub record IsNext (text : List ℕ) (at : ℕ) (state : Open) (line : Line)
+    (after : Open) : Type 0 where
   pub begins : line.span.from ≡ at
   pub ends : IsLine text at line.span.to line.end
-  pub bytes : drop state.count (text_lines text) ≡ part text line.span ∷ drop after.count (text_lines text)
+  pub bytes :
+      drop state.count (text_lines text) ≡ part text line.span ∷ drop after.count (text_lines text)
   pub row : IsRow text state.count line
   pub inside : HasWordsIn text line
   pub count : after.count ≡ state.count + 1

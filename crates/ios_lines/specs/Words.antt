@@ -5,11 +5,13 @@ use Rattle.arc_base.specs.Words.{is_blank}
 
 -- the bytes between two places are all blank
 abbrev pub AreBlank : List ℕ → ℕ → ℕ → Type 0
-AreBlank text from to = (place : ℕ) → from ≤ place → place < to → IsTrue (is_blank (slice_index text place))
+AreBlank text from to =
+    (place : ℕ) → from ≤ place → place < to → IsTrue (is_blank (slice_index text place))
 
 -- the bytes between two places are none of them blank
 abbrev pub AreFilled : List ℕ → ℕ → ℕ → Type 0
-AreFilled text from to = (place : ℕ) → from ≤ place → place < to → IsFalse (is_blank (slice_index text place))
+AreFilled text from to =
+    (place : ℕ) → from ≤ place → place < to → IsFalse (is_blank (slice_index text place))
 
 -- the first word at or after a place, in a line that ends at another
 pub record IsNextWord (text : List ℕ) (at to : ℕ) (word : Span) : Type 0 where

@@ -1,5 +1,6 @@
 -- Lines that are written word for word, with one space between two words.
-use Rattle.std.specs.Prelude.{◌≡◌, ℕ, ◌&&◌, nat_lt, Bool, if◌then◌else◌, List, ◌∷◌, ◌++◌, length, flat_map, IsTrue, IsFalse}
+use Rattle.std.specs.Prelude.{◌≡◌, ℕ, ◌&&◌, nat_lt, Bool, if◌then◌else◌, List, ◌∷◌, ◌++◌, length}
+use Rattle.std.specs.Prelude.{flat_map, IsTrue, IsFalse}
 use Rattle.std.specs.List.{AllByRecursion, list_all}
 use Rattle.ios_lines.specs.declared.kind.Kind.TheVariants.{Comment}
 use Rattle.ios_lines.specs.Kinds.{is_mark, kind, top_kind, IsInner}
@@ -29,12 +30,18 @@ IndentedLinesAreWritten = (ws : List (List ℕ)) → ArePlain ws → IsWritten (
 
 -- and so is a top line
 abbrev pub TopLinesAreWritten : Type 0
-TopLinesAreWritten = (word : List ℕ) (ws : List (List ℕ)) → IsTrue (is_plain word) → ArePlain ws → IsWritten (word ++ spaced ws) (word ∷ ws)
+TopLinesAreWritten =
+    (word : List ℕ) (ws : List (List ℕ)) → IsTrue (is_plain word) → ArePlain ws →
+    IsWritten (word ++ spaced ws) (word ∷ ws)
 
 -- an indented line belongs to a block, unless it is a comment
 abbrev pub IndentedLinesAreInner : Type 0
-IndentedLinesAreInner = (word : List ℕ) (ws : List (List ℕ)) → ArePlain (word ∷ ws) → IsFalse (is_mark word) → IsInner (spaced (word ∷ ws))
+IndentedLinesAreInner =
+    (word : List ℕ) (ws : List (List ℕ)) → ArePlain (word ∷ ws) → IsFalse (is_mark word) →
+    IsInner (spaced (word ∷ ws))
 
 -- the kind of a top line is seen from its words
 abbrev pub TopLinesHaveTheirKind : Type 0
-TopLinesHaveTheirKind = (word : List ℕ) (ws : List (List ℕ)) → IsTrue (is_plain word) → ArePlain ws → kind (word ++ spaced ws) ≡ (if is_mark word then Comment else top_kind (word ∷ ws))
+TopLinesHaveTheirKind =
+    (word : List ℕ) (ws : List (List ℕ)) → IsTrue (is_plain word) → ArePlain ws →
+    kind (word ++ spaced ws) ≡ (if is_mark word then Comment else top_kind (word ∷ ws))

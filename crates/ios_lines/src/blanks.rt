@@ -48,8 +48,10 @@ fn first_blank(line: &[u8]) -> Option<usize>
 
 /// The first word of a line, and the rest of the line.
 pub(crate) fn first_word(line: &[u8]) -> Option<(&[u8], &[u8])>
-    ensures words { MatchOption result (words line.now ≡ []) (λ cut. words line.now ≡ cut.0.now ∷ words cut.1.now) }
-    ensures none { MatchOption result (skip is_blank line.now ≡ []) (λ cut. cut.1.now ≡ after_word line.now) }
+    ensures words { MatchOption result (words line.now ≡ []) (λ cut.
+        words line.now ≡ cut.0.now ∷ words cut.1.now) }
+    ensures none { MatchOption result (skip is_blank line.now ≡ []) (λ cut.
+        cut.1.now ≡ after_word line.now) }
 {
     let start = word_start(line)?;
     let (_, tail) = line.split_at(start);

@@ -28,8 +28,8 @@ impl From<Memory> for LineFault {
     }
 }
 
-/// The lines of a router file, or the first line that stands in no block and ought to, or else the banner that does
-/// not end.
+/// The lines of a router file, or the first line that stands in no block and ought to, or else the
+/// banner that does not end.
 pub fn cut(alloc: Global, bytes: &[u8]) -> Result<Lines, LineFault>
     requires { length bytes.now < 2 ^ 32 }
     ensures lines { IfOk result (AreLinesOf bytes.now) }

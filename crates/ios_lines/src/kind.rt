@@ -2,7 +2,8 @@
 ghost use Rattle.std.specs.Prelude.{◌≡◌, ◌∷◌, [], codes};
 ghost use Rattle.std.specs.List.{starts_with};
 ghost use Rattle.std.specs.Str.{bytes_eq};
-ghost use Rattle.ios_lines.specs.Kinds.{after_line, is_head, is_inert, kind, kind_within, opens_block, top_kind};
+ghost use Rattle.ios_lines.specs.Kinds.{after_line, is_head, is_inert, kind, kind_within};
+ghost use Rattle.ios_lines.specs.Kinds.{opens_block, top_kind};
 ghost use Rattle.arc_base.specs.Words.{words};
 
 use crate::banner::{Delimiter, begun, stands};
@@ -47,7 +48,8 @@ fn begins_with(line: &[u8], word: &[u8]) -> bool
     }
 }
 
-/// Whether a top line of this first word, and this after it, opens a block, where it begins no banner.
+/// Whether a top line of this first word, and this after it, opens a block, where it begins no
+/// banner.
 fn opens_block(word: &[u8], rest: &[u8]) -> bool
     ensures { result ≡ opens_block (word.now ∷ words rest.now) }
 {

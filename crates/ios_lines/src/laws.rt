@@ -1,8 +1,13 @@
 //! Laws over the definitions alone: each is the contract of a function that does nothing.
 ghost use Rattle.ios_lines.specs.Laws.{BannersEndAtTheirDelimiter, LinesAreOneList, LinesJoin};
 ghost use Rattle.ios_lines.specs.Rewritten.{AWordMayBeReplaced};
-ghost use Rattle.ios_lines.specs.Written.{IndentedLinesAreInner, IndentedLinesAreWritten, TopLinesAreWritten, TopLinesHaveTheirKind};
-ghost use Rattle.ios_lines.specs.ChangeLaws.{AnInsertedLineStands, AReplacedLineStands, BlocksHaveHeads, EndedLinesAreLines, EndedLinesJoin, EndedLinesPart, InnerLinesMayStand, RowsAreEnded, RowsAreSeen, RowsTellPlaces, SeveralChangesStand, TopLinesMayStand};
+ghost use Rattle.ios_lines.specs.Written.{IndentedLinesAreInner, IndentedLinesAreWritten};
+ghost use Rattle.ios_lines.specs.Written.{TopLinesAreWritten, TopLinesHaveTheirKind};
+ghost use Rattle.ios_lines.specs.ChangeLaws.{AnInsertedLineStands, AReplacedLineStands};
+ghost use Rattle.ios_lines.specs.ChangeLaws.{BlocksHaveHeads, EndedLinesAreLines, EndedLinesJoin};
+ghost use Rattle.ios_lines.specs.ChangeLaws.{EndedLinesPart, InnerLinesMayStand, RowsAreEnded};
+ghost use Rattle.ios_lines.specs.ChangeLaws.{RowsAreSeen, RowsTellPlaces, SeveralChangesStand};
+ghost use Rattle.ios_lines.specs.ChangeLaws.{TopLinesMayStand};
 
 /// A text has at most one list of lines.
 pub fn lines_are_one_list()
@@ -19,7 +24,8 @@ pub fn banners_end_at_their_delimiter()
     ensures { BannersEndAtTheirDelimiter }
 {}
 
-/// The rows of a text say of each line its words, its block and its kind, as a fold over the lines gives them.
+/// The rows of a text say of each line its words, its block and its kind, as a fold over the lines
+/// gives them.
 pub fn rows_are_seen()
     ensures { RowsAreSeen }
 {}
@@ -32,19 +38,20 @@ pub fn ended_lines_make_texts()
     ensures part { EndedLinesPart }
 {}
 
-/// The row of a line that says something tells that no banner is open at its place, and which block is.
+/// The row of a line that says something tells that no banner is open at its place, and which block
+/// is.
 pub fn rows_tell_places()
     ensures { RowsTellPlaces }
 {}
 
-/// A text with one line more, at a place where it may stand, can be cut, and its rows are the old ones and the new
-/// line's, with the numbers of blocks moved.
+/// A text with one line more, at a place where it may stand, can be cut, and its rows are the old
+/// ones and the new line's, with the numbers of blocks moved.
 pub fn an_inserted_line_stands()
     ensures { AnInsertedLineStands }
 {}
 
-/// A text in which a line takes the place of another of its kind can be cut, and its rows are the old ones, with other
-/// words at that place.
+/// A text in which a line takes the place of another of its kind can be cut, and its rows are the
+/// old ones, with other words at that place.
 pub fn a_replaced_line_stands()
     ensures { AReplacedLineStands }
 {}
@@ -54,7 +61,8 @@ pub fn several_changes_stand()
     ensures { SeveralChangesStand }
 {}
 
-/// Words with one space before each, or between two, make a line with these words, of the kind that they say.
+/// Words with one space before each, or between two, make a line with these words, of the kind that
+/// they say.
 pub fn written_lines_are_read()
     ensures indented { IndentedLinesAreWritten }
     ensures top { TopLinesAreWritten }
@@ -68,8 +76,8 @@ pub fn lines_may_stand()
     ensures top { TopLinesMayStand }
 {}
 
-/// A plain word may stand in the place of another: the line has the other words as before, and may take the old one's
-/// place.
+/// A plain word may stand in the place of another: the line has the other words as before, and may
+/// take the old one's place.
 pub fn a_word_may_be_replaced()
     ensures { AWordMayBeReplaced }
 {}

@@ -26,7 +26,8 @@ pub(crate) struct Open {
     pub(crate) first: u32,
 }
 
-/// The number of the block that is open after the line of this kind and number, from that before it.
+/// The number of the block that is open after the line of this kind and number, from that before
+/// it.
 fn block_after(kind: Kind, number: u32, block: u32) -> u32
     ensures { result ≡ block_after kind number block }
 {

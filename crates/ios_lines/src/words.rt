@@ -1,5 +1,6 @@
 //! The words of a line.
-ghost use Rattle.std.specs.Prelude.{◌≡◌, ◌<◌, ◌≤◌, ◌^◌, length, map, slice_index, slice_range, IsTrue, IsFalse, IfOk, MatchOption};
+ghost use Rattle.std.specs.Prelude.{◌≡◌, ◌<◌, ◌≤◌, ◌^◌, length, map, slice_index, slice_range};
+ghost use Rattle.std.specs.Prelude.{IsTrue, IsFalse, IfOk, MatchOption};
 ghost use Rattle.ios_lines.specs.Texts.{part};
 ghost use Rattle.ios_lines.specs.Words.{AreBlank, AreFilled, AreWords, IsNextWord};
 ghost use Rattle.arc_base.specs.Words.{is_blank, words};
@@ -69,7 +70,8 @@ pub(crate) fn word_spans(
     requires within { to ≤ length bytes.now }
     requires few { length bytes.now < 2 ^ 32 }
     ensures spans { IfOk result (AreWords bytes.now from to) }
-    ensures texts { IfOk result (λ spans. map (part bytes.now) spans ≡ words (slice_range bytes.now from to)) }
+    ensures texts { IfOk result (λ spans.
+        map (part bytes.now) spans ≡ words (slice_range bytes.now from to)) }
 {
     let mut words = Vec::new(alloc);
     let mut at = from;

@@ -1,5 +1,6 @@
 -- What a line of a router file says, and when it is unknown or faulty.
-use Rattle.std.specs.Prelude.{◌≡◌, ℕ, Bool, true, false, List, find, is_ok, Some, None, Result, Ok, Err, if◌then◌else◌}
+use Rattle.std.specs.Prelude.{◌≡◌, ℕ, Bool, true, false, List, find, is_ok, Some, None, Result, Ok}
+use Rattle.std.specs.Prelude.{Err, if◌then◌else◌}
 use Rattle.ios_lines.specs.declared.line.Line.{Line}
 use Rattle.ios_words.specs.declared.commands.Command.{Command}
 use Rattle.ios_words.specs.declared.kinds.BlockKind.{BlockKind}
@@ -19,12 +20,16 @@ abbrev pub is_extended_block : BlockKind → Bool
 is_extended_block blocks.Extended = true
 is_extended_block _ = false
 
--- whether the row matches the words, and each of them is of its form and range, none missing and none too many
+-- whether the row matches the words, and each of them is of its form and range, none missing and
+-- none too many
 abbrev pub completes : Bool → List (List ℕ) → Rule → Bool
-completes extended words rule = if matches words rule then is_ok (read extended words rule) else false
+completes extended words rule =
+    if matches words rule then is_ok (read extended words rule) else false
 
--- some row matches the words with every word, and the first such row gives the command; inert rows stand first where another row matches too
-pub record ReadBy (extended : Bool) (words : List (List ℕ)) (rules : List Rule) (command : Command) : Type 0 where
+-- some row matches the words with every word, and the first such row gives the command; inert rows
+-- stand first where another row matches too
+pub record ReadBy (extended : Bool) (words : List (List ℕ)) (rules : List Rule)
+    (command : Command) : Type 0 where
   pub rule : Rule
   pub values : Values
   pub first : find (completes extended words) rules ≡ Some rule
@@ -35,8 +40,10 @@ pub record ReadBy (extended : Bool) (words : List (List ℕ)) (rules : List Rule
 abbrev pub UnknownBy : List (List ℕ) → List Rule → Type 0
 UnknownBy words rules = find (matches words) rules ≡ None
 
--- some row matches the words and none with every word, and by the first row that matches the words have this fault
-pub record FaultyBy (extended : Bool) (words : List (List ℕ)) (rules : List Rule) (fault : WordFault) : Type 0 where
+-- some row matches the words and none with every word, and by the first row that matches the words
+-- have this fault
+pub record FaultyBy (extended : Bool) (words : List (List ℕ)) (rules : List Rule)
+    (fault : WordFault) : Type 0 where
   pub rule : Rule
   pub none : find (completes extended words) rules ≡ None
   pub first : find (matches words) rules ≡ Some rule
@@ -46,27 +53,35 @@ pub record FaultyBy (extended : Bool) (words : List (List ℕ)) (rules : List Ru
 abbrev pub AnswerBy : Bool → List (List ℕ) → List Rule → Result Command WordFault → Type 0
 AnswerBy extended words rules (Ok command) = ReadBy extended words rules command
 AnswerBy extended words rules (Err faults.Unknown) = UnknownBy words rules
-AnswerBy extended words rules (Err (faults.BadWord place)) = FaultyBy extended words rules (faults.BadWord place)
-AnswerBy extended words rules (Err faults.WildcardNotPrefix) = FaultyBy extended words rules faults.WildcardNotPrefix
+AnswerBy extended words rules (Err (faults.BadWord place)) =
+    FaultyBy extended words rules (faults.BadWord place)
+AnswerBy extended words rules (Err faults.WildcardNotPrefix) =
+    FaultyBy extended words rules faults.WildcardNotPrefix
 AnswerBy extended words rules (Err faults.Memory) = Unit {0}
 
 -- the line of the text says this in a block of this kind
 abbrev pub Reads : List ℕ → Line → BlockKind → Command → Type 0
-Reads text line within command = ReadBy (is_extended_block within) (line_words text line) (rows within) command
+Reads text line within command =
+    ReadBy (is_extended_block within) (line_words text line) (rows within) command
 
 -- no row of the language matches the line
 abbrev pub IsUnknown : List ℕ → Line → BlockKind → Type 0
 IsUnknown text line within = UnknownBy (line_words text line) (rows within)
 
--- the word at this place, from 1, is the line's faulty word: out of its form or range, missing or one too many
+-- the word at this place, from 1, is the line's faulty word: out of its form or range, missing or
+-- one too many
 abbrev pub HasBadWord : List ℕ → Line → BlockKind → ℕ → Type 0
-HasBadWord text line within place = FaultyBy (is_extended_block within) (line_words text line) (rows within) (faults.BadWord place)
+HasBadWord text line within place =
+    FaultyBy (is_extended_block within) (line_words text line) (rows within) (faults.BadWord place)
 
 -- the line's faulty word is an address where a mask or wildcard is wanted, but not contiguous
 abbrev pub HasBadWildcard : List ℕ → Line → BlockKind → Type 0
-HasBadWildcard text line within = FaultyBy (is_extended_block within) (line_words text line) (rows within) faults.WildcardNotPrefix
+HasBadWildcard text line within =
+    FaultyBy (is_extended_block within) (line_words text line) (rows within)
+    faults.WildcardNotPrefix
 
--- what a line says in a block of this kind, or why it says nothing; want of memory tells nothing of it
+-- what a line says in a block of this kind, or why it says nothing; want of memory tells nothing of
+-- it
 abbrev pub IsAnswer : List ℕ → Line → BlockKind → Result Command WordFault → Type 0
 IsAnswer text line within (Ok command) = Reads text line within command
 IsAnswer text line within (Err faults.Unknown) = IsUnknown text line within

@@ -3,7 +3,14 @@ use Rattle.std.specs.Prelude.{◌≡◌, ℕ, ◌^◌, ◌<◌, ◌≤◌, ◌�
 use Rattle.arc_base.specs.declared.prefix.Prefix.{Prefix}
 use Rattle.ios_lines.specs.declared.line.Line.{Line}
 use Rattle.ios_words.specs.declared.commands.Command.{Command}
-use Rattle.ios_words.specs.declared.commands.Command.TheVariants.{Hostname, Interface, RouterOspf, RouterBgp, ListBlock, ListLine, PrefixLine, Address, NoAddress, Shutdown, Bandwidth, Cost, Area, Point, Group, Covers, Passive, Reference, RouterId, RemoteAs, NeighborDown, NeighborList, Tells, Entry, Inert}
+use Rattle.ios_words.specs.declared.commands.Command.TheVariants.{Hostname, Interface, RouterOspf}
+use Rattle.ios_words.specs.declared.commands.Command.TheVariants.{RouterBgp, ListBlock, ListLine}
+use Rattle.ios_words.specs.declared.commands.Command.TheVariants.{PrefixLine, Address, NoAddress}
+use Rattle.ios_words.specs.declared.commands.Command.TheVariants.{Shutdown, Bandwidth, Cost, Area}
+use Rattle.ios_words.specs.declared.commands.Command.TheVariants.{Point, Group, Covers, Passive}
+use Rattle.ios_words.specs.declared.commands.Command.TheVariants.{Reference, RouterId, RemoteAs}
+use Rattle.ios_words.specs.declared.commands.Command.TheVariants.{NeighborDown, NeighborList, Tells}
+use Rattle.ios_words.specs.declared.commands.Command.TheVariants.{Entry, Inert}
 use Rattle.ios_words.specs.declared.kinds.BlockKind.{BlockKind}
 use Rattle.ios_words.specs.Commands.{Reads}
 use Rattle.ios_words.specs.Names.{is_face_name}
@@ -27,7 +34,8 @@ pub record IsListNumber (text : List ℕ) : Type 0 where
   pub written : text ≡ decimal number
   pub ranged : IsStandard number ⊎ IsExtended number
 
--- the lengths that a route of the prefix may have are from one that is no shorter than the prefix up to one of at most 32
+-- the lengths that a route of the prefix may have are from one that is no shorter than the prefix
+-- up to one of at most 32
 pub record AreLengths (prefix : Prefix) (low high : ℕ) : Type 0 where
   pub least : prefix.len ≤ low
   pub ordered : low ≤ high
@@ -37,7 +45,8 @@ pub record AreLengths (prefix : Prefix) (low high : ℕ) : Type 0 where
 abbrev pub IsOrder : ℕ → Option ℕ → Type 0
 IsOrder high order = IfSome order (IsFrom 1 high)
 
--- the names and numbers of the command have their forms and ranges; that its prefixes have no bit past their length is seen from their type
+-- the names and numbers of the command have their forms and ranges; that its prefixes have no bit
+-- past their length is seen from their type
 abbrev pub IsInForm : Command → Type 0
 IsInForm (Hostname name) = IsTrue (is_name name)
 IsInForm (Interface name) = IsTrue (is_face_name name)
@@ -45,7 +54,8 @@ IsInForm (RouterOspf number) = IsFrom 1 65535 number
 IsInForm (RouterBgp number) = IsFrom 1 4294967295 number
 IsInForm (ListBlock extended name) = IsTrue (is_name name)
 IsInForm (ListLine number entry) = IsListNumber number
-IsInForm (PrefixLine name order route) = IsTrue (is_name name) × IsOrder 4294967294 order × AreLengths route.prefix route.low route.high
+IsInForm (PrefixLine name order route) =
+    IsTrue (is_name name) × IsOrder 4294967294 order × AreLengths route.prefix route.low route.high
 IsInForm (Address address length) = IsFrom 1 32 length
 IsInForm NoAddress = Unit {0}
 IsInForm (Shutdown down) = Unit {0}
@@ -78,8 +88,12 @@ AddressesFit _ = Unit {0}
 
 -- what a line reads as has its forms and ranges
 abbrev pub CommandsAreInForm : Type 0
-CommandsAreInForm = (text : List ℕ) (line : Line) (within : BlockKind) (command : Command) → Reads text line within command → IsInForm command
+CommandsAreInForm =
+    (text : List ℕ) (line : Line) (within : BlockKind) (command : Command) →
+    Reads text line within command → IsInForm command
 
 -- and its addresses and areas have 32 bits
 abbrev pub AllAddressesFit : Type 0
-AllAddressesFit = (text : List ℕ) (line : Line) (within : BlockKind) (command : Command) → Reads text line within command → AddressesFit command
+AllAddressesFit =
+    (text : List ℕ) (line : Line) (within : BlockKind) (command : Command) →
+    Reads text line within command → AddressesFit command

@@ -18,9 +18,13 @@ is_list_line _ = false
 -- such lines are read outside blocks alone, and their words open none
 abbrev pub ListLinesAreTopLines : Type 0
 ListLinesAreTopLines =
-    (within : BlockKind) (ws : List (List ℕ)) (command : Command) → ReadBy (is_extended_block within) ws (rows within) command → IsTrue (is_list_line command) → (within ≡ kinds.Top) × (opens_block ws ≡ false)
+    (within : BlockKind) (ws : List (List ℕ)) (command : Command) →
+    ReadBy (is_extended_block within) ws (rows within) command →
+    IsTrue (is_list_line command) → (within ≡ kinds.Top) × (opens_block ws ≡ false)
 
 -- no prefix list is named as the word of an inert row
 abbrev pub PrefixListsHaveOtherNames : Type 0
 PrefixListsHaveOtherNames =
-    (ws : List (List ℕ)) (list : List ℕ) (order : Option ℕ) (entry : RouteText) → ReadBy false ws (rows kinds.Top) (commands.PrefixLine list order entry) → list ≢ codes "sequence-number"
+    (ws : List (List ℕ)) (list : List ℕ) (order : Option ℕ) (entry : RouteText) →
+    ReadBy false ws (rows kinds.Top) (commands.PrefixLine list order entry) →
+    list ≢ codes "sequence-number"

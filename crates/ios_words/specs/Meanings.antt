@@ -6,7 +6,17 @@ use Rattle.ios_words.specs.declared.commands.Command.TheVariants as commands
 use Rattle.ios_words.specs.declared.commands.PacketText.{PacketText}
 use Rattle.ios_words.specs.declared.commands.RouteText.{RouteText}
 use Rattle.ios_words.specs.declared.rows.Meaning.{Meaning}
-use Rattle.ios_words.specs.declared.rows.Meaning.TheVariants.{Hostname, Interface, RouterOspf, RouterBgp, ExtendedList, StandardList, ListLine, PrefixLine, Address, NoAddress, Shutdown, NoShutdown, Bandwidth, Cost, Area, PointToPoint, Broadcast, GroupIn, GroupOut, Covers, Passive, NoPassive, PassiveByDefault, NoPassiveByDefault, Reference, RouterId, RemoteAs, NeighborDown, NoNeighborDown, NeighborList, Tells, Entry, Inert}
+use Rattle.ios_words.specs.declared.rows.Meaning.TheVariants.{Hostname, Interface, RouterOspf}
+use Rattle.ios_words.specs.declared.rows.Meaning.TheVariants.{RouterBgp, ExtendedList, StandardList}
+use Rattle.ios_words.specs.declared.rows.Meaning.TheVariants.{ListLine, PrefixLine, Address}
+use Rattle.ios_words.specs.declared.rows.Meaning.TheVariants.{NoAddress, Shutdown, NoShutdown}
+use Rattle.ios_words.specs.declared.rows.Meaning.TheVariants.{Bandwidth, Cost, Area, PointToPoint}
+use Rattle.ios_words.specs.declared.rows.Meaning.TheVariants.{Broadcast, GroupIn, GroupOut, Covers}
+use Rattle.ios_words.specs.declared.rows.Meaning.TheVariants.{Passive, NoPassive, PassiveByDefault}
+use Rattle.ios_words.specs.declared.rows.Meaning.TheVariants.{NoPassiveByDefault, Reference}
+use Rattle.ios_words.specs.declared.rows.Meaning.TheVariants.{RouterId, RemoteAs, NeighborDown}
+use Rattle.ios_words.specs.declared.rows.Meaning.TheVariants.{NoNeighborDown, NeighborList, Tells}
+use Rattle.ios_words.specs.declared.rows.Meaning.TheVariants.{Entry, Inert}
 use Rattle.ios_words.specs.Values.{Values}
 
 -- the entry of a packet list

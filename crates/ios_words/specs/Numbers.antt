@@ -1,5 +1,6 @@
 -- Numbers, masks and areas as router files write them.
-use Rattle.std.specs.Prelude.{ℕ, ◌-◌, ◌^◌, ◌==◌, ◌&&◌, ◌||◌, nat_le, Bool, true, false, List, map, position, Option, Some, None, Result, Ok, Err, if◌then◌else◌}
+use Rattle.std.specs.Prelude.{ℕ, ◌-◌, ◌^◌, ◌==◌, ◌&&◌, ◌||◌, nat_le, Bool, true, false, List, map}
+use Rattle.std.specs.Prelude.{position, Option, Some, None, Result, Ok, Err, if◌then◌else◌}
 use Rattle.std.specs.Option.{option_or}
 use Rattle.std.specs.List.{range_with_len}
 use Rattle.arc_base.specs.PrefixText.{number_of, address_of}
@@ -61,7 +62,8 @@ area_of word = option_or (number_in 0 (2 ^ 32 - 1) word) (address_of word)
 -- the length of a network by its address's first byte: classes A, B and C
 abbrev pub class_length : ℕ → Option ℕ
 class_length byte =
-    if is_from 1 127 byte then Some 8 else (if is_from 128 191 byte then Some 16 else (if is_from 192 223 byte then Some 24 else None))
+    if is_from 1 127 byte then Some 8 else
+    (if is_from 128 191 byte then Some 16 else (if is_from 192 223 byte then Some 24 else None))
 
 -- whether a number is that of a standard list
 abbrev pub is_standard : ℕ → Bool
@@ -74,4 +76,5 @@ is_extended n = is_from 100 199 n || is_from 2000 2699 n
 -- whether the list of this number is extended, where there may be one
 abbrev pub list_kind : Option ℕ → Option Bool
 list_kind None = None
-list_kind (Some n) = if is_standard n then Some false else (if is_extended n then Some true else None)
+list_kind (Some n) =
+    if is_standard n then Some false else (if is_extended n then Some true else None)

@@ -14,7 +14,8 @@ small rest addr = let low = div-mul-le_self (addr % 2 ^ 32) (2 ^ rest) in omega 
 pub clear : (rest addr : ℕ) → rest ≤ 32 → cleared rest addr % 2 ^ (32 - (32 - rest)) ≡ 0
 clear rest addr few =
     let same : rest ≡ 32 - (32 - rest) = omega arith in
-    subst (λ k. cleared rest addr % 2 ^ k ≡ 0) same (mul-mod_left (addr % 2 ^ 32 / 2 ^ rest) (2 ^ rest))
+    subst (λ k. cleared rest addr % 2 ^ k ≡ 0) same
+    (mul-mod_left (addr % 2 ^ 32 / 2 ^ rest) (2 ^ rest))
 
 -- the prefix of this length, at most 32, that holds the address
 unfoldable pub holding : ℕ → ℕ → Prefix

@@ -6,9 +6,11 @@ use Rattle.ios_words.specs.declared.rows.Part.{Part}
 use Rattle.ios_words.specs.declared.rows.Part.TheVariants as parts
 use Rattle.ios_words.specs.declared.rows.Row.{Row}
 
--- a part of a row: this word; permit or deny; a word of a form; a word and one of a form after it, or neither; a word, or nothing;
--- the number before an entry, or nothing; the word of a protocol in extended lists; where packets come from; where they go to in
--- extended lists; which ports they are for, after a protocol that has ports, or nothing; any words
+-- a part of a row: this word; permit or deny; a word of a form; a word and one of a form after it,
+-- or neither; a word, or nothing;
+-- the number before an entry, or nothing; the word of a protocol in extended lists; where packets
+-- come from; where they go to in extended lists; which ports they are for, after a protocol that
+-- has ports, or nothing; any words
 pub data Piece : Type 0 where
   Word : (word : List ℕ) → Piece
   Verdict : Piece

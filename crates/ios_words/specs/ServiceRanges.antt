@@ -29,4 +29,5 @@ of_protocol number = of_ports number 0 65535
 
 -- the services that the word of a protocol stands for
 abbrev pub services_of : List ℕ → Option Services
-services_of word = if bytes_eq word (codes "ip") then Some all else option_map of_protocol (protocol_of word)
+services_of word =
+    if bytes_eq word (codes "ip") then Some all else option_map of_protocol (protocol_of word)

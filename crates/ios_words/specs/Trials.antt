@@ -1,5 +1,6 @@
 -- The rows tried one after another.
-use Rattle.std.specs.Prelude.{◌≡◌, ℕ, find, Bool, List, [], ◌∷◌, Option, Some, None, Result, Ok, Err, if◌then◌else◌, unwrap_or, nat_le, length}
+use Rattle.std.specs.Prelude.{◌≡◌, ℕ, find, Bool, List, [], ◌∷◌, Option, Some, None, Result, Ok}
+use Rattle.std.specs.Prelude.{Err, if◌then◌else◌, unwrap_or, nat_le, length}
 use Rattle.ios_words.specs.declared.commands.Command.{Command}
 use Rattle.ios_words.specs.declared.found.Found.{Found}
 use Rattle.ios_words.specs.declared.kinds.WordFault.{WordFault}
@@ -21,16 +22,21 @@ abbrev pub trial_of : Option (Result Found WordFault) → Option (Result Values 
 trial_of None = None
 trial_of (Some result) = Some (line_values result)
 
--- what is said after a trial: the row's command, or what the rows after it say; the first fault stands
-abbrev pub choose : Meaning → (Option WordFault → Result Command WordFault) → Option WordFault → Option (Result Values WordFault) → Result Command WordFault
+-- what is said after a trial: the row's command, or what the rows after it say; the first fault
+-- stands
+abbrev pub choose : Meaning → (Option WordFault → Result Command WordFault) → Option WordFault →
+    Option (Result Values WordFault) → Result Command WordFault
 choose meaning go fault None = go fault
 choose meaning go fault (Some (Ok values)) = Ok (give meaning values)
 choose meaning go fault (Some (Err other)) = go (Some (unwrap_or fault other))
 
 -- what the rows say of the words where those before had this fault
-abbrev pub try_rules : Bool → List (List ℕ) → Option WordFault → List Rule → Result Command WordFault
+abbrev pub try_rules : Bool → List (List ℕ) → Option WordFault → List Rule →
+    Result Command WordFault
 try_rules extended words fault [] = Err (unwrap_or fault Unknown)
-try_rules extended words fault (rule ∷ rules) = choose rule.meaning (λ first. try_rules extended words first rules) fault (trial extended words rule)
+try_rules extended words fault (rule ∷ rules) =
+    choose rule.meaning (λ first. try_rules extended words first rules) fault
+    (trial extended words rule)
 
 -- whether a row has few parts
 abbrev pub is_short : Rule → Bool
@@ -39,4 +45,5 @@ is_short rule = nat_le (length rule.pieces) 100
 -- the rows say the same of the words as the others
 pub record SaysTheSame (words : List (List ℕ)) (rules others : List Rule) : Type 0 where
   pub matching : find (matches words) rules ≡ find (matches words) others
-  pub completing : (extended : Bool) → find (completes extended words) rules ≡ find (completes extended words) others
+  pub completing : (extended : Bool) →
+      find (completes extended words) rules ≡ find (completes extended words) others

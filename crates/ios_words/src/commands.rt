@@ -3,7 +3,8 @@ ghost use Rattle.std.specs.Prelude.{◌≤◌, ◌<◌, ◌^◌};
 
 use arc_base::{Name, Prefix};
 
-/// What one line says: one variant for each row of the language that is not inert, and one for all that are.
+/// What one line says: one variant for each row of the language that is not inert, and one for all
+/// that are.
 #[derive(Debug, Drop)]
 pub enum Command {
     /// The name of the router.

@@ -40,7 +40,8 @@ impl<'a> Found<'a> {
     ghost use Rattle.ios_words.specs.FoundValues.{values_of, word_values};
     ghost use Rattle.ios_words.specs.Values.{values_with, with_length, with_ports, no_values};
 
-    /// What is known before the first word: whether the line stands in the block of an extended list.
+    /// What is known before the first word: whether the line stands in the block of an extended
+    /// list.
     pub(crate) fn nothing(extended: bool) -> Found<'a>
         ensures { values_of result ≡ no_values extended }
     {
@@ -109,7 +110,8 @@ impl<'a> Found<'a> {
     }
 
     fn with_number(self, word: &[u8], low: u32, high: u32) -> Result<Found<'a>, Flaw>
-        ensures { word_values result ≡ values_with (Form.Number low high) (values_of self.entry) word.now }
+        ensures { word_values result
+            ≡ values_with (Form.Number low high) (values_of self.entry) word.now }
     {
         match number_in(word, low, high) {
             Some(number) => Ok(Found { number, ..self }),
@@ -186,7 +188,8 @@ impl<'a> Found<'a> {
     }
 
     fn with_order(self, word: &[u8], high: u32) -> Result<Found<'a>, Flaw>
-        ensures { word_values result ≡ values_with (Form.Order high) (values_of self.entry) word.now }
+        ensures { word_values result
+            ≡ values_with (Form.Order high) (values_of self.entry) word.now }
     {
         match number_in(word, 1, high) {
             Some(number) => Ok(Found {

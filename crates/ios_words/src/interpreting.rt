@@ -18,9 +18,9 @@ use crate::words::Words;
 use ios_lines::Line;
 use std::alloc::Global;
 
-/// What a line says in a block of this kind, or why it says nothing. The line is one of those that `cut` gives for the
-/// text, and not one that is inert by itself: a blank line, a comment or a line of a banner matches no row, but in an
-/// inert block.
+/// What a line says in a block of this kind, or why it says nothing. The line is one of those that
+/// `cut` gives for the text, and not one that is inert by itself: a blank line, a comment or a line
+/// of a banner matches no row, but in an inert block.
 pub fn command(
     alloc: Global,
     text: &[u8],
@@ -68,7 +68,8 @@ fn candidates(within: BlockKind, words: Words) -> &'static [Row]
 
 /// The rows of lines outside blocks that may match these words.
 fn top_candidates(words: Words) -> &'static [Row]
-    ensures same { SaysTheSame (words_of words.entry) (map rule_of result.now) (rows BlockKind.Top) }
+    ensures same { SaysTheSame (words_of words.entry) (map rule_of result.now)
+        (rows BlockKind.Top) }
     ensures short { IsTrue (list_all is_short (map rule_of result.now)) }
 {
     match words.split() {
@@ -85,7 +86,8 @@ fn top_candidates(words: Words) -> &'static [Row]
 
 /// The rows of lines of an interface that may match these words.
 fn interface_candidates(words: Words) -> &'static [Row]
-    ensures same { SaysTheSame (words_of words.entry) (map rule_of result.now) (rows BlockKind.Interface) }
+    ensures same { SaysTheSame (words_of words.entry) (map rule_of result.now)
+        (rows BlockKind.Interface) }
     ensures short { IsTrue (list_all is_short (map rule_of result.now)) }
 {
     match words.split() {

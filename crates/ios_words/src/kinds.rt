@@ -1,7 +1,7 @@
 //! Where a line stands, and why it says nothing.
 
-/// The block that a line stands in; its rows are those of the language that may stand there. A line that heads a block
-/// is itself a top line.
+/// The block that a line stands in; its rows are those of the language that may stand there. A line
+/// that heads a block is itself a top line.
 #[derive(Clone, Copy, Debug, PartialEq, Eq)]
 pub enum BlockKind {
     Top,

@@ -3,10 +3,15 @@ ghost use Rattle.ios_words.specs.Returns.{ReturnsSayNothing, HeadsHaveNoReturn};
 ghost use Rattle.ios_words.specs.Forms.{CommandsAreInForm, AllAddressesFit};
 ghost use Rattle.std.specs.Prelude.{codes};
 ghost use Rattle.ios_words.specs.Names.{NamesHaveTheirForm};
-ghost use Rattle.ios_words.specs.Printed.{PassiveLinesAreRead, NeighborLinesAreRead, NeighborListLinesAreRead, GroupLinesAreRead, EntryLinesAreRead, ListHeadsAreRead, ListLinesAreRead, PrefixLinesAreRead, PermitAllLinesAreRead, IsClosingLine};
-ghost use Rattle.ios_words.specs.Renumbered.{EntriesMayBeRenumbered, PrefixLinesMayBeRenumbered, NumberedLinesHaveSequences};
+ghost use Rattle.ios_words.specs.Printed.{PassiveLinesAreRead, NeighborLinesAreRead};
+ghost use Rattle.ios_words.specs.Printed.{NeighborListLinesAreRead, GroupLinesAreRead};
+ghost use Rattle.ios_words.specs.Printed.{EntryLinesAreRead, ListHeadsAreRead, ListLinesAreRead};
+ghost use Rattle.ios_words.specs.Printed.{PrefixLinesAreRead, PermitAllLinesAreRead, IsClosingLine};
+ghost use Rattle.ios_words.specs.Renumbered.{EntriesMayBeRenumbered, PrefixLinesMayBeRenumbered};
+ghost use Rattle.ios_words.specs.Renumbered.{NumberedLinesHaveSequences};
 ghost use Rattle.ios_words.specs.ListLines.{ListLinesAreTopLines, PrefixListsHaveOtherNames};
-ghost use Rattle.ios_words.specs.Laws.{HeadsAreTopLines, AnswersAreOne, UnknownMatchesNone, InertCounts};
+ghost use Rattle.ios_words.specs.Laws.{HeadsAreTopLines, AnswersAreOne, UnknownMatchesNone};
+ghost use Rattle.ios_words.specs.Laws.{InertCounts};
 
 /// A line reads as one command, or is unknown, or has one faulty word.
 pub fn a_line_has_one_answer()
@@ -23,7 +28,8 @@ pub fn an_inert_row_counts()
     ensures { InertCounts }
 {}
 
-/// The names and numbers of what a line says have their forms and ranges, and its addresses and areas have 32 bits.
+/// The names and numbers of what a line says have their forms and ranges, and its addresses and
+/// areas have 32 bits.
 pub fn commands_are_in_form()
     ensures form { CommandsAreInForm }
     ensures addresses { AllAddressesFit }
@@ -34,7 +40,8 @@ pub fn names_have_their_form()
     ensures { NamesHaveTheirForm }
 {}
 
-/// The lines that `printing` writes are read as what they were written for, in blocks of their kinds.
+/// The lines that `printing` writes are read as what they were written for, in blocks of their
+/// kinds.
 pub fn printed_lines_are_read()
     ensures passive { PassiveLinesAreRead }
     ensures neighbor { NeighborLinesAreRead }
@@ -53,22 +60,24 @@ pub fn heads_are_top_lines()
     ensures { HeadsAreTopLines }
 {}
 
-/// An entry whose number is written anew is the same entry with that number. In a prefix list it is the fifth word.
+/// An entry whose number is written anew is the same entry with that number. In a prefix list it is
+/// the fifth word.
 pub fn entries_may_be_renumbered()
     ensures packet { EntriesMayBeRenumbered }
     ensures route { PrefixLinesMayBeRenumbered }
     ensures sequence { NumberedLinesHaveSequences }
 {}
 
-/// In the blocks of interfaces and processes a line that ends with a carriage return says nothing, and says the same
-/// where that carriage return is part of its end. No such line heads one of these blocks.
+/// In the blocks of interfaces and processes a line that ends with a carriage return says nothing,
+/// and says the same where that carriage return is part of its end. No such line heads one of these
+/// blocks.
 pub fn returns_say_nothing()
     ensures lines { ReturnsSayNothing }
     ensures heads { HeadsHaveNoReturn }
 {}
 
-/// The lines of lists that stand as lines are read outside blocks alone, and open none; and no prefix list has the name
-/// of a line that says nothing.
+/// The lines of lists that stand as lines are read outside blocks alone, and open none; and no
+/// prefix list has the name of a line that says nothing.
 pub fn list_lines_are_top_lines()
     ensures top { ListLinesAreTopLines }
     ensures names { PrefixListsHaveOtherNames }

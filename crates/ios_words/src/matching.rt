@@ -1,4 +1,5 @@
-//! Whether a row matches the words of a line: whether the line has its fixed words where the row has them.
+//! Whether a row matches the words of a line: whether the line has its fixed words where the row
+//! has them.
 ghost use Rattle.std.specs.Prelude.{◌≡◌, map, option_map};
 ghost use Rattle.ios_words.specs.Readings.{after, match_words};
 ghost use Rattle.ios_words.specs.Rows.{piece_of};

@@ -9,7 +9,8 @@ ghost use Rattle.ios_words.specs.Units.{next, ends};
 /// The most bytes that a name has.
 const MOST_BYTES: usize = 64;
 
-/// Whether a word is the name of an interface: a known kind and its numbers, at most 64 bytes in all.
+/// Whether a word is the name of an interface: a known kind and its numbers, at most 64 bytes in
+/// all.
 pub(crate) fn is_face_name(word: &[u8]) -> bool
     ensures { result ≡ is_face_name word.now }
 {

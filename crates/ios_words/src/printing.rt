@@ -1,9 +1,15 @@
-//! Lines of router files, put at the end of a text without their ends. Those of blocks begin with one space.
+//! Lines of router files, put at the end of a text without their ends. Those of blocks begin with
+//! one space.
 ghost use Rattle.std.specs.Prelude.{◌≡◌, ◌≤◌, ◌-◌, ◌^◌, ◌∷◌, ◌++◌, [], decimal, OnOk};
 ghost use Rattle.arc_base.specs.PrefixText.{address_text, prefix_text};
 ghost use Rattle.ios_lines.specs.Written.{spaced};
-ghost use Rattle.ios_words.specs.Printed.{unless, passive_words, neighbor_words, neighbor_list_words, group_words, list_head_words, verdict_word, side_words, packet_words, order_words, entry_words, list_line_words, sequence_words, prefix_line_words, permit_all_words, top_line};
-ghost use Rattle.ios_words.specs.Services.{are_all, are_all_ports, protocol_text, protocol_word, port_words};
+ghost use Rattle.ios_words.specs.Printed.{unless, passive_words, neighbor_words};
+ghost use Rattle.ios_words.specs.Printed.{neighbor_list_words, group_words, list_head_words};
+ghost use Rattle.ios_words.specs.Printed.{verdict_word, side_words, packet_words, order_words};
+ghost use Rattle.ios_words.specs.Printed.{entry_words, list_line_words, sequence_words};
+ghost use Rattle.ios_words.specs.Printed.{prefix_line_words, permit_all_words, top_line};
+ghost use Rattle.ios_words.specs.Services.{are_all, are_all_ports, protocol_text, protocol_word};
+ghost use Rattle.ios_words.specs.Services.{port_words};
 
 use crate::commands::PacketText;
 use crate::protocols::protocol_name;
@@ -34,7 +40,8 @@ fn push_address_word(alloc: Global, text: &mut Vec<u8>, address: u32) -> Result<
 }
 
 fn push_prefix_word(alloc: Global, text: &mut Vec<u8>, prefix: &Prefix) -> Result<(), Memory>
-    ensures { OnOk result (text.new.items ≡ text.old.items ++ spaced (prefix_text prefix.now ∷ [])) }
+    ensures { OnOk result
+        (text.new.items ≡ text.old.items ++ spaced (prefix_text prefix.now ∷ [])) }
 {
     text.push(b' ')?;
     push_prefix(alloc, text, prefix)
@@ -52,7 +59,8 @@ fn push_unless(text: &mut Vec<u8>, is: bool) -> Result<(), Memory>
 
 /// Whether an interface is passive, in an OSPF process.
 pub fn push_passive(text: &mut Vec<u8>, passive: bool, name: &[u8]) -> Result<(), Memory>
-    ensures { OnOk result (text.new.items ≡ text.old.items ++ spaced (passive_words passive name.now)) }
+    ensures { OnOk result
+        (text.new.items ≡ text.old.items ++ spaced (passive_words passive name.now)) }
 {
     push_unless(text, passive)?;
     push_word(text, b"passive-interface")?;
@@ -76,7 +84,8 @@ pub fn push_neighbor_list(
     peer: u32,
     name: &[u8],
 ) -> Result<(), Memory>
-    ensures { OnOk result (text.new.items ≡ text.old.items ++ spaced (neighbor_list_words peer name.now)) }
+    ensures { OnOk result
+        (text.new.items ≡ text.old.items ++ spaced (neighbor_list_words peer name.now)) }
 {
     push_word(text, b"neighbor")?;
     push_address_word(alloc, text, peer)?;
@@ -165,7 +174,8 @@ fn push_protocol_name(alloc: Global, text: &mut Vec<u8>, number: u32) -> Result<
 
 /// The protocol of a range of services.
 fn push_protocol(alloc: Global, text: &mut Vec<u8>, low: u32, high: u32) -> Result<(), Memory>
-    ensures { OnOk result (text.new.items ≡ text.old.items ++ spaced (protocol_word low high ∷ [])) }
+    ensures { OnOk result
+        (text.new.items ≡ text.old.items ++ spaced (protocol_word low high ∷ [])) }
 {
     if are_all(low, high) {
         return push_word(text, b"ip");
@@ -217,7 +227,8 @@ pub fn push_entry(
     order: Option<u32>,
     entry: &PacketText,
 ) -> Result<(), Memory>
-    ensures { OnOk result (text.new.items ≡ text.old.items ++ spaced (entry_words order entry.now)) }
+    ensures { OnOk result
+        (text.new.items ≡ text.old.items ++ spaced (entry_words order entry.now)) }
 {
     push_order(alloc, text, order)?;
     push_packet(alloc, text, entry)
@@ -230,7 +241,8 @@ pub fn push_list_line(
     name: &[u8],
     entry: &PacketText,
 ) -> Result<(), Memory>
-    ensures { OnOk result (text.new.items ≡ text.old.items ++ top_line (list_line_words name.now entry.now)) }
+    ensures { OnOk result
+        (text.new.items ≡ text.old.items ++ top_line (list_line_words name.now entry.now)) }
 {
     text.extend_from_slice(b"access-list")?;
     push_word(text, name)?;
@@ -259,7 +271,8 @@ pub fn push_prefix_line(
     permit: bool,
     prefix: &Prefix,
 ) -> Result<(), Memory>
-    ensures { OnOk result (text.new.items ≡ text.old.items ++ top_line (prefix_line_words name.now order permit prefix.now)) }
+    ensures { OnOk result (text.new.items ≡ text.old.items ++
+        top_line (prefix_line_words name.now order permit prefix.now)) }
 {
     text.extend_from_slice(b"ip")?;
     push_word(text, b"prefix-list")?;
@@ -276,7 +289,8 @@ pub fn push_permit_all(
     name: &[u8],
     order: u32,
 ) -> Result<(), Memory>
-    ensures { OnOk result (text.new.items ≡ text.old.items ++ top_line (permit_all_words name.now order)) }
+    ensures { OnOk result
+        (text.new.items ≡ text.old.items ++ top_line (permit_all_words name.now order)) }
 {
     text.extend_from_slice(b"ip")?;
     push_word(text, b"prefix-list")?;

@@ -21,8 +21,11 @@ pub(crate) struct Reader<'a> {
 }
 
 impl<'a> Reader<'a> {
-    ghost use Rattle.std.specs.Prelude.{◌≡◌, ◌+◌, ◌*◌, ◌^◌, ◌<◌, ◌≤◌, Bool, map, length, codes, IfOk};
-    ghost use Rattle.ios_words.specs.Readings.{place, this_word, verdict, passed, stands_alone, alone, any, width, side, as_source, step, read_parts, finish, start};
+    ghost use Rattle.std.specs.Prelude.{◌≡◌, ◌+◌, ◌*◌, ◌^◌, ◌<◌, ◌≤◌, Bool, map, length, codes};
+    ghost use Rattle.std.specs.Prelude.{IfOk};
+    ghost use Rattle.ios_words.specs.Readings.{place, this_word, verdict, passed, stands_alone};
+    ghost use Rattle.ios_words.specs.Readings.{alone, any, width, side, as_source, step};
+    ghost use Rattle.ios_words.specs.Readings.{read_parts, finish, start};
     ghost use Rattle.ios_words.specs.Rows.{Bracket, Flag, Source, Ports, piece_of};
     ghost use Rattle.ios_words.specs.Views.{words_of, state_of, next_state, line_values};
 
@@ -42,7 +45,8 @@ impl<'a> Reader<'a> {
     pub(crate) fn read_parts(self, parts: &[Part]) -> Result<Reader<'a>, WordFault>
         requires few { length parts.now ≤ 100 }
         requires first { self.taken ≡ 0 }
-        ensures state { next_state result ≡ read_parts (map piece_of parts.now) (state_of self.entry) }
+        ensures state { next_state result
+            ≡ read_parts (map piece_of parts.now) (state_of self.entry) }
         ensures taken { IfOk result (λ reader. reader.taken ≤ 1000) }
     {
         let mut reader = self;

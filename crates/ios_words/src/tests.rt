@@ -11,8 +11,8 @@ use std::alloc::Global;
 use std::process::Abort;
 use std::test::Fail;
 
-/// What the first line of a text says in a block of this kind. No line of the tests is indented, so that each may stand
-/// alone.
+/// What the first line of a text says in a block of this kind. No line of the tests is indented, so
+/// that each may stand alone.
 fn said(alloc: Global, text: &[u8], within: BlockKind) -> Result<Command, WordFault> {
     if text.len() > 1000 {
         return Err(WordFault::Memory);

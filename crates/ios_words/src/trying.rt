@@ -15,7 +15,8 @@ use crate::rows::Row;
 use crate::words::Words;
 use std::alloc::Global;
 
-/// What the first row that matches with every word says, or else the fault by the first row that matches.
+/// What the first row that matches with every word says, or else the fault by the first row that
+/// matches.
 pub(crate) fn try_rows(
     alloc: Global,
     rows: &[Row],
@@ -23,7 +24,8 @@ pub(crate) fn try_rows(
     extended: bool,
 ) -> Result<Command, WordFault>
     requires { IsTrue (list_all is_short (map rule_of rows.now)) }
-    ensures { (result ≡ Err WordFault.Memory) ⊎ (result ≡ try_rules extended (words_of words.entry) None (map rule_of rows.now)) }
+    ensures { (result ≡ Err WordFault.Memory) ⊎
+        (result ≡ try_rules extended (words_of words.entry) None (map rule_of rows.now)) }
 {
     let mut first = None;
     for row in rows {

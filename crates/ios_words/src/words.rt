@@ -28,7 +28,8 @@ impl<'a> Words<'a> {
 
     /// The first word and those after it.
     pub(crate) fn split(self) -> Option<(&'a [u8], Words<'a>)>
-        ensures { MatchOption result (words_of self.entry ≡ []) (λ both. words_of self.entry ≡ both.0.now ∷ words_of both.1) }
+        ensures { MatchOption result (words_of self.entry ≡ []) (λ both.
+            words_of self.entry ≡ both.0.now ∷ words_of both.1) }
     {
         match self.spans {
             [] => None,

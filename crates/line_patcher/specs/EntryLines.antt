@@ -1,5 +1,8 @@
--- The lines of entries that edits put at the front of lists, and the new numbers of the old entries.
-use Rattle.std.specs.Prelude.{ℕ, ◌+◌, ◌*◌, ◌&&◌, not, Bool, true, false, Option, Some, None, List, [], map, find, length, bytes_eq, slice_get, slice_index, if◌then◌else◌}
+-- The lines of entries that edits put at the front of lists, and the new numbers of the old
+-- entries.
+use Rattle.std.specs.Prelude.{ℕ, ◌+◌, ◌*◌, ◌&&◌, not, Bool, true, false, Option, Some, None, List}
+use Rattle.std.specs.Prelude.{[], map, find, length, bytes_eq, slice_get, slice_index}
+use Rattle.std.specs.Prelude.{if◌then◌else◌}
 use Rattle.std.specs.List.{filter_map, enumerate_from}
 use Rattle.std.specs.Option.{option_map_or}
 use Rattle.arc_base.specs.declared.prefix.Prefix.{Prefix}
@@ -21,7 +24,8 @@ use Rattle.edit_space.specs.Changes.{list_prefixes, list_classes}
 use Rattle.edit_space.specs.Numbered.{of_number, placed, is_empty}
 use Rattle.line_patcher.specs.declared.additions.NewNumber.{NewNumber}
 
--- the number of the entry at a place of its list, counted from 1, where the list has numbers that rise by this step
+-- the number of the entry at a place of its list, counted from 1, where the list has numbers that
+-- rise by this step
 abbrev pub order_at : ListPlace → ℕ → ℕ → Option ℕ
 order_at place step at = if place.numbered then Some (step * at) else None
 
@@ -33,12 +37,15 @@ packet_line PrefixLines name order entry = []
 
 -- the line of the new entry at this place of a packet list, which turns its answer for a class
 abbrev pub class_line : ListPlace → PacketList → ℕ × Class → List ℕ
-class_line place list entry = packet_line place.form list.name (order_at place 10 entry.0) (opposite_packet_entry list.entries entry.1)
+class_line place list entry =
+    packet_line place.form list.name (order_at place 10 entry.0)
+    (opposite_packet_entry list.entries entry.1)
 
 -- the line of the new entry at this place of a route list, which turns its answer for a prefix
 abbrev pub prefix_line : ListPlace → RouteList → ℕ × Prefix → List ℕ
 prefix_line place list entry =
-    top_line (prefix_line_words list.name (order_at place 5 entry.0) (opposite_route_entry list.entries entry.1).permit entry.1)
+    top_line (prefix_line_words list.name (order_at place 5 entry.0)
+    (opposite_route_entry list.entries entry.1).permit entry.1)
 
 -- the lines of the new entries of a packet list, and of a route list
 abbrev pub class_lines : ListPlace → PacketList → List Class → List (List ℕ)
@@ -55,10 +62,12 @@ is_packet_form PrefixLines = false
 
 -- where a file has its packet list of this name, and its route list
 abbrev pub packet_place : Places → List ℕ → Option ListPlace
-packet_place own name = find (λ place. bytes_eq place.name name && is_packet_form place.form) own.lists
+packet_place own name =
+    find (λ place. bytes_eq place.name name && is_packet_form place.form) own.lists
 
 abbrev pub route_place : Places → List ℕ → Option ListPlace
-route_place own name = find (λ place. bytes_eq place.name name && not (is_packet_form place.form)) own.lists
+route_place own name =
+    find (λ place. bytes_eq place.name name && not (is_packet_form place.form)) own.lists
 
 -- the line of the first entry of a list
 abbrev pub first_line : ListPlace → ℕ
@@ -68,53 +77,71 @@ first_line place = slice_index place.entries 0
 abbrev pub at_front : ListPlace → List (List ℕ) → List (ℕ × List ℕ)
 at_front place lines = map (λ line. (first_line place, line)) lines
 
--- the new number of the entry at this line and this place of its list, where so many entries are new: the word of the line that it
--- stands in, and the number
+-- the new number of the entry at this line and this place of its list, where so many entries are
+-- new: the word of the line that it stands in, and the number
 abbrev pub new_number : ℕ → ℕ → ℕ → ℕ × ℕ → ℕ × NewNumber
-new_number word step count entry = (entry.1, record { word = word; number = step * (count + entry.0) })
+new_number word step count entry =
+    (entry.1, record { word = word; number = step * (count + entry.0) })
 
 -- the new numbers of the entries of a list that has numbers
 abbrev pub new_numbers : ListPlace → ℕ → ℕ → ℕ → List (ℕ × NewNumber)
-new_numbers place word step count = if place.numbered then map (new_number word step count) (enumerate_from 1 place.entries) else []
+new_numbers place word step count =
+    if place.numbered then map (new_number word step count) (enumerate_from 1 place.entries) else []
 
 -- the packet list at this place, with its router, if edits put entries into it; and the route list
 abbrev pub edited_packet_list : List Edit → ℕ × PacketList → Option (ℕ × ℕ)
-edited_packet_list chosen list = if is_empty (list_classes chosen list.0) then None else Some (list.1.router.0, list.0)
+edited_packet_list chosen list =
+    if is_empty (list_classes chosen list.0) then None else Some (list.1.router.0, list.0)
 
 abbrev pub edited_route_list : List Edit → ℕ × RouteList → Option (ℕ × ℕ)
-edited_route_list chosen list = if is_empty (list_prefixes chosen list.0) then None else Some (list.1.router.0, list.0)
+edited_route_list chosen list =
+    if is_empty (list_prefixes chosen list.0) then None else Some (list.1.router.0, list.0)
 
 -- the packet lists of a router that edits put entries into, and its route lists
 abbrev pub edited_packet_lists : Network → List Edit → ℕ → List ℕ
-edited_packet_lists net chosen router = of_number router (filter_map (edited_packet_list chosen) (placed net.packet_lists))
+edited_packet_lists net chosen router =
+    of_number router (filter_map (edited_packet_list chosen) (placed net.packet_lists))
 
 abbrev pub edited_route_lists : Network → List Edit → ℕ → List ℕ
-edited_route_lists net chosen router = of_number router (filter_map (edited_route_list chosen) (placed net.route_lists))
+edited_route_lists net chosen router =
+    of_number router (filter_map (edited_route_list chosen) (placed net.route_lists))
 
--- what a file of these places has for the packet list at this place of the network, where it has that list, and else nothing
-abbrev pub for_packet_list : {X : Type 0} → Network → Places → (PacketList → ListPlace → List X) → ℕ → List X
+-- what a file of these places has for the packet list at this place of the network, where it has
+-- that list, and else nothing
+abbrev pub for_packet_list : {X : Type 0} → Network → Places →
+    (PacketList → ListPlace → List X) → ℕ → List X
 for_packet_list net own things id =
-    option_map_or (λ list. option_map_or (things list) (packet_place own list.name) []) (slice_get net.packet_lists id) []
+    option_map_or (λ list. option_map_or (things list) (packet_place own list.name) [])
+    (slice_get net.packet_lists id) []
 
 -- and for the route list
-abbrev pub for_route_list : {X : Type 0} → Network → Places → (RouteList → ListPlace → List X) → ℕ → List X
+abbrev pub for_route_list : {X : Type 0} → Network → Places →
+    (RouteList → ListPlace → List X) → ℕ → List X
 for_route_list net own things id =
-    option_map_or (λ list. option_map_or (things list) (route_place own list.name) []) (slice_get net.route_lists id) []
+    option_map_or (λ list. option_map_or (things list) (route_place own list.name) [])
+    (slice_get net.route_lists id) []
 
 -- the new entries of the packet list at this place, each before its first one
 abbrev pub packet_list_entries : Network → Places → List Edit → ℕ → List (ℕ × List ℕ)
 packet_list_entries net own chosen id =
-    for_packet_list net own (λ list place. at_front place (class_lines place list (list_classes chosen id))) id
+    for_packet_list net own
+    (λ list place. at_front place (class_lines place list (list_classes chosen id))) id
 
 -- and those of the route list
 abbrev pub route_list_entries : Network → Places → List Edit → ℕ → List (ℕ × List ℕ)
 route_list_entries net own chosen id =
-    for_route_list net own (λ list place. at_front place (prefix_lines place list (list_prefixes chosen id))) id
+    for_route_list net own
+    (λ list place. at_front place (prefix_lines place list (list_prefixes chosen id))) id
 
--- the new numbers of the packet list's old entries, which are the first words of their lines and rise by 10
+-- the new numbers of the packet list's old entries, which are the first words of their lines and
+-- rise by 10
 abbrev pub packet_list_numbers : Network → Places → List Edit → ℕ → List (ℕ × NewNumber)
-packet_list_numbers net own chosen id = for_packet_list net own (λ list place. new_numbers place 0 10 (length (list_classes chosen id))) id
+packet_list_numbers net own chosen id =
+    for_packet_list net own
+    (λ list place. new_numbers place 0 10 (length (list_classes chosen id))) id
 
 -- and those of the route list's, which stand after seq and rise by 5
 abbrev pub route_list_numbers : Network → Places → List Edit → ℕ → List (ℕ × NewNumber)
-route_list_numbers net own chosen id = for_route_list net own (λ list place. new_numbers place 4 5 (length (list_prefixes chosen id))) id
+route_list_numbers net own chosen id =
+    for_route_list net own
+    (λ list place. new_numbers place 4 5 (length (list_prefixes chosen id))) id

@@ -1,5 +1,6 @@
 -- The lines of new lists, and those that bind them.
-use Rattle.std.specs.Prelude.{ℕ, ◌+◌, ◌*◌, true, false, Option, Some, None, List, [], ◌∷◌, ◌++◌, map, flat_map, length, codes, option_map, slice_get}
+use Rattle.std.specs.Prelude.{ℕ, ◌+◌, ◌*◌, true, false, Option, Some, None, List, [], ◌∷◌, ◌++◌}
+use Rattle.std.specs.Prelude.{map, flat_map, length, codes, option_map, slice_get}
 use Rattle.std.specs.List.{filter_map, enumerate_from}
 use Rattle.arc_base.specs.declared.prefix.Prefix.{Prefix}
 use Rattle.net_model.specs.declared.policies.Class.{Class}
@@ -8,7 +9,8 @@ use Rattle.net_model.specs.Routing.{session_at}
 use Rattle.ios_lines.specs.Written.{spaced}
 use Rattle.net_build.specs.Lists.{packet_text}
 use Rattle.edit_space.specs.After.{class_entry, every_packet}
-use Rattle.ios_words.specs.Printed.{prefix_line_words, permit_all_words, list_head_words, entry_words, neighbor_list_words, group_words, top_line}
+use Rattle.ios_words.specs.Printed.{prefix_line_words, permit_all_words, list_head_words}
+use Rattle.ios_words.specs.Printed.{entry_words, neighbor_list_words, group_words, top_line}
 use Rattle.net_build.specs.declared.built.Places.{Places}
 use Rattle.net_build.specs.declared.built.FacePlace.{FacePlace}
 use Rattle.edit_space.specs.declared.edit_kinds.Edit.{Edit}
@@ -24,7 +26,8 @@ deny_line name entry = top_line (prefix_line_words name (Some (5 * entry.0)) fal
 -- the lines of a new route list: it denies these prefixes and permits all others
 abbrev pub new_route_lines : List ℕ → List Prefix → List (List ℕ)
 new_route_lines name prefixes =
-    map (deny_line name) (enumerate_from 1 prefixes) ++ top_line (permit_all_words name (5 * (length prefixes + 1))) ∷ []
+    map (deny_line name) (enumerate_from 1 prefixes) ++
+    top_line (permit_all_words name (5 * (length prefixes + 1))) ∷ []
 
 -- the line of a new packet list that denies a class
 abbrev pub deny_class_line : Class → List ℕ
@@ -33,7 +36,8 @@ deny_class_line class = spaced (entry_words None (packet_text (class_entry false
 -- the lines of a new packet list: it denies these classes and permits all other packets
 abbrev pub new_packet_lines : List ℕ → List Class → List (List ℕ)
 new_packet_lines name classes =
-    top_line (list_head_words name) ∷ map deny_class_line classes ++ spaced (entry_words None (packet_text every_packet)) ∷ codes "!" ∷ []
+    top_line (list_head_words name) ∷ map deny_class_line classes ++
+    spaced (entry_words None (packet_text every_packet)) ∷ codes "!" ∷ []
 
 -- the lines of a new list of this name
 abbrev pub new_list_lines : List Edit → NewList → List ℕ → List (List ℕ)
@@ -42,28 +46,33 @@ new_list_lines chosen (Packet face) name = new_packet_lines name (new_classes ch
 
 -- the lines of all new lists of a router
 abbrev pub lines_of_new_lists : Network → List Edit → ℕ → List (List ℕ)
-lines_of_new_lists net chosen router = flat_map (λ named. new_list_lines chosen named.0 named.1) (named_lists net chosen router)
+lines_of_new_lists net chosen router =
+    flat_map (λ named. new_list_lines chosen named.0 named.1) (named_lists net chosen router)
 
 -- the line that binds a new route list at the neighbour of its interface
 abbrev pub filter_line : Network → NewList → List ℕ → Option (List ℕ)
-filter_line net (Route face) name = option_map (λ s. spaced (neighbor_list_words s.peer name)) (session_at net face)
+filter_line net (Route face) name =
+    option_map (λ s. spaced (neighbor_list_words s.peer name)) (session_at net face)
 filter_line net (Packet face) name = None
 
 -- the lines that bind the new route lists of a router
 abbrev pub filter_lines : Network → List Edit → ℕ → List (List ℕ)
-filter_lines net chosen router = filter_map (λ named. filter_line net named.0 named.1) (named_lists net chosen router)
+filter_lines net chosen router =
+    filter_map (λ named. filter_line net named.0 named.1) (named_lists net chosen router)
 
 -- where the interfaces of all routers have their blocks
 abbrev pub face_places : List Places → List FacePlace
 face_places places = flat_map (λ own. own.faces) places
 
--- the line that binds a new packet list at its interface, with the last command line of that interface, which has its block at its
--- place among these
+-- the line that binds a new packet list at its interface, with the last command line of that
+-- interface, which has its block at its place among these
 abbrev pub group_line_among : List FacePlace → NewList → List ℕ → Option (ℕ × List ℕ)
 group_line_among faces (Route face) name = None
-group_line_among faces (Packet face) name = option_map (λ place. (place.last, spaced (group_words name))) (slice_get faces face.0)
+group_line_among faces (Packet face) name =
+    option_map (λ place. (place.last, spaced (group_words name))) (slice_get faces face.0)
 
 -- the lines that bind the new packet lists of a router, each with the line after which it stands
 abbrev pub group_lines : Network → List Places → List Edit → ℕ → List (ℕ × List ℕ)
 group_lines net places chosen router =
-    filter_map (λ named. group_line_among (face_places places) named.0 named.1) (named_lists net chosen router)
+    filter_map (λ named. group_line_among (face_places places) named.0 named.1)
+    (named_lists net chosen router)

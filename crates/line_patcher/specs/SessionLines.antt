@@ -13,7 +13,8 @@ use Rattle.edit_space.specs.declared.edit_kinds.Edit.{Edit}
 use Rattle.edit_space.specs.Changes.{session_change}
 use Rattle.edit_space.specs.Numbered.{of_number}
 
--- the line that turns the session of an interface: under OSPF it makes it passive or active, under eBGP it shuts its neighbour down or up
+-- the line that turns the session of an interface: under OSPF it makes it passive or active, under
+-- eBGP it shuts its neighbour down or up
 abbrev pub turning_line : Protocol → FaceRow → Option SessionRow → Option (List ℕ)
 turning_line Ospf row session = Some (spaced (passive_words (not row.passive) row.name))
 turning_line Bgp row session = option_map (λ s. spaced (neighbor_words s.peer (not s.down))) session
@@ -21,11 +22,14 @@ turning_line Bgp row session = option_map (λ s. spaced (neighbor_words s.peer (
 -- the line that turns the session of the interface at this place
 abbrev pub session_line : Network → ℕ → Option (List ℕ)
 session_line net face =
-    option_and_then (λ row. turning_line net.protocol row (session_at net (record { 0 = face }))) (slice_get net.faces face)
+    option_and_then (λ row. turning_line net.protocol row (session_at net (record { 0 = face })))
+    (slice_get net.faces face)
 
 -- the interface whose session the edit turns, with its router
 abbrev pub turned_face : Network → Edit → Option (ℕ × ℕ)
-turned_face net edit = option_and_then (λ face. option_map (λ row. (row.router.0, face)) (slice_get net.faces face)) (session_change edit)
+turned_face net edit =
+    option_and_then (λ face. option_map (λ row. (row.router.0, face)) (slice_get net.faces face))
+    (session_change edit)
 
 -- the interfaces of a router whose sessions are turned, in the order of the edits
 abbrev pub turned_faces : Network → List Edit → ℕ → List ℕ

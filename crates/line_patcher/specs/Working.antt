@@ -25,11 +25,15 @@ face_of (Packet face) = face
 pub record IsPlan (built : Built) (plan : Plan) : Type 0 where
   pub changes : AreChanges built.net plan.changes
   pub faces : plan.faces.items ≡ face_places built.places
-  pub turned : Tells (length built.net.routers) (turned_faces built.net plan.changes.edits.items) plan.turned.items
-  pub lists : Tells (length built.net.routers) (new_lists_of built.net plan.changes.edits.items) plan.new_lists.items
+  pub turned : Tells (length built.net.routers)
+      (turned_faces built.net plan.changes.edits.items) plan.turned.items
+  pub lists : Tells (length built.net.routers)
+      (new_lists_of built.net plan.changes.edits.items) plan.new_lists.items
   pub names : AreNewNames built.net (new_lists built.net plan.changes.edits.items) plan.names.items
-  pub packet_lists : Tells (length built.net.routers) (edited_packet_lists built.net plan.changes.edits.items) plan.packet_lists.items
-  pub route_lists : Tells (length built.net.routers) (edited_route_lists built.net plan.changes.edits.items) plan.route_lists.items
+  pub packet_lists : Tells (length built.net.routers)
+      (edited_packet_lists built.net plan.changes.edits.items) plan.packet_lists.items
+  pub route_lists : Tells (length built.net.routers)
+      (edited_route_lists built.net plan.changes.edits.items) plan.route_lists.items
 
 -- the word of a row lies in it
 pub record LiesInRow (row : Line) (word : Span) : Type 0 where

@@ -58,7 +58,8 @@ fn lines_before(
     requires few { length plan.now.changes.edits.items ≤ 8192 }
     requires router { router < length built.now.net.routers }
     requires named { named.now ≡ named_lists built.now.net plan.now.changes.edits.items router }
-    ensures { IfOk result (λ lines. lines.items ≡ lines_before built.now.net own.now plan.now.changes.edits.items router) }
+    ensures { IfOk result (λ lines.
+        lines.items ≡ lines_before built.now.net own.now plan.now.changes.edits.items router) }
 {
     let net = &built.net;
     let new = lines_of_new_lists(alloc, net, &plan.changes, named)?;
@@ -82,7 +83,8 @@ fn lines_after(
     requires plan { IsPlan built.now plan.now }
     requires router { router < length built.now.net.routers }
     requires named { named.now ≡ named_lists built.now.net plan.now.changes.edits.items router }
-    ensures { IfOk result (λ lines. lines.items ≡ lines_after built.now.net built.now.places own.now plan.now.changes.edits.items router) }
+    ensures { IfOk result (λ lines. lines.items
+        ≡ lines_after built.now.net built.now.places own.now plan.now.changes.edits.items router) }
 {
     let net = &built.net;
     let mut process = Vec::new(alloc);
@@ -105,10 +107,12 @@ impl Additions {
         requires plan { IsPlan built.now plan.now }
         requires few { length plan.now.changes.edits.items ≤ 8192 }
         requires router { router < length built.now.net.routers }
-        ensures before { IfOk result (λ all. all.before.items ≡ lines_before built.now.net own.now plan.now.changes.edits.items router) }
-        ensures numbers { IfOk result (λ all. all.numbers.items ≡ numbers_at built.now.net own.now plan.now.changes.edits.items router) }
-        ensures after { IfOk result (λ all. all.after.items ≡
-            lines_after built.now.net built.now.places own.now plan.now.changes.edits.items router) }
+        ensures before { IfOk result (λ all. all.before.items
+            ≡ lines_before built.now.net own.now plan.now.changes.edits.items router) }
+        ensures numbers { IfOk result (λ all. all.numbers.items
+            ≡ numbers_at built.now.net own.now plan.now.changes.edits.items router) }
+        ensures after { IfOk result (λ all. all.after.items ≡ lines_after built.now.net
+            built.now.places own.now plan.now.changes.edits.items router) }
     {
         let lists = things_at(&plan.new_lists, router);
         let named = named_lists(alloc, lists, plan.names[router as usize].slice())?;

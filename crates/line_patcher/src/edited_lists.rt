@@ -1,7 +1,8 @@
 //! What is put into the lists of a file that edits put entries into.
 ghost use Rattle.std.specs.Prelude.{◌≡◌, ◌≤◌, ◌++◌, flat_map, length, IfOk, OnOk};
 ghost use Rattle.edit_space.specs.Working.{AreChanges};
-ghost use Rattle.line_patcher.specs.EntryLines.{packet_list_entries, route_list_entries, packet_list_numbers, route_list_numbers};
+ghost use Rattle.line_patcher.specs.EntryLines.{packet_list_entries, route_list_entries};
+ghost use Rattle.line_patcher.specs.EntryLines.{packet_list_numbers, route_list_numbers};
 
 use crate::additions::NewNumber;
 use crate::entries::{
@@ -24,7 +25,8 @@ fn push_packet_list(
 ) -> Result<(), Memory>
     requires changes { AreChanges net.now changes.now }
     requires few { length changes.now.edits.items ≤ 8192 }
-    ensures { OnOk result (lines.new.items ≡ lines.old.items ++ packet_list_entries net.now own.now changes.now.edits.items id) }
+    ensures { OnOk result (lines.new.items ≡ lines.old.items ++
+        packet_list_entries net.now own.now changes.now.edits.items id) }
 {
     let Some(list) = net.packet_lists.get(id) else {
         return Ok(());
@@ -47,7 +49,8 @@ fn push_route_list(
 ) -> Result<(), Memory>
     requires changes { AreChanges net.now changes.now }
     requires few { length changes.now.edits.items ≤ 8192 }
-    ensures { OnOk result (lines.new.items ≡ lines.old.items ++ route_list_entries net.now own.now changes.now.edits.items id) }
+    ensures { OnOk result (lines.new.items ≡ lines.old.items ++
+        route_list_entries net.now own.now changes.now.edits.items id) }
 {
     let Some(list) = net.route_lists.get(id) else {
         return Ok(());
@@ -69,7 +72,8 @@ fn push_packet_numbers(
 ) -> Result<(), Memory>
     requires changes { AreChanges net.now changes.now }
     requires few { length changes.now.edits.items ≤ 8192 }
-    ensures { OnOk result (numbers.new.items ≡ numbers.old.items ++ packet_list_numbers net.now own.now changes.now.edits.items id) }
+    ensures { OnOk result (numbers.new.items ≡ numbers.old.items ++
+        packet_list_numbers net.now own.now changes.now.edits.items id) }
 {
     let Some(list) = net.packet_lists.get(id) else {
         return Ok(());
@@ -91,7 +95,8 @@ fn push_route_numbers(
 ) -> Result<(), Memory>
     requires changes { AreChanges net.now changes.now }
     requires few { length changes.now.edits.items ≤ 8192 }
-    ensures { OnOk result (numbers.new.items ≡ numbers.old.items ++ route_list_numbers net.now own.now changes.now.edits.items id) }
+    ensures { OnOk result (numbers.new.items ≡ numbers.old.items ++
+        route_list_numbers net.now own.now changes.now.edits.items id) }
 {
     let Some(list) = net.route_lists.get(id) else {
         return Ok(());
@@ -114,8 +119,8 @@ pub fn push_packet_entries(
 ) -> Result<(), Memory>
     requires changes { AreChanges net.now changes.now }
     requires few { length changes.now.edits.items ≤ 8192 }
-    ensures { OnOk result (lines.new.items ≡
-        lines.old.items ++ flat_map (packet_list_entries net.now own.now changes.now.edits.items) ids.now) }
+    ensures { OnOk result (lines.new.items ≡ lines.old.items ++
+        flat_map (packet_list_entries net.now own.now changes.now.edits.items) ids.now) }
 {
     for id in ids {
         push_packet_list(alloc, lines, net, own, changes, *id)?;
@@ -134,8 +139,8 @@ pub fn push_route_entries(
 ) -> Result<(), Memory>
     requires changes { AreChanges net.now changes.now }
     requires few { length changes.now.edits.items ≤ 8192 }
-    ensures { OnOk result (lines.new.items ≡
-        lines.old.items ++ flat_map (route_list_entries net.now own.now changes.now.edits.items) ids.now) }
+    ensures { OnOk result (lines.new.items ≡ lines.old.items ++
+        flat_map (route_list_entries net.now own.now changes.now.edits.items) ids.now) }
 {
     for id in ids {
         push_route_list(alloc, lines, net, own, changes, *id)?;

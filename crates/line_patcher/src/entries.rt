@@ -2,7 +2,10 @@
 ghost use Rattle.std.specs.Prelude.{◌≡◌, ◌<◌, ◌≤◌, ◌+◌, ◌*◌, ◌^◌, ◌++◌, length, IfOk, OnOk};
 ghost use Rattle.std.specs.Option.{option_copied};
 ghost use Rattle.net_build.specs.Lists.{packet_text};
-ghost use Rattle.line_patcher.specs.EntryLines.{order_at, packet_line, class_line, prefix_line, class_lines, prefix_lines, is_packet_form, packet_place, route_place, first_line, at_front, new_numbers};
+ghost use Rattle.line_patcher.specs.EntryLines.{order_at, packet_line, class_line, prefix_line};
+ghost use Rattle.line_patcher.specs.EntryLines.{class_lines, prefix_lines, is_packet_form};
+ghost use Rattle.line_patcher.specs.EntryLines.{packet_place, route_place, first_line, at_front};
+ghost use Rattle.line_patcher.specs.EntryLines.{new_numbers};
 
 use crate::additions::NewNumber;
 use arc_base::{Memory, Name, Prefix};
@@ -110,7 +113,8 @@ pub fn push_class_lines(
     classes: &[Class],
 ) -> Result<(), Memory>
     requires { length classes.now ≤ 8192 }
-    ensures { OnOk result (lines.new.items ≡ lines.old.items ++ at_front place.now (class_lines place.now list.now classes.now)) }
+    ensures { OnOk result (lines.new.items ≡ lines.old.items ++
+        at_front place.now (class_lines place.now list.now classes.now)) }
 {
     let first = first_line(place);
     for (at, class) in classes.iter().enumerate() {
@@ -129,7 +133,8 @@ pub fn push_prefix_lines(
     prefixes: &[Prefix],
 ) -> Result<(), Memory>
     requires { length prefixes.now ≤ 8192 }
-    ensures { OnOk result (lines.new.items ≡ lines.old.items ++ at_front place.now (prefix_lines place.now list.now prefixes.now)) }
+    ensures { OnOk result (lines.new.items ≡ lines.old.items ++
+        at_front place.now (prefix_lines place.now list.now prefixes.now)) }
 {
     let first = first_line(place);
     for (at, prefix) in prefixes.iter().enumerate() {
@@ -149,7 +154,8 @@ pub fn push_numbers(
 ) -> Result<(), Memory>
     requires step { step ≤ 10 }
     requires count { count ≤ 8192 }
-    ensures { OnOk result (numbers.new.items ≡ numbers.old.items ++ new_numbers place.now word step count) }
+    ensures { OnOk result
+        (numbers.new.items ≡ numbers.old.items ++ new_numbers place.now word step count) }
 {
     if !place.numbered {
         return Ok(());

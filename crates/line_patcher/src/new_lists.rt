@@ -1,5 +1,6 @@
 //! The lines of new lists, and those that bind them.
-ghost use Rattle.std.specs.Prelude.{false, ◌≡◌, ◌<◌, ◌≤◌, ◌+◌, ◌*◌, ◌^◌, ◌++◌, map, flat_map, length, All, IfOk, OnOk};
+ghost use Rattle.std.specs.Prelude.{false, ◌≡◌, ◌<◌, ◌≤◌, ◌+◌, ◌*◌, ◌^◌, ◌++◌, map, flat_map};
+ghost use Rattle.std.specs.Prelude.{length, All, IfOk, OnOk};
 ghost use Rattle.std.specs.List.{filter_map, zip, enumerate_from};
 ghost use Rattle.net_model.specs.Routing.{session_at};
 ghost use Rattle.ios_lines.specs.Written.{spaced};
@@ -7,7 +8,9 @@ ghost use Rattle.ios_words.specs.Printed.{permit_all_words, list_head_words, ent
 ghost use Rattle.net_build.specs.Lists.{packet_text};
 ghost use Rattle.edit_space.specs.After.{class_entry, every_packet};
 ghost use Rattle.edit_space.specs.Working.{AreChanges};
-ghost use Rattle.line_patcher.specs.NewListLines.{deny_line, new_route_lines, deny_class_line, new_packet_lines, new_list_lines, filter_line, group_line_among};
+ghost use Rattle.line_patcher.specs.NewListLines.{deny_line, new_route_lines, deny_class_line};
+ghost use Rattle.line_patcher.specs.NewListLines.{new_packet_lines, new_list_lines, filter_line};
+ghost use Rattle.line_patcher.specs.NewListLines.{group_line_among};
 ghost use Rattle.line_patcher.specs.Working.{face_of};
 
 use crate::entries::packet_text;
@@ -47,7 +50,8 @@ fn push_deny_lines(
     prefixes: &[Prefix],
 ) -> Result<(), Memory>
     requires { length prefixes.now ≤ 8192 }
-    ensures { OnOk result (lines.new.items ≡ lines.old.items ++ map (deny_line name.now) (enumerate_from 1 prefixes.now)) }
+    ensures { OnOk result (lines.new.items ≡ lines.old.items ++
+        map (deny_line name.now) (enumerate_from 1 prefixes.now)) }
 {
     for (place, prefix) in prefixes.iter().enumerate() {
         lines.push(deny_line(alloc, name, place as u32 + 1, prefix)?)?;
@@ -63,7 +67,8 @@ fn push_route_list(
     prefixes: &[Prefix],
 ) -> Result<(), Memory>
     requires { length prefixes.now ≤ 8192 }
-    ensures { OnOk result (lines.new.items ≡ lines.old.items ++ new_route_lines name.now prefixes.now) }
+    ensures { OnOk result
+        (lines.new.items ≡ lines.old.items ++ new_route_lines name.now prefixes.now) }
 {
     push_deny_lines(alloc, lines, name, prefixes)?;
     let number = 5 * (prefixes.len() as u32 + 1);
@@ -133,7 +138,8 @@ fn push_packet_list(
     name: &[u8],
     classes: &[Class],
 ) -> Result<(), Memory>
-    ensures { OnOk result (lines.new.items ≡ lines.old.items ++ new_packet_lines name.now classes.now) }
+    ensures { OnOk result
+        (lines.new.items ≡ lines.old.items ++ new_packet_lines name.now classes.now) }
 {
     lines.push(head_line(alloc, name)?)?;
     push_deny_class_lines(alloc, lines, classes)?;
@@ -154,7 +160,8 @@ fn push_new_list(
     requires changes { AreChanges net.now changes.now }
     requires within { (face_of list).0 < length net.now.faces }
     requires few { length changes.now.edits.items ≤ 8192 }
-    ensures { OnOk result (lines.new.items ≡ lines.old.items ++ new_list_lines changes.now.edits.items list name.now) }
+    ensures { OnOk result (lines.new.items ≡ lines.old.items ++
+        new_list_lines changes.now.edits.items list name.now) }
 {
     match list {
         NewList::Route(face) => {
@@ -195,7 +202,8 @@ pub fn lines_of_new_lists(
     requires changes { AreChanges net.now changes.now }
     requires within { All (λ n. (face_of n.0).0 < length net.now.faces) named.now }
     requires few { length changes.now.edits.items ≤ 8192 }
-    ensures { IfOk result (λ lines. lines.items ≡ flat_map (λ n. new_list_lines changes.now.edits.items n.0 n.1) named.now) }
+    ensures { IfOk result (λ lines.
+        lines.items ≡ flat_map (λ n. new_list_lines changes.now.edits.items n.0 n.1) named.now) }
 {
     let mut lines = Vec::new(alloc);
     for (list, name) in named {
@@ -231,7 +239,8 @@ pub fn push_filter_lines(
     net: &Network,
     named: &[NamedList],
 ) -> Result<(), Memory>
-    ensures { OnOk result (lines.new.items ≡ lines.old.items ++ filter_map (λ n. filter_line net.now n.0 n.1) named.now) }
+    ensures { OnOk result (lines.new.items ≡ lines.old.items ++
+        filter_map (λ n. filter_line net.now n.0 n.1) named.now) }
 {
     for (list, name) in named {
         if let Some(line) = filter_line(alloc, net, *list, name.bytes())? {
@@ -268,7 +277,8 @@ pub fn push_group_lines(
     faces: &[FacePlace],
     named: &[NamedList],
 ) -> Result<(), Memory>
-    ensures { OnOk result (lines.new.items ≡ lines.old.items ++ filter_map (λ n. group_line_among faces.now n.0 n.1) named.now) }
+    ensures { OnOk result (lines.new.items ≡ lines.old.items ++
+        filter_map (λ n. group_line_among faces.now n.0 n.1) named.now) }
 {
     for (list, name) in named {
         if let Some(line) = group_line(alloc, faces, *list, name.bytes())? {

@@ -30,7 +30,8 @@ fn patched_file(
     requires router { router < length built.now.net.routers }
     requires places { router < length built.now.places }
     requires rows { router < length built.now.lines }
-    requires lines { (lines : Lines) → slice_get built.now.lines router ≡ Some lines → AreLinesOf text.now lines }
+    requires lines { (lines : Lines) → slice_get built.now.lines router ≡ Some lines →
+        AreLinesOf text.now lines }
     requires bytes { length text.now ≤ 1048576 }
     ensures { IfOk result (IsPatched built.now plan.now.changes.edits.items router text.now) }
 {
@@ -40,8 +41,9 @@ fn patched_file(
     patched_text(alloc, text, lines, &all)
 }
 
-/// The router files after the chosen edits, in the order of the document. A file that no chosen edit concerns is given as
-/// it is. The time is linear in the bytes of the files and in what is put into them.
+/// The router files after the chosen edits, in the order of the document. A file that no chosen
+/// edit concerns is given as it is. The time is linear in the bytes of the files and in what is put
+/// into them.
 pub fn patch(
     alloc: Global,
     doc: &Document,

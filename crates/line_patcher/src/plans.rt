@@ -63,7 +63,8 @@ fn edited_packet_lists(
     changes: &Changes,
 ) -> Result<Vec<(u32, u32)>, Memory>
     requires { AreChanges net.now changes.now }
-    ensures { IfOk result (λ lists. lists.items ≡ filter_map (edited_packet_list changes.now.edits.items) (placed net.now.packet_lists)) }
+    ensures { IfOk result (λ lists. lists.items
+        ≡ filter_map (edited_packet_list changes.now.edits.items) (placed net.now.packet_lists)) }
 {
     let mut edited = Vec::new(alloc);
     for (place, list) in net.packet_lists.slice().iter().enumerate() {
@@ -81,7 +82,8 @@ fn edited_route_lists(
     changes: &Changes,
 ) -> Result<Vec<(u32, u32)>, Memory>
     requires { AreChanges net.now changes.now }
-    ensures { IfOk result (λ lists. lists.items ≡ filter_map (edited_route_list changes.now.edits.items) (placed net.now.route_lists)) }
+    ensures { IfOk result (λ lists. lists.items
+        ≡ filter_map (edited_route_list changes.now.edits.items) (placed net.now.route_lists)) }
 {
     let mut edited = Vec::new(alloc);
     for (place, list) in net.route_lists.slice().iter().enumerate() {

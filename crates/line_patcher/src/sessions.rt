@@ -12,7 +12,8 @@ use std::alloc::Global;
 
 /// Whether the interface is passive, turned.
 fn passive_line(alloc: Global, row: &FaceRow) -> Result<Name, Memory>
-    ensures { IfOk result (λ line. line ≡ spaced (passive_words (not row.now.passive) row.now.name)) }
+    ensures { IfOk result (λ line.
+        line ≡ spaced (passive_words (not row.now.passive) row.now.name)) }
 {
     let mut text = Vec::new(alloc);
     push_passive(&mut text, !row.passive, row.name.bytes())?;
@@ -21,7 +22,8 @@ fn passive_line(alloc: Global, row: &FaceRow) -> Result<Name, Memory>
 
 /// Whether the neighbour is shut down, turned.
 fn neighbor_line(alloc: Global, session: &SessionRow) -> Result<Name, Memory>
-    ensures { IfOk result (λ line. line ≡ spaced (neighbor_words session.now.peer (not session.now.down))) }
+    ensures { IfOk result (λ line.
+        line ≡ spaced (neighbor_words session.now.peer (not session.now.down))) }
 {
     let mut text = Vec::new(alloc);
     push_neighbor(alloc, &mut text, session.peer, !session.down)?;
@@ -51,7 +53,8 @@ pub fn push_session_lines(
     net: &Network,
     faces: &[u32],
 ) -> Result<(), Memory>
-    ensures { OnOk result (lines.new.items ≡ lines.old.items ++ filter_map (session_line net.now) faces.now) }
+    ensures { OnOk result
+        (lines.new.items ≡ lines.old.items ++ filter_map (session_line net.now) faces.now) }
 {
     for face in faces {
         if let Some(line) = session_line(alloc, net, Face(*face))? {

@@ -1,8 +1,10 @@
 //! The text of a file with what is put into it.
-ghost use Rattle.std.specs.Prelude.{◌≡◌, ◌<◌, ◌-◌, ◌^◌, ◌++◌, ◌∷◌, [], flat_map, length, All, IfOk, OnOk};
+ghost use Rattle.std.specs.Prelude.{◌≡◌, ◌<◌, ◌-◌, ◌^◌, ◌++◌, ◌∷◌, [], flat_map, length, All, IfOk};
+ghost use Rattle.std.specs.Prelude.{OnOk};
 ghost use Rattle.ios_lines.specs.Lines.{AreLinesOf};
 ghost use Rattle.edit_space.specs.Numbered.{of_number, Tells};
-ghost use Rattle.line_patcher.specs.Patches.{end_of, line_end, row_bytes, ended, following, patched_text};
+ghost use Rattle.line_patcher.specs.Patches.{end_of, line_end, row_bytes, ended, following};
+ghost use Rattle.line_patcher.specs.Patches.{patched_text};
 ghost use Rattle.line_patcher.specs.Working.{LiesWithin, row_around};
 
 use crate::additions::{Additions, NewNumber};
@@ -13,7 +15,8 @@ use std::alloc::Global;
 
 /// The lines at each place below the count.
 fn lines_at(alloc: Global, count: u32, lines: &[(u32, Name)]) -> Result<Vec<Group<Name>>, Memory>
-    ensures { IfOk result (λ groups. Tells count (λ number. of_number number lines.now) groups.items) }
+    ensures { IfOk result (λ groups.
+        Tells count (λ number. of_number number lines.now) groups.items) }
 {
     let mut groups = empty_groups(alloc, count)?;
     for (number, line) in lines {
@@ -55,7 +58,8 @@ fn push_ended(text: &mut Vec<u8>, end: &[u8], lines: &[Name]) -> Result<(), Memo
 
 /// Adds lines that each stand after an end.
 fn push_begun(text: &mut Vec<u8>, end: &[u8], lines: &[Name]) -> Result<(), Memory>
-    ensures { OnOk result (text.new.items ≡ text.old.items ++ flat_map (λ line. end.now ++ line) lines.now) }
+    ensures { OnOk result
+        (text.new.items ≡ text.old.items ++ flat_map (λ line. end.now ++ line) lines.now) }
 {
     for line in lines {
         text.extend_from_slice(end)?;
@@ -84,7 +88,8 @@ fn push_rewritten(
     number: NewNumber,
 ) -> Result<(), Memory>
     requires { LiesWithin text.now row.now }
-    ensures { OnOk result (new.new.items ≡ new.old.items ++ row_bytes text.now row.now (number ∷ [])) }
+    ensures { OnOk result
+        (new.new.items ≡ new.old.items ++ row_bytes text.now row.now (number ∷ [])) }
 {
     let (from, to) = (row.span.from as usize, row.span.to as usize);
     let Some(word) = row.words.get(number.word) else {
@@ -106,7 +111,8 @@ fn push_row_bytes(
     numbers: &[NewNumber],
 ) -> Result<(), Memory>
     requires { LiesWithin text.now row.now }
-    ensures { OnOk result (new.new.items ≡ new.old.items ++ row_bytes text.now row.now numbers.now) }
+    ensures { OnOk result
+        (new.new.items ≡ new.old.items ++ row_bytes text.now row.now numbers.now) }
 {
     match numbers.first() {
         Some(number) => push_rewritten(alloc, new, text, row, *number),
@@ -136,7 +142,8 @@ fn push_row(
     row: &Line,
 ) -> Result<(), Memory>
     requires { LiesWithin text.now row.now }
-    ensures { OnOk result (new.new.items ≡ new.old.items ++ row_around text.now end.now table.now number row.now) }
+    ensures { OnOk result
+        (new.new.items ≡ new.old.items ++ row_around text.now end.now table.now number row.now) }
 {
     push_ended(new, end, things_at(&table.before, number))?;
     push_row_bytes(alloc, new, text, row, things_at(&table.numbers, number))?;
@@ -153,7 +160,8 @@ pub fn patched_text(
 ) -> Result<Name, Memory>
     requires few { length text.now < 2 ^ 32 - 1 }
     requires lines { AreLinesOf text.now lines.now }
-    ensures { IfOk result (λ new. new ≡ patched_text text.now lines.now all.now.before.items all.now.numbers.items all.now.after.items) }
+    ensures { IfOk result (λ new. new ≡ patched_text text.now lines.now all.now.before.items
+        all.now.numbers.items all.now.after.items) }
 {
     let rows = lines.rows.slice();
     let count = rows.len() as u32 + 1;

@@ -1,4 +1,5 @@
--- What is asked of addresses: subnets that do not overlap, and policies between host networks. One definition for each reason.
+-- What is asked of addresses: subnets that do not overlap, and policies between host networks. One
+-- definition for each reason.
 use Rattle.std.specs.Prelude.{◌≡◌, ◌≢◌, ℕ, ◌+◌, ◌<◌, Some, List, slice_get, IsSomeAnd}
 use Rattle.arc_base.specs.declared.refusal.Kind.TheVariants as kinds
 use Rattle.arc_base.specs.declared.prefix.Prefix.{Prefix}
@@ -51,4 +52,5 @@ pub record HasEndpoints (net : Network) (origin destination : Prefix) : Type 0 w
 pub record RefusesEndpoint (doc : Document) (configs : List Config) (r : Refusal) : Type 0 where
   pub net : Network
   pub rows : AreRows doc configs net
-  pub refuses : InDocument kinds.Endpoint (λ place policy. ¬ HasEndpoints net policy.from policy.to) doc.policies r
+  pub refuses : InDocument kinds.Endpoint
+      (λ place policy. ¬ HasEndpoints net policy.from policy.to) doc.policies r

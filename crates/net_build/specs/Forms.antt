@@ -1,4 +1,5 @@
--- The forms of what a router file says: names of their form, numbers in their ranges, and no interface twice.
+-- The forms of what a router file says: names of their form, numbers in their ranges, and no
+-- interface twice.
 use Rattle.std.specs.Prelude.{◌≢◌, ◌≤◌, IfSome, All, AllPairs}
 use Rattle.arc_base.specs.NameForms.{IsName, IsFaceName}
 use Rattle.ios_words.specs.declared.commands.Command.{Command}
@@ -7,7 +8,8 @@ use Rattle.ios_config.specs.declared.settings.Config.{Config}
 use Rattle.ios_config.specs.declared.settings.FaceText.{FaceText}
 use Rattle.net_build.specs.Settings.{lines_of}
 
--- the interface has a name of a known kind, a mask of 1 to 32 ones, and a bandwidth and a cost in their ranges
+-- the interface has a name of a known kind, a mask of 1 to 32 ones, and a bandwidth and a cost in
+-- their ranges
 pub record IsWellFormedFace (face : FaceText) : Type 0 where
   pub name : IsFaceName face.name
   pub mask_low : IfSome face.mask_len (λ g. 1 ≤ g.value)

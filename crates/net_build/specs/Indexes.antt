@@ -1,5 +1,6 @@
 -- What indexes keep of the lines and interfaces of a file.
-use Rattle.std.specs.Prelude.{◌≡◌, ◌↔◌, ℕ, Bool, Option, Some, None, List, Any, bytes_eq, if◌then◌else◌}
+use Rattle.std.specs.Prelude.{◌≡◌, ◌↔◌, ℕ, Bool, Option, Some, None, List, Any, bytes_eq}
+use Rattle.std.specs.Prelude.{if◌then◌else◌}
 use Rattle.std.specs.Option.{option_or}
 use denote.Ref.{Bor}
 use Rattle.indexmap.specs.IndexMap.{get_by}
@@ -35,14 +36,18 @@ by_face name on (Some face) = if bytes_eq face name then Some on else None
 
 -- what the index has of the interface of this name, or else of all
 abbrev pub said_of : PassiveIndex → List ℕ → Option Bool
-said_of index name = option_or (get_by (λ (k : Bor (List ℕ)). bytes_eq name k.now) index.named) index.all
+said_of index name =
+    option_or (get_by (λ (k : Bor (List ℕ)). bytes_eq name k.now) index.named) index.all
 
 -- the index keeps what the lines of its file's process say
 pub record IsIndex (index : ProcessIndex) : Type 0 where
   pub reference : index.reference ≡ reference_of (lines_of index.config.now)
-  pub told : (p : Prefix) → HasPrefix index.told.keys p ↔ Any (λ g. g.value ≡ commands.Tells p) (lines_of index.config.now)
-  pub covered : (p : Prefix) → HasPrefix index.covered.keys p ↔ Any (λ g. covered_prefix g.value ≡ Some p) (lines_of index.config.now)
-  pub passive : (name : List ℕ) → said_of index.passive name ≡ last_said (says_passive name) (lines_of index.config.now)
+  pub told : (p : Prefix) → HasPrefix index.told.keys p ↔
+      Any (λ g. g.value ≡ commands.Tells p) (lines_of index.config.now)
+  pub covered : (p : Prefix) → HasPrefix index.covered.keys p ↔
+      Any (λ g. covered_prefix g.value ≡ Some p) (lines_of index.config.now)
+  pub passive : (name : List ℕ) →
+      said_of index.passive name ≡ last_said (says_passive name) (lines_of index.config.now)
 
 -- these are the connected subnets of the interfaces
 abbrev pub AreSubnets : List FaceText → List (ℕ × ℕ) → Type 0

@@ -2,7 +2,9 @@
 use Rattle.std.specs.Prelude.{ℕ, Bool, true, false, nat_eq, List, codes, if◌then◌else◌}
 use Rattle.std.specs.List.{starts_with}
 use Rattle.net_build.specs.declared.kinds.FaceKind.{FaceKind}
-use Rattle.net_build.specs.declared.kinds.FaceKind.TheVariants.{Ethernet, FastEthernet, GigabitEthernet, TenGigabitEthernet, Serial, Loopback}
+use Rattle.net_build.specs.declared.kinds.FaceKind.TheVariants.{Ethernet, FastEthernet}
+use Rattle.net_build.specs.declared.kinds.FaceKind.TheVariants.{GigabitEthernet, TenGigabitEthernet}
+use Rattle.net_build.specs.declared.kinds.FaceKind.TheVariants.{Serial, Loopback}
 
 -- the kind that an interface's name begins with
 abbrev pub kind_of : List ℕ → FaceKind

@@ -12,7 +12,11 @@ pub record RefusesInterfaces (configs : List Config) (r : Refusal) : Type 0 wher
   pub config : Config
   pub at_place : slice_get configs place ≡ Some config
   pub many : 256 < length config.faces
-  pub told : r ≡ record { file = place + 1; number = 0; kind = kinds.Limit limits.Interfaces (length config.faces) }
+  pub told : r ≡ record {
+    file = place + 1;
+    number = 0;
+    kind = kinds.Limit limits.Interfaces (length config.faces);
+  }
 
 -- the first list of the file with more than so many entries
 abbrev pub long_list : ℕ → Config → Option ListText
@@ -25,4 +29,8 @@ pub record RefusesEntries (most : ℕ) (configs : List Config) (r : Refusal) : T
   pub at_place : slice_get configs place ≡ Some config
   pub list : ListText
   pub first : long_list most config ≡ Some list
-  pub told : r ≡ record { file = place + 1; number = 0; kind = kinds.Limit limits.Entries (length list.entries) }
+  pub told : r ≡ record {
+    file = place + 1;
+    number = 0;
+    kind = kinds.Limit limits.Entries (length list.entries);
+  }

@@ -1,5 +1,7 @@
--- What is asked of the document's links: interfaces that are there and free, and ends that fit. One definition for each reason.
-use Rattle.std.specs.Prelude.{◌≡◌, ◌≢◌, ℕ, ◌⊎◌, true, false, Option, Some, None, IfSome, IsSomeAnd, option_map, Bool, List, length, take, slice_get, Contains, nat_lt}
+-- What is asked of the document's links: interfaces that are there and free, and ends that fit. One
+-- definition for each reason.
+use Rattle.std.specs.Prelude.{◌≡◌, ◌≢◌, ℕ, ◌⊎◌, true, false, Option, Some, None, IfSome, IsSomeAnd}
+use Rattle.std.specs.Prelude.{option_map, Bool, List, length, take, slice_get, Contains, nat_lt}
 use Rattle.std.specs.List.{filter_map, find, last_or}
 use Rattle.arc_base.specs.declared.refusal.Kind.TheVariants as kinds
 use Rattle.net_doc.specs.declared.fault.Refusal.{Refusal}
@@ -28,7 +30,8 @@ pub record JoinsNamed (names : List FullName) (link : LinkText) : Type 0 where
   pub routers : link.a_router ≢ link.b_router
 
 -- the link joins two such interfaces, and none of the links before it uses one of them
-pub record JoinsFree (names : List FullName) (earlier : List LinkText) (link : LinkText) : Type 0 where
+pub record JoinsFree (names : List FullName) (earlier : List LinkText)
+    (link : LinkText) : Type 0 where
   pub joins : JoinsNamed names link
   pub a_free : ¬ Contains (ends_of earlier) (a_end link)
   pub b_free : ¬ Contains (ends_of earlier) (b_end link)
@@ -36,13 +39,15 @@ pub record JoinsFree (names : List FullName) (earlier : List LinkText) (link : L
 -- a link that does not
 abbrev pub RefusesLinkFace : Document → List Config → Refusal → Type 0
 RefusesLinkFace doc configs =
-    InDocument kinds.LinkFace (λ place link. ¬ JoinsFree (full_names configs) (take place doc.links) link) doc.links
+    InDocument kinds.LinkFace
+    (λ place link. ¬ JoinsFree (full_names configs) (take place doc.links) link) doc.links
 
 -- the first of the numbers that is above the number of links
 abbrev pub first_above : ℕ → List ℕ → Option ℕ
 first_above links numbers = find (λ n. nat_lt links n) numbers
 
--- links that are to be down are given by their numbers, counted from 1: the first number that is none of the document's links
+-- links that are to be down are given by their numbers, counted from 1: the first number that is
+-- none of the document's links
 pub record RefusesDownLinks (doc : Document) (down : List ℕ) (r : Refusal) : Type 0 where
   pub number : ℕ
   pub above : first_above (length doc.links) down ≡ Some number
@@ -55,7 +60,8 @@ HaveOneSubnet f g = IfSome f.addr (λ x. IfSome g.addr (λ y. (x ≢ y) × (f.su
 -- this holds of the link's two ends
 abbrev pub FitsSubnets : Network → LinkRow → Type 0
 FitsSubnets net link =
-    (f g : FaceRow) → slice_get net.faces link.a.0 ≡ Some f → slice_get net.faces link.b.0 ≡ Some g → HaveOneSubnet f g
+    (f g : FaceRow) → slice_get net.faces link.a.0 ≡ Some f →
+    slice_get net.faces link.b.0 ≡ Some g → HaveOneSubnet f g
 
 -- a link of which it does not hold
 pub record RefusesLinkSubnets (doc : Document) (configs : List Config) (r : Refusal) : Type 0 where
@@ -65,7 +71,8 @@ pub record RefusesLinkSubnets (doc : Document) (configs : List Config) (r : Refu
 
 -- the interface at this place has this OSPF network type
 abbrev pub HasTypeAt : List Config → ℕ → Bool → Type 0
-HasTypeAt configs place point = IsSomeAnd (slice_get (sites configs) place) (λ site. is_point_to_point site.face ≡ point)
+HasTypeAt configs place point =
+    IsSomeAnd (slice_get (sites configs) place) (λ site. is_point_to_point site.face ≡ point)
 
 -- the two ends of the link have different OSPF network types
 abbrev pub TypesDiffer : List Config → LinkRow → Type 0
@@ -94,4 +101,6 @@ router_id_of config = last_or None (filter_map router_id_line (lines_of config))
 
 -- a link whose ends have different types, or a router id that repeats
 abbrev pub RefusesAdjacencyForm : Document → List Config → Refusal → Type 0
-RefusesAdjacencyForm doc configs r = RefusesTypes doc configs r ⊎ InFiles kinds.AdjacencyForm (Repeats router_id_of configs) configs r
+RefusesAdjacencyForm doc configs r =
+    RefusesTypes doc configs r ⊎
+    InFiles kinds.AdjacencyForm (Repeats router_id_of configs) configs r

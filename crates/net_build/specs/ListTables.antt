@@ -1,5 +1,7 @@
--- The tables from which the rows of lists are made: names, and lists by their names, held by reference.
-use Rattle.std.specs.Prelude.{◌≡◌, ℕ, ◌↔◌, ◌⊎◌, ◌&&◌, Bool, Option, Some, None, List, ◌++◌, Contains, option_map, bytes_eq, if◌then◌else◌}
+-- The tables from which the rows of lists are made: names, and lists by their names, held by
+-- reference.
+use Rattle.std.specs.Prelude.{◌≡◌, ℕ, ◌↔◌, ◌⊎◌, ◌&&◌, Bool, Option, Some, None, List, ◌++◌}
+use Rattle.std.specs.Prelude.{Contains, option_map, bytes_eq, if◌then◌else◌}
 use Rattle.std.specs.List.{filter_map}
 use Rattle.std.specs.Cmp.Lexicographic.{slice_cmp}
 use Rattle.std.specs.Ordering.{nat_cmp}
@@ -13,11 +15,13 @@ use Rattle.ios_config.specs.declared.settings.Config.{Config}
 use Rattle.ios_config.specs.declared.settings.ListText.{ListText}
 use Rattle.net_build.specs.Ordered.{AreInOrder}
 use Rattle.arc_base.specs.NameForms.{IsNameBefore, texts_at}
-use Rattle.net_build.specs.Lists.{is_of_kind, packet_row_at, route_row_at, IsBoundPacketList, IsBoundRouteList}
+use Rattle.net_build.specs.Lists.{is_of_kind, packet_row_at, route_row_at, IsBoundPacketList}
+use Rattle.net_build.specs.Lists.{IsBoundRouteList}
 
 -- the names with this property were added to those that were there
 abbrev pub Adds : (List ℕ → Type 0) → List (Bor (List ℕ)) → List (Bor (List ℕ)) → Type 0
-Adds IsAdded old new = (name : List ℕ) → Contains (texts_at new) name ↔ (Contains (texts_at old) name ⊎ IsAdded name)
+Adds IsAdded old new =
+    (name : List ℕ) → Contains (texts_at new) name ↔ (Contains (texts_at old) name ⊎ IsAdded name)
 
 -- the neighbour, and the route list that the command binds at it
 abbrev pub route_binding : Command → Option (ℕ × List ℕ)
@@ -30,7 +34,8 @@ list_at lists name = option_map (λ l. l.now) (get_by (λ k. slice_cmp nat_cmp n
 
 -- the list, if it is of the kind and has this name
 abbrev pub list_if : Bool → ListText → List ℕ → Option ListText
-list_if packet list name = if bytes_eq list.name name && is_of_kind packet list then Some list else None
+list_if packet list name =
+    if bytes_eq list.name name && is_of_kind packet list then Some list else None
 
 -- the rows of the packet lists of a file were added, in byte order of their names
 pub record AddsPacketRows (router : ℕ) (config : Config) (old new : List PacketList) : Type 0 where

@@ -1,5 +1,8 @@
--- The lists of a router file: the names that it gives or binds, and the rows of those that are bound and defined.
-use Rattle.std.specs.Prelude.{◌≡◌, ℕ, ◌⊎◌, Bool, true, false, Option, Some, None, IsSomeAnd, IfSome, List, [], ◌∷◌, map, Any, Contains, slice_get, find, bytes_eq, ◌&&◌, not, option_map, option_and_then, if◌then◌else◌}
+-- The lists of a router file: the names that it gives or binds, and the rows of those that are
+-- bound and defined.
+use Rattle.std.specs.Prelude.{◌≡◌, ℕ, ◌⊎◌, Bool, true, false, Option, Some, None, IsSomeAnd, IfSome}
+use Rattle.std.specs.Prelude.{List, [], ◌∷◌, map, Any, Contains, slice_get, find, bytes_eq, ◌&&◌}
+use Rattle.std.specs.Prelude.{not, option_map, option_and_then, if◌then◌else◌}
 use Rattle.std.specs.List.{filter_map}
 use denote.Ref.{Bor}
 use Rattle.arc_base.specs.declared.place.ListId.{ListId}
@@ -39,7 +42,8 @@ entry_of text = record {
   permit = text.permit;
   from = text.from;
   to = text.to;
-  service = record { low = text.low; high = text.high; ordered = text.ordered; in_range = text.in_range };
+  service =
+      record { low = text.low; high = text.high; ordered = text.ordered; in_range = text.in_range };
 }
 
 abbrev pub packet_text : PacketEntry → PacketText
@@ -61,7 +65,8 @@ packet_entry other = None
 
 -- the entry of a route list that the command is
 abbrev pub route_entry : Command → Option RouteEntry
-route_entry (commands.PrefixLine name number text) = Some (record { permit = text.permit; prefix = text.prefix; low = text.low; high = text.high })
+route_entry (commands.PrefixLine name number text) =
+    Some (record { permit = text.permit; prefix = text.prefix; low = text.low; high = text.high })
 route_entry other = None
 
 -- the entries of a packet list, in file order
@@ -86,7 +91,9 @@ IsBoundRouteList config name = (peer : ℕ) × (filter_of (lines_of config) peer
 
 -- the file gives the name to a list, with or without entries, or binds it
 abbrev pub IsListName : Config → List ℕ → Type 0
-IsListName config name = Any (λ l. l.name ≡ name) config.lists ⊎ (IsBoundPacketList config name ⊎ IsBoundRouteList config name)
+IsListName config name =
+    Any (λ l. l.name ≡ name) config.lists ⊎
+    (IsBoundPacketList config name ⊎ IsBoundRouteList config name)
 
 -- these are all such names of the file, in byte order
 abbrev pub AreListNames : Config → List (List ℕ) → Type 0
@@ -99,7 +106,8 @@ is_of_kind false list = not (is_packet_kind list.kind)
 
 -- the file's list of this kind and name
 abbrev pub list_named : Bool → Config → List ℕ → Option ListText
-list_named packet config name = find (λ list. bytes_eq list.name name && is_of_kind packet list) config.lists
+list_named packet config name =
+    find (λ list. bytes_eq list.name name && is_of_kind packet list) config.lists
 
 -- the file's packet list of this name
 abbrev pub packet_list_named : Config → List ℕ → Option ListText
@@ -116,23 +124,32 @@ has_entries (entry ∷ entries) = true
 
 -- the list that was found, if it has an entry
 abbrev pub if_defined : Option ListText → Option ListText
-if_defined found = option_and_then (λ list. if has_entries list.entries then Some list else None) found
+if_defined found =
+    option_and_then (λ list. if has_entries list.entries then Some list else None) found
 
 -- the row of a packet list
 abbrev pub packet_row : ℕ → List ℕ → ListText → PacketList
-packet_row router name list = record { router = record { 0 = router }; name = name; extended = is_extended_kind list.kind; entries = packet_entries list }
+packet_row router name list = record {
+  router = record { 0 = router };
+  name = name;
+  extended = is_extended_kind list.kind;
+  entries = packet_entries list;
+}
 
 -- the row of a route list
 abbrev pub route_row : ℕ → List ℕ → ListText → RouteList
-route_row router name list = record { router = record { 0 = router }; name = name; entries = route_entries list }
+route_row router name list =
+    record { router = record { 0 = router }; name = name; entries = route_entries list }
 
 -- the row of the file's packet list of this name, if it is defined
 abbrev pub packet_row_at : ℕ → Config → List ℕ → Option PacketList
-packet_row_at router config name = option_map (packet_row router name) (if_defined (packet_list_named config name))
+packet_row_at router config name =
+    option_map (packet_row router name) (if_defined (packet_list_named config name))
 
 -- the row of the file's route list of this name, if it is defined
 abbrev pub route_row_at : ℕ → Config → List ℕ → Option RouteList
-route_row_at router config name = option_map (route_row router name) (if_defined (route_list_named config name))
+route_row_at router config name =
+    option_map (route_row router name) (if_defined (route_list_named config name))
 
 -- some file binds and defines the packet list that has this row
 pub record IsPacketListRow (configs : List Config) (row : PacketList) : Type 0 where
@@ -151,16 +168,20 @@ pub record IsRouteListRow (configs : List Config) (row : RouteList) : Type 0 whe
 -- these are the rows of all packet lists, by router and then in byte order of names
 abbrev pub ArePacketLists : List Config → List PacketList → Type 0
 ArePacketLists configs rows =
-    AreInOrder (λ l m. IsPairBefore IsNameBefore (l.router.0, l.name) (m.router.0, m.name)) (IsPacketListRow configs) rows
+    AreInOrder (λ l m. IsPairBefore IsNameBefore (l.router.0, l.name) (m.router.0, m.name))
+    (IsPacketListRow configs) rows
 
 -- these are the rows of all route lists, in the same order
 abbrev pub AreRouteLists : List Config → List RouteList → Type 0
 AreRouteLists configs rows =
-    AreInOrder (λ l m. IsPairBefore IsNameBefore (l.router.0, l.name) (m.router.0, m.name)) (IsRouteListRow configs) rows
+    AreInOrder (λ l m. IsPairBefore IsNameBefore (l.router.0, l.name) (m.router.0, m.name))
+    (IsRouteListRow configs) rows
 
--- where the list that a router binds under a name stands among these: nowhere, if it binds none or the list is not among them
+-- where the list that a router binds under a name stands among these: nowhere, if it binds none or
+-- the list is not among them
 abbrev pub IsPlaceAmong : List (ℕ × List ℕ) → ℕ → Option (List ℕ) → Option ListId → Type 0
-IsPlaceAmong keys router bound (Some id) = IsSomeAnd bound (λ name. slice_get keys id.0 ≡ Some (router, name))
+IsPlaceAmong keys router bound (Some id) =
+    IsSomeAnd bound (λ name. slice_get keys id.0 ≡ Some (router, name))
 IsPlaceAmong keys router bound None = IfSome bound (λ name. ¬ Contains keys (router, name))
 
 -- the keys that an index holds by reference

@@ -1,5 +1,6 @@
 -- What the lines of a BGP process say of each neighbour, which they name by its address.
-use Rattle.std.specs.Prelude.{ℕ, ◌==◌, Bool, false, Option, Some, None, unwrap_or, List, if◌then◌else◌}
+use Rattle.std.specs.Prelude.{ℕ, ◌==◌, Bool, false, Option, Some, None, unwrap_or, List}
+use Rattle.std.specs.Prelude.{if◌then◌else◌}
 use Rattle.ios_words.specs.declared.commands.Command.{Command}
 use Rattle.ios_words.specs.declared.commands.Command.TheVariants as commands
 use Rattle.ios_config.specs.declared.settings.Given.{Given}

@@ -1,5 +1,6 @@
 -- The network of a document and its router files, or the first reason why there is none.
-use Rattle.std.specs.Prelude.{◌≡◌, ℕ, ◌+◌, ◌⊎◌, List, [], map, take, slice_get, Result, Ok, Err, Some}
+use Rattle.std.specs.Prelude.{◌≡◌, ℕ, ◌+◌, ◌⊎◌, List, [], map, take, slice_get, Result, Ok, Err}
+use Rattle.std.specs.Prelude.{Some}
 use Rattle.std.specs.List.{AllZip}
 use Rattle.arc_base.specs.declared.refusal.Kind.{Kind}
 use Rattle.arc_base.specs.declared.refusal.Kind.TheVariants as kinds
@@ -38,11 +39,13 @@ pub record SaysWrong (text : List ℕ) (line : ℕ) (kind : Kind) : Type 0 where
   pub are_lines : AreLinesOf text lines
   pub refused : IsRefused text lines line kind
 
--- why the text is no router file, and at which line: first an indented line in no block, then a banner that does not end, and then what its lines say
+-- why the text is no router file, and at which line: first an indented line in no block, then a
+-- banner that does not end, and then what its lines say
 abbrev pub IsFaulty : List ℕ → ℕ → Kind → Type 0
 IsFaulty text line kind =
     ((kind ≡ kinds.OrphanLine) × HasOrphanAt text line)
-    ⊎ (((kind ≡ kinds.BadWord) × HasOpenBannerAt text line × ((other : ℕ) → ¬ HasOrphanAt text other))
+    ⊎ (((kind ≡ kinds.BadWord)
+    × HasOpenBannerAt text line × ((other : ℕ) → ¬ HasOrphanAt text other))
     ⊎ SaysWrong text line kind)
 
 -- the refusal of the first text that is no router file
@@ -72,40 +75,47 @@ abbrev pub Assembles : List ℕ → ℕ → Document → List Config → Result 
 Assembles down most_entries doc configs result =
     Answers (RefusesWithin down most_entries doc configs) tries (AreRows doc configs) result
 
--- The network of the document and the texts of its router files: these have settings, the network has their rows, and no
--- try refuses them, where the links of these numbers are to be down and no list may have more than so many entries.
-pub record IsNetworkWithin (down : List ℕ) (most_entries : ℕ) (doc : Document) (files : List (List ℕ)) (net : Network)
-    : Type 0 where
+-- The network of the document and the texts of its router files: these have settings, the network
+-- has their rows, and no try refuses them, where the links of these numbers are to be down and no
+-- list may have more than so many entries.
+pub record IsNetworkWithin (down : List ℕ) (most_entries : ℕ) (doc : Document)
+    (files : List (List ℕ)) (net : Network) : Type 0 where
   pub configs : List Config
   pub said : AllZip Says files configs
   pub rows : AreRows doc configs net
   pub clear : AreClear (RefusesWithin down most_entries doc configs) tries
 
 -- the network with the lines of the files, and the places of what it is made of
-pub record IsBuiltWithin (down : List ℕ) (most_entries : ℕ) (doc : Document) (files : List (List ℕ)) (built : Built)
-    : Type 0 where
+pub record IsBuiltWithin (down : List ℕ) (most_entries : ℕ) (doc : Document) (files : List (List ℕ))
+    (built : Built) : Type 0 where
   pub network : IsNetworkWithin down most_entries doc files built.net
   pub lines : AllZip AreLinesOf files built.lines
   pub places : built.places ≡ map places_of network.configs
 
 -- a refusal of the network of files that all have settings
-pub record IsTriedWithin (down : List ℕ) (most_entries : ℕ) (doc : Document) (files : List (List ℕ)) (r : Refusal)
-    : Type 0 where
+pub record IsTriedWithin (down : List ℕ) (most_entries : ℕ) (doc : Document) (files : List (List ℕ))
+    (r : Refusal) : Type 0 where
   pub configs : List Config
   pub said : AllZip Says files configs
   pub first : IsFirstOf (RefusesWithin down most_entries doc configs) tries r
 
--- the first refusal: the first text that is no router file, or else the first refusal of the tries in their order
+-- the first refusal: the first text that is no router file, or else the first refusal of the tries
+-- in their order
 abbrev pub IsFirstRefusalWithin : List ℕ → ℕ → Document → List (List ℕ) → Refusal → Type 0
-IsFirstRefusalWithin down most_entries doc files r = IsFirstFaulty files r ⊎ IsTriedWithin down most_entries doc files r
+IsFirstRefusalWithin down most_entries doc files r =
+    IsFirstFaulty files r ⊎ IsTriedWithin down most_entries doc files r
 
--- the answer is the network, or the first reason why there is none; want of memory may come in place of either
+-- the answer is the network, or the first reason why there is none; want of memory may come in
+-- place of either
 abbrev pub BuildsWithin : List ℕ → ℕ → Document → List (List ℕ) → Result Built NetFault → Type 0
-BuildsWithin down most_entries doc files (Ok built) = IsBuiltWithin down most_entries doc files built
-BuildsWithin down most_entries doc files (Err (Refused r)) = IsFirstRefusalWithin down most_entries doc files r
+BuildsWithin down most_entries doc files (Ok built) =
+    IsBuiltWithin down most_entries doc files built
+BuildsWithin down most_entries doc files (Err (Refused r)) =
+    IsFirstRefusalWithin down most_entries doc files r
 BuildsWithin down most_entries doc files (Err Memory) = Unit {0}
 
--- Where nothing else is asked for, no link is to be down, and a list has at most 16,384 entries: the network,
+-- Where nothing else is asked for, no link is to be down, and a list has at most 16,384 entries:
+-- the network,
 abbrev pub IsNetworkOf : Document → List (List ℕ) → Network → Type 0
 IsNetworkOf doc files net = IsNetworkWithin [] 16384 doc files net
 

@@ -6,8 +6,10 @@ use Rattle.net_doc.specs.declared.fault.NetFault.TheVariants.{Refused, Memory}
 use Rattle.net_model.specs.declared.policies.Document.{Document}
 use Rattle.ios_config.specs.declared.settings.Config.{Config}
 use Rattle.net_build.specs.Reasons.{IsClear, IsFirst}
-use Rattle.net_build.specs.Routers.{RefusesHostname, RefusesProtocol, RefusesTwoAreas, RefusesSameAs}
-use Rattle.net_build.specs.Linking.{RefusesLinkFace, RefusesDownLinks, RefusesLinkSubnets, RefusesAdjacencyForm}
+use Rattle.net_build.specs.Routers.{RefusesHostname, RefusesProtocol, RefusesTwoAreas}
+use Rattle.net_build.specs.Routers.{RefusesSameAs}
+use Rattle.net_build.specs.Linking.{RefusesLinkFace, RefusesDownLinks, RefusesLinkSubnets}
+use Rattle.net_build.specs.Linking.{RefusesAdjacencyForm}
 use Rattle.net_build.specs.Peers.{RefusesNeighbor, RefusesNetwork}
 use Rattle.net_build.specs.Addressing.{RefusesOverlap, RefusesEndpoint}
 use Rattle.net_build.specs.Stops.{RefusesListStopsSession}
@@ -35,19 +37,22 @@ pub data Try : Type 0 where
 abbrev pub router_tries : List Try
 router_tries = Hostname ∷ Protocol ∷ TwoAreas ∷ SameAs ∷ []
 
--- the tries of the links, of those that are to be down, and of the neighbours and networks that the lines of BGP name
+-- the tries of the links, of those that are to be down, and of the neighbours and networks that the
+-- lines of BGP name
 abbrev pub link_tries : List Try
 link_tries = LinkFace ∷ DownLinks ∷ NeighborUnknown ∷ NetworkNotConnected ∷ []
 
 -- the tries of the whole network
 abbrev pub network_tries : List Try
-network_tries = Overlap ∷ LinkSubnets ∷ ListStopsSession ∷ AdjacencyForm ∷ Interfaces ∷ Entries ∷ Endpoint ∷ []
+network_tries =
+    Overlap ∷ LinkSubnets ∷ ListStopsSession ∷ AdjacencyForm ∷ Interfaces ∷ Entries ∷ Endpoint ∷ []
 
 -- the tries in their order
 abbrev pub tries : List Try
 tries = router_tries ++ (link_tries ++ network_tries)
 
--- the refusals that a try makes, where the links of these numbers are to be down and no list may have more than so many entries
+-- the refusals that a try makes, where the links of these numbers are to be down and no list may
+-- have more than so many entries
 abbrev pub RefusesWithin : List ℕ → ℕ → Document → List Config → Try → Refusal → Type 0
 RefusesWithin down most_entries doc configs Hostname = RefusesHostname configs
 RefusesWithin down most_entries doc configs Protocol = RefusesProtocol configs
@@ -79,8 +84,10 @@ abbrev pub AreClear : (Try → Refusal → Type 0) → List Try → Type 0
 AreClear Makes [] = Unit {0}
 AreClear Makes (t ∷ ts) = IsClear (Makes t) × AreClear Makes ts
 
--- the answer of some tries: none refuses anything and the value is right, or it is the first refusal; want of memory may come in place of either
-abbrev pub Answers : {X : Type 0} → (Try → Refusal → Type 0) → List Try → (X → Type 0) → Result X NetFault → Type 0
+-- the answer of some tries: none refuses anything and the value is right, or it is the first
+-- refusal; want of memory may come in place of either
+abbrev pub Answers : {X : Type 0} → (Try → Refusal → Type 0) → List Try → (X → Type 0) →
+    Result X NetFault → Type 0
 Answers Makes ts IsRight (Ok value) = AreClear Makes ts × IsRight value
 Answers Makes ts IsRight (Err (Refused r)) = IsFirstOf Makes ts r
 Answers Makes ts IsRight (Err Memory) = Unit {0}

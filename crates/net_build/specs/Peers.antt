@@ -1,4 +1,5 @@
--- What is asked of the lines of BGP processes: neighbours that are there, and networks that are connected. One definition for each reason.
+-- What is asked of the lines of BGP processes: neighbours that are there, and networks that are
+-- connected. One definition for each reason.
 use Rattle.std.specs.Prelude.{◌≡◌, ℕ, Some, IsSome, List, Any, Contains, option_map}
 use Rattle.arc_base.specs.declared.refusal.Kind.TheVariants as kinds
 use Rattle.arc_base.specs.declared.prefix.Prefix.{Prefix}
@@ -16,7 +17,8 @@ use Rattle.net_build.specs.Rows.{IsSubnet}
 use Rattle.net_build.specs.Reasons.{InFiles}
 
 -- the address is that of the far end of one of the router's links
-pub record IsFarEnd (doc : Document) (configs : List Config) (config : Config) (peer : ℕ) : Type 0 where
+pub record IsFarEnd (doc : Document) (configs : List Config) (config : Config)
+    (peer : ℕ) : Type 0 where
   pub near : FaceText
   pub is_near : Contains config.faces near
   pub far : Site
@@ -25,18 +27,22 @@ pub record IsFarEnd (doc : Document) (configs : List Config) (config : Config) (
   pub address : option_map (λ a. a.0) (address_of far.face) ≡ Some peer
 
 -- the neighbour is known: it is a far end and has an AS
-pub record IsKnown (doc : Document) (configs : List Config) (config : Config) (peer : ℕ) : Type 0 where
+pub record IsKnown (doc : Document) (configs : List Config) (config : Config)
+    (peer : ℕ) : Type 0 where
   pub far_end : IsFarEnd doc configs config peer
   pub remote : IsSome (remote_of (lines_of config) peer)
 
 -- the line names a neighbour that is none of those known
 abbrev pub NamesOther : (ℕ → Type 0) → ℕ → Given Command → Type 0
-NamesOther IsAmong line g = (line ≡ g.line) × ((peer : ℕ) × (names_peer g.value ≡ Some peer) × ¬ IsAmong peer)
+NamesOther IsAmong line g =
+    (line ≡ g.line) × ((peer : ℕ) × (names_peer g.value ≡ Some peer) × ¬ IsAmong peer)
 
 -- a line of BGP that names a neighbour which is not known
 abbrev pub RefusesNeighbor : Document → List Config → Refusal → Type 0
 RefusesNeighbor doc configs =
-    InFiles kinds.NeighborUnknown (λ place config line. Any (NamesOther (IsKnown doc configs config) line) (lines_of config)) configs
+    InFiles kinds.NeighborUnknown
+    (λ place config line. Any (NamesOther (IsKnown doc configs config) line) (lines_of config))
+    configs
 
 -- the prefix is the connected subnet of the interface
 abbrev pub IsConnectedAt : FaceText → Prefix → Type 0
@@ -54,4 +60,5 @@ TellsUnconnected config line g =
 -- a BGP network statement for a prefix that is not connected
 abbrev pub RefusesNetwork : List Config → Refusal → Type 0
 RefusesNetwork configs =
-    InFiles kinds.NetworkNotConnected (λ place config line. Any (TellsUnconnected config line) (lines_of config)) configs
+    InFiles kinds.NetworkNotConnected
+    (λ place config line. Any (TellsUnconnected config line) (lines_of config)) configs

@@ -14,7 +14,12 @@ face_place face = record { head = face.head; last = face.last }
 
 -- where the entries of a list are
 abbrev pub list_place : ListText → ListPlace
-list_place list = record { name = list.name; form = list.form; numbered = list.numbered; entries = map (λ g. g.line) list.entries }
+list_place list = record {
+  name = list.name;
+  form = list.form;
+  numbered = list.numbered;
+  entries = map (λ g. g.line) list.entries;
+}
 
 -- where these are in a file, and where its process begins and has its last command
 abbrev pub places_of : Config → Places

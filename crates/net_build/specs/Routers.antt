@@ -1,5 +1,8 @@
--- What is asked of the routers by themselves: a name, one process, one area, an AS of its own. One definition for each reason.
-use Rattle.std.specs.Prelude.{◌≡◌, ◌≢◌, ℕ, ◌<◌, ◌⊎◌, Option, Some, None, IsSomeAnd, unwrap_or, List, [], ◌∷◌, ◌++◌, take, slice_get, Any, Contains, MatchOption, option_map, option_and_then}
+-- What is asked of the routers by themselves: a name, one process, one area, an AS of its own. One
+-- definition for each reason.
+use Rattle.std.specs.Prelude.{◌≡◌, ◌≢◌, ℕ, ◌<◌, ◌⊎◌, Option, Some, None, IsSomeAnd, unwrap_or, List}
+use Rattle.std.specs.Prelude.{[], ◌∷◌, ◌++◌, take, slice_get, Any, Contains, MatchOption}
+use Rattle.std.specs.Prelude.{option_map, option_and_then}
 use Rattle.std.specs.List.{filter_map}
 use Rattle.arc_base.specs.declared.refusal.Kind.TheVariants as kinds
 use Rattle.net_doc.specs.declared.fault.Refusal.{Refusal}
@@ -23,7 +26,8 @@ NamesRouter name config = IsSomeAnd config.hostname (λ s. s.name ≡ name)
 -- the router has no name, or one of the routers before it has the same
 abbrev pub HasNoOwnName : List Config → ℕ → Config → ℕ → Type 0
 HasNoOwnName configs place config line =
-    MatchOption config.hostname (line ≡ 0) (λ s. (line ≡ s.line) × Any (NamesRouter s.name) (take place configs))
+    MatchOption config.hostname (line ≡ 0) (λ s.
+    (line ≡ s.line) × Any (NamesRouter s.name) (take place configs))
 
 -- a router that has no name of its own
 abbrev pub RefusesHostname : List Config → Refusal → Type 0
@@ -37,26 +41,31 @@ protocol_of_kind processes.Bgp = Bgp
 -- the protocol of the network is that of the first router's process
 abbrev pub protocol_of : List Config → Protocol
 protocol_of [] = Ospf
-protocol_of (config ∷ configs) = unwrap_or (option_map (λ p. protocol_of_kind p.kind) (process_of config)) Ospf
+protocol_of (config ∷ configs) =
+    unwrap_or (option_map (λ p. protocol_of_kind p.kind) (process_of config)) Ospf
 
 -- an interface takes part in an OSPF process of another number, by this line
 abbrev pub NamesOtherProcess : ProcessText → ℕ → FaceText → Type 0
-NamesOtherProcess process line face = IsSomeAnd face.area (λ g. (line ≡ g.line) × (g.value.process ≢ process.number))
+NamesOtherProcess process line face =
+    IsSomeAnd face.area (λ g. (line ≡ g.line) × (g.value.process ≢ process.number))
 
 -- the process block has this head and runs another protocol
 abbrev pub RunsOther : Protocol → ℕ → ProcessText → Type 0
 RunsOther protocol line process = (line ≡ process.head) × (protocol_of_kind process.kind ≢ protocol)
 
--- what is wrong in a file whose first process is this: it has a second one, names another one at an interface, or runs another protocol
+-- what is wrong in a file whose first process is this: it has a second one, names another one at an
+-- interface, or runs another protocol
 abbrev pub MixesProcesses : Protocol → Config → ProcessText → ℕ → Type 0
 MixesProcesses protocol config process line =
     IsSomeAnd (slice_get config.process 1) (λ second. line ≡ second.head)
-    ⊎ (Any (NamesOtherProcess process line) config.faces ⊎ Any (RunsOther protocol line) config.process)
+    ⊎ (Any (NamesOtherProcess process line) config.faces
+    ⊎ Any (RunsOther protocol line) config.process)
 
 -- the router has no process, or that is wrong
 abbrev pub HasNoOwnProcess : List Config → ℕ → Config → ℕ → Type 0
 HasNoOwnProcess configs place config line =
-    MatchOption (process_of config) (line ≡ 0) (λ process. MixesProcesses (protocol_of configs) config process line)
+    MatchOption (process_of config) (line ≡ 0) (λ process.
+    MixesProcesses (protocol_of configs) config process line)
 
 -- a router that has not just one process, of the network's protocol
 abbrev pub RefusesProtocol : List Config → Refusal → Type 0
@@ -75,7 +84,8 @@ line_area g = option_map (λ area. record { value = area; line = g.line }) (area
 abbrev pub face_area : FaceText → Option (Given ℕ)
 face_area face = option_map (λ g. record { value = g.value.area; line = g.line }) face.area
 
--- the OSPF areas that the file names: those of the network statements of its process, and those of its interfaces
+-- the OSPF areas that the file names: those of the network statements of its process, and those of
+-- its interfaces
 abbrev pub areas_of : Config → List (Given ℕ)
 areas_of config = filter_map line_area (lines_of config) ++ filter_map face_area config.faces
 
@@ -87,7 +97,8 @@ pub record IsFirstArea (configs : List Config) (area : ℕ) : Type 0 where
   pub given : Given ℕ
   pub named : Contains (areas_of config) given
   pub is_area : given.value ≡ area
-  pub first : (k : ℕ) (c : Config) (other : Given ℕ) → slice_get configs k ≡ Some c → Contains (areas_of c) other → ¬ ((k < place) ⊎ ((k ≡ place) × (other.line < given.line)))
+  pub first : (k : ℕ) (c : Config) (other : Given ℕ) → slice_get configs k ≡ Some c →
+      Contains (areas_of c) other → ¬ ((k < place) ⊎ ((k ≡ place) × (other.line < given.line)))
 
 -- the area stands at this line, and is another than that
 abbrev pub IsOther : ℕ → ℕ → Given ℕ → Type 0
@@ -101,7 +112,8 @@ pub record NamesOtherArea (configs : List Config) (config : Config) (line : ℕ)
 
 -- a line that names another OSPF area than the first
 abbrev pub RefusesTwoAreas : List Config → Refusal → Type 0
-RefusesTwoAreas configs = InFiles kinds.TwoAreas (λ place config line. NamesOtherArea configs config line) configs
+RefusesTwoAreas configs =
+    InFiles kinds.TwoAreas (λ place config line. NamesOtherArea configs config line) configs
 
 -- the file gives this number, where it may give one at a line
 abbrev pub Gives : (Config → Option (Given ℕ)) → ℕ → Config → Type 0
@@ -110,7 +122,8 @@ Gives number_of n config = IsSomeAnd (number_of config) (λ given. given.value �
 -- one of the files before gives the same number as this one, which gives it at this line
 abbrev pub Repeats : (Config → Option (Given ℕ)) → List Config → ℕ → Config → ℕ → Type 0
 Repeats number_of configs place config line =
-    IsSomeAnd (number_of config) (λ given. (line ≡ given.line) × Any (Gives number_of given.value) (take place configs))
+    IsSomeAnd (number_of config) (λ given.
+    (line ≡ given.line) × Any (Gives number_of given.value) (take place configs))
 
 -- the AS of a BGP process, with the line at which its block begins
 abbrev pub as_of_process : ProcessKind → ProcessText → Option (Given ℕ)

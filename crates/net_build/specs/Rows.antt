@@ -1,5 +1,7 @@
 -- The rows that the router files and the document give to the network.
-use Rattle.std.specs.Prelude.{◌≡◌, ◌<◌, ℕ, ◌↔◌, Bool, false, IsTrue, Option, Some, None, IsSome, IsSomeAnd, is_some, List, unwrap_or, option_map, slice_get, Any, Contains, if◌then◌else◌, not, [], map}
+use Rattle.std.specs.Prelude.{◌≡◌, ◌<◌, ℕ, ◌↔◌, Bool, false, IsTrue, Option, Some, None, IsSome}
+use Rattle.std.specs.Prelude.{IsSomeAnd, is_some, List, unwrap_or, option_map, slice_get, Any}
+use Rattle.std.specs.Prelude.{Contains, if◌then◌else◌, not, [], map}
 use Rattle.std.specs.List.{AllZip}
 use Rattle.arc_base.specs.declared.prefix.Prefix.{Prefix}
 use Rattle.net_model.specs.declared.policies.Document.{Document}
@@ -18,11 +20,14 @@ use Rattle.ios_config.specs.declared.settings.Given.{Given}
 use Rattle.ios_config.specs.declared.settings.Config.{Config}
 use Rattle.ios_config.specs.declared.settings.FaceText.{FaceText}
 use Rattle.net_build.specs.Kinds.{kind_of, is_loopback}
-use Rattle.net_build.specs.Settings.{value, process_of, lines_of, address_of, IsPrefixAt, is_up, cost_of, is_passive, IsEnabled}
-use Rattle.net_build.specs.Sites.{Site, FullName, sites, host_name, full_name, full_names, a_end, b_end, ends_of}
+use Rattle.net_build.specs.Settings.{value, process_of, lines_of, address_of, IsPrefixAt, is_up}
+use Rattle.net_build.specs.Settings.{cost_of, is_passive, IsEnabled}
+use Rattle.net_build.specs.Sites.{Site, FullName, sites, host_name, full_name, full_names, a_end}
+use Rattle.net_build.specs.Sites.{b_end, ends_of}
 use Rattle.net_build.specs.Routers.{protocol_of}
 use Rattle.net_build.specs.Neighbors.{remote_of, is_down, filter_of}
-use Rattle.net_build.specs.Lists.{AreListNames, ArePacketLists, AreRouteLists, IsPlaceAmong, packet_list_key, route_list_key}
+use Rattle.net_build.specs.Lists.{AreListNames, ArePacketLists, AreRouteLists, IsPlaceAmong}
+use Rattle.net_build.specs.Lists.{packet_list_key, route_list_key}
 use Rattle.net_build.specs.Ordered.{AreInOrder, IsPairBefore}
 
 -- the AS of the file's process, and 0 under OSPF
@@ -43,7 +48,8 @@ IsSubnet (Some address) subnet = IsSomeAnd subnet (IsPrefixAt address.0 address.
 
 -- OSPF advertises a loopback's own address alone, unless the interface is said to be point-to-point
 abbrev pub is_host_route : Protocol → FaceText → Bool
-is_host_route Ospf face = if is_loopback (kind_of face.name) then not (unwrap_or (value face.point) false) else false
+is_host_route Ospf face =
+    if is_loopback (kind_of face.name) then not (unwrap_or (value face.point) false) else false
 is_host_route Bgp face = false
 
 -- how many bits the host network of the interface has, if its mask has so many
@@ -52,24 +58,29 @@ host_len protocol face mask_len = if is_host_route protocol face then 32 else ma
 
 -- the address of the interface with the length of its host network
 abbrev pub host_address_of : Protocol → FaceText → Option (ℕ × ℕ)
-host_address_of protocol face = option_map (λ a. (a.0, host_len protocol face a.1)) (address_of face)
+host_address_of protocol face =
+    option_map (λ a. (a.0, host_len protocol face a.1)) (address_of face)
 
 -- the interface is one of these ends of links
 abbrev pub IsEnd : List FullName → Site → Type 0
 IsEnd ends site = Contains ends (full_name site)
 
 -- the host network of an interface, which a link's end does not have
-pub record IsHost (protocol : Protocol) (ends : List FullName) (site : Site) (host : Option Prefix) : Type 0 where
+pub record IsHost (protocol : Protocol) (ends : List FullName) (site : Site)
+    (host : Option Prefix) : Type 0 where
   pub at_end : IsEnd ends site → host ≡ None
   pub elsewhere : ¬ IsEnd ends site → IsSubnet (host_address_of protocol site.face) host
 
--- the router tells its neighbours of the host network: under OSPF where the interface takes part, under eBGP where a network statement names it exactly
+-- the router tells its neighbours of the host network: under OSPF where the interface takes part,
+-- under eBGP where a network statement names it exactly
 abbrev pub TellsHost : Protocol → List (Given Command) → Option Prefix → Bool → Type 0
 TellsHost Ospf lines host enabled = IsSome host × IsTrue enabled
 TellsHost Bgp lines host enabled = IsSomeAnd host (λ p. Any (λ g. g.value ≡ commands.Tells p) lines)
 
--- what the network says of an interface, where these are the ends of links, and packet lists have these routers and names
-pub record IsFaceRow (protocol : Protocol) (ends : List FullName) (lists : List (ℕ × List ℕ)) (site : Site) (row : FaceRow) : Type 0 where
+-- what the network says of an interface, where these are the ends of links, and packet lists have
+-- these routers and names
+pub record IsFaceRow (protocol : Protocol) (ends : List FullName) (lists : List (ℕ × List ℕ))
+    (site : Site) (row : FaceRow) : Type 0 where
   pub router : row.router.0 ≡ site.router
   pub name : row.name ≡ site.face.name
   pub addr : row.addr ≡ option_map (λ a. a.0) (address_of site.face)
@@ -90,15 +101,19 @@ pub record IsLinkRow (names : List FullName) (link : LinkText) (row : LinkRow) :
   pub b : slice_get names row.b.0 ≡ Some (b_end link)
   pub waypoint : row.waypoint ≡ link.waypoint
 
--- the file, which is that of this router, configures the session's neighbour as the session says; the route lists have these routers and names
-pub record IsConfigured (lists : List (ℕ × List ℕ)) (router : ℕ) (config : Config) (session : SessionRow) : Type 0 where
+-- the file, which is that of this router, configures the session's neighbour as the session says;
+-- the route lists have these routers and names
+pub record IsConfigured (lists : List (ℕ × List ℕ)) (router : ℕ) (config : Config)
+    (session : SessionRow) : Type 0 where
   pub remote : remote_of (lines_of config) session.peer ≡ Some session.remote
   pub down : session.down ≡ is_down (lines_of config) session.peer
   pub bound : session.bound ≡ is_some (filter_of (lines_of config) session.peer)
   pub filter : IsPlaceAmong lists router (filter_of (lines_of config) session.peer) session.filter
 
--- at this end of a link the file of the interface configures a neighbour, with the address of the far end
-pub record IsSessionOf (configs : List Config) (links : List LinkRow) (lists : List (ℕ × List ℕ)) (link : ℕ) (from_a : Bool) (session : SessionRow) : Type 0 where
+-- at this end of a link the file of the interface configures a neighbour, with the address of the
+-- far end
+pub record IsSessionOf (configs : List Config) (links : List LinkRow) (lists : List (ℕ × List ℕ))
+    (link : ℕ) (from_a : Bool) (session : SessionRow) : Type 0 where
   pub row : LinkRow
   pub at_link : slice_get links link ≡ Some row
   pub near : Site
@@ -110,32 +125,41 @@ pub record IsSessionOf (configs : List Config) (links : List LinkRow) (lists : L
   pub configured : IsConfigured lists near.router near.config session
 
 -- a session is that of some end of a link
-pub record IsSession (configs : List Config) (links : List LinkRow) (lists : List (ℕ × List ℕ)) (session : SessionRow) : Type 0 where
+pub record IsSession (configs : List Config) (links : List LinkRow) (lists : List (ℕ × List ℕ))
+    (session : SessionRow) : Type 0 where
   pub link : ℕ
   pub from_a : Bool
   pub session_of : IsSessionOf configs links lists link from_a session
 
 -- the one session comes before the other: by router, and then in the order of their links
-abbrev pub IsSessionBefore : List Config → List LinkRow → List (ℕ × List ℕ) → SessionRow → SessionRow → Type 0
+abbrev pub IsSessionBefore : List Config → List LinkRow → List (ℕ × List ℕ) →
+    SessionRow → SessionRow → Type 0
 IsSessionBefore configs links lists s t =
-    (i j : ℕ) (from to : Bool) (one : IsSessionOf configs links lists i from s) (other : IsSessionOf configs links lists j to t) →
+    (i j : ℕ) (from to : Bool) (one : IsSessionOf configs links lists i from s)
+    (other : IsSessionOf configs links lists j to t) →
     IsPairBefore ◌<◌ (one.near.router, i) (other.near.router, j)
 
 -- these are the sessions of the network: none under OSPF
-abbrev pub AreSessions : Protocol → List Config → List LinkRow → List (ℕ × List ℕ) → List SessionRow → Type 0
+abbrev pub AreSessions : Protocol → List Config → List LinkRow → List (ℕ × List ℕ) →
+    List SessionRow → Type 0
 AreSessions Ospf configs links lists sessions = sessions ≡ []
-AreSessions Bgp configs links lists sessions = AreInOrder (IsSessionBefore configs links lists) (IsSession configs links lists) sessions
+AreSessions Bgp configs links lists sessions =
+    AreInOrder (IsSessionBefore configs links lists) (IsSession configs links lists) sessions
 
--- the network has the routers of the files, their interfaces and lists, and the document's links, each in its order, and nothing else
+-- the network has the routers of the files, their interfaces and lists, and the document's links,
+-- each in its order, and nothing else
 pub record AreBaseRows (doc : Document) (configs : List Config) (net : Network) : Type 0 where
   pub protocol : net.protocol ≡ protocol_of configs
   pub routers : AllZip (IsRouterRow net.protocol) configs net.routers
   pub packet_lists : ArePacketLists configs net.packet_lists
-  pub faces : AllZip (IsFaceRow net.protocol (ends_of doc.links) (map packet_list_key net.packet_lists)) (sites configs) net.faces
+  pub faces :
+      AllZip (IsFaceRow net.protocol (ends_of doc.links) (map packet_list_key net.packet_lists))
+      (sites configs) net.faces
   pub links : AllZip (IsLinkRow (full_names configs)) doc.links net.links
   pub route_lists : AreRouteLists configs net.route_lists
 
 -- and it has their sessions
 pub record AreRows (doc : Document) (configs : List Config) (net : Network) : Type 0 where
   pub base : AreBaseRows doc configs net
-  pub sessions : AreSessions net.protocol configs net.links (map route_list_key net.route_lists) net.sessions
+  pub sessions :
+      AreSessions net.protocol configs net.links (map route_list_key net.route_lists) net.sessions

@@ -1,5 +1,8 @@
--- What the settings of one router file come to: the address, cost and type of an interface, and what takes part in OSPF.
-use Rattle.std.specs.Prelude.{◌≡◌, ℕ, ◌*◌, ◌/◌, ◌⊎◌, Bool, false, not, bytes_eq, Option, Some, None, IsSome, IsSomeAnd, unwrap_or, List, [], min, max, slice_get, Any, if◌then◌else◌, option_map, option_and_then}
+-- What the settings of one router file come to: the address, cost and type of an interface, and
+-- what takes part in OSPF.
+use Rattle.std.specs.Prelude.{◌≡◌, ℕ, ◌*◌, ◌/◌, ◌⊎◌, Bool, false, not, bytes_eq, Option, Some, None}
+use Rattle.std.specs.Prelude.{IsSome, IsSomeAnd, unwrap_or, List, [], min, max, slice_get, Any}
+use Rattle.std.specs.Prelude.{if◌then◌else◌, option_map, option_and_then}
 use Rattle.std.specs.List.{filter_map, last_or}
 use Rattle.arc_base.specs.Addresses.{Holds}
 use Rattle.arc_base.specs.declared.prefix.Prefix.{Prefix}
@@ -31,7 +34,8 @@ last_said says lines = last_or None (filter_map (λ g. says g.value) lines)
 
 -- the interface's address and the length of its mask, which one line gives
 abbrev pub address_of : FaceText → Option (ℕ × ℕ)
-address_of face = option_and_then (λ a. option_map (λ m. (a, m)) (value face.mask_len)) (value face.addr)
+address_of face =
+    option_and_then (λ a. option_map (λ m. (a, m)) (value face.mask_len)) (value face.addr)
 
 -- the prefix of this length that holds the address
 abbrev pub IsPrefixAt : ℕ → ℕ → Prefix → Type 0
@@ -68,7 +72,8 @@ says_passive name (commands.Passive on None) = Some on
 says_passive name (commands.Passive on (Some face)) = if bytes_eq face name then Some on else None
 says_passive name other = None
 
--- the interface is passive, as the last line says that speaks of it or of all; without one it is not, and under eBGP it never is
+-- the interface is passive, as the last line says that speaks of it or of all; without one it is
+-- not, and under eBGP it never is
 abbrev pub is_passive : Protocol → List (Given Command) → List ℕ → Bool
 is_passive Ospf lines name = unwrap_or (last_said (says_passive name) lines) false
 is_passive Bgp lines name = false
@@ -78,10 +83,13 @@ abbrev pub CommandCovers : ℕ → Command → Type 0
 CommandCovers address (commands.Covers prefix area) = Holds prefix address
 CommandCovers address other = ⊥
 
--- the interface takes part in OSPF: it is enabled by name, or a network statement covers its address
+-- the interface takes part in OSPF: it is enabled by name, or a network statement covers its
+-- address
 abbrev pub IsEnabled : List (Given Command) → FaceText → Type 0
-IsEnabled lines face = IsSome face.area ⊎ IsSomeAnd (address_of face) (λ address. Any (λ g. CommandCovers address.0 g.value) lines)
+IsEnabled lines face = IsSome face.area ⊎
+    IsSomeAnd (address_of face) (λ address. Any (λ g. CommandCovers address.0 g.value) lines)
 
--- the OSPF network type is point-to-point: as is set, or else for a serial interface; otherwise it is broadcast
+-- the OSPF network type is point-to-point: as is set, or else for a serial interface; otherwise it
+-- is broadcast
 abbrev pub is_point_to_point : FaceText → Bool
 is_point_to_point face = unwrap_or (value face.point) (is_serial (kind_of face.name))

@@ -14,7 +14,8 @@ pub record Site : Type 0 where
 
 -- the interfaces of the file at a place, in file order
 abbrev pub sites_of : ℕ × Config → List Site
-sites_of placed = map (λ face. record { router = placed.0; config = placed.1; face = face }) placed.1.faces
+sites_of placed =
+    map (λ face. record { router = placed.0; config = placed.1; face = face }) placed.1.faces
 
 -- the interfaces of all files, one file after another
 abbrev pub sites : List Config → List Site

@@ -1,5 +1,6 @@
 -- The ends of links at which a list stops the protocol, as they are found link by link.
-use Rattle.std.specs.Prelude.{◌≡◌, ℕ, ◌+◌, Bool, nat_lt, ◌==◌, ◌&&◌, ◌||◌, if◌then◌else◌, Option, Some, None, MatchOption, List, slice_get, option_map, unwrap_or, Any}
+use Rattle.std.specs.Prelude.{◌≡◌, ℕ, ◌+◌, Bool, nat_lt, ◌==◌, ◌&&◌, ◌||◌, if◌then◌else◌, Option}
+use Rattle.std.specs.Prelude.{Some, None, MatchOption, List, slice_get, option_map, unwrap_or, Any}
 use Rattle.arc_base.specs.declared.refusal.Kind.TheVariants as kinds
 use Rattle.net_doc.specs.declared.fault.Refusal.{Refusal}
 use Rattle.net_model.specs.declared.rows.FaceRow.{FaceRow}
@@ -16,8 +17,10 @@ use Rattle.net_build.specs.Stops.{StopsPackets}
 abbrev pub list_line : FaceText → ℕ
 list_line face = unwrap_or (option_map (λ g. g.line) face.list_in) 0
 
--- the link is able, and the list at the one end stops the packets of the other, which are interfaces with these rows
-pub record StopsBetween (net : Network) (link : LinkRow) (from_a : Bool) (tail head : FaceRow) : Type 0 where
+-- the link is able, and the list at the one end stops the packets of the other, which are
+-- interfaces with these rows
+pub record StopsBetween (net : Network) (link : LinkRow) (from_a : Bool)
+    (tail head : FaceRow) : Type 0 where
   pub at_tail : slice_get net.faces (tail_end link from_a).0 ≡ Some tail
   pub at_head : slice_get net.faces (head_end link from_a).0 ≡ Some head
   pub able_tail : IsAbleEnd net (session_at net (tail_end link from_a)) tail head
@@ -28,10 +31,12 @@ pub record StopsBetween (net : Network) (link : LinkRow) (from_a : Bool) (tail h
 pub record IsRefusalAt (configs : List Config) (place : ℕ) (r : Refusal) : Type 0 where
   pub site : Site
   pub at_place : slice_get (sites configs) place ≡ Some site
-  pub told : r ≡ record { file = site.router + 1; number = list_line site.face; kind = kinds.ListStopsSession }
+  pub told : r ≡
+      record { file = site.router + 1; number = list_line site.face; kind = kinds.ListStopsSession }
 
 -- the refusal of the end of the link at which the arc in this direction ends, for such a list
-pub record StopsAt (net : Network) (configs : List Config) (link : LinkRow) (from_a : Bool) (r : Refusal) : Type 0 where
+pub record StopsAt (net : Network) (configs : List Config) (link : LinkRow) (from_a : Bool)
+    (r : Refusal) : Type 0 where
   pub tail : FaceRow
   pub head : FaceRow
   pub between : StopsBetween net link from_a tail head
@@ -39,7 +44,8 @@ pub record StopsAt (net : Network) (configs : List Config) (link : LinkRow) (fro
 
 -- the refusals at the ends of some of these links
 abbrev pub StopsAtSome : Network → List Config → List LinkRow → Refusal → Type 0
-StopsAtSome net configs links r = Any (λ link. (from_a : Bool) × StopsAt net configs link from_a r) links
+StopsAtSome net configs links r =
+    Any (λ link. (from_a : Bool) × StopsAt net configs link from_a r) links
 
 -- what was found is the first refusal that the reason makes, or it makes none
 abbrev pub FindsFirst : (Refusal → Type 0) → Option Refusal → Type 0

@@ -1,4 +1,5 @@
-//! What two routers must have alike or different to become neighbours: network types and router ids.
+//! What two routers must have alike or different to become neighbours: network types and router
+//! ids.
 ghost use Rattle.std.specs.Prelude.{◌≡◌, ◌≤◌, ◌↔◌, length, None, IsTrue, option_map, slice_get};
 ghost use Rattle.net_build.specs.Settings.{is_point_to_point};
 ghost use Rattle.net_build.specs.Sites.{full_names, sites};
@@ -7,7 +8,8 @@ ghost use Rattle.arc_base.specs.declared.refusal.Kind.TheVariants as kinds;
 ghost use Rattle.net_model.specs.declared.policies.Document.{Document};
 ghost use Rattle.net_build.specs.Reasons.{TriedAlone, InFiles, InDocument};
 ghost use Rattle.net_build.specs.Rows.{AreRows};
-ghost use Rattle.net_build.specs.Linking.{RefusesAdjacencyForm, TypesDiffer, says_router_id, router_id_line, router_id_of};
+ghost use Rattle.net_build.specs.Linking.{RefusesAdjacencyForm, TypesDiffer, says_router_id};
+ghost use Rattle.net_build.specs.Linking.{router_id_line, router_id_of};
 ghost use Rattle.net_build.specs.Routers.{Repeats};
 ghost use Rattle.std.specs.List.{filter_map, last_or};
 
@@ -26,7 +28,8 @@ use std::alloc::Global;
 
 /// The OSPF network type of the interface at a place.
 fn type_at(configs: &List<Config>, face: Face) -> Option<bool>
-    ensures { result ≡ option_map (λ site. is_point_to_point site.face) (slice_get (sites configs.now) face.0) }
+    ensures { result
+        ≡ option_map (λ site. is_point_to_point site.face) (slice_get (sites configs.now) face.0) }
 {
     match spot_at(configs, face.0) {
         Some(spot) => Some(has_point_type(spot.face)),
@@ -87,7 +90,9 @@ fn router_id_of(config: &Config) -> Option<Given<u32>>
 
 fn try_types(net: &Network, configs: &List<Config>) -> Result<(), NetFault>
     requires { length net.now.links ≤ 1024 }
-    ensures { TriedAlone (InDocument kinds.AdjacencyForm (λ place link. TypesDiffer configs.now link) net.now.links) result }
+    ensures { TriedAlone
+        (InDocument kinds.AdjacencyForm (λ place link. TypesDiffer configs.now link) net.now.links)
+        result }
 {
     for (place, link) in net.links.slice().iter().enumerate() {
         if types_differ(configs, link) {
@@ -99,7 +104,8 @@ fn try_types(net: &Network, configs: &List<Config>) -> Result<(), NetFault>
 
 fn try_router_ids(alloc: Global, configs: &List<Config>) -> Result<(), NetFault>
     requires { length configs.now ≤ 256 }
-    ensures { TriedAlone (InFiles kinds.AdjacencyForm (Repeats router_id_of configs.now) configs.now) result }
+    ensures { TriedAlone
+        (InFiles kinds.AdjacencyForm (Repeats router_id_of configs.now) configs.now) result }
 {
     let mut ids = IndexSet::new(alloc);
     for (place, config) in configs.slice().iter().enumerate() {
@@ -111,12 +117,14 @@ fn try_router_ids(alloc: Global, configs: &List<Config>) -> Result<(), NetFault>
     Ok(())
 }
 
-/// Tries whether the ends of each link have one network type, and each router a router id of its own.
+/// Tries whether the ends of each link have one network type, and each router a router id of its
+/// own.
 pub fn try_adjacency(alloc: Global, net: &Network, configs: &List<Config>) -> Result<(), NetFault>
     requires links { length net.now.links ≤ 1024 }
     requires routers { length configs.now ≤ 256 }
     requires named { AreDistinct (full_names configs.now) }
-    ensures { (doc : Document) → AreRows doc configs.now net.now → TriedAlone (RefusesAdjacencyForm doc configs.now) result }
+    ensures { (doc : Document) → AreRows doc configs.now net.now →
+        TriedAlone (RefusesAdjacencyForm doc configs.now) result }
 {
     try_types(net, configs)?;
     try_router_ids(alloc, configs)

@@ -1,10 +1,12 @@
 //! The OSPF areas that the files name: one in all.
-ghost use Rattle.std.specs.Prelude.{◌≡◌, [], ◌++◌, ◌≤◌, ◌<◌, ℕ, length, IfOk, OnOk, MatchOption, Any};
+ghost use Rattle.std.specs.Prelude.{◌≡◌, [], ◌++◌, ◌≤◌, ◌<◌, ℕ, length, IfOk, OnOk, MatchOption};
+ghost use Rattle.std.specs.Prelude.{Any};
 ghost use Rattle.std.specs.List.{filter_map, cons_option};
 ghost use Rattle.ios_config.specs.Least.{FindsLeast};
 ghost use Rattle.net_build.specs.Reasons.{TriedAlone};
 ghost use Rattle.net_build.specs.Growing.{sooner, IsSoonest, line_of_other};
-ghost use Rattle.net_build.specs.Routers.{RefusesTwoAreas, area_of_command, line_area, face_area, areas_of, IsFirstArea, IsOther};
+ghost use Rattle.net_build.specs.Routers.{RefusesTwoAreas, area_of_command, line_area, face_area};
+ghost use Rattle.net_build.specs.Routers.{areas_of, IsFirstArea, IsOther};
 
 use crate::processes::lines_of;
 use crate::reasons::in_file;
@@ -119,7 +121,8 @@ fn soonest(areas: &[Given<u32>]) -> Option<Given<u32>>
 
 /// The first area that the files name.
 fn first_area(alloc: Global, configs: &List<Config>) -> Result<Option<u32>, Memory>
-    ensures { IfOk result (λ found. MatchOption found ((area : ℕ) → ¬ IsFirstArea configs.now area) (IsFirstArea configs.now)) }
+    ensures { IfOk result (λ found.
+        MatchOption found ((area : ℕ) → ¬ IsFirstArea configs.now area) (IsFirstArea configs.now)) }
 {
     for config in configs.slice() {
         let areas = areas_of(alloc, config)?;

@@ -6,13 +6,15 @@ ghost use Rattle.net_model.specs.Validity.{IsValid};
 ghost use Rattle.net_build.specs.Sites.{sites, full_names, ends_of};
 ghost use Rattle.net_build.specs.Names.{names_at};
 ghost use Rattle.arc_base.specs.Lists.{AreDistinct};
-ghost use Rattle.net_build.specs.Lists.{ArePacketLists, AreRouteLists, packet_list_key, route_list_key};
+ghost use Rattle.net_build.specs.Lists.{ArePacketLists, AreRouteLists, packet_list_key};
+ghost use Rattle.net_build.specs.Lists.{route_list_key};
 ghost use Rattle.net_build.specs.Rows.{IsFaceRow, IsLinkRow, AreBaseRows, AreRows, AreSessions};
 ghost use Rattle.net_build.specs.Reasons.{IsClear};
 ghost use Rattle.net_build.specs.Routers.{RefusesHostname};
 ghost use Rattle.net_build.specs.Linking.{RefusesLinkFace};
 ghost use Rattle.net_build.specs.Addressing.{HasEndpoints};
-ghost use Rattle.net_build.specs.Order.{RefusesWithin, Answers, router_tries, link_tries, network_tries};
+ghost use Rattle.net_build.specs.Order.{RefusesWithin, Answers, router_tries, link_tries};
+ghost use Rattle.net_build.specs.Order.{network_tries};
 ghost use Rattle.net_build.specs.Forms.{IsWellFormed};
 ghost use Rattle.net_build.specs.Networks.{Assembles};
 
@@ -62,7 +64,9 @@ fn faces_of(
     requires few { length configs.now ≤ 256 }
     requires well_formed { All IsWellFormed configs.now }
     requires lists { ArePacketLists configs.now lists.now }
-    ensures { IfOk result (AllZip (IsFaceRow protocol (names_at ends.now.keys) (map packet_list_key lists.now)) (sites configs.now)) }
+    ensures { IfOk result
+        (AllZip (IsFaceRow protocol (names_at ends.now.keys) (map packet_list_key lists.now))
+        (sites configs.now)) }
 {
     let lists = index_packet_lists(alloc, lists)?;
     let around = Surroundings {
@@ -80,8 +84,10 @@ fn sessions_of(
 ) -> Result<List<SessionRow>, Memory>
     requires few { length configs.now ≤ 256 }
     requires lists { AreRouteLists configs.now net.now.route_lists }
-    ensures { IfOk result (λ sessions. (doc : Document) → IsClear (RefusesLinkFace doc configs.now) → AreBaseRows doc configs.now net.now →
-        AreSessions net.now.protocol configs.now net.now.links (map route_list_key net.now.route_lists) sessions) }
+    ensures { IfOk result (λ sessions. (doc : Document) →
+        IsClear (RefusesLinkFace doc configs.now) → AreBaseRows doc configs.now net.now →
+        AreSessions net.now.protocol configs.now net.now.links
+        (map route_list_key net.now.route_lists) sessions) }
 {
     let lists = index_route_lists(alloc, &net.route_lists)?;
     session_rows(alloc, net, configs, &lists)
@@ -96,7 +102,9 @@ fn rows(
 ) -> Result<Network, Memory>
     requires few { length configs.now ≤ 256 }
     requires well_formed { All IsWellFormed configs.now }
-    ensures { IfOk result (λ net. (doc : Document) → names_at ends.now.keys ≡ ends_of doc.links → AllZip (IsLinkRow (full_names configs.now)) doc.links links → AreBaseRows doc configs.now net) }
+    ensures { IfOk result (λ net. (doc : Document) → names_at ends.now.keys ≡ ends_of doc.links →
+        AllZip (IsLinkRow (full_names configs.now)) doc.links links →
+        AreBaseRows doc configs.now net) }
 {
     let protocol = protocol_of(configs);
     let routers = router_rows(alloc, protocol, configs)?;
@@ -114,7 +122,8 @@ fn rows(
     })
 }
 
-/// The network, once the routers are tried: or the first refusal of the links and of what stands on them.
+/// The network, once the routers are tried: or the first refusal of the links and of what stands on
+/// them.
 fn joined(
     alloc: Global,
     doc: &Document,
@@ -126,7 +135,8 @@ fn joined(
     requires well_formed { All IsWellFormed configs.now }
     requires named { AreDistinct (full_names configs.now) }
     ensures { (most : ℕ) →
-        Answers (RefusesWithin down.now most doc.now configs.now) link_tries (AreRows doc.now configs.now) result }
+        Answers (RefusesWithin down.now most doc.now configs.now) link_tries
+        (AreRows doc.now configs.now) result }
 {
     let names = index_names(alloc, configs)?;
     let mut ends = IndexSet::new(alloc);
@@ -155,9 +165,11 @@ fn try_network(
     requires joined { IsClear (RefusesLinkFace doc.now configs.now) }
     requires rows { AreRows doc.now configs.now net.now }
     ensures answer { (down : List ℕ) →
-        Answers (RefusesWithin down most_entries doc.now configs.now) network_tries (λ done. Unit {0}) result }
+        Answers (RefusesWithin down most_entries doc.now configs.now) network_tries
+        (λ done. Unit {0}) result }
     ensures valid { OnOk result (IsValid net.now) }
-    ensures ends { OnOk result (All (λ policy. HasEndpoints net.now policy.from policy.to) doc.now.policies) }
+    ensures ends { OnOk result
+        (All (λ policy. HasEndpoints net.now policy.from policy.to) doc.now.policies) }
 {
     try_overlap(alloc, net, configs)?;
     try_subnets(net)?;
@@ -168,7 +180,8 @@ fn try_network(
     try_endpoints(net, doc)
 }
 
-/// The network of a document and of the settings of the files that it names, in the document's order.
+/// The network of a document and of the settings of the files that it names, in the document's
+/// order.
 pub fn assemble(
     alloc: Global,
     doc: &Document,
@@ -182,7 +195,8 @@ pub fn assemble(
     requires well_formed { All IsWellFormed configs.now }
     ensures answer { Assembles down.now most_entries doc.now configs.now result }
     ensures valid { IfOk result IsValid }
-    ensures ends { IfOk result (λ net. All (λ policy. HasEndpoints net policy.from policy.to) doc.now.policies) }
+    ensures ends { IfOk result (λ net.
+        All (λ policy. HasEndpoints net policy.from policy.to) doc.now.policies) }
 {
     try_routers(alloc, configs)?;
     let net = joined(alloc, doc, configs, down)?;

@@ -1,4 +1,5 @@
-//! The names of the lists that a router file binds: packet lists at its interfaces, and route lists at its neighbours.
+//! The names of the lists that a router file binds: packet lists at its interfaces, and route lists
+//! at its neighbours.
 ghost use Rattle.std.specs.Prelude.{◌≡◌, ℕ, OnOk, IfOk, Some, option_map, nat_eq};
 ghost use Rattle.std.specs.Option.{option_or};
 ghost use Rattle.indexmap.specs.IndexMap.{get, IsUnique};
@@ -19,7 +20,8 @@ use std::collections::BTreeSet;
 pub type Names<'a> = BTreeSet<&'a [u8]>;
 
 fn add_group<'a>(names: &mut Names<'a>, group: &'a Option<Given<Name>>) -> Result<(), Memory>
-    ensures { OnOk result (Adds (λ name. value group.now ≡ Some name) names.old.keys names.new.keys) }
+    ensures { OnOk result
+        (Adds (λ name. value group.now ≡ Some name) names.old.keys names.new.keys) }
 {
     match group {
         Some(given) => {
@@ -55,7 +57,10 @@ fn route_binding(command: &Command) -> Option<(u32, &Name)>
 fn add_filter<'a>(filters: &mut IndexMap<u32, &'a [u8]>, command: &'a Command) -> Result<(), Memory>
     requires { IsUnique nat_eq filters.old }
     ensures unique { OnOk result (IsUnique nat_eq filters.new) }
-    ensures filters { OnOk result ((peer : ℕ) → option_map (λ n. n.now) (get nat_eq filters.new peer) ≡ option_or (says_filter peer command.now) (option_map (λ n. n.now) (get nat_eq filters.old peer))) }
+    ensures filters { OnOk result ((peer : ℕ) →
+        option_map (λ n. n.now) (get nat_eq filters.new peer)
+        ≡ option_or (says_filter peer command.now)
+        (option_map (λ n. n.now) (get nat_eq filters.old peer))) }
 {
     match route_binding(command) {
         Some((peer, list)) => {
@@ -72,7 +77,8 @@ fn filters<'a>(
     lines: &'a [Given<Command>],
 ) -> Result<IndexMap<u32, &'a [u8]>, Memory>
     ensures unique { IfOk result (λ filters. IsUnique nat_eq filters) }
-    ensures filters { IfOk result (λ filters. (peer : ℕ) → option_map (λ n. n.now) (get nat_eq filters peer) ≡ filter_of lines.now peer) }
+    ensures filters { IfOk result (λ filters. (peer : ℕ) →
+        option_map (λ n. n.now) (get nat_eq filters peer) ≡ filter_of lines.now peer) }
 {
     let mut filters = IndexMap::new(alloc);
     for line in lines {

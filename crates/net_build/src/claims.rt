@@ -2,7 +2,8 @@ ghost use Rattle.std.specs.Prelude.{◌↔◌, ◌<◌, ◌≤◌, IsTrue, lengt
 
 use arc_base::Prefix;
 
-/// A subnet that the interface at a place claims, and the place of the other end of its link, or its own place again.
+/// A subnet that the interface at a place claims, and the place of the other end of its link, or
+/// its own place again.
 #[derive(Clone, Copy, Debug)]
 pub struct Claim {
     pub subnet: Prefix,

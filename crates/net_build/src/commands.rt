@@ -1,9 +1,10 @@
-//! What the lines of a process say of the reference bandwidth and of a neighbour. The last line that speaks of a matter
-//! decides.
+//! What the lines of a process say of the reference bandwidth and of a neighbour. The last line
+//! that speaks of a matter decides.
 ghost use Rattle.std.specs.Prelude.{◌≡◌};
 ghost use Rattle.std.specs.Option.{option_copied};
 ghost use Rattle.net_build.specs.Settings.{last_said, says_reference, reference_of};
-ghost use Rattle.net_build.specs.Neighbors.{says_remote, says_down, says_filter, remote_of, is_down, filter_of};
+ghost use Rattle.net_build.specs.Neighbors.{says_remote, says_down, says_filter, remote_of};
+ghost use Rattle.net_build.specs.Neighbors.{is_down, filter_of};
 
 use arc_base::Name;
 use ios_config::Given;

@@ -28,8 +28,10 @@ pub fn has_endpoints(net: &Network, from: Prefix, to: Prefix) -> bool
 pub fn try_endpoints(net: &Network, doc: &Document) -> Result<(), NetFault>
     requires few { length doc.now.policies ≤ 256 }
     requires valid { IsValid net.now }
-    ensures tried { TriedAlone (InDocument kinds.Endpoint (λ place policy. ¬ HasEndpoints net.now policy.from policy.to) doc.now.policies) result }
-    ensures ends { OnOk result (All (λ policy. HasEndpoints net.now policy.from policy.to) doc.now.policies) }
+    ensures tried { TriedAlone (InDocument kinds.Endpoint
+        (λ place policy. ¬ HasEndpoints net.now policy.from policy.to) doc.now.policies) result }
+    ensures ends { OnOk result
+        (All (λ policy. HasEndpoints net.now policy.from policy.to) doc.now.policies) }
 {
     for (place, policy) in doc.policies.slice().iter().enumerate() {
         if !has_endpoints(net, policy.from, policy.to) {

@@ -1,13 +1,16 @@
 //! The rows of routers and interfaces.
-ghost use Rattle.std.specs.Prelude.{◌≡◌, ◌≤◌, ◌<◌, ◌^◌, ◌++◌, All, List, IfOk, OnOk, IsTrue, ◌↔◌, length, MatchBool, Some, None, option_map, IfSome, unwrap_or};
+ghost use Rattle.std.specs.Prelude.{◌≡◌, ◌≤◌, ◌<◌, ◌^◌, ◌++◌, All, List, IfOk, OnOk, IsTrue, ◌↔◌};
+ghost use Rattle.std.specs.Prelude.{length, MatchBool, Some, None, option_map, IfSome, unwrap_or};
 ghost use Rattle.std.specs.List.{AllZip};
 ghost use Rattle.net_build.specs.Forms.{IsWellFormed, IsWellFormedFace};
-ghost use Rattle.net_build.specs.Settings.{value, address_of, is_up, bandwidth_of, cost_at, IsEnabled, is_point_to_point, lines_of};
+ghost use Rattle.net_build.specs.Settings.{value, address_of, is_up, bandwidth_of, cost_at};
+ghost use Rattle.net_build.specs.Settings.{IsEnabled, is_point_to_point, lines_of};
 ghost use Rattle.net_build.specs.Sites.{Site, sites_of, sites};
 ghost use Rattle.net_build.specs.Names.{names_at};
 ghost use Rattle.net_build.specs.Lists.{keys_at};
 ghost use Rattle.net_build.specs.Indexes.{IsIndex};
-ghost use Rattle.net_build.specs.Rows.{IsRouterRow, asn_of, IsSubnet, is_host_route, host_address_of, TellsHost, IsFaceRow};
+ghost use Rattle.net_build.specs.Rows.{IsRouterRow, asn_of, IsSubnet, is_host_route};
+ghost use Rattle.net_build.specs.Rows.{host_address_of, TellsHost, IsFaceRow};
 
 use crate::kinds::FaceKind;
 use crate::lists::list_names;
@@ -134,7 +137,8 @@ fn host_address_of(protocol: Protocol, face: &FaceText) -> Option<(u32, u8)>
 /// The host network of the interface, if it is no link's end.
 fn host_of(protocol: Protocol, face: &FaceText, is_end: bool) -> Option<Prefix>
     requires { IsWellFormedFace face.now }
-    ensures { MatchBool is_end (result ≡ None) (IsSubnet (host_address_of protocol face.now) result) }
+    ensures { MatchBool is_end (result ≡ None)
+        (IsSubnet (host_address_of protocol face.now) result) }
 {
     if is_end {
         return None;
@@ -226,7 +230,8 @@ fn face_row(
     requires index { IsIndex index.now }
     requires well_formed { IsWellFormedFace face.now }
     requires few { length around.now.lists.now.keys < 2 ^ 32 }
-    ensures { IfOk result (IsFaceRow around.now.protocol (names_at around.now.ends.now.keys) (keys_at around.now.lists.now.keys)
+    ensures { IfOk result (IsFaceRow around.now.protocol (names_at around.now.ends.now.keys)
+        (keys_at around.now.lists.now.keys)
         (record { router = router; config = index.now.config.now; face = face.now })) }
 {
     let is_end = contains_name(around.ends, host_name(index.config), face.name.bytes());
@@ -270,8 +275,11 @@ fn add_face_rows(
     requires well_formed { IsWellFormed config.now }
     requires few { length around.now.lists.now.keys < 2 ^ 32 }
     ensures { OnOk result ((before : List Site) →
-        AllZip (IsFaceRow around.now.protocol (names_at around.now.ends.now.keys) (keys_at around.now.lists.now.keys)) before rows.old.items →
-        AllZip (IsFaceRow around.now.protocol (names_at around.now.ends.now.keys) (keys_at around.now.lists.now.keys)) (before ++ sites_of (router, config.now)) rows.new.items) }
+        AllZip (IsFaceRow around.now.protocol (names_at around.now.ends.now.keys)
+        (keys_at around.now.lists.now.keys)) before rows.old.items →
+        AllZip (IsFaceRow around.now.protocol (names_at around.now.ends.now.keys)
+        (keys_at around.now.lists.now.keys))
+        (before ++ sites_of (router, config.now)) rows.new.items) }
 {
     let index = index_process(alloc, config)?;
     for face in config.faces.slice() {
@@ -289,7 +297,8 @@ pub fn face_rows(
     requires well_formed { All IsWellFormed configs.now }
     requires few { length around.now.lists.now.keys < 2 ^ 32 }
     requires routers { length configs.now ≤ 256 }
-    ensures { IfOk result (AllZip (IsFaceRow around.now.protocol (names_at around.now.ends.now.keys) (keys_at around.now.lists.now.keys)) (sites configs.now)) }
+    ensures { IfOk result (AllZip (IsFaceRow around.now.protocol (names_at around.now.ends.now.keys)
+        (keys_at around.now.lists.now.keys)) (sites configs.now)) }
 {
     let mut rows = Vec::new(alloc);
     for (router, config) in configs.slice().iter().enumerate() {

@@ -50,7 +50,8 @@ impl FaceKind {
         }
     }
 
-    /// Whether it is a serial interface, whose OSPF network type is point-to-point unless a line says otherwise.
+    /// Whether it is a serial interface, whose OSPF network type is point-to-point unless a line
+    /// says otherwise.
     pub fn is_serial(self) -> bool
         ensures { result ≡ is_serial self }
     {

@@ -4,40 +4,50 @@ ghost use Rattle.arc_base.specs.declared.refusal.Kind.TheVariants as kinds;
 ghost use Rattle.net_doc.specs.declared.fault.Refusal.{Refusal};
 ghost use Rattle.net_model.specs.declared.policies.Document.{Document};
 ghost use Rattle.net_model.specs.declared.rows.Network.{Network};
-ghost use Rattle.net_build.specs.Appends.{ABindingLineCounts, ANeighborLineCounts, APassiveLineCounts};
-ghost use Rattle.net_build.specs.Networks.{IsNetworkOf, IsNetworkWithin, IsBuilt, IsBuiltWithin, IsFirstRefusalWithin};
+ghost use Rattle.net_build.specs.Appends.{ABindingLineCounts, ANeighborLineCounts};
+ghost use Rattle.net_build.specs.Appends.{APassiveLineCounts};
+ghost use Rattle.net_build.specs.Networks.{IsNetworkOf, IsNetworkWithin, IsBuilt, IsBuiltWithin};
+ghost use Rattle.net_build.specs.Networks.{IsFirstRefusalWithin};
 ghost use Rattle.net_build.specs.declared.built.Built.{Built};
 
-/// A document and its files have one network at most, or one first refusal, and never both: whatever links are to be
-/// down, and however many entries a list may have.
+/// A document and its files have one network at most, or one first refusal, and never both:
+/// whatever links are to be down, and however many entries a list may have.
 pub fn files_have_one_answer()
-    ensures one_network { (down : List ℕ) (most : ℕ) (doc : Document) (files : List (List ℕ)) (net other : Network) →
-        IsNetworkWithin down most doc files net → IsNetworkWithin down most doc files other → net ≡ other }
-    ensures one_refusal { (down : List ℕ) (most : ℕ) (doc : Document) (files : List (List ℕ)) (r s : Refusal) →
-        IsFirstRefusalWithin down most doc files r → IsFirstRefusalWithin down most doc files s → r ≡ s }
-    ensures not_both { (down : List ℕ) (most : ℕ) (doc : Document) (files : List (List ℕ)) (net : Network) (r : Refusal) →
+    ensures one_network { (down : List ℕ) (most : ℕ) (doc : Document) (files : List (List ℕ))
+        (net other : Network) →
+        IsNetworkWithin down most doc files net →
+        IsNetworkWithin down most doc files other → net ≡ other }
+    ensures one_refusal { (down : List ℕ) (most : ℕ)
+        (doc : Document) (files : List (List ℕ)) (r s : Refusal) →
+        IsFirstRefusalWithin down most doc files r →
+        IsFirstRefusalWithin down most doc files s → r ≡ s }
+    ensures not_both { (down : List ℕ) (most : ℕ) (doc : Document) (files : List (List ℕ))
+        (net : Network) (r : Refusal) →
         IsNetworkWithin down most doc files net → IsFirstRefusalWithin down most doc files r → ⊥ }
 {}
 
 /// No refusal says that a file is missing or too long: that is for those to say who read the files.
 pub fn refusals_are_of_what_files_say()
-    ensures never_missing { (down : List ℕ) (most : ℕ) (doc : Document) (files : List (List ℕ)) (r : Refusal) →
-        IsFirstRefusalWithin down most doc files r → r.kind ≡ kinds.Missing → ⊥ }
-    ensures never_too_long { (down : List ℕ) (most : ℕ) (doc : Document) (files : List (List ℕ)) (r : Refusal) →
-        IsFirstRefusalWithin down most doc files r → r.kind ≡ kinds.TooLong → ⊥ }
+    ensures never_missing { (down : List ℕ) (most : ℕ) (doc : Document) (files : List (List ℕ))
+        (r : Refusal) → IsFirstRefusalWithin down most doc files r → r.kind ≡ kinds.Missing → ⊥ }
+    ensures never_too_long { (down : List ℕ) (most : ℕ) (doc : Document) (files : List (List ℕ))
+        (r : Refusal) → IsFirstRefusalWithin down most doc files r → r.kind ≡ kinds.TooLong → ⊥ }
 {}
 
-/// What is asked for besides does not change the network: where a list may have fewer entries, or links are to be down,
-/// and nothing is refused, the network is that of the document and its files.
+/// What is asked for besides does not change the network: where a list may have fewer entries, or
+/// links are to be down, and nothing is refused, the network is that of the document and its files.
 pub fn asking_more_changes_no_network()
-    ensures network { (down : List ℕ) (most : ℕ) (doc : Document) (files : List (List ℕ)) (net : Network) → most ≤ 16384 →
+    ensures network { (down : List ℕ) (most : ℕ) (doc : Document) (files : List (List ℕ))
+        (net : Network) → most ≤ 16384 →
         IsNetworkWithin down most doc files net → IsNetworkOf doc files net }
-    ensures built { (down : List ℕ) (most : ℕ) (doc : Document) (files : List (List ℕ)) (built : Built) → most ≤ 16384 →
+    ensures built { (down : List ℕ) (most : ℕ) (doc : Document) (files : List (List ℕ))
+        (built : Built) → most ≤ 16384 →
         IsBuiltWithin down most doc files built → IsBuilt doc files built }
 {}
 
-/// What the last line of a process says counts: an interface is passive, a neighbour shut down or its list bound as
-/// the last line says that speaks of it, and a line more changes nothing that it does not speak of.
+/// What the last line of a process says counts: an interface is passive, a neighbour shut down or
+/// its list bound as the last line says that speaks of it, and a line more changes nothing that it
+/// does not speak of.
 pub fn the_last_line_counts()
     ensures passive { APassiveLineCounts }
     ensures neighbor { ANeighborLineCounts }

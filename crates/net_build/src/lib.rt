@@ -1,5 +1,5 @@
-//! The network that a document and its router files stand for, or the first reason why there is none. Each condition on
-//! them is a definition of its own, and so is each row of the network.
+//! The network that a document and its router files stand for, or the first reason why there is
+//! none. Each condition on them is a definition of its own, and so is each row of the network.
 #![tactic(auto)]
 
 mod adjacency;

@@ -1,5 +1,6 @@
 //! The links of the document: the interfaces that they join.
-ghost use Rattle.std.specs.Prelude.{◌≡◌, ◌≢◌, ◌⊎◌, ◌≤◌, [], ◌∷◌, ◌++◌, Contains, IfOk, OnOk, MatchBool, MatchOption, length};
+ghost use Rattle.std.specs.Prelude.{◌≡◌, ◌≢◌, ◌⊎◌, ◌≤◌, [], ◌∷◌, ◌++◌, Contains, IfOk, OnOk};
+ghost use Rattle.std.specs.Prelude.{MatchBool, MatchOption, length};
 ghost use Rattle.std.specs.List.{AllZip};
 ghost use Rattle.net_build.specs.Sites.{a_end, b_end, ends_of, full_names};
 ghost use Rattle.net_build.specs.Names.{names_at};
@@ -17,12 +18,13 @@ use net_doc::NetFault;
 use net_model::{Document, LinkRow, LinkText};
 use std::alloc::Global;
 
-/// The row of a link, or `None` where it does not join two interfaces as it should. Whether another link uses them is
-/// not asked here.
+/// The row of a link, or `None` where it does not join two interfaces as it should. Whether another
+/// link uses them is not asked here.
 fn link_row(names: &IndexSet<FullName<'_>>, link: &LinkText) -> Result<Option<LinkRow>, Memory>
     ensures { IfOk result (λ found. MatchOption found
         (¬ JoinsNamed (names_at names.now.keys) link.now)
-        (λ row. JoinsNamed (names_at names.now.keys) link.now × IsLinkRow (names_at names.now.keys) link.now row)) }
+        (λ row. JoinsNamed (names_at names.now.keys) link.now ×
+        IsLinkRow (names_at names.now.keys) link.now row)) }
 {
     if FaceKind::of(link.a_face.bytes()).is_loopback() {
         return Ok(None);
@@ -60,9 +62,11 @@ pub fn narrow(place: usize) -> Result<u32, Memory>
 fn add_ends<'a>(ends: &mut IndexSet<FullName<'a>>, link: &'a LinkText) -> Result<bool, Memory>
     requires { a_end link.now ≢ b_end link.now }
     ensures { IfOk result (λ new. MatchBool new
-        ((¬ Contains (names_at ends.old.keys) (a_end link.now)) × (¬ Contains (names_at ends.old.keys) (b_end link.now))
-        × (names_at ends.new.keys ≡ names_at ends.old.keys ++ (a_end link.now ∷ b_end link.now ∷ [])))
-        (Contains (names_at ends.old.keys) (a_end link.now) ⊎ Contains (names_at ends.old.keys) (b_end link.now))) }
+        ((¬ Contains (names_at ends.old.keys) (a_end link.now))
+        × (¬ Contains (names_at ends.old.keys) (b_end link.now)) × (names_at ends.new.keys
+        ≡ names_at ends.old.keys ++ (a_end link.now ∷ b_end link.now ∷ [])))
+        (Contains (names_at ends.old.keys) (a_end link.now)
+        ⊎ Contains (names_at ends.old.keys) (b_end link.now))) }
 {
     let a_new = add_name(ends, link.a_router.bytes(), link.a_face.bytes())?;
     if !a_new {
@@ -72,8 +76,8 @@ fn add_ends<'a>(ends: &mut IndexSet<FullName<'a>>, link: &'a LinkText) -> Result
     Ok(b_new)
 }
 
-/// Tries whether each link joins two interfaces as it should, and gives the rows of the links. Their ends are added to an
-/// index, which is empty before.
+/// Tries whether each link joins two interfaces as it should, and gives the rows of the links.
+/// Their ends are added to an index, which is empty before.
 pub fn try_links<'a>(
     alloc: Global,
     doc: &'a Document,
@@ -84,7 +88,8 @@ pub fn try_links<'a>(
     requires names { names_at names.now.keys ≡ full_names configs.now }
     requires empty { ends.old.keys ≡ [] }
     requires few { length doc.now.links ≤ 1024 }
-    ensures tried { Tried (RefusesLinkFace doc.now configs.now) (AllZip (IsLinkRow (full_names configs.now)) doc.now.links) result }
+    ensures tried { Tried (RefusesLinkFace doc.now configs.now)
+        (AllZip (IsLinkRow (full_names configs.now)) doc.now.links) result }
     ensures ends { OnOk result (names_at ends.new.keys ≡ ends_of doc.now.links) }
 {
     let mut rows = List::make(alloc);

@@ -1,7 +1,11 @@
 //! The lists of router files: their names, and the rows of those that are bound and defined.
-ghost use Rattle.std.specs.Prelude.{◌≡◌, ◌≤◌, ◌<◌, ◌^◌, ◌-◌, ◌++◌, ℕ, List, Any, IfOk, OnOk, option_map, length, AllPairs};
+ghost use Rattle.std.specs.Prelude.{◌≡◌, ◌≤◌, ◌<◌, ◌^◌, ◌-◌, ◌++◌, ℕ, List, Any, IfOk, OnOk};
+ghost use Rattle.std.specs.Prelude.{option_map, length, AllPairs};
 ghost use Rattle.std.specs.Option.{option_copied, option_or, option_to_list};
-ghost use Rattle.net_build.specs.Lists.{AreListNames, ArePacketLists, AreRouteLists, is_packet_kind, is_extended_kind, entry_of, packet_entry, route_entry, packet_entries, route_entries, is_of_kind, list_named, if_defined, packet_row, route_row};
+ghost use Rattle.net_build.specs.Lists.{AreListNames, ArePacketLists, AreRouteLists};
+ghost use Rattle.net_build.specs.Lists.{is_packet_kind, is_extended_kind, entry_of, packet_entry};
+ghost use Rattle.net_build.specs.Lists.{route_entry, packet_entries, route_entries, is_of_kind};
+ghost use Rattle.net_build.specs.Lists.{list_named, if_defined, packet_row, route_row};
 ghost use Rattle.arc_base.specs.NameForms.{IsNameBefore, texts_at};
 ghost use Rattle.net_build.specs.ListTables.{Adds, list_at, list_if, AddsPacketRows, AddsRouteRows};
 
@@ -17,7 +21,8 @@ use std::collections::{BTreeMap, BTreeSet};
 type ByName<'a> = BTreeMap<&'a [u8], &'a ListText>;
 
 fn add_defined<'a>(names: &mut Names<'a>, config: &'a Config) -> Result<(), Memory>
-    ensures { OnOk result (Adds (λ name. Any (λ l. l.name ≡ name) config.now.lists) names.old.keys names.new.keys) }
+    ensures { OnOk result
+        (Adds (λ name. Any (λ l. l.name ≡ name) config.now.lists) names.old.keys names.new.keys) }
 {
     for list in config.lists.slice() {
         names.insert(list.name.bytes())?;
@@ -77,7 +82,8 @@ fn is_of_kind(packet: bool, list: &ListText) -> bool
 
 /// Adds the list if it is of the kind and no list of its name is there.
 fn add_list<'a>(lists: &mut ByName<'a>, packet: bool, list: &'a ListText) -> Result<(), Memory>
-    ensures { OnOk result ((name : List ℕ) → list_at lists.new name ≡ option_or (list_at lists.old name) (list_if packet list.now name)) }
+    ensures { OnOk result ((name : List ℕ) → list_at lists.new name
+        ≡ option_or (list_at lists.old name) (list_if packet list.now name)) }
 {
     if !is_of_kind(packet, list) {
         return Ok(());
@@ -91,7 +97,8 @@ fn add_list<'a>(lists: &mut ByName<'a>, packet: bool, list: &'a ListText) -> Res
 
 /// The packet lists of the file or its route lists by name: of each name the first.
 fn by_name<'a>(alloc: Global, config: &'a Config, packet: bool) -> Result<ByName<'a>, Memory>
-    ensures { IfOk result (λ lists. (name : List ℕ) → list_at lists name ≡ list_named packet config.now name) }
+    ensures { IfOk result (λ lists. (name : List ℕ) →
+        list_at lists name ≡ list_named packet config.now name) }
 {
     let mut lists = BTreeMap::new(alloc);
     for list in config.lists.slice() {
@@ -230,7 +237,8 @@ fn add_packet_row(
     name: &[u8],
     found: Option<&ListText>,
 ) -> Result<(), Memory>
-    ensures { OnOk result (rows.new.items ≡ rows.old.items ++ option_to_list (option_map (packet_row router name.now) (if_defined (option_copied found.entry)))) }
+    ensures { OnOk result (rows.new.items ≡ rows.old.items ++ option_to_list
+        (option_map (packet_row router name.now) (if_defined (option_copied found.entry)))) }
 {
     match defined(found) {
         Some(list) => {
@@ -268,7 +276,8 @@ fn add_route_row(
     name: &[u8],
     found: Option<&ListText>,
 ) -> Result<(), Memory>
-    ensures { OnOk result (rows.new.items ≡ rows.old.items ++ option_to_list (option_map (route_row router name.now) (if_defined (option_copied found.entry)))) }
+    ensures { OnOk result (rows.new.items ≡ rows.old.items ++ option_to_list
+        (option_map (route_row router name.now) (if_defined (option_copied found.entry)))) }
 {
     match defined(found) {
         Some(list) => {

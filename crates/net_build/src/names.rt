@@ -1,5 +1,7 @@
 //! The full names of interfaces, in indexes that hold them by reference.
-ghost use Rattle.std.specs.Prelude.{◌≡◌, ℕ, ◌<◌, ◌≤◌, ◌^◌, [], ◌∷◌, ◌++◌, Contains, IfOk, MatchBool, MatchOption, Some, length, slice_get, OnOk, IsTrue, ◌↔◌};
+ghost use Rattle.std.specs.Prelude.{◌≡◌, ℕ, ◌<◌, ◌≤◌, ◌^◌, [], ◌∷◌, ◌++◌, Contains, IfOk};
+ghost use Rattle.std.specs.Prelude.{MatchBool, MatchOption, Some, length, slice_get, OnOk, IsTrue};
+ghost use Rattle.std.specs.Prelude.{◌↔◌};
 ghost use Rattle.net_build.specs.Sites.{full_names, host_name};
 ghost use Rattle.net_build.specs.Names.{names_at, file_names};
 ghost use Rattle.arc_base.specs.Lists.{AreDistinct};
@@ -40,7 +42,8 @@ pub fn add_name<'a>(
 /// Adds the names of a file's interfaces, which are new.
 fn add_file<'a>(names: &mut IndexSet<FullName<'a>>, config: &'a Config) -> Result<(), Memory>
     requires { AreDistinct (names_at names.old.keys ++ file_names config.now) }
-    ensures { OnOk result (names_at names.new.keys ≡ names_at names.old.keys ++ file_names config.now) }
+    ensures { OnOk result
+        (names_at names.new.keys ≡ names_at names.old.keys ++ file_names config.now) }
 {
     let router = host_name(config);
     for face in config.faces.slice() {

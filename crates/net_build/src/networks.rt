@@ -18,8 +18,9 @@ use std::alloc::Global;
 /// How many entries a list may have, where files are only read.
 const MOST_ENTRIES: u32 = 16_384;
 
-/// The network of the document and of the texts of its router files, which stand in the document's order, or the first
-/// refusal: `network_within` with no link down, and at most 16,384 entries in a list.
+/// The network of the document and of the texts of its router files, which stand in the document's
+/// order, or the first refusal: `network_within` with no link down, and at most 16,384 entries in a
+/// list.
 pub fn network(alloc: Global, doc: &Document, files: &List<Name>) -> Result<Built, NetFault>
     requires count { length files.now ≡ length doc.now.routers }
     requires few { All (λ text. length text < 2 ^ 32) files.now }
@@ -28,16 +29,18 @@ pub fn network(alloc: Global, doc: &Document, files: &List<Name>) -> Result<Buil
     requires policies { length doc.now.policies ≤ 256 }
     ensures answer { Builds doc.now files.now result }
     ensures valid { IfOk result (λ built. IsValid built.net) }
-    ensures ends { IfOk result (λ built. All (λ policy. HasEnds built.net (subject policy)) doc.now.policies) }
+    ensures ends { IfOk result (λ built.
+        All (λ policy. HasEnds built.net (subject policy)) doc.now.policies) }
 {
     network_within(alloc, doc, files, &[], MOST_ENTRIES)
 }
 
-/// The network of the document and of the texts of its router files, which stand in the document's order, or the first
-/// refusal. First each file is read by itself, one after another. Then what they say together is tried, one reason after
-/// another. Links that are to be down are given by their numbers in the document, counted from 1: that each of them
-/// is a link's is tried right after the links, and the network is the same with them up. No list may have more than so
-/// many entries. Want of memory may come in place of either.
+/// The network of the document and of the texts of its router files, which stand in the document's
+/// order, or the first refusal. First each file is read by itself, one after another. Then what
+/// they say together is tried, one reason after another. Links that are to be down are given by
+/// their numbers in the document, counted from 1: that each of them is a link's is tried right
+/// after the links, and the network is the same with them up. No list may have more than so many
+/// entries. Want of memory may come in place of either.
 pub fn network_within(
     alloc: Global,
     doc: &Document,
@@ -53,7 +56,8 @@ pub fn network_within(
     ensures answer { BuildsWithin down.now most_entries doc.now files.now result }
     ensures down { IfOk result (λ built. first_above (length built.net.links) down.now ≡ None) }
     ensures valid { IfOk result (λ built. IsValid built.net) }
-    ensures ends { IfOk result (λ built. All (λ policy. HasEnds built.net (subject policy)) doc.now.policies) }
+    ensures ends { IfOk result (λ built.
+        All (λ policy. HasEnds built.net (subject policy)) doc.now.policies) }
 {
     let read = read_files(alloc, files)?;
     let net = assemble(alloc, doc, &read.configs, down, most_entries)?;

@@ -1,9 +1,12 @@
-//! Subnets that overlap. They are sorted, so that one that overlaps another stands next to one that it overlaps.
-ghost use Rattle.std.specs.Prelude.{[], ◌++◌, ◌≡◌, ◌≢◌, ◌↔◌, ◌<◌, ◌≤◌, ◌^◌, IsTrue, IfOk, IfNone, OnOk, MatchBool, MatchOption, All, AllPairs, length, ℕ, take};
+//! Subnets that overlap. They are sorted, so that one that overlaps another stands next to one that
+//! it overlaps.
+ghost use Rattle.std.specs.Prelude.{[], ◌++◌, ◌≡◌, ◌≢◌, ◌↔◌, ◌<◌, ◌≤◌, ◌^◌, IsTrue, IfOk, IfNone};
+ghost use Rattle.std.specs.Prelude.{OnOk, MatchBool, MatchOption, All, AllPairs, length, ℕ, take};
 ghost use Rattle.std.specs.List.{range_with_len, cons_option};
 ghost use Rattle.net_model.specs.Validity.{AreLinksApart};
 ghost use Rattle.net_model.specs.declared.policies.Document.{Document};
-ghost use Rattle.net_build.specs.Claims.{AreLinkedOrApart, AreOfPartners, ArePartners, AreClaimsOf, ClearBelow, claim_of};
+ghost use Rattle.net_build.specs.Claims.{AreLinkedOrApart, AreOfPartners, ArePartners, AreClaimsOf};
+ghost use Rattle.net_build.specs.Claims.{ClearBelow, claim_of};
 ghost use Rattle.std.specs.Option.{option_map_or};
 ghost use Rattle.arc_base.specs.Lists.{AreDistinct};
 ghost use Rattle.net_build.specs.Sites.{full_names, sites};
@@ -23,7 +26,8 @@ use std::alloc::Global;
 /// Whether no two claims overlap, but for those of the two ends of a link.
 fn are_linked_or_apart(claims: Vec<Claim>) -> Result<bool, Memory>
     requires { AreOfPartners claims.items }
-    ensures { IfOk result (λ free. MatchBool free (AllPairs AreLinkedOrApart claims.items) (¬ AllPairs AreLinkedOrApart claims.items)) }
+    ensures { IfOk result (λ free. MatchBool free (AllPairs AreLinkedOrApart claims.items)
+        (¬ AllPairs AreLinkedOrApart claims.items)) }
 {
     let mut sorted = claims;
     sorted.sort_by_key(|claim| claim.subnet.addr)?;
@@ -46,7 +50,8 @@ fn partners(alloc: Global, links: &List<LinkRow>, faces: u32) -> Result<Vec<u32>
     requires a_within { All (λ link. link.a.0 < faces) links.now }
     requires b_within { All (λ link. link.b.0 < faces) links.now }
     requires apart { AllPairs AreLinksApart links.now }
-    ensures partners { IfOk result (λ partners. ArePartners (length links.now) links.now partners.items) }
+    ensures partners { IfOk result (λ partners.
+        ArePartners (length links.now) links.now partners.items) }
     ensures long { IfOk result (λ partners. length partners.items ≡ faces) }
 {
     let mut partners = own_places(alloc, faces)?;
@@ -66,7 +71,8 @@ fn add_claim(
     partner: u32,
 ) -> Result<(), Memory>
     requires { place < 2 ^ 32 }
-    ensures { OnOk result (claims.new.items ≡ claims.old.items ++ cons_option (claim_of face.now place partner) []) }
+    ensures { OnOk result
+        (claims.new.items ≡ claims.old.items ++ cons_option (claim_of face.now place partner) []) }
 {
     match face.subnet {
         Some(subnet) => {
@@ -100,7 +106,8 @@ fn is_clear(alloc: Global, net: &Network, partners: &[u32], count: usize) -> Res
     requires long { length partners.now ≡ length net.now.faces }
     requires partners { ArePartners (length net.now.links) net.now.links partners.now }
     requires apart { AllPairs AreLinksApart net.now.links }
-    ensures { IfOk result (λ clear. MatchBool clear (ClearBelow net.now count) (¬ ClearBelow net.now count)) }
+    ensures { IfOk result (λ clear.
+        MatchBool clear (ClearBelow net.now count) (¬ ClearBelow net.now count)) }
 {
     let claims = claims(alloc, &net.faces.slice()[..count], partners)?;
     are_linked_or_apart(claims)
@@ -111,9 +118,11 @@ fn first_overlap(alloc: Global, net: &Network) -> Result<Option<u32>, Memory>
     requires apart { AllPairs AreLinksApart net.now.links }
     requires a_within { All (λ link. link.a.0 < length net.now.faces) net.now.links }
     requires b_within { All (λ link. link.b.0 < length net.now.faces) net.now.links }
-    ensures clear { IfOk result (λ found. IfNone found (ClearBelow net.now (length net.now.faces))) }
-    ensures first { IfOk result (λ found. MatchOption found ((place : ℕ) → ¬ OverlapsEarlier net.now place)
-        (λ place. OverlapsEarlier net.now place × ((k : ℕ) → k < place → ¬ OverlapsEarlier net.now k))) }
+    ensures clear { IfOk result (λ found.
+        IfNone found (ClearBelow net.now (length net.now.faces))) }
+    ensures first { IfOk result (λ found.
+        MatchOption found ((place : ℕ) → ¬ OverlapsEarlier net.now place) (λ place.
+        OverlapsEarlier net.now place × ((k : ℕ) → k < place → ¬ OverlapsEarlier net.now k))) }
 {
     let count = net.faces.len() as usize;
     let partners = partners(alloc, &net.links, net.faces.len())?;
@@ -151,7 +160,8 @@ pub fn try_overlap(alloc: Global, net: &Network, configs: &List<Config>) -> Resu
     requires sites { length (sites configs.now) ≡ length net.now.faces }
     requires a_within { All (λ link. link.a.0 < length net.now.faces) net.now.links }
     requires b_within { All (λ link. link.b.0 < length net.now.faces) net.now.links }
-    ensures tried { (doc : Document) → AreRows doc configs.now net.now → TriedAlone (RefusesOverlap doc configs.now) result }
+    ensures tried { (doc : Document) → AreRows doc configs.now net.now →
+        TriedAlone (RefusesOverlap doc configs.now) result }
     ensures clear { OnOk result (ClearBelow net.now (length net.now.faces)) }
 {
     match first_overlap(alloc, net)? {

@@ -1,5 +1,7 @@
-//! What the lines of BGP processes name: neighbours at the far ends of links, and connected networks.
-ghost use Rattle.std.specs.Prelude.{◌≡◌, ◌≤◌, ◌<◌, ◌^◌, ◌↔◌, ◌⊎◌, ℕ, Any, All, Contains, IfOk, IsTrue, IsSome, length};
+//! What the lines of BGP processes name: neighbours at the far ends of links, and connected
+//! networks.
+ghost use Rattle.std.specs.Prelude.{◌≡◌, ◌≤◌, ◌<◌, ◌^◌, ◌↔◌, ◌⊎◌, ℕ, Any, All, Contains, IfOk};
+ghost use Rattle.std.specs.Prelude.{IsTrue, IsSome, length};
 ghost use Rattle.arc_base.specs.declared.prefix.Prefix.{Prefix};
 ghost use Rattle.ios_config.specs.declared.settings.Given.{Given};
 ghost use Rattle.ios_config.specs.declared.settings.Config.{Config};
@@ -13,8 +15,10 @@ ghost use Rattle.net_build.specs.Reasons.{TriedAlone, InFiles};
 ghost use Rattle.net_build.specs.Rows.{AreBaseRows};
 ghost use Rattle.arc_base.specs.Lists.{AreDistinct};
 ghost use Rattle.net_build.specs.Sites.{full_names};
-ghost use Rattle.net_build.specs.FarEnds.{FindsOnly, LeadsTo, LinkLeadsTo, AddsFarEnd, IsListed, IsReached, gives_remote};
-ghost use Rattle.net_build.specs.Peers.{NamesOther, RefusesNeighbor, RefusesNetwork, IsConnectedAt, TellsUnconnected};
+ghost use Rattle.net_build.specs.FarEnds.{FindsOnly, LeadsTo, LinkLeadsTo, AddsFarEnd, IsListed};
+ghost use Rattle.net_build.specs.FarEnds.{IsReached, gives_remote};
+ghost use Rattle.net_build.specs.Peers.{NamesOther, RefusesNeighbor, RefusesNetwork, IsConnectedAt};
+ghost use Rattle.net_build.specs.Peers.{TellsUnconnected};
 ghost use Rattle.net_build.specs.Prefixes.{HasPrefix};
 ghost use Rattle.net_build.specs.Indexes.{AreSubnets};
 
@@ -66,7 +70,8 @@ fn add_far_end(
 
 /// The far ends of the links of all routers.
 fn far_ends(alloc: Global, net: &Network) -> Result<IndexSet<FarEnd>, Memory>
-    ensures { IfOk result (λ ends. (pair : ℕ × ℕ) → Contains ends.keys pair ↔ Any (LinkLeadsTo net.now.faces pair) net.now.links) }
+    ensures { IfOk result (λ ends. (pair : ℕ × ℕ) →
+        Contains ends.keys pair ↔ Any (LinkLeadsTo net.now.faces pair) net.now.links) }
 {
     let mut ends = IndexSet::new(alloc);
     for link in net.links.slice() {
@@ -87,7 +92,8 @@ fn gives_remote(command: &Command) -> Option<u32>
 }
 
 fn add_remote(peers: &mut IndexSet<u32>, command: &Command) -> Result<(), Memory>
-    ensures { IfOk result (λ done. (peer : ℕ) → Contains peers.new.keys peer ↔ (Contains peers.old.keys peer ⊎ IsSome (says_remote peer command.now))) }
+    ensures { IfOk result (λ done. (peer : ℕ) → Contains peers.new.keys peer ↔
+        (Contains peers.old.keys peer ⊎ IsSome (says_remote peer command.now))) }
 {
     match gives_remote(command) {
         None => Ok(()),
@@ -100,7 +106,8 @@ fn add_remote(peers: &mut IndexSet<u32>, command: &Command) -> Result<(), Memory
 
 /// The neighbours to which the lines give an AS.
 fn remotes(alloc: Global, lines: &[Given<Command>]) -> Result<IndexSet<u32>, Memory>
-    ensures { IfOk result (λ peers. (peer : ℕ) → Contains peers.keys peer ↔ IsSome (remote_of lines.now peer)) }
+    ensures { IfOk result (λ peers. (peer : ℕ) →
+        Contains peers.keys peer ↔ IsSome (remote_of lines.now peer)) }
 {
     let mut peers = IndexSet::new(alloc);
     for line in lines {
@@ -133,7 +140,8 @@ fn names_unknown(
     router: u32,
     line: &Given<Command>,
 ) -> Option<u32>
-    ensures { FindsLeast (λ n. NamesOther (IsListed ends.now.keys remotes.now.keys router) n line.now) result }
+    ensures { FindsLeast
+        (λ n. NamesOther (IsListed ends.now.keys remotes.now.keys router) n line.now) result }
 {
     match names_peer(&line.value) {
         None => None,
@@ -153,7 +161,8 @@ fn unknown_peer(
     router: u32,
     config: &Config,
 ) -> Result<Option<u32>, Memory>
-    ensures { IfOk result (FindsLeast (λ n. Any (NamesOther (IsReached ends.now.keys router config.now) n) (lines_of config.now))) }
+    ensures { IfOk result (FindsLeast (λ n.
+        Any (NamesOther (IsReached ends.now.keys router config.now) n) (lines_of config.now))) }
 {
     let lines = lines_of(config);
     let remotes = remotes(alloc, lines)?;
@@ -167,7 +176,9 @@ fn unknown_peer(
 // Tries whether each neighbour is among these far ends and has an AS.
 fn try_known(alloc: Global, ends: &IndexSet<FarEnd>, configs: &List<Config>) -> Result<(), NetFault>
     requires few { length configs.now ≤ 256 }
-    ensures { TriedAlone (InFiles kinds.NeighborUnknown (λ place config line. Any (NamesOther (IsReached ends.now.keys place config) line) (lines_of config)) configs.now) result }
+    ensures { TriedAlone (InFiles kinds.NeighborUnknown (λ place config line.
+        Any (NamesOther (IsReached ends.now.keys place config) line) (lines_of config)) configs.now)
+        result }
 {
     for (place, config) in configs.slice().iter().enumerate() {
         match unknown_peer(alloc, ends, place as u32, config)? {
@@ -178,11 +189,13 @@ fn try_known(alloc: Global, ends: &IndexSet<FarEnd>, configs: &List<Config>) -> 
     Ok(())
 }
 
-/// Tries whether each neighbour is the far end of a link and has an AS. The network has its interfaces and links.
+/// Tries whether each neighbour is the far end of a link and has an AS. The network has its
+/// interfaces and links.
 pub fn try_neighbors(alloc: Global, net: &Network, configs: &List<Config>) -> Result<(), NetFault>
     requires few { length configs.now ≤ 256 }
     requires named { AreDistinct (full_names configs.now) }
-    ensures { (doc : Document) → AreBaseRows doc configs.now net.now → TriedAlone (RefusesNeighbor doc configs.now) result }
+    ensures { (doc : Document) → AreBaseRows doc configs.now net.now →
+        TriedAlone (RefusesNeighbor doc configs.now) result }
 {
     let ends = far_ends(alloc, net)?;
     try_known(alloc, &ends, configs)
@@ -191,7 +204,8 @@ pub fn try_neighbors(alloc: Global, net: &Network, configs: &List<Config>) -> Re
 /// Adds the connected subnet of the interface, if it has one.
 fn add_subnet(subnets: &mut Prefixes, face: &FaceText) -> Result<(), Memory>
     requires { IsWellFormedFace face.now }
-    ensures { IfOk result (λ done. (p : Prefix) → HasPrefix subnets.new.keys p ↔ (HasPrefix subnets.old.keys p ⊎ IsConnectedAt face.now p)) }
+    ensures { IfOk result (λ done. (p : Prefix) →
+        HasPrefix subnets.new.keys p ↔ (HasPrefix subnets.old.keys p ⊎ IsConnectedAt face.now p)) }
 {
     match subnet_of(address_of(face)) {
         Some(subnet) => {
@@ -216,7 +230,8 @@ fn subnets(alloc: Global, faces: &List<FaceText>) -> Result<Prefixes, Memory>
 
 /// The line, if it is a network statement for none of these subnets.
 fn tells_unconnected(subnets: &Prefixes, line: &Given<Command>) -> Option<u32>
-    ensures { (config : Config) → AreSubnets config.faces subnets.now.keys → FindsLeast (λ n. TellsUnconnected config n line.now) result }
+    ensures { (config : Config) → AreSubnets config.faces subnets.now.keys →
+        FindsLeast (λ n. TellsUnconnected config n line.now) result }
 {
     match &line.value {
         Command::Tells(p) => {
@@ -233,7 +248,8 @@ fn tells_unconnected(subnets: &Prefixes, line: &Given<Command>) -> Option<u32>
 /// The first network statement of the file for a network that is not connected.
 fn unconnected(alloc: Global, config: &Config) -> Result<Option<u32>, Memory>
     requires { IsWellFormed config.now }
-    ensures { IfOk result (FindsLeast (λ n. Any (TellsUnconnected config.now n) (lines_of config.now))) }
+    ensures { IfOk result
+        (FindsLeast (λ n. Any (TellsUnconnected config.now n) (lines_of config.now))) }
 {
     let subnets = subnets(alloc, &config.faces)?;
     let mut least = None;

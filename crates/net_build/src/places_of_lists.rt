@@ -56,7 +56,8 @@ fn place_of_key(index: &IndexSet<ListKey<'_>>, router: u32, name: &[u8]) -> Opti
     }
 }
 
-/// Where the list that the router binds under a name stands: nowhere, if it binds none or it is not defined.
+/// Where the list that the router binds under a name stands: nowhere, if it binds none or it is not
+/// defined.
 pub fn place_of_list(
     index: &IndexSet<ListKey<'_>>,
     router: u32,

@@ -12,7 +12,8 @@ pub type Prefixes = IndexSet<(u32, u8)>;
 
 /// Adds a prefix.
 pub fn add_prefix(prefixes: &mut Prefixes, p: &Prefix) -> Result<(), Memory>
-    ensures { IfOk result (λ done. (q : Prefix) → HasPrefix prefixes.new.keys q ↔ (HasPrefix prefixes.old.keys q ⊎ (p.now ≡ q))) }
+    ensures { IfOk result (λ done. (q : Prefix) →
+        HasPrefix prefixes.new.keys q ↔ (HasPrefix prefixes.old.keys q ⊎ (p.now ≡ q))) }
 {
     prefixes.insert_full((p.addr, p.len))?;
     Ok(())

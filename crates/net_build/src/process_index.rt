@@ -1,11 +1,14 @@
-//! What the process of a file says, gathered once for all interfaces of the file: no look-up goes through its lines again.
-ghost use Rattle.std.specs.Prelude.{◌≡◌, ◌↔◌, ◌⊎◌, ℕ, List, [], Some, Any, IfOk, IsTrue, option_map};
+//! What the process of a file says, gathered once for all interfaces of the file: no look-up goes
+//! through its lines again.
+ghost use Rattle.std.specs.Prelude.{◌≡◌, ◌↔◌, ◌⊎◌, ℕ, List, [], Some, Any, IfOk, IsTrue};
+ghost use Rattle.std.specs.Prelude.{option_map};
 ghost use Rattle.std.specs.Option.{option_copied, option_or};
 ghost use Rattle.arc_base.specs.declared.prefix.Prefix.{Prefix};
 ghost use Rattle.ios_words.specs.declared.commands.Command.TheVariants as commands;
 ghost use Rattle.net_build.specs.Settings.{last_said, says_passive};
 ghost use Rattle.net_build.specs.Prefixes.{HasPrefix};
-ghost use Rattle.net_build.specs.Indexes.{told_prefix, covered_prefix, passive_setting, by_face, said_of, IsIndex};
+ghost use Rattle.net_build.specs.Indexes.{told_prefix, covered_prefix, passive_setting, by_face};
+ghost use Rattle.net_build.specs.Indexes.{said_of, IsIndex};
 
 use crate::commands::reference;
 use crate::prefixes::{Prefixes, add_prefix, has_prefix, has_prefix_of};
@@ -61,7 +64,8 @@ fn covered_prefix(command: &Command) -> Option<&Prefix>
 
 /// Adds the prefix, if there is one.
 fn add_found(prefixes: &mut Prefixes, found: Option<&Prefix>) -> Result<(), Memory>
-    ensures { IfOk result (λ done. (p : Prefix) → HasPrefix prefixes.new.keys p ↔ (HasPrefix prefixes.old.keys p ⊎ (option_copied found.entry ≡ Some p))) }
+    ensures { IfOk result (λ done. (p : Prefix) → HasPrefix prefixes.new.keys p ↔
+        (HasPrefix prefixes.old.keys p ⊎ (option_copied found.entry ≡ Some p))) }
 {
     match found {
         Some(p) => {
@@ -73,7 +77,8 @@ fn add_found(prefixes: &mut Prefixes, found: Option<&Prefix>) -> Result<(), Memo
 }
 
 fn told(alloc: Global, lines: &[Given<Command>]) -> Result<Prefixes, Memory>
-    ensures { IfOk result (λ told. (p : Prefix) → HasPrefix told.keys p ↔ Any (λ g. g.value ≡ commands.Tells p) lines.now) }
+    ensures { IfOk result (λ told. (p : Prefix) →
+        HasPrefix told.keys p ↔ Any (λ g. g.value ≡ commands.Tells p) lines.now) }
 {
     let mut told = IndexSet::new(alloc);
     for line in lines {
@@ -83,7 +88,8 @@ fn told(alloc: Global, lines: &[Given<Command>]) -> Result<Prefixes, Memory>
 }
 
 fn covered(alloc: Global, lines: &[Given<Command>]) -> Result<Prefixes, Memory>
-    ensures { IfOk result (λ covered. (p : Prefix) → HasPrefix covered.keys p ↔ Any (λ g. covered_prefix g.value ≡ Some p) lines.now) }
+    ensures { IfOk result (λ covered. (p : Prefix) →
+        HasPrefix covered.keys p ↔ Any (λ g. covered_prefix g.value ≡ Some p) lines.now) }
 {
     let mut covered = IndexSet::new(alloc);
     for line in lines {
@@ -108,7 +114,8 @@ fn note_passive<'a>(
     on: bool,
     face: Option<&'a Name>,
 ) -> Result<(), Memory>
-    ensures { IfOk result (λ done. (name : List ℕ) → said_of passive.new name ≡ option_or (by_face name on (option_copied face.entry)) (said_of passive.old name)) }
+    ensures { IfOk result (λ done. (name : List ℕ) → said_of passive.new name
+        ≡ option_or (by_face name on (option_copied face.entry)) (said_of passive.old name)) }
 {
     match face {
         Some(face) => {
@@ -125,7 +132,8 @@ fn note_passive<'a>(
 
 /// Notes what the command says of passive interfaces, in place of what was said before.
 fn add_passive<'a>(passive: &mut PassiveIndex<'a>, command: &'a Command) -> Result<(), Memory>
-    ensures { IfOk result (λ done. (name : List ℕ) → said_of passive.new name ≡ option_or (says_passive name command.now) (said_of passive.old name)) }
+    ensures { IfOk result (λ done. (name : List ℕ) → said_of passive.new name
+        ≡ option_or (says_passive name command.now) (said_of passive.old name)) }
 {
     match passive_setting(command) {
         Some((on, face)) => {
@@ -137,7 +145,8 @@ fn add_passive<'a>(passive: &mut PassiveIndex<'a>, command: &'a Command) -> Resu
 }
 
 fn passive<'a>(alloc: Global, lines: &'a [Given<Command>]) -> Result<PassiveIndex<'a>, Memory>
-    ensures { IfOk result (λ passive. (name : List ℕ) → said_of passive name ≡ last_said (says_passive name) lines.now) }
+    ensures { IfOk result (λ passive. (name : List ℕ) →
+        said_of passive name ≡ last_said (says_passive name) lines.now) }
 {
     let mut passive = PassiveIndex {
         all: None,
@@ -182,7 +191,8 @@ impl ProcessIndex<'_> {
     /// Whether a network statement of BGP names just this prefix.
     pub fn is_told(&self, p: &Prefix) -> bool
         requires { IsIndex self.now }
-        ensures { IsTrue result ↔ Any (λ g. g.value ≡ commands.Tells p.now) (lines_of self.now.config.now) }
+        ensures { IsTrue result ↔
+            Any (λ g. g.value ≡ commands.Tells p.now) (lines_of self.now.config.now) }
     {
         has_prefix(&self.told, p)
     }
@@ -190,7 +200,8 @@ impl ProcessIndex<'_> {
     /// Whether a network statement of OSPF covers the address.
     pub fn is_covered(&self, address: u32) -> bool
         requires { IsIndex self.now }
-        ensures { IsTrue result ↔ Any (λ g. CommandCovers address g.value) (lines_of self.now.config.now) }
+        ensures { IsTrue result ↔
+            Any (λ g. CommandCovers address g.value) (lines_of self.now.config.now) }
     {
         has_prefix_of(&self.covered, address)
     }

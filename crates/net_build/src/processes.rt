@@ -4,7 +4,8 @@ ghost use Rattle.std.specs.Option.{option_copied};
 ghost use Rattle.net_build.specs.Settings.{process_of, lines_of};
 ghost use Rattle.ios_config.specs.Least.{FindsLeast};
 ghost use Rattle.net_build.specs.Reasons.{TriedAlone};
-ghost use Rattle.net_build.specs.Routers.{RefusesProtocol, protocol_of, protocol_of_kind, NamesOtherProcess, RunsOther, MixesProcesses};
+ghost use Rattle.net_build.specs.Routers.{RefusesProtocol, protocol_of, protocol_of_kind};
+ghost use Rattle.net_build.specs.Routers.{NamesOtherProcess, RunsOther, MixesProcesses};
 
 use crate::reasons::in_file;
 use arc_base::{Kind, List};
@@ -53,7 +54,8 @@ pub fn protocol_of(configs: &List<Config>) -> Protocol
 }
 
 fn second_head(config: &Config) -> Option<u32>
-    ensures { FindsLeast (λ line. IsSomeAnd (slice_get config.now.process 1) (λ second. line ≡ second.head)) result }
+    ensures { FindsLeast
+        (λ line. IsSomeAnd (slice_get config.now.process 1) (λ second. line ≡ second.head)) result }
 {
     match config.process.get(1) {
         None => None,
@@ -115,9 +117,11 @@ fn mixes(protocol: Protocol, config: &Config, process: &ProcessText) -> Option<u
     lesser(second, lesser(other, protocols))
 }
 
-/// The first line that shows that the file has not one process of the protocol, or 0 where it has none.
+/// The first line that shows that the file has not one process of the protocol, or 0 where it has
+/// none.
 fn has_no_own_process(protocol: Protocol, config: &Config) -> Option<u32>
-    ensures { FindsLeast (λ line. MatchOption (process_of config.now) (line ≡ 0) (λ process. MixesProcesses protocol config.now process line)) result }
+    ensures { FindsLeast (λ line. MatchOption (process_of config.now) (line ≡ 0) (λ process.
+        MixesProcesses protocol config.now process line)) result }
 {
     match process_of(config) {
         None => Some(0),

@@ -6,7 +6,8 @@ use arc_base::Memory;
 use indexmap::IndexSet;
 use ios_config::Given;
 
-/// Adds the number of a file, if it gives one, or tells the line that gives a number which is there.
+/// Adds the number of a file, if it gives one, or tells the line that gives a number which is
+/// there.
 pub fn add_given(
     numbers: &mut IndexSet<u32>,
     number: Option<Given<u32>>,

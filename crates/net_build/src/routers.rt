@@ -1,5 +1,6 @@
 //! What is asked of each router by itself: a name and an AS of its own.
-ghost use Rattle.std.specs.Prelude.{◌≡◌, ◌≤◌, ◌+◌, ◌<◌, ◌^◌, [], ◌∷◌, ◌++◌, length, IfOk, MatchOption, Contains, IsSomeAnd, map};
+ghost use Rattle.std.specs.Prelude.{◌≡◌, ◌≤◌, ◌+◌, ◌<◌, ◌^◌, [], ◌∷◌, ◌++◌, length, IfOk};
+ghost use Rattle.std.specs.Prelude.{MatchOption, Contains, IsSomeAnd, map};
 ghost use Rattle.net_build.specs.Reasons.{TriedAlone};
 ghost use Rattle.net_build.specs.Routers.{RefusesHostname, RefusesSameAs, as_of_process, as_of};
 
@@ -20,7 +21,8 @@ fn add_hostname<'a>(
     ensures { IfOk result (λ found. MatchOption found
         (IsSomeAnd config.now.hostname (λ s. (¬ Contains (map (λ n. n.now) names.old.keys) s.name)
         × (map (λ n. n.now) names.new.keys ≡ map (λ n. n.now) names.old.keys ++ s.name ∷ [])))
-        (λ line. MatchOption config.now.hostname (line ≡ 0) (λ s. (line ≡ s.line) × Contains (map (λ n. n.now) names.old.keys) s.name))) }
+        (λ line. MatchOption config.now.hostname (line ≡ 0) (λ s.
+        (line ≡ s.line) × Contains (map (λ n. n.now) names.old.keys) s.name))) }
 {
     match &config.hostname {
         None => Ok(Some(0)),

@@ -2,7 +2,8 @@
 ghost use Rattle.std.specs.Prelude.{◌≡◌, ◌<◌, ◌≤◌, ◌^◌, ◌↔◌, IsTrue, IsFalse, IsNone, IfSome};
 ghost use Rattle.net_model.specs.Lists.{matches, permits};
 ghost use Rattle.net_build.specs.Stops.{Denies};
-ghost use Rattle.net_build.specs.SessionPackets.{at_service, MissesUntil, PermitsUntil, DeniesBetween, DeniesAt};
+ghost use Rattle.net_build.specs.SessionPackets.{at_service, MissesUntil, PermitsUntil};
+ghost use Rattle.net_build.specs.SessionPackets.{DeniesBetween, DeniesAt};
 
 use net_model::{Packet, PacketEntry, PacketList, Protocol};
 
@@ -26,8 +27,8 @@ const OWN_PORTS: u32 = 1024;
 
 const LAST_PORT: u32 = 0xffff;
 
-/// Up to which service, itself left out and at most `end`, the entry matches no packet of these addresses, from the packet's
-/// own service on, which it does not match.
+/// Up to which service, itself left out and at most `end`, the entry matches no packet of these
+/// addresses, from the packet's own service on, which it does not match.
 fn misses_until(entry: &PacketEntry, packet: Packet, end: u32) -> u32
     requires missed { IsFalse (matches packet entry.now) }
     requires later { packet.service < end }
@@ -46,8 +47,8 @@ fn misses_until(entry: &PacketEntry, packet: Packet, end: u32) -> u32
     }
 }
 
-/// Up to which service, itself left out and at most `end`, the list permits all packets of these addresses, from the packet's
-/// own service on; `None` where it denies the packet.
+/// Up to which service, itself left out and at most `end`, the list permits all packets of these
+/// addresses, from the packet's own service on; `None` where it denies the packet.
 fn permits_until(list: &PacketList, packet: Packet, end: u32) -> Option<u32>
     requires { packet.service < end }
     ensures denied { IsNone result → IsFalse (permits list.now.entries packet) }
@@ -66,7 +67,8 @@ fn permits_until(list: &PacketList, packet: Packet, end: u32) -> Option<u32>
     None
 }
 
-/// Whether the list denies a packet from the one address to the other of a service from `low` to `high`.
+/// Whether the list denies a packet from the one address to the other of a service from `low` to
+/// `high`.
 fn denies_between(list: &PacketList, from: u32, to: u32, low: u32, high: u32) -> bool
     requires { high < 2 ^ 24 }
     ensures { IsTrue result ↔ DeniesBetween list.now.entries from to low high }
@@ -95,7 +97,8 @@ fn denies_at(protocol: Protocol, list: &PacketList, from: u32, to: u32) -> bool
     }
 }
 
-/// Whether the list denies a packet that the protocol needs from the one address to the other's interface.
+/// Whether the list denies a packet that the protocol needs from the one address to the other's
+/// interface.
 pub fn denies(protocol: Protocol, list: &PacketList, from: u32, own: u32) -> bool
     ensures { IsTrue result ↔ Denies protocol list.now.entries from own }
 {

@@ -1,5 +1,7 @@
 //! The BGP sessions at the ends of links.
-ghost use Rattle.std.specs.Prelude.{◌≡◌, ◌≤◌, ◌<◌, ◌^◌, ◌↔◌, Some, None, IfOk, OnOk, IsTrue, IsSomeAnd, MatchOption, length, map, slice_get, option_and_then};
+ghost use Rattle.std.specs.Prelude.{◌≡◌, ◌≤◌, ◌<◌, ◌^◌, ◌↔◌, Some, None, IfOk, OnOk, IsTrue};
+ghost use Rattle.std.specs.Prelude.{IsSomeAnd, MatchOption, length, map, slice_get};
+ghost use Rattle.std.specs.Prelude.{option_and_then};
 ghost use Rattle.net_model.specs.declared.policies.Document.{Document};
 ghost use Rattle.net_model.specs.declared.rows.SessionRow.{SessionRow};
 ghost use Rattle.net_model.specs.declared.rows.Protocol.TheVariants as protocols;
@@ -21,7 +23,8 @@ use ios_config::Config;
 use net_model::{Network, Protocol, SessionRow};
 use std::alloc::Global;
 
-/// The session of an interface of the router at this place, if its file configures a neighbour at this address.
+/// The session of an interface of the router at this place, if its file configures a neighbour at
+/// this address.
 fn session(
     lists: &IndexSet<ListKey<'_>>,
     router: u32,
@@ -30,8 +33,9 @@ fn session(
     peer: u32,
 ) -> Option<SessionRow>
     requires { length lists.now.keys < 2 ^ 32 }
-    ensures { MatchOption result (remote_of (lines_of config.now) peer ≡ None)
-        (λ session. (session.face ≡ face) × (session.peer ≡ peer) × IsConfigured (keys_at lists.now.keys) router config.now session) }
+    ensures { MatchOption result (remote_of (lines_of config.now) peer ≡ None) (λ session.
+        (session.face ≡ face) × (session.peer ≡ peer) ×
+        IsConfigured (keys_at lists.now.keys) router config.now session) }
 {
     let lines = lines_of(config);
     let remote = remote_of(lines, peer)?;
@@ -47,7 +51,8 @@ fn session(
 }
 
 fn is_of_router(net: &Network, face: Face, router: u32) -> bool
-    ensures { IsTrue result ↔ IsSomeAnd (slice_get net.now.faces face.0) (λ row. row.router.0 ≡ router) }
+    ensures { IsTrue result ↔
+        IsSomeAnd (slice_get net.now.faces face.0) (λ row. row.router.0 ≡ router) }
 {
     match net.faces.get(face.0) {
         Some(row) => row.router.0 == router,
@@ -65,7 +70,8 @@ pub fn address_at(net: &Network, face: Face) -> Option<u32>
     }
 }
 
-/// The session that the router has over a link which leads from the one interface to the other, if it has one.
+/// The session that the router has over a link which leads from the one interface to the other, if
+/// it has one.
 fn session_over(
     net: &Network,
     lists: &IndexSet<ListKey<'_>>,
@@ -76,7 +82,8 @@ fn session_over(
 ) -> Option<SessionRow>
     requires { length lists.now.keys < 2 ^ 32 }
     ensures { MatchOption result
-        ((session : SessionRow) → ¬ IsSessionOver net.now.faces (keys_at lists.now.keys) router config.now near far session)
+        ((session : SessionRow) →
+        ¬ IsSessionOver net.now.faces (keys_at lists.now.keys) router config.now near far session)
         (IsSessionOver net.now.faces (keys_at lists.now.keys) router config.now near far) }
 {
     if !is_of_router(net, near, router) {
@@ -97,7 +104,9 @@ fn add_session(
     far: Face,
 ) -> Result<(), Memory>
     requires { length lists.now.keys < 2 ^ 32 }
-    ensures { OnOk result (AddsOne (IsSessionOver net.now.faces (keys_at lists.now.keys) router config.now near far) sessions.old.items sessions.new.items) }
+    ensures { OnOk result
+        (AddsOne (IsSessionOver net.now.faces (keys_at lists.now.keys) router config.now near far)
+        sessions.old.items sessions.new.items) }
 {
     match session_over(net, lists, router, config, near, far) {
         Some(session) => {
@@ -117,7 +126,8 @@ fn add_sessions(
     config: &Config,
 ) -> Result<(), Memory>
     requires { length lists.now.keys < 2 ^ 32 }
-    ensures { OnOk result (AddsSessions net.now (keys_at lists.now.keys) router config.now sessions.old.items sessions.new.items) }
+    ensures { OnOk result (AddsSessions net.now (keys_at lists.now.keys) router config.now
+        sessions.old.items sessions.new.items) }
 {
     for link in net.links.slice() {
         add_session(sessions, net, lists, router, config, link.a, link.b)?;
@@ -137,8 +147,10 @@ fn bgp_rows(
     requires routers { length configs.now ≤ 256 }
     requires lists { keys_at lists.now.keys ≡ map route_list_key net.now.route_lists }
     requires distinct { AreDistinct (map route_list_key net.now.route_lists) }
-    ensures { IfOk result (λ sessions. (doc : Document) → IsClear (RefusesLinkFace doc configs.now) → AreBaseRows doc configs.now net.now →
-        AreSessions protocols.Bgp configs.now net.now.links (map route_list_key net.now.route_lists) sessions) }
+    ensures { IfOk result (λ sessions. (doc : Document) →
+        IsClear (RefusesLinkFace doc configs.now) → AreBaseRows doc configs.now net.now →
+        AreSessions protocols.Bgp configs.now net.now.links
+        (map route_list_key net.now.route_lists) sessions) }
 {
     let mut sessions = Vec::new(alloc);
     for (router, config) in configs.slice().iter().enumerate() {
@@ -159,8 +171,10 @@ pub fn session_rows(
     requires routers { length configs.now ≤ 256 }
     requires lists { keys_at lists.now.keys ≡ map route_list_key net.now.route_lists }
     requires distinct { AreDistinct (map route_list_key net.now.route_lists) }
-    ensures { IfOk result (λ sessions. (doc : Document) → IsClear (RefusesLinkFace doc configs.now) → AreBaseRows doc configs.now net.now →
-        AreSessions net.now.protocol configs.now net.now.links (map route_list_key net.now.route_lists) sessions) }
+    ensures { IfOk result (λ sessions. (doc : Document) →
+        IsClear (RefusesLinkFace doc configs.now) → AreBaseRows doc configs.now net.now →
+        AreSessions net.now.protocol configs.now net.now.links
+        (map route_list_key net.now.route_lists) sessions) }
 {
     match net.protocol {
         Protocol::Ospf => Ok(List::make(alloc)),

@@ -1,5 +1,6 @@
 //! Where an interface stands in its file.
-ghost use Rattle.std.specs.Prelude.{◌≡◌, ◌≤◌, ◌<◌, ◌^◌, Some, IfSome, IsSomeAnd, MatchOption, length, slice_get};
+ghost use Rattle.std.specs.Prelude.{◌≡◌, ◌≤◌, ◌<◌, ◌^◌, Some, IfSome, IsSomeAnd, MatchOption};
+ghost use Rattle.std.specs.Prelude.{length, slice_get};
 ghost use Rattle.net_build.specs.Sites.{sites};
 
 use arc_base::List;
@@ -14,8 +15,9 @@ pub struct Spot<'a> {
 
 /// The interface at a place among those of all files.
 pub fn spot_at(configs: &List<Config>, place: u32) -> Option<Spot<'_>>
-    ensures place { MatchOption result (length (sites configs.now) ≤ place)
-        (λ spot. IsSomeAnd (slice_get (sites configs.now) place) (λ site. (site.router ≡ spot.router) × (site.face ≡ spot.face.now))) }
+    ensures place { MatchOption result (length (sites configs.now) ≤ place) (λ spot.
+        IsSomeAnd (slice_get (sites configs.now) place) (λ site.
+        (site.router ≡ spot.router) × (site.face ≡ spot.face.now))) }
     ensures router { IfSome result (λ spot. spot.router < length configs.now) }
 {
     let mut rest = place;

@@ -7,7 +7,8 @@ ghost use Rattle.arc_base.specs.Lists.{AreDistinct};
 ghost use Rattle.net_build.specs.Sites.{full_names};
 ghost use Rattle.net_model.specs.Routing.{tail_end, head_end};
 ghost use Rattle.net_build.specs.FarEnds.{FindsOnly};
-ghost use Rattle.net_build.specs.Stopping.{list_line, StopsBetween, IsRefusalAt, StopsAt, StopsAtSome, FindsFirst, is_before, earlier};
+ghost use Rattle.net_build.specs.Stopping.{list_line, StopsBetween, IsRefusalAt, StopsAt};
+ghost use Rattle.net_build.specs.Stopping.{StopsAtSome, FindsFirst, is_before, earlier};
 ghost use Rattle.net_build.specs.Stops.{RefusesListStopsSession, StopsPackets};
 
 use crate::session_packets::denies;
@@ -17,7 +18,8 @@ use ios_config::{Config, FaceText};
 use net_doc::{NetFault, Refusal};
 use net_model::{FaceRow, LinkRow, Network};
 
-/// Whether the list bound inbound at `head` denies a packet of the protocol from the address of `tail`.
+/// Whether the list bound inbound at `head` denies a packet of the protocol from the address of
+/// `tail`.
 fn stops(net: &Network, tail: &FaceRow, head: &FaceRow) -> bool
     ensures { IsTrue result ↔ StopsPackets net.now tail.now head.now }
 {
@@ -40,7 +42,8 @@ fn list_line(face: &FaceText) -> u32
     }
 }
 
-/// Whether the link is able, and the list at the head of its arc in this direction stops the packets from the tail.
+/// Whether the link is able, and the list at the head of its arc in this direction stops the
+/// packets from the tail.
 fn stops_between(
     net: &Network,
     link: &LinkRow,
@@ -133,7 +136,8 @@ fn first_stop(net: &Network, configs: &List<Config>) -> Option<Refusal>
 pub fn try_lists(net: &Network, configs: &List<Config>) -> Result<(), NetFault>
     requires few { length configs.now ≤ 256 }
     requires named { AreDistinct (full_names configs.now) }
-    ensures { (doc : Document) → AreRows doc configs.now net.now → TriedAlone (RefusesListStopsSession doc configs.now) result }
+    ensures { (doc : Document) → AreRows doc configs.now net.now →
+        TriedAlone (RefusesListStopsSession doc configs.now) result }
 {
     match first_stop(net, configs) {
         Some(refusal) => Err(NetFault::Refused(refusal)),

@@ -46,7 +46,9 @@ fn fits_subnets(net: &Network, link: &LinkRow) -> bool
 /// Tries whether it holds of each link.
 pub fn try_subnets(net: &Network) -> Result<(), NetFault>
     requires { length net.now.links ≤ 1024 }
-    ensures { TriedAlone (InDocument kinds.LinkSubnets (λ place link. ¬ FitsSubnets net.now link) net.now.links) result }
+    ensures { TriedAlone
+        (InDocument kinds.LinkSubnets (λ place link. ¬ FitsSubnets net.now link) net.now.links)
+        result }
 {
     for (place, link) in net.links.slice().iter().enumerate() {
         if !fits_subnets(net, link) {

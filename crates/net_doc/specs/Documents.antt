@@ -1,5 +1,8 @@
 -- Which document a text is: JSON (RFC 8259), an object whose members have these forms.
-use Rattle.std.specs.Prelude.{◌≡◌, ◌≢◌, ◌⊎◌, ℕ, ◌==◌, ◌+◌, ◌≤◌, ◌&&◌, ◌||◌, nat_le, nat_lt, Bool, true, false, not, List, [], ◌∷◌, length, codes, bytes_eq, Option, Some, None, option_map, option_and_then, if◌then◌else◌, Result, Ok, Err, All, AllPairs}
+use Rattle.std.specs.Prelude.{◌≡◌, ◌≢◌, ◌⊎◌, ℕ, ◌==◌, ◌+◌, ◌≤◌, ◌&&◌, ◌||◌, nat_le, nat_lt, Bool}
+use Rattle.std.specs.Prelude.{true, false, not, List, [], ◌∷◌, length, codes, bytes_eq, Option}
+use Rattle.std.specs.Prelude.{Some, None, option_map, option_and_then, if◌then◌else◌, Result, Ok}
+use Rattle.std.specs.Prelude.{Err, All, AllPairs}
 use Rattle.std.specs.List.{list_any}
 use Rattle.std.specs.Option.{option_or}
 use Rattle.std.specs.Str.{is_utf8}
@@ -9,7 +12,8 @@ use Rattle.serde_json.specs.Read.{read}
 use Rattle.arc_base.specs.declared.refusal.Kind.{Kind}
 use Rattle.arc_base.specs.declared.refusal.Kind.TheVariants.{DocumentForm, Limit}
 use Rattle.arc_base.specs.declared.refusal.LimitKind.{LimitKind}
-use Rattle.arc_base.specs.declared.refusal.LimitKind.TheVariants.{Routers, Links, Policies, Failures}
+use Rattle.arc_base.specs.declared.refusal.LimitKind.TheVariants.{Routers, Links, Policies}
+use Rattle.arc_base.specs.declared.refusal.LimitKind.TheVariants.{Failures}
 use Rattle.arc_base.specs.Cuts.{cut_at}
 use Rattle.arc_base.specs.PrefixText.{prefix_of}
 use Rattle.arc_base.specs.Options.{◌>>=◌}
@@ -25,11 +29,13 @@ use Rattle.net_doc.specs.declared.fault.Refusal.{Refusal}
 use Rattle.net_doc.specs.declared.fault.NetFault.{NetFault}
 use Rattle.net_doc.specs.declared.fault.NetFault.TheVariants.{Refused, Memory}
 use Rattle.net_doc.specs.Services.{services_of}
-use Rattle.net_doc.specs.Members.{has_only, number_under, text_under, list_under, all_of, or_default}
+use Rattle.net_doc.specs.Members.{has_only, number_under, text_under, list_under, all_of}
+use Rattle.net_doc.specs.Members.{or_default}
 
 -- which members a document, a link, a policy and weights have
 abbrev pub document_members : List (List ℕ)
-document_members = codes "version" ∷ codes "routers" ∷ codes "links" ∷ codes "policies" ∷ codes "weights" ∷ []
+document_members =
+    codes "version" ∷ codes "routers" ∷ codes "links" ∷ codes "policies" ∷ codes "weights" ∷ []
 
 abbrev pub link_members : List (List ℕ)
 link_members = codes "a" ∷ codes "b" ∷ codes "waypoint" ∷ []
@@ -42,7 +48,8 @@ kind_members (Reach failures) = codes "kind" ∷ codes "from" ∷ codes "to" ∷
 
 -- and in version 2 it may have a protocol and a port
 abbrev pub policy_members : ℕ → PolicyKind → List (List ℕ)
-policy_members version kind = if version == 2 then codes "proto" ∷ codes "port" ∷ kind_members kind else kind_members kind
+policy_members version kind =
+    if version == 2 then codes "proto" ∷ codes "port" ∷ kind_members kind else kind_members kind
 
 abbrev pub weight_members : List (List ℕ)
 weight_members = codes "list" ∷ codes "filter" ∷ codes "session" ∷ []
@@ -100,7 +107,8 @@ kind_of text failures =
     else if bytes_eq text (codes "reach") then option_map Reach failures
     else None
 
--- a policy in a document of this version: what it asks of the packets from one prefix to another, of some services
+-- a policy in a document of this version: what it asks of the packets from one prefix to another,
+-- of some services
 abbrev pub policy_of : ℕ → Data → Option Policy
 policy_of version d = do
   kind_text ← text_under (codes "kind") d
@@ -115,7 +123,8 @@ policy_of version d = do
 
 -- the policies
 abbrev pub policies_of : ℕ → Data → Option (List Policy)
-policies_of version d = option_and_then (all_of (policy_of version)) (list_under (codes "policies") d)
+policies_of version d =
+    option_and_then (all_of (policy_of version)) (list_under (codes "policies") d)
 
 -- a weight is from 1 to 16
 abbrev pub weight_from : Data → Option ℕ
@@ -133,7 +142,8 @@ weights_from d = do
   list ← weight_under (codes "list") d
   filter ← weight_under (codes "filter") d
   session ← weight_under (codes "session") d
-  where_true (has_only weight_members d) (record { list = list; filter = filter; session = session })
+  where_true (has_only weight_members d)
+      (record { list = list; filter = filter; session = session })
 
 -- where nothing is said of it, each edit costs 1
 abbrev pub unit_weights : Weights
@@ -159,7 +169,8 @@ document_from d = do
   where_true (has_only document_members d)
       (record { routers = routers; links = links; policies = policies; weights = weights })
 
--- the document that the bytes are: JSON in UTF-8, in which the last of several members of one name counts
+-- the document that the bytes are: JSON in UTF-8, in which the last of several members of one name
+-- counts
 abbrev pub document_of : List ℕ → Option Document
 document_of bytes = option_and_then document_from (if is_utf8 bytes then read bytes else None)
 
@@ -169,7 +180,9 @@ form_refusal = record { file = 0; number = 0; kind = DocumentForm }
 
 -- a count that passes its limit is refused with the limit's name and the count
 abbrev pub over : LimitKind → ℕ → ℕ → ℕ → Option Refusal
-over what limit number count = if nat_lt limit count then Some (record { file = 0; number = number; kind = Limit what count }) else None
+over what limit number count =
+    if nat_lt limit count
+    then Some (record { file = 0; number = number; kind = Limit what count }) else None
 
 -- a policy speaks of at most 16 failures
 abbrev pub failures_refusal : ℕ → PolicyKind → Option Refusal
@@ -180,9 +193,11 @@ failures_refusal number (Reach failures) = over Failures 16 number failures
 -- the first of the policies, counted from this number on, that speaks of more
 abbrev pub policies_refusal : ℕ → List Policy → Option Refusal
 policies_refusal number [] = None
-policies_refusal number (policy ∷ policies) = option_or (failures_refusal number policy.kind) (policies_refusal (number + 1) policies)
+policies_refusal number (policy ∷ policies) =
+    option_or (failures_refusal number policy.kind) (policies_refusal (number + 1) policies)
 
--- the first count of the document that passes its limit: 256 routers, 1,024 links, 256 policies, 16 failures
+-- the first count of the document that passes its limit: 256 routers, 1,024 links, 256 policies, 16
+-- failures
 unfoldable pub limit_refusal : Document → Option Refusal
 limit_refusal doc =
     option_or (over Routers 256 0 (length doc.routers))
@@ -233,8 +248,10 @@ pub record IsWellFormed (doc : Document) : Type 0 where
 
 -- a policy of version 1 speaks of all services
 abbrev pub OldPoliciesAreWhole : Type 0
-OldPoliciesAreWhole = (d : Data) (policy : Policy) → policy_of 1 d ≡ Some policy → policy.service ≡ whole_service
+OldPoliciesAreWhole =
+    (d : Data) (policy : Policy) → policy_of 1 d ≡ Some policy → policy.service ≡ whole_service
 
 -- a text is refused for its form, or for a count that passes its limit
 abbrev pub IsFormOrLimit : Kind → Type 0
-IsFormOrLimit kind = (kind ≡ DocumentForm) ⊎ ((what : LimitKind) × (count : ℕ) × (kind ≡ Limit what count))
+IsFormOrLimit kind =
+    (kind ≡ DocumentForm) ⊎ ((what : LimitKind) × (count : ℕ) × (kind ≡ Limit what count))

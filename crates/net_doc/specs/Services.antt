@@ -1,5 +1,7 @@
 -- The services of which a policy speaks, by the protocol and the port that it names.
-use Rattle.std.specs.Prelude.{◌≡◌, ℕ, ◌+◌, ◌*◌, ◌^◌, ◌==◌, ◌&&◌, ◌||◌, ◌≤◌, ◌⊎◌, nat_le, nat_lt, Bool, true, false, List, codes, bytes_eq, Option, Some, None, option_and_then, if◌then◌else◌, refl, IsSomeAnd}
+use Rattle.std.specs.Prelude.{◌≡◌, ℕ, ◌+◌, ◌*◌, ◌^◌, ◌==◌, ◌&&◌, ◌||◌, ◌≤◌, ◌⊎◌, nat_le, nat_lt}
+use Rattle.std.specs.Prelude.{Bool, true, false, List, codes, bytes_eq, Option, Some, None}
+use Rattle.std.specs.Prelude.{option_and_then, if◌then◌else◌, refl, IsSomeAnd}
 use Rattle.std.specs.Option.{option_map_or}
 use Rattle.std.proofs.lemmas.Bool.{and_parts, leb-true, ltb-true}
 use Rattle.arc_base.specs.Options.{◌>>=◌}
@@ -22,7 +24,9 @@ protocol_numbered number = if nat_le 1 number && nat_le number 255 then Some num
 
 -- a protocol: one of the names, or a number
 abbrev pub protocol_of : Data → Option ℕ
-protocol_of d = option_map_or protocol_named (as_str d) (option_and_then protocol_numbered (option_and_then as_u64 (as_number d)))
+protocol_of d =
+    option_map_or protocol_named (as_str d)
+    (option_and_then protocol_numbered (option_and_then as_u64 (as_number d)))
 
 -- a port: a number from 0 to 65535
 abbrev pub port_of : Data → Option ℕ
@@ -42,8 +46,8 @@ are_ends low high = nat_le low high && nat_lt high (2 ^ 24)
 abbrev pub range_if : (low high : ℕ) (test : Bool) → are_ends low high ≡ test → Option Service
 range_if low high false e = None
 range_if low high true e =
-    let (ordered, in_range) = and_parts _ _ e in
-    Some (record { low = low; high = high; ordered = leb-true _ _ ordered; in_range = ltb-true _ _ in_range })
+    let (ordered, in_range) = and_parts _ _ e in Some (record
+    { low = low; high = high; ordered = leb-true _ _ ordered; in_range = ltb-true _ _ in_range })
 
 -- the range with these ends, where they are those of one
 abbrev pub range_from : ℕ → ℕ → Option Service
@@ -56,9 +60,11 @@ of_protocol protocol = range_from (protocol * 65536) (protocol * 65536 + 65535)
 -- the one service of the protocol for the port
 abbrev pub of_port : ℕ → ℕ → Option Service
 of_port protocol port =
-    if has_ports protocol then range_from (protocol * 65536 + port) (protocol * 65536 + port) else None
+    if has_ports protocol
+    then range_from (protocol * 65536 + port) (protocol * 65536 + port) else None
 
--- the services by `proto` and `port`: all where there is neither, and no `port` without a `proto` that has ports
+-- the services by `proto` and `port`: all where there is neither, and no `port` without a `proto`
+-- that has ports
 abbrev pub services_from : Option Data → Option Data → Option Service
 services_from None None = Some whole_service
 services_from None (Some port) = None
@@ -76,10 +82,12 @@ services_of d = services_from (get (codes "proto") d) (get (codes "port") d)
 abbrev pub ProtocolsHaveServices : Type 0
 ProtocolsHaveServices =
     (protocol : ℕ) → 1 ≤ protocol → protocol ≤ 255 →
-    IsSomeAnd (of_protocol protocol) (λ s. (s.low ≡ protocol * 65536) × (s.high ≡ protocol * 65536 + 65535))
+    IsSomeAnd (of_protocol protocol) (λ s.
+    (s.low ≡ protocol * 65536) × (s.high ≡ protocol * 65536 + 65535))
 
 -- and TCP and UDP have one for each port
 abbrev pub PortsHaveServices : Type 0
 PortsHaveServices =
     (protocol port : ℕ) → (protocol ≡ 6) ⊎ (protocol ≡ 17) → port ≤ 65535 →
-    IsSomeAnd (of_port protocol port) (λ s. (s.low ≡ protocol * 65536 + port) × (s.high ≡ protocol * 65536 + port))
+    IsSomeAnd (of_port protocol port) (λ s.
+    (s.low ≡ protocol * 65536 + port) × (s.high ≡ protocol * 65536 + port))

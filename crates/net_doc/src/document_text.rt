@@ -1,6 +1,7 @@
 ghost use Rattle.std.specs.Prelude.{◌≡◌, ◌≤◌, None, length, map, option_map, All, IfOk, IfErr};
 ghost use Rattle.serde_json.specs.View.{view};
-ghost use Rattle.net_doc.specs.Documents.{ReadsDocument, IsWellFormed, document_from, document_of, version_of, limit_refusal, reading};
+ghost use Rattle.net_doc.specs.Documents.{ReadsDocument, IsWellFormed, document_from, document_of};
+ghost use Rattle.net_doc.specs.Documents.{version_of, limit_refusal, reading};
 ghost use Rattle.net_model.specs.Policies.{HasFewFailures};
 ghost use Rattle.net_doc.specs.Drafts.{kind_meant, policy_meant, document_meant};
 
@@ -21,9 +22,9 @@ const FORM: NetFault = NetFault::Refused(Refusal {
     kind: Kind::DocumentForm,
 });
 
-/// Reads the document. Bytes that are none are refused as `DocumentForm`, and a count that passes its limit as `Limit`, of
-/// routers, links, policies and failures, in this order. The file is 0, and the number that of the policy for failures and
-/// else 0.
+/// Reads the document. Bytes that are none are refused as `DocumentForm`, and a count that passes
+/// its limit as `Limit`, of routers, links, policies and failures, in this order. The file is 0,
+/// and the number that of the policy for failures and else 0.
 pub fn document(alloc: Global, bytes: &[u8]) -> Result<Document, NetFault>
     ensures reads { ReadsDocument bytes.now result }
     ensures well_formed { IfOk result IsWellFormed }
@@ -45,7 +46,8 @@ pub fn document(alloc: Global, bytes: &[u8]) -> Result<Document, NetFault>
 }
 
 fn read_draft(alloc: Global, value: &Value) -> Result<Option<Draft>, Memory>
-    ensures { IfOk result (λ draft. option_map document_meant draft ≡ document_from (view value.now)) }
+    ensures { IfOk result (λ draft.
+        option_map document_meant draft ≡ document_from (view value.now)) }
 {
     let Some(version) = read_version(value) else {
         return Ok(None);

@@ -7,7 +7,8 @@ use thiserror::Error;
 pub struct Refusal {
     /// 0 for the document, and i for the i-th router file.
     pub file: u32,
-    /// The line of the file, or the number of the document's link or policy, counted from 1; 0 where none applies.
+    /// The line of the file, or the number of the document's link or policy, counted from 1; 0
+    /// where none applies.
     pub number: u32,
     pub kind: Kind,
 }

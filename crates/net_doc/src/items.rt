@@ -2,7 +2,9 @@
 ghost use Rattle.std.specs.Prelude.{◌≡◌, map, option_map, option_and_then, IfOk};
 ghost use Rattle.serde_json.specs.View.{view, items_view};
 ghost use Rattle.net_doc.specs.Members.{all_of, has_only, text_under};
-ghost use Rattle.net_doc.specs.Documents.{router_of, are_different, routers_of, end_of, waypoint_of, link_of, links_of, kind_of, policy_members, policy_of, policies_of};
+ghost use Rattle.net_doc.specs.Documents.{router_of, are_different, routers_of, end_of};
+ghost use Rattle.net_doc.specs.Documents.{waypoint_of, link_of, links_of, kind_of, policy_members};
+ghost use Rattle.net_doc.specs.Documents.{policy_of, policies_of};
 ghost use Rattle.net_doc.specs.Drafts.{kind_meant, policy_meant};
 
 use crate::drafts::{KindText, PolicyText};
@@ -31,7 +33,8 @@ pub(crate) fn read_routers(alloc: Global, value: &Value) -> Result<Option<List<N
 }
 
 fn read_names(alloc: Global, items: &[Value]) -> Result<Option<Vec<Name>>, Memory>
-    ensures { IfOk result (λ names. option_map (λ names. names.items) names ≡ all_of router_of (items_view items.now)) }
+    ensures { IfOk result (λ names.
+        option_map (λ names. names.items) names ≡ all_of router_of (items_view items.now)) }
 {
     let mut names = Vec::new(alloc);
     for item in items {
@@ -114,7 +117,8 @@ fn read_waypoint(value: &Value) -> Option<bool>
 }
 
 fn read_end<'v>(value: &'v Value, name: &str) -> Option<(&'v [u8], &'v [u8])>
-    ensures { option_map (λ parts. (parts.0.now, parts.1.now)) result ≡ option_and_then end_of (text_under name.now (view value.now)) }
+    ensures { option_map (λ parts. (parts.0.now, parts.1.now)) result
+        ≡ option_and_then end_of (text_under name.now (view value.now)) }
 {
     cut_at(text_under(value, name)?.as_bytes(), b':')
 }
@@ -125,7 +129,9 @@ pub(crate) fn read_policies(
     version: u64,
     value: &Value,
 ) -> Result<Option<Vec<PolicyText>>, Memory>
-    ensures { IfOk result (λ policies. option_map (λ policies. map policy_meant policies.items) policies ≡ policies_of version (view value.now)) }
+    ensures { IfOk result (λ policies.
+        option_map (λ policies. map policy_meant policies.items) policies
+        ≡ policies_of version (view value.now)) }
 {
     let Some(items) = list_under(value, "policies") else {
         return Ok(None);

@@ -2,7 +2,8 @@
 ghost use Rattle.std.specs.Prelude.{◌≡◌, ℕ, List, Ok, Err};
 ghost use Rattle.net_model.specs.declared.policies.Document.{Document};
 ghost use Rattle.net_doc.specs.declared.fault.Refusal.{Refusal};
-ghost use Rattle.net_doc.specs.Documents.{reading, IsFormOrLimit, IsWellFormed, OldPoliciesAreWhole};
+ghost use Rattle.net_doc.specs.Documents.{reading, IsFormOrLimit, IsWellFormed};
+ghost use Rattle.net_doc.specs.Documents.{OldPoliciesAreWhole};
 ghost use Rattle.net_doc.specs.Services.{ProtocolsHaveServices, PortsHaveServices};
 
 /// What holds of every document that is read.
@@ -12,7 +13,8 @@ pub fn documents_are_well_formed()
 
 /// What a text is refused for that is no document.
 pub fn refusals_are_of_form_or_limits()
-    ensures { (bytes : List ℕ) (refusal : Refusal) → reading bytes ≡ Err refusal → IsFormOrLimit refusal.kind }
+    ensures { (bytes : List ℕ) (refusal : Refusal) → reading bytes ≡ Err refusal →
+        IsFormOrLimit refusal.kind }
 {}
 
 /// Which services policies of version 1 speak of.

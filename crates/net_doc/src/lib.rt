@@ -1,5 +1,5 @@
-//! The document that names the router files, the links and the policies. It is read from JSON (RFC 8259); what is no
-//! document is refused whole.
+//! The document that names the router files, the links and the policies. It is read from JSON (RFC
+//! 8259); what is no document is refused whole.
 #![tactic(auto)]
 
 mod document_text;

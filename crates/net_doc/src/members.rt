@@ -17,7 +17,8 @@ pub(crate) fn has_only(value: &Value, names: &[&str]) -> bool
 }
 
 fn are_among(members: &Map<String, Value>, names: &[&str]) -> bool
-    ensures { result ≡ are_among (map (λ name. name.now) names.now) (members_view members.now.entries) }
+    ensures { result
+        ≡ are_among (map (λ name. name.now) names.now) (members_view members.now.entries) }
 {
     for key in members.keys() {
         if !is_among(key.as_str(), names) {
@@ -28,7 +29,8 @@ fn are_among(members: &Map<String, Value>, names: &[&str]) -> bool
 }
 
 fn is_among(key: &str, names: &[&str]) -> bool
-    ensures { result ≡ list_any (λ known. bytes_eq known key.now) (map (λ name. name.now) names.now) }
+    ensures { result
+        ≡ list_any (λ known. bytes_eq known key.now) (map (λ name. name.now) names.now) }
 {
     names.contains(&key)
 }
@@ -49,7 +51,8 @@ pub(crate) fn text_under<'v>(value: &'v Value, name: &str) -> Option<&'v str>
 
 /// The list under the name.
 pub(crate) fn list_under<'v>(value: &'v Value, name: &str) -> Option<&'v [Value]>
-    ensures { option_map (λ items. items_view items.now) result ≡ list_under name.now (view value.now) }
+    ensures { option_map (λ items. items_view items.now) result
+        ≡ list_under name.now (view value.now) }
 {
     Some(value.get(name)?.as_array()?.as_slice())
 }

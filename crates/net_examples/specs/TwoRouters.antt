@@ -31,7 +31,9 @@ far_end able = record {
 abbrev pub two_routers : Bool → Network
 two_routers able = record {
   protocol = Ospf;
-  routers = record { name = codes "r1"; asn = 0; names = [] } ∷ record { name = codes "r2"; asn = 0; names = [] } ∷ [];
+  routers =
+      record { name = codes "r1"; asn = 0; names = [] } ∷
+      record { name = codes "r2"; asn = 0; names = [] } ∷ [];
   faces = owner_1 ∷ end_1 ∷ owner_2 ∷ far_end able ∷ [];
   sessions = [];
   links = the_link ∷ [];

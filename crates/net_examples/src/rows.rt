@@ -1,7 +1,8 @@
 //! The prefixes and the rows that the networks share.
 ghost use Rattle.std.specs.Prelude.{◌≡◌, [], IfOk};
 ghost use Rattle.net_laws.specs.Examples.{users_1, users_2, face};
-ghost use Rattle.net_laws.specs.Square.{users_3, users_4, everyone, subnet_1, subnet_2, subnet_3, subnet_4, link};
+ghost use Rattle.net_laws.specs.Square.{users_3, users_4, everyone, subnet_1, subnet_2, subnet_3};
+ghost use Rattle.net_laws.specs.Square.{subnet_4, link};
 
 use arc_base::{Face, List, Memory, Name, Prefix, Router};
 use net_model::{FaceRow, LinkRow, RouterRow};

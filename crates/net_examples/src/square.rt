@@ -1,9 +1,10 @@
-//! Routers r1 to r4, each with a host network 10.N.0.0/24, and links 1-2, 2-4, 1-3 and 3-4: the square of docs/model.md, and
-//! the same with all costs 1 and no list.
+//! Routers r1 to r4, each with a host network 10.N.0.0/24, and links 1-2, 2-4, 1-3 and 3-4: the
+//! square of docs/model.md, and the same with all costs 1 and no list.
 ghost use Rattle.std.specs.Prelude.{◌≡◌, ◌<◌, None, [], ◌∷◌, ◌++◌, length, IfOk, OnOk};
 ghost use Rattle.net_model.specs.Validity.{IsValid};
 ghost use Rattle.net_laws.specs.Square.{square, face, user_face, list_101};
-ghost use Rattle.net_examples.specs.Square.{square as square_of, even_square, end_1, end_2, names, lists};
+ghost use Rattle.net_examples.specs.Square.{square as square_of, even_square, end_1, end_2, names};
+ghost use Rattle.net_examples.specs.Square.{lists};
 
 use crate::rows::{
     everyone, face, link, router, subnet_1, subnet_2, subnet_3, subnet_4, users_1, users_2,
@@ -27,7 +28,8 @@ fn link_face(alloc: Global, place: u32, name: &[u8], end: LinkEnd) -> Result<Fac
     Ok(row)
 }
 
-/// Adds a router's interfaces: that of its users, whose first address it has, and those of two links.
+/// Adds a router's interfaces: that of its users, whose first address it has, and those of two
+/// links.
 fn add_faces(
     alloc: Global,
     rows: &mut List<FaceRow>,
@@ -37,7 +39,9 @@ fn add_faces(
     second: LinkEnd,
 ) -> Result<(), Memory>
     requires { length rows.old < 10 }
-    ensures { OnOk result (rows.new ≡ rows.old ++ (user_face place users.0 users.1 ∷ end_1 place first.0 first.1 first.2 first.3 ∷ end_2 place second.0 second.1 second.2 second.3 ∷ [])) }
+    ensures { OnOk result (rows.new ≡ rows.old ++
+        (user_face place users.0 users.1 ∷ end_1 place first.0 first.1 first.2 first.3 ∷
+        end_2 place second.0 second.1 second.2 second.3 ∷ [])) }
 {
     rows.push(face(
         alloc,

@@ -1,4 +1,5 @@
-//! Router r1 with 10.1.0.0/24 and router r2 with 10.2.0.0/24, joined by a link whose ends have cost 1.
+//! Router r1 with 10.1.0.0/24 and router r2 with 10.2.0.0/24, joined by a link whose ends have cost
+//! 1.
 ghost use Rattle.std.specs.Prelude.{◌≡◌, true, IfOk};
 ghost use Rattle.net_model.specs.Validity.{IsValid};
 ghost use Rattle.net_model.specs.Forwarding.{HasEnds};

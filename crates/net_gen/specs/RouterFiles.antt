@@ -13,7 +13,8 @@ file_name router = codes "r" ++ decimal router ++ codes ".cfg"
 abbrev pub face_name : ℕ → List ℕ
 face_name number = codes "GigabitEthernet0/" ++ decimal number
 
--- the line that names the router, the one that opens an interface, and the one that gives it the address 10.b.c.d
+-- the line that names the router, the one that opens an interface, and the one that gives it the
+-- address 10.b.c.d
 abbrev pub name_line : ℕ → List ℕ
 name_line router = codes "hostname r" ++ decimal router
 
@@ -22,7 +23,8 @@ face_line number = codes "interface GigabitEthernet0/" ++ decimal number
 
 unfoldable pub address_line : ℕ → ℕ → ℕ → List ℕ → List ℕ
 address_line b c d mask =
-    codes " ip address 10." ++ decimal b ++ codes "." ++ decimal c ++ codes "." ++ decimal d ++ codes " " ++ mask
+    codes " ip address 10." ++ decimal b ++ codes "." ++ decimal c ++ codes "." ++
+    decimal d ++ codes " " ++ mask
 
 -- the lines of an interface
 abbrev pub face_lines : ℕ → ℕ → ℕ → ℕ → List ℕ → List (List ℕ)
@@ -39,12 +41,14 @@ host_lines router = face_lines 0 router 0 1 (codes "255.255.255.0")
 -- the subnet of a link is 10.0.LINK.0/30, and its ends a and b have the first two addresses
 abbrev pub link_lines : ℕ → ℕ → ℕ → List (List ℕ)
 link_lines n router link =
-    face_lines (port n router link) 0 link (if a_router n link == router then 1 else 2) (codes "255.255.255.252")
+    face_lines (port n router link) 0 link (if a_router n link == router then 1 else 2)
+    (codes "255.255.255.252")
 
 -- the last lines: one OSPF process, which covers all interfaces
 abbrev pub process_lines : List (List ℕ)
 process_lines =
-    codes "router ospf 1" ∷ codes " network 0.0.0.0 255.255.255.255 area 0" ∷ codes "!" ∷ codes "end" ∷ []
+    codes "router ospf 1" ∷ codes " network 0.0.0.0 255.255.255.255 area 0" ∷
+    codes "!" ∷ codes "end" ∷ []
 
 -- the lines of the interfaces over the router's links, in the order of these
 abbrev pub links_lines : ℕ → ℕ → List ℕ → List (List ℕ)
@@ -53,7 +57,8 @@ links_lines n router links = flat_map (link_lines n router) (filter (has_end n r
 -- the lines of a router's file
 abbrev pub router_lines : ℕ → ℕ → List (List ℕ)
 router_lines n router =
-    name_lines router ++ (host_lines router ++ (links_lines n router (numbers (link_count n)) ++ process_lines))
+    name_lines router ++
+    (host_lines router ++ (links_lines n router (numbers (link_count n)) ++ process_lines))
 
 -- a line with its end
 abbrev pub ended : List ℕ → List ℕ

@@ -3,7 +3,8 @@ ghost use Rattle.std.specs.Prelude.{◌≡◌, ◌≤◌, IfOk, map};
 ghost use Rattle.std.specs.List.{AllZip};
 ghost use Rattle.net_gen.specs.Plans.{numbers, link_count};
 ghost use Rattle.net_gen.specs.RouterFiles.{file_name};
-ghost use Rattle.net_gen.specs.Generated.{IsHostNetwork, Asks, asked_around, asked, link_text, IsDocument};
+ghost use Rattle.net_gen.specs.Generated.{IsHostNetwork, Asks, asked_around, asked, link_text};
+ghost use Rattle.net_gen.specs.Generated.{IsDocument};
 
 use crate::plans::{a_router, b_router, link_count, next, port};
 use crate::router_files::{face_name, file_name, host_name};
@@ -32,7 +33,8 @@ fn link_text(alloc: Global, routers: u32, link: u32) -> Result<LinkText, Memory>
 fn links(alloc: Global, routers: u32) -> Result<List<LinkText>, Memory>
     requires some { 1 ≤ routers }
     requires few { routers ≤ 40 }
-    ensures { IfOk result (λ links. links ≡ map (link_text routers) (numbers (link_count routers))) }
+    ensures { IfOk result (λ links.
+        links ≡ map (link_text routers) (numbers (link_count routers))) }
 {
     let mut links = List::make(alloc);
     for place in 0..link_count(routers) {

@@ -1,4 +1,5 @@
-//! The links of a generated network. Routers, links and the interfaces of a router are numbered from 1.
+//! The links of a generated network. Routers, links and the interfaces of a router are numbered
+//! from 1.
 ghost use Rattle.std.specs.Prelude.{◌≡◌, ◌≤◌, ◌+◌};
 ghost use Rattle.net_gen.specs.Plans.{link_count, next, a_router, b_router, has_end, port};
 

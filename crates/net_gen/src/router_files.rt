@@ -1,7 +1,10 @@
 //! The texts of the router files, and the names that they give.
 ghost use Rattle.std.specs.Prelude.{◌≡◌, ◌≤◌, ◌++◌, ◌==◌, IfOk, OnOk, if◌then◌else◌};
 ghost use Rattle.net_gen.specs.Plans.{numbers, link_count, a_router};
-ghost use Rattle.net_gen.specs.RouterFiles.{host_name, file_name, face_name, name_line, face_line, address_line, ended, face_lines, name_lines, host_lines, link_lines, links_lines, process_lines, router_lines, text_of};
+ghost use Rattle.net_gen.specs.RouterFiles.{host_name, file_name, face_name, name_line, face_line};
+ghost use Rattle.net_gen.specs.RouterFiles.{address_line, ended, face_lines, name_lines};
+ghost use Rattle.net_gen.specs.RouterFiles.{host_lines, link_lines, links_lines, process_lines};
+ghost use Rattle.net_gen.specs.RouterFiles.{router_lines, text_of};
 
 use crate::plans::{a_router, has_end, link_count, port};
 use arc_base::{Memory, Name, push_number};
@@ -80,7 +83,8 @@ fn push_face(
     d: u32,
     mask: &[u8],
 ) -> Result<(), Memory>
-    ensures { OnOk result (text.new.items ≡ text.old.items ++ text_of (face_lines number b c d mask.now)) }
+    ensures { OnOk result
+        (text.new.items ≡ text.old.items ++ text_of (face_lines number b c d mask.now)) }
 {
     let head = face_line(alloc, number)?;
     let address = address_line(alloc, b, c, d, mask)?;
@@ -120,7 +124,8 @@ fn push_link(
     requires some { 1 ≤ routers }
     requires few { routers ≤ 40 }
     requires link { link ≤ 60 }
-    ensures { OnOk result (text.new.items ≡ text.old.items ++ text_of (link_lines routers router link)) }
+    ensures { OnOk result
+        (text.new.items ≡ text.old.items ++ text_of (link_lines routers router link)) }
 {
     let number = port(routers, router, link);
     let end = end_number(routers, router, link);

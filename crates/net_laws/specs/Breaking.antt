@@ -1,4 +1,5 @@
--- What one failure set breaks. A policy holds exactly where none that it speaks of breaks it, and each no shows one that does.
+-- What one failure set breaks. A policy holds exactly where none that it speaks of breaks it, and
+-- each no shows one that does.
 use Rattle.std.specs.Prelude.{◌≤◌, ◌↔◌, false, IsTrue, List}
 use Rattle.net_model.specs.declared.lists.Packet.{Packet}
 use Rattle.net_model.specs.declared.policies.Class.{Class}
@@ -10,7 +11,8 @@ use Rattle.net_model.specs.declared.verdicts.Verdict.{Verdict}
 use Rattle.net_model.specs.declared.verdicts.Verdict.TheVariants.{Walk, Cut}
 use Rattle.net_model.specs.Packets.{IsOf, subject}
 use Rattle.net_model.specs.Routing.{Arc, FailureSet, DistanceMap, IsStable}
-use Rattle.net_model.specs.Forwarding.{Ends, AreEnds, Enters, IsDelivered, IsStuck, failures, target_router}
+use Rattle.net_model.specs.Forwarding.{Ends, AreEnds, Enters, IsDelivered, IsStuck, failures}
+use Rattle.net_model.specs.Forwarding.{target_router}
 use Rattle.net_model.specs.Policies.{CrossesWaypoint, HoldsAs}
 use Rattle.net_model.specs.Witnesses.{IsRight, among, all_but, is_no}
 
@@ -28,13 +30,16 @@ BlockedUnder net ends class failed =
 abbrev pub ThroughUnder : Network → Ends → Class → FailureSet → Type 0
 ThroughUnder net ends class failed =
     (d : DistanceMap) → IsStable net ends.to (target_router ends) failed d →
-    (p : Packet) → IsOf class p → (arcs : List Arc) → IsDelivered net ends failed d p arcs → CrossesWaypoint arcs
+    (p : Packet) → IsOf class p →
+    (arcs : List Arc) → IsDelivered net ends failed d p arcs → CrossesWaypoint arcs
 
--- the class reaches its target under this failure set: each packet of it enters and is stuck after no arcs
+-- the class reaches its target under this failure set: each packet of it enters and is stuck after
+-- no arcs
 abbrev pub ReachesUnder : Network → Ends → Class → FailureSet → Type 0
 ReachesUnder net ends class failed =
     (d : DistanceMap) → IsStable net ends.to (target_router ends) failed d →
-    (p : Packet) → IsOf class p → Enters net ends p × ((arcs : List Arc) → ¬ IsStuck net ends failed d p arcs)
+    (p : Packet) → IsOf class p →
+    Enters net ends p × ((arcs : List Arc) → ¬ IsStuck net ends failed d p arcs)
 
 -- what a kind of policy asks of the class holds under this failure set
 abbrev pub HoldsUnder : Network → Ends → Class → PolicyKind → FailureSet → Type 0
@@ -42,18 +47,22 @@ HoldsUnder net ends class Blocked failed = BlockedUnder net ends class failed
 HoldsUnder net ends class Through failed = ThroughUnder net ends class failed
 HoldsUnder net ends class (Reach k) failed = ReachesUnder net ends class failed
 
--- a kind of policy speaks of the failure set: blocked and through of every one, and reach of one with no more links than may fail
+-- a kind of policy speaks of the failure set: blocked and through of every one, and reach of one
+-- with no more links than may fail
 abbrev pub SpeaksOf : Network → PolicyKind → FailureSet → Type 0
 SpeaksOf net Blocked failed = Unit {0}
 SpeaksOf net Through failed = Unit {0}
 SpeaksOf net (Reach k) failed = failures net failed ≤ k
 
--- the failure set breaks what the kind asks of the class: the kind speaks of it, and under it this does not hold
-pub record BreaksAs (net : Network) (ends : Ends) (class : Class) (kind : PolicyKind) (failed : FailureSet) : Type 0 where
+-- the failure set breaks what the kind asks of the class: the kind speaks of it, and under it this
+-- does not hold
+pub record BreaksAs (net : Network) (ends : Ends) (class : Class) (kind : PolicyKind)
+    (failed : FailureSet) : Type 0 where
   pub spoken : SpeaksOf net kind failed
   pub broken : ¬ HoldsUnder net ends class kind failed
 
--- the failure set breaks the policy: the policy's class has ends in the network, for which it breaks what the policy asks
+-- the failure set breaks the policy: the policy's class has ends in the network, for which it
+-- breaks what the policy asks
 pub record Breaks (net : Network) (policy : Policy) (failed : FailureSet) : Type 0 where
   pub ends : Ends
   pub are_ends : AreEnds net (subject policy) ends
@@ -63,9 +72,11 @@ pub record Breaks (net : Network) (policy : Policy) (failed : FailureSet) : Type
 abbrev pub HoldsUnderEach : Network → Type 0
 HoldsUnderEach net =
     (ends : Ends) (class : Class) (kind : PolicyKind) →
-    HoldsAs net ends class kind ↔ ((failed : FailureSet) → SpeaksOf net kind failed → HoldsUnder net ends class kind failed)
+    HoldsAs net ends class kind ↔
+    ((failed : FailureSet) → SpeaksOf net kind failed → HoldsUnder net ends class kind failed)
 
--- the failure set that a no shows: every link but those of its walk, the links of its cut, and no link for a denial
+-- the failure set that a no shows: every link but those of its walk, the links of its cut, and no
+-- link for a denial
 abbrev pub failures_shown : Verdict → FailureSet
 failures_shown (Walk class path) = all_but path
 failures_shown (Cut links side) = among links
@@ -73,4 +84,6 @@ failures_shown _ = no_link
 
 -- each right no shows a failure set that breaks its policy
 abbrev pub RightNosBreak : Network → Type 0
-RightNosBreak net = (policy : Policy) (v : Verdict) → IsRight net policy v → IsTrue (is_no v) → Breaks net policy (failures_shown v)
+RightNosBreak net =
+    (policy : Policy) (v : Verdict) → IsRight net policy v → IsTrue (is_no v) →
+    Breaks net policy (failures_shown v)

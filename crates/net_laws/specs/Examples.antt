@@ -1,6 +1,8 @@
--- A network of two routers and one link, on which the definitions compute: routes, distances, and one right witness of each
--- answer. Its rows are those of the smallest files with a host network at each router.
-use Rattle.std.specs.Prelude.{ℕ, true, false, None, Some, if◌then◌else◌, ◌==◌, Option, List, [], ◌∷◌, codes, refl}
+-- A network of two routers and one link, on which the definitions compute: routes, distances, and
+-- one right witness of each answer. Its rows are those of the smallest files with a host network at
+-- each router.
+use Rattle.std.specs.Prelude.{ℕ, true, false, None, Some, if◌then◌else◌, ◌==◌, Option, List, []}
+use Rattle.std.specs.Prelude.{◌∷◌, codes, refl}
 use Rattle.std.proofs.Common.{lit<, lit≤}
 use Rattle.arc_base.specs.declared.prefix.Prefix.{Prefix}
 use Rattle.net_model.specs.declared.rows.Protocol.TheVariants.{Ospf}
@@ -30,7 +32,8 @@ users_2 = record { addr = 167903232; len = 24; in_range = lit< tt; length = lit�
 abbrev pub between : Prefix
 between = record { addr = 167772416; len = 30; in_range = lit< tt; length = lit≤ tt; clear = refl }
 
--- an interface that is up and runs OSPF at cost 1, of this router, name, address, subnet and host network
+-- an interface that is up and runs OSPF at cost 1, of this router, name, address, subnet and host
+-- network
 abbrev pub face : ℕ → List ℕ → ℕ → Prefix → Option Prefix → FaceRow
 face router name addr subnet host = record {
   router = record { 0 = router };
@@ -72,7 +75,9 @@ the_link = record { a = record { 0 = 1 }; b = record { 0 = 3 }; waypoint = false
 abbrev pub two_routers : Network
 two_routers = record {
   protocol = Ospf;
-  routers = record { name = codes "r1"; asn = 0; names = [] } ∷ record { name = codes "r2"; asn = 0; names = [] } ∷ [];
+  routers =
+      record { name = codes "r1"; asn = 0; names = [] } ∷
+      record { name = codes "r2"; asn = 0; names = [] } ∷ [];
   faces = owner_1 ∷ end_1 ∷ owner_2 ∷ end_2 ∷ [];
   sessions = [];
   links = the_link ∷ [];
@@ -114,8 +119,11 @@ OnePathIsRight = IsRight two_routers (between_users (Reach 0)) (Paths (over_link
 
 -- under one failure they do not: the link is a cut
 abbrev pub OneCutIsRight : Type 0
-OneCutIsRight = IsRight two_routers (between_users (Reach 1)) (Cut (link_1 ∷ []) (true ∷ false ∷ []))
+OneCutIsRight =
+    IsRight two_routers (between_users (Reach 1)) (Cut (link_1 ∷ []) (true ∷ false ∷ []))
 
 -- and they are not blocked: the link is a walk
 abbrev pub OneWalkIsRight : Type 0
-OneWalkIsRight = IsRight two_routers (between_users Blocked) (Walk (record { from = users_1; to = users_2; service = whole_service }) over_link_1)
+OneWalkIsRight =
+    IsRight two_routers (between_users Blocked)
+    (Walk (record { from = users_1; to = users_2; service = whole_service }) over_link_1)

@@ -1,6 +1,8 @@
--- The square of docs/model.md: four routers, links 1-2, 2-4, 1-3 and 3-4, the last two at cost 10, and a packet list inbound at
--- the fourth router's end of the second link that denies the packets from the first router's users to its own.
-use Rattle.std.specs.Prelude.{ℕ, true, false, None, Some, Option, List, [], ◌∷◌, codes, refl, slice_index_or, is_some}
+-- The square of docs/model.md: four routers, links 1-2, 2-4, 1-3 and 3-4, the last two at cost 10,
+-- and a packet list inbound at the fourth router's end of the second link that denies the packets
+-- from the first router's users to its own.
+use Rattle.std.specs.Prelude.{ℕ, true, false, None, Some, Option, List, [], ◌∷◌, codes, refl}
+use Rattle.std.specs.Prelude.{slice_index_or, is_some}
 use Rattle.std.proofs.Common.{lit<, lit≤}
 use Rattle.arc_base.specs.declared.prefix.Prefix.{Prefix}
 use Rattle.arc_base.specs.declared.place.ListId.{ListId}
@@ -53,7 +55,8 @@ subnet_3 = record { addr = 167772928; len = 30; in_range = lit< tt; length = lit
 abbrev pub subnet_4 : Prefix
 subnet_4 = record { addr = 167773184; len = 30; in_range = lit< tt; length = lit≤ tt; clear = refl }
 
--- an interface that is up and runs OSPF, of this router, name, address, subnet, host network, cost and inbound list
+-- an interface that is up and runs OSPF, of this router, name, address, subnet, host network, cost
+-- and inbound list
 abbrev pub face : ℕ → List ℕ → ℕ → Prefix → Option Prefix → ℕ → Option ListId → FaceRow
 face router name addr subnet host cost list = record {
   router = record { 0 = router };
@@ -73,7 +76,8 @@ face router name addr subnet host cost list = record {
 
 -- the interface of a router with its users
 abbrev pub user_face : ℕ → ℕ → Prefix → FaceRow
-user_face router addr users = face router (codes "GigabitEthernet0/0") addr users (Some users) 1 None
+user_face router addr users =
+    face router (codes "GigabitEthernet0/0") addr users (Some users) 1 None
 
 -- that of the first router, 10.1.0.1
 abbrev pub owner_1 : FaceRow
@@ -129,14 +133,18 @@ list_101 = record {
   router = record { 0 = 3 };
   name = codes "101";
   extended = true;
-  entries = record { permit = false; from = users_1; to = users_4; service = whole_service } ∷ record { permit = true; from = everyone; to = everyone; service = whole_service } ∷ [];
+  entries =
+      record { permit = false; from = users_1; to = users_4; service = whole_service } ∷
+      record { permit = true; from = everyone; to = everyone; service = whole_service } ∷ [];
 }
 
 -- the square
 abbrev pub square : Network
 square = record {
   protocol = Ospf;
-  routers = router (codes "r1") [] ∷ router (codes "r2") [] ∷ router (codes "r3") [] ∷ router (codes "r4") (codes "101" ∷ []) ∷ [];
+  routers =
+      router (codes "r1") [] ∷ router (codes "r2") [] ∷ router (codes "r3") [] ∷
+      router (codes "r4") (codes "101" ∷ []) ∷ [];
   faces =
       owner_1 ∷ end_1a ∷ end_3a ∷ user_face 1 167903233 users_2 ∷ end_1b ∷ end_2a ∷
       user_face 2 167968769 users_3 ∷ end_3b ∷ end_4a ∷ owner_4 ∷ end_2b ∷ end_4b ∷ [];
@@ -176,7 +184,9 @@ ends = record { source = owner_1; target = owner_4; to = users_4 }
 
 -- with all links up none of them is delivered
 abbrev pub SquareDeliversNone : Type 0
-SquareDeliversNone = (p : Packet) → IsOf across p → (arcs : List Arc) → ¬ IsDelivered square ends (λ link. false) distances p arcs
+SquareDeliversNone =
+    (p : Packet) → IsOf across p →
+    (arcs : List Arc) → ¬ IsDelivered square ends (λ link. false) distances p arcs
 
 -- and yet they are not blocked
 abbrev pub SquareIsNotBlocked : Type 0
@@ -188,4 +198,6 @@ SquareWalkIsRight = IsRight square (policy Blocked) (Walk across over_3_and_4)
 
 -- nor is reach answered: the arc of link 2 denies the packet from 10.1.0.0 to 10.4.0.0
 abbrev pub SquareRefusalIsRight : Type 0
-SquareRefusalIsRight = IsRight square (policy (Reach 0)) (Refused (record { from = 167837696; to = 168034304; service = 0 }) (record { 0 = 1 }))
+SquareRefusalIsRight =
+    IsRight square (policy (Reach 0))
+    (Refused (record { from = 167837696; to = 168034304; service = 0 }) (record { 0 = 1 }))

@@ -1,10 +1,18 @@
 //! Laws over the definitions alone: each is the contract of a function that does nothing.
 ghost use Rattle.net_model.specs.Validity.{IsValid};
-ghost use Rattle.net_laws.specs.Laws.{HasOneStableMap, ClosedSidesBlock, ClosedSidesForceThrough, RightWalksAreDelivered, RightWalksUnblock, RightWalksBypass, RightPathsReach, RefusalsAreRight, HasStableMap, RightCutsSeparate, RightCutsBreakReach, RightDenialsBreakReach, HasOnePairOfEnds, RightVerdictsAreTrue, RightVerdictsDecide};
+ghost use Rattle.net_laws.specs.Laws.{HasOneStableMap, ClosedSidesBlock, ClosedSidesForceThrough};
+ghost use Rattle.net_laws.specs.Laws.{RightWalksAreDelivered, RightWalksUnblock, RightWalksBypass};
+ghost use Rattle.net_laws.specs.Laws.{RightPathsReach, RefusalsAreRight, HasStableMap};
+ghost use Rattle.net_laws.specs.Laws.{RightCutsSeparate, RightCutsBreakReach};
+ghost use Rattle.net_laws.specs.Laws.{RightDenialsBreakReach, HasOnePairOfEnds};
+ghost use Rattle.net_laws.specs.Laws.{RightVerdictsAreTrue, RightVerdictsDecide};
 ghost use Rattle.net_laws.specs.Breaking.{HoldsUnderEach, RightNosBreak};
 ghost use Rattle.net_laws.specs.Routes.{RoutesDecide, RoutesDecideAllUp};
-ghost use Rattle.net_laws.specs.Examples.{ExampleIsValid, BothWaysRouted, DistancesAreStable, OnePathIsRight, OneCutIsRight, OneWalkIsRight};
-ghost use Rattle.net_laws.specs.Square.{SquareDistancesAreStable, SquareDeliversNone, SquareIsNotBlocked, SquareWalkIsRight, SquareRefusalIsRight};
+ghost use Rattle.net_laws.specs.Examples.{ExampleIsValid, BothWaysRouted, DistancesAreStable};
+ghost use Rattle.net_laws.specs.Examples.{OnePathIsRight, OneCutIsRight, OneWalkIsRight};
+ghost use Rattle.net_laws.specs.Square.{SquareDistancesAreStable, SquareDeliversNone};
+ghost use Rattle.net_laws.specs.Square.{SquareIsNotBlocked, SquareWalkIsRight};
+ghost use Rattle.net_laws.specs.Square.{SquareRefusalIsRight};
 ghost use Rattle.net_model.specs.declared.rows.Network.{Network};
 
 /// For a host network and a failure set there is one stable map.
@@ -19,7 +27,8 @@ pub fn closed_sides_are_right()
     ensures through { ClosedSidesForceThrough }
 {}
 
-/// With all links failed but those of a right walk, the walk is delivered. So it shows that a policy does not hold.
+/// With all links failed but those of a right walk, the walk is delivered. So it shows that a
+/// policy does not hold.
 pub fn walks_are_right()
     ensures delivered { RightWalksAreDelivered }
     ensures blocked { RightWalksUnblock }
@@ -46,15 +55,16 @@ pub fn verdicts_are_right()
     ensures decide { (net : Network) → IsValid net → RightVerdictsDecide net }
 {}
 
-/// What a policy asks holds exactly where it holds under each failure set that it speaks of. In a valid network each right no
-/// shows a failure set that breaks its policy: a walk every link but its own, a cut its links, and a denial no link.
+/// What a policy asks holds exactly where it holds under each failure set that it speaks of. In a
+/// valid network each right no shows a failure set that breaks its policy: a walk every link but
+/// its own, a cut its links, and a denial no link.
 pub fn nos_show_what_breaks()
     ensures holds { (net : Network) → HoldsUnderEach net }
     ensures breaks { (net : Network) → IsValid net → RightNosBreak net }
 {}
 
-/// A clear class whose packets enter and leave reaches its target exactly where a route is left. So the links whose failure
-/// alone breaks a reach policy are those whose failure leaves no route.
+/// A clear class whose packets enter and leave reaches its target exactly where a route is left. So
+/// the links whose failure alone breaks a reach policy are those whose failure leaves no route.
 pub fn routes_decide()
     ensures under { (net : Network) → IsValid net → RoutesDecide net }
     ensures all_up { (net : Network) → IsValid net → RoutesDecideAllUp net }
@@ -70,7 +80,8 @@ pub fn two_routers()
     ensures walk { OneWalkIsRight }
 {}
 
-/// The definitions on the square of docs/model.md, where a list denies the arc that is on the shortest way.
+/// The definitions on the square of docs/model.md, where a list denies the arc that is on the
+/// shortest way.
 pub fn square()
     ensures distances { SquareDistancesAreStable }
     ensures none { SquareDeliversNone }

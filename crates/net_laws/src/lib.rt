@@ -1,6 +1,7 @@
-//! Laws over the definitions of `net_model`, each the contract of a function that does nothing. They show that the definitions
-//! are the right ones: stable distances exist and are unique, and each right witness shows its verdict. A crate above that
-//! rests on a law calls its function or cites the lemma that proves it.
+//! Laws over the definitions of `net_model`, each the contract of a function that does nothing.
+//! They show that the definitions are the right ones: stable distances exist and are unique, and
+//! each right witness shows its verdict. A crate above that rests on a law calls its function or
+//! cites the lemma that proves it.
 #![tactic(auto)]
 
 mod laws;

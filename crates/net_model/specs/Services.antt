@@ -1,5 +1,6 @@
--- Services: which protocol a packet is of, and which port of its destination it is for. A service is a number below 2^24: the
--- protocol's number times 65,536, plus the destination port. Only TCP and UDP have ports.
+-- Services: which protocol a packet is of, and which port of its destination it is for. A service
+-- is a number below 2^24: the protocol's number times 65,536, plus the destination port. Only TCP
+-- and UDP have ports.
 use Rattle.std.specs.Prelude.{ℕ, ◌+◌, ◌-◌, Bool, ◌&&◌, nat_le, IsTrue}
 use Rattle.std.proofs.Common.{arith}
 use Rattle.net_model.specs.declared.services.Service.{Service}

@@ -1,5 +1,7 @@
--- What the calls that go over all links keep: the place of each interface's session, and which arcs are routed.
-use Rattle.std.specs.Prelude.{◌≡◌, ℕ, ◌<◌, ◌↔◌, Bool, true, false, IsTrue, Option, Some, None, List, length, slice_get, slice_index_or}
+-- What the calls that go over all links keep: the place of each interface's session, and which arcs
+-- are routed.
+use Rattle.std.specs.Prelude.{◌≡◌, ℕ, ◌<◌, ◌↔◌, Bool, true, false, IsTrue, Option, Some, None, List}
+use Rattle.std.specs.Prelude.{length, slice_get, slice_index_or}
 use Rattle.std.specs.Option.{option_and_then}
 use Rattle.arc_base.specs.declared.place.Face.{Face}
 use Rattle.arc_base.specs.declared.prefix.Prefix.{Prefix}
@@ -9,12 +11,15 @@ use Rattle.net_model.specs.declared.rows.Network.{Network}
 use Rattle.net_model.specs.declared.tables.RoutedLink.{RoutedLink}
 use Rattle.net_model.specs.Routing.{tail_end, head_end, session_at, Leads, IsRoutedLink}
 
--- the list has, for each interface within it, the place of its session, or none where it has no session
+-- the list has, for each interface within it, the place of its session, or none where it has no
+-- session
 abbrev pub IsSessionIndex : Network → List (Option ℕ) → Type 0
 IsSessionIndex net places =
-    (face : Face) → face.0 < length places → session_at net face ≡ option_and_then (slice_get net.sessions) (slice_index_or places face.0 None)
+    (face : Face) → face.0 < length places → session_at net face
+    ≡ option_and_then (slice_get net.sessions) (slice_index_or places face.0 None)
 
--- the arc of a link with this row is routed: its two ends have rows, and its tail learns of the host network from its head
+-- the arc of a link with this row is routed: its two ends have rows, and its tail learns of the
+-- host network from its head
 pub record IsRoutedOver (net : Network) (row : LinkRow) (from_a : Bool) (to : Prefix) : Type 0 where
   pub tail : FaceRow
   pub head : FaceRow
@@ -24,9 +29,13 @@ pub record IsRoutedOver (net : Network) (row : LinkRow) (from_a : Bool) (to : Pr
 
 -- the flags tell whether the two arcs of the link are routed
 abbrev pub TellsRouted : Network → ℕ → Prefix → RoutedLink → Type 0
-TellsRouted net link to flags = (IsTrue flags.from_a ↔ IsRoutedLink net link true to) × (IsTrue flags.from_b ↔ IsRoutedLink net link false to)
+TellsRouted net link to flags =
+    (IsTrue flags.from_a ↔ IsRoutedLink net link true to) ×
+    (IsTrue flags.from_b ↔ IsRoutedLink net link false to)
 
--- the list has for each link of the network, in order, the flags that tell whether its arcs are routed
+-- the list has for each link of the network, in order, the flags that tell whether its arcs are
+-- routed
 pub record AreRoutedLinks (net : Network) (to : Prefix) (table : List RoutedLink) : Type 0 where
   pub whole : length table ≡ length net.links
-  pub each : (link : ℕ) (flags : RoutedLink) → slice_get table link ≡ Some flags → TellsRouted net link to flags
+  pub each : (link : ℕ) (flags : RoutedLink) → slice_get table link ≡ Some flags →
+      TellsRouted net link to flags

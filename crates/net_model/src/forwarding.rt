@@ -6,7 +6,8 @@ use crate::rows::Network;
 use arc_base::ListId;
 
 impl Network {
-    /// Whether the packet list with this place permits the packet. An interface without a defined list permits every packet.
+    /// Whether the packet list with this place permits the packet. An interface without a defined
+    /// list permits every packet.
     pub fn list_permits(&self, list: Option<ListId>, packet: Packet) -> bool
         ensures { IsTrue result ↔ ListPermits self.now list packet }
     {

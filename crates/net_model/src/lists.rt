@@ -15,7 +15,8 @@ pub struct Packet {
     pub service: u32,
 }
 
-/// An entry of a packet list, for the packets whose addresses lie in its prefixes and whose service lies in its range.
+/// An entry of a packet list, for the packets whose addresses lie in its prefixes and whose service
+/// lies in its range.
 #[derive(Clone, Copy, Debug, PartialEq, Eq)]
 pub struct PacketEntry {
     pub permit: bool,
@@ -27,7 +28,8 @@ pub struct PacketEntry {
     pub service: Service,
 }
 
-/// A packet list (an access list) of a router, which filters packets at the interfaces that it is bound to.
+/// A packet list (an access list) of a router, which filters packets at the interfaces that it is
+/// bound to.
 #[derive(Debug, Drop)]
 pub struct PacketList {
     pub router: Router,
@@ -46,7 +48,8 @@ pub struct RouteEntry {
     pub high: u8,
 }
 
-/// A route list (a prefix list) of a router, which filters the routes that the sessions it is bound to take in.
+/// A route list (a prefix list) of a router, which filters the routes that the sessions it is bound
+/// to take in.
 #[derive(Debug, Drop)]
 pub struct RouteList {
     pub router: Router,
@@ -57,7 +60,8 @@ pub struct RouteList {
 impl PacketEntry {
     ghost use Rattle.net_model.specs.Lists.{matches};
 
-    /// Whether both addresses of the packet lie in the entry's prefixes, and its service in the entry's range.
+    /// Whether both addresses of the packet lie in the entry's prefixes, and its service in the
+    /// entry's range.
     pub fn matches(&self, packet: Packet) -> bool
         ensures { result ≡ matches packet self.now }
     {
@@ -88,7 +92,8 @@ impl PacketList {
         self.entries.slice().iter().find(|e| e.matches(packet))
     }
 
-    /// Whether the first entry that matches the packet permits it. Where none matches the packet is denied.
+    /// Whether the first entry that matches the packet permits it. Where none matches the packet is
+    /// denied.
     pub fn permits(&self, packet: Packet) -> bool
         ensures { result ≡ permits self.now.entries packet }
     {
@@ -109,7 +114,8 @@ impl RouteList {
         self.entries.slice().iter().find(|e| e.matches(route))
     }
 
-    /// Whether the first entry that matches the prefix permits it. Where none matches the prefix is denied.
+    /// Whether the first entry that matches the prefix permits it. Where none matches the prefix is
+    /// denied.
     pub fn permits(&self, route: Prefix) -> bool
         ensures { result ≡ route_permits self.now.entries route }
     {

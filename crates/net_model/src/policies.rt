@@ -39,7 +39,8 @@ pub enum PolicyKind {
     Reach(u32),
 }
 
-/// A policy on every packet from one prefix to another of a range of services. The prefixes lie in different host networks.
+/// A policy on every packet from one prefix to another of a range of services. The prefixes lie in
+/// different host networks.
 #[derive(Clone, Copy, Debug, PartialEq, Eq)]
 pub struct Policy {
     pub kind: PolicyKind,
@@ -69,7 +70,8 @@ pub struct LinkText {
     pub waypoint: bool,
 }
 
-/// The document: it names the router files, and gives the links, the policies and the weights of edits.
+/// The document: it names the router files, and gives the links, the policies and the weights of
+/// edits.
 #[derive(Debug, Drop)]
 pub struct Document {
     /// The names of the router files.

@@ -1,6 +1,9 @@
-ghost use Rattle.std.specs.Prelude.{◌≡◌, ◌↔◌, ℕ, length, Any, find, slice_get, IsTrue, IfSome, IfNone};
+ghost use Rattle.std.specs.Prelude.{◌≡◌, ◌↔◌, ℕ, length, Any, find, slice_get, IsTrue, IfSome};
+ghost use Rattle.std.specs.Prelude.{IfNone};
 ghost use Rattle.std.specs.Option.{option_copied};
-ghost use Rattle.net_model.specs.Routing.{tail_end, head_end, session_at, Names, TakesPart, IsAbleEnd, IsOpen, RouteListPermits, FilterPermits, Tells, Carries, IsRoutedLink};
+ghost use Rattle.net_model.specs.Routing.{tail_end, head_end, session_at, Names, TakesPart};
+ghost use Rattle.net_model.specs.Routing.{IsAbleEnd, IsOpen, RouteListPermits, FilterPermits};
+ghost use Rattle.net_model.specs.Routing.{Tells, Carries, IsRoutedLink};
 ghost use Rattle.net_model.specs.Tables.{IsRoutedOver};
 ghost use Rattle.net_model.specs.Forwarding.{LiesInHostOf, IsHostOf, IsHostFace, HasHost};
 
@@ -91,14 +94,16 @@ impl Network {
         self.sessions.slice().iter().find(|s| s.face.0 == face.0)
     }
 
-    /// Whether the host network is told and its interface is up. It looks through all interfaces of the network.
+    /// Whether the host network is told and its interface is up. It looks through all interfaces of
+    /// the network.
     pub fn is_told(&self, to: Prefix) -> bool
         ensures { IsTrue result ↔ Any (Tells to) self.now.faces }
     {
         self.faces.slice().iter().any(|face| face.tells(to))
     }
 
-    /// Whether the session's peer is the address of this interface, and its remote AS that of the interface's router.
+    /// Whether the session's peer is the address of this interface, and its remote AS that of the
+    /// interface's router.
     fn names(&self, session: &SessionRow, far: &FaceRow) -> bool
         ensures { IsTrue result ↔ Names self.now session.now far.now }
     {
@@ -109,7 +114,8 @@ impl Network {
     }
 
     fn takes_part(&self, session: Option<&SessionRow>, near: &FaceRow, far: &FaceRow) -> bool
-        ensures { IsTrue result ↔ TakesPart self.now.protocol self.now (option_copied session.entry) near.now far.now }
+        ensures { IsTrue result ↔
+            TakesPart self.now.protocol self.now (option_copied session.entry) near.now far.now }
     {
         match self.protocol {
             Protocol::Ospf => near.enabled,
@@ -120,9 +126,11 @@ impl Network {
         }
     }
 
-    /// Whether the interface `near` makes its link able from its side, where `far` is the other end.
+    /// Whether the interface `near` makes its link able from its side, where `far` is the other
+    /// end.
     pub fn is_able_end(&self, session: Option<&SessionRow>, near: &FaceRow, far: &FaceRow) -> bool
-        ensures { IsTrue result ↔ IsAbleEnd self.now (option_copied session.entry) near.now far.now }
+        ensures { IsTrue result ↔
+            IsAbleEnd self.now (option_copied session.entry) near.now far.now }
     {
         near.up && near.addr.is_some() && self.takes_part(session, near, far)
     }
@@ -146,7 +154,8 @@ impl Network {
         }
     }
 
-    /// Whether the interface `head` can hand a route for the host network on to the interface `tail`.
+    /// Whether the interface `head` can hand a route for the host network on to the interface
+    /// `tail`.
     fn carries(
         &self,
         tail_session: Option<&SessionRow>,
@@ -155,7 +164,8 @@ impl Network {
         head: &FaceRow,
         to: Prefix,
     ) -> bool
-        ensures { IsTrue result ↔ Carries self.now to (option_copied tail_session.entry) tail.now (option_copied head_session.entry) head.now }
+        ensures { IsTrue result ↔ Carries self.now to (option_copied tail_session.entry) tail.now
+            (option_copied head_session.entry) head.now }
     {
         self.is_able_end(tail_session, tail, head)
             && self.is_able_end(head_session, head, tail)
@@ -164,7 +174,8 @@ impl Network {
             && self.filter_permits(tail_session, to)
     }
 
-    /// Whether the arc of the link with this row is routed for the host network. The sessions are those of its tail and head.
+    /// Whether the arc of the link with this row is routed for the host network. The sessions are
+    /// those of its tail and head.
     pub(crate) fn routed_over(
         &self,
         told: bool,
@@ -190,15 +201,18 @@ impl Network {
         told && self.carries(tail_session, tail_row, head_session, head_row, to)
     }
 
-    /// Whether the link's arc, from end a to end b where `from_a` is true and else from b to a, is routed for the host network.
-    /// It looks through all interfaces and sessions; for many links see `routed_if_told` and `routed_links`.
+    /// Whether the link's arc, from end a to end b where `from_a` is true and else from b to a, is
+    /// routed for the host network.
+    /// It looks through all interfaces and sessions; for many links see `routed_if_told` and
+    /// `routed_links`.
     pub fn routed(&self, link: Link, from_a: bool, to: Prefix) -> bool
         ensures { IsTrue result ↔ IsRoutedLink self.now link.0 from_a to }
     {
         self.routed_if_told(self.is_told(to), link, from_a, to)
     }
 
-    /// The answer of `routed`, where `told` is that of `is_told`. It looks through all sessions, of which OSPF has none.
+    /// The answer of `routed`, where `told` is that of `is_told`. It looks through all sessions, of
+    /// which OSPF has none.
     pub fn routed_if_told(&self, told: bool, link: Link, from_a: bool, to: Prefix) -> bool
         requires { IsTrue told ↔ Any (Tells to) self.now.faces }
         ensures { IsTrue result ↔ IsRoutedLink self.now link.0 from_a to }

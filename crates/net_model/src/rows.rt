@@ -17,7 +17,8 @@ pub struct RouterRow {
     pub name: Name,
     /// The number of its AS, and 0 under OSPF.
     pub asn: u32,
-    /// The names that its file gives to a list, with or without entries, or binds somewhere, in byte order.
+    /// The names that its file gives to a list, with or without entries, or binds somewhere, in
+    /// byte order.
     pub names: List<Name>,
 }
 
@@ -31,8 +32,8 @@ pub struct FaceRow {
     pub addr: Option<u32>,
     /// The connected subnet: the prefix of its address and mask.
     pub subnet: Option<Prefix>,
-    /// The host network, at an interface that is no link's end: the connected subnet, or the /32 of the own address where
-    /// OSPF advertises just that (a loopback; RFC 2328, section 9.1).
+    /// The host network, at an interface that is no link's end: the connected subnet, or the /32 of
+    /// the own address where OSPF advertises just that (a loopback; RFC 2328, section 9.1).
     pub host: Option<Prefix>,
     /// Whether it is not shut down.
     pub up: bool,
@@ -46,7 +47,8 @@ pub struct FaceRow {
     pub cost: u32,
     /// Whether a packet list is bound inbound, also one that is not defined.
     pub bound_in: bool,
-    /// The packet list that is bound inbound, if it is defined. A list without entries is not, and permits every packet.
+    /// The packet list that is bound inbound, if it is defined. A list without entries is not, and
+    /// permits every packet.
     pub list_in: Option<ListId>,
     /// The packet list that is bound outbound, if it is defined.
     pub list_out: Option<ListId>,
@@ -77,8 +79,8 @@ pub struct LinkRow {
     pub waypoint: bool,
 }
 
-/// The network that a document and its router files stand for. `Router`, `Face`, `Link` and `ListId` are places in its lists,
-/// counted from 0.
+/// The network that a document and its router files stand for. `Router`, `Face`, `Link` and
+/// `ListId` are places in its lists, counted from 0.
 #[derive(Debug, Drop)]
 pub struct Network {
     pub protocol: Protocol,
@@ -90,8 +92,10 @@ pub struct Network {
     pub sessions: List<SessionRow>,
     /// In the order of the document.
     pub links: List<LinkRow>,
-    /// The lists that are bound to an interface and defined, by router, and then in byte order of names.
+    /// The lists that are bound to an interface and defined, by router, and then in byte order of
+    /// names.
     pub packet_lists: List<PacketList>,
-    /// The lists that are bound to a session and defined, by router, and then in byte order of names.
+    /// The lists that are bound to a session and defined, by router, and then in byte order of
+    /// names.
     pub route_lists: List<RouteList>,
 }

@@ -5,8 +5,9 @@ const LAST: u32 = 0xff_ffff;
 
 /// A range of services, from `low` to `high`.
 ///
-/// A service is the number of a protocol (0 to 255, as IANA assigns them) times 65,536, plus a destination port. Only TCP
-/// (protocol 6) and UDP (17) have ports; for every other protocol the last two bytes mean nothing.
+/// A service is the number of a protocol (0 to 255, as IANA assigns them) times 65,536, plus a
+/// destination port. Only TCP (protocol 6) and UDP (17) have ports; for every other protocol the
+/// last two bytes mean nothing.
 #[derive(Clone, Copy, Debug, PartialEq, Eq)]
 pub struct Service {
     pub low: u32,
@@ -16,9 +17,12 @@ pub struct Service {
 }
 
 impl Service {
-    ghost use Rattle.net_model.specs.Services.{serves, is_service_inside, IsServiceInside, services_meet, ShareService, services, whole_service};
+    ghost use Rattle.net_model.specs.Services.{serves, is_service_inside, IsServiceInside};
+    ghost use Rattle.net_model.specs.Services.{services_meet, ShareService, services};
+    ghost use Rattle.net_model.specs.Services.{whole_service};
 
-    /// The range from the one service to the other, or `None` where the first is above the second or one is out of range.
+    /// The range from the one service to the other, or `None` where the first is above the second
+    /// or one is out of range.
     pub fn new(low: u32, high: u32) -> Option<Service>
         ensures valid { IsSome result ↔ ((low ≤ high) × (high < 2 ^ 24)) }
         ensures value { IfSome result (λ s. (s.low ≡ low) × (s.high ≡ high)) }

@@ -1,4 +1,5 @@
-ghost use Rattle.std.specs.Prelude.{◌≡◌, ◌↔◌, ◌<◌, ◌==◌, ℕ, length, slice_index_or, if◌then◌else◌, None, Some, Any, IsTrue, IfOk};
+ghost use Rattle.std.specs.Prelude.{◌≡◌, ◌↔◌, ◌<◌, ◌==◌, ℕ, length, slice_index_or, if◌then◌else◌};
+ghost use Rattle.std.specs.Prelude.{None, Some, Any, IsTrue, IfOk};
 ghost use Rattle.std.specs.Option.{option_copied, option_or};
 ghost use Rattle.net_model.specs.Routing.{session_at, Tells};
 ghost use Rattle.net_model.specs.Tables.{IsSessionIndex, TellsRouted, AreRoutedLinks};
@@ -17,8 +18,8 @@ pub struct RoutedLink {
 }
 
 impl Network {
-    /// For each link whether its arcs are routed for the host network. It goes over the interfaces, the sessions and the links
-    /// once each.
+    /// For each link whether its arcs are routed for the host network. It goes over the interfaces,
+    /// the sessions and the links once each.
     pub fn routed_links(&self, alloc: Global, to: Prefix) -> Result<List<RoutedLink>, Memory>
         ensures { IfOk result (AreRoutedLinks self.now to) }
     {
@@ -82,7 +83,10 @@ impl Network {
 /// Puts the place in where there is none yet.
 fn keep_first(places: &mut [Option<u32>], at: usize, place: u32)
     ensures len { length places.new ≡ length places.old }
-    ensures each { (k : ℕ) → k < length places.old → slice_index_or places.new k None ≡ (if at == k then option_or (slice_index_or places.old k None) (Some place) else slice_index_or places.old k None) }
+    ensures each { (k : ℕ) → k < length places.old →
+        slice_index_or places.new k None
+        ≡ (if at == k then option_or (slice_index_or places.old k None) (Some place)
+        else slice_index_or places.old k None) }
 {
     if at < places.len() && places[at].is_none() {
         places[at] = Some(place);

@@ -16,19 +16,24 @@ pub struct LinkPath {
     pub links: List<Link>,
 }
 
-/// An answer to a policy with its witness. `Closed` and `Paths` are yes, `Walk`, `Denied` and `Cut` are no.
+/// An answer to a policy with its witness. `Closed` and `Paths` are yes, `Walk`, `Denied` and `Cut`
+/// are no.
 #[derive(Debug, Drop)]
 pub enum Verdict {
-    /// Yes to blocked or through: classes that make up the policy's, each with a side that its packets do not get off.
+    /// Yes to blocked or through: classes that make up the policy's, each with a side that its
+    /// packets do not get off.
     Closed(List<ClassSide>),
     /// Yes to reach: one path more than links may fail, no two over one link.
     Paths(List<LinkPath>),
-    /// No to blocked or through: packets that are delivered over this path once all other links have failed.
+    /// No to blocked or through: packets that are delivered over this path once all other links
+    /// have failed.
     Walk(Class, LinkPath),
     /// No to reach: packets that do not enter, or do not leave, even with all links up.
     Denied(Class),
-    /// No to reach: links that separate source and target once they fail, and the source's side of them.
+    /// No to reach: links that separate source and target once they fail, and the source's side of
+    /// them.
     Cut(List<Link>, List<bool>),
-    /// No answer to reach: an arc of this link, over which the packets may be routed, denies this packet.
+    /// No answer to reach: an arc of this link, over which the packets may be routed, denies this
+    /// packet.
     Refused(Packet, Link),
 }

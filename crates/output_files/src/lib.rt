@@ -1,5 +1,6 @@
-//! The files that a command writes beside those that it read: a copy of each router file that is changed, under its name with a
-//! suffix. A name that is written may be none that is read, and none is written twice.
+//! The files that a command writes beside those that it read: a copy of each router file that is
+//! changed, under its name with a suffix. A name that is written may be none that is read, and none
+//! is written twice.
 #![tactic(auto)]
 
 pub mod laws;

@@ -41,8 +41,8 @@ fn is_taken(document: &Name, routers: &[Name], others: &[Name], name: &Name) -> 
     document.is(name.bytes()) || holds(routers, name) || holds(others, name)
 }
 
-/// Whether one of the outputs has the name of the document or of a router file, or of another output. The time is the product
-/// of their numbers.
+/// Whether one of the outputs has the name of the document or of a router file, or of another
+/// output. The time is the product of their numbers.
 pub fn clashes(document: &Name, routers: &[Name], outputs: &[Name]) -> bool
     ensures { result ≡ clashes (document.now ∷ routers.now) outputs.now }
 {

@@ -56,8 +56,8 @@ fn lines_of<S: Store>(
     Ok(lines)
 }
 
-// With enough memory each line is handed out: empty ones, one that is longer than two pieces, and a last one that no line
-// feed ends.
+// With enough memory each line is handed out: empty ones, one that is longer than two pieces, and a
+// last one that no line feed ends.
 #[test]
 fn lines_come_in_order(rt: HostRuntime) -> Result<(), Fail> {
     let alloc = rt.alloc();

@@ -1,5 +1,7 @@
--- What edits add to the file of a router: lines of its process, bindings, entries of lists, and new lists.
-use Rattle.std.specs.Prelude.{ℕ, ◌==◌, ◌&&◌, not, Option, Some, None, List, ◌++◌, map, bytes_eq, slice_get, option_map, option_and_then, if◌then◌else◌}
+-- What edits add to the file of a router: lines of its process, bindings, entries of lists, and new
+-- lists.
+use Rattle.std.specs.Prelude.{ℕ, ◌==◌, ◌&&◌, not, Option, Some, None, List, ◌++◌, map, bytes_eq}
+use Rattle.std.specs.Prelude.{slice_get, option_map, option_and_then, if◌then◌else◌}
 use Rattle.std.specs.List.{filter_map}
 use Rattle.arc_base.specs.declared.prefix.Prefix.{Prefix}
 use Rattle.net_model.specs.declared.lists.PacketEntry.{PacketEntry}
@@ -26,19 +28,21 @@ use Rattle.edit_space.specs.declared.new_lists.NewList.{NewList}
 use Rattle.edit_space.specs.declared.new_lists.NewList.TheVariants as lists
 use Rattle.edit_space.specs.Changes.{new_prefixes, new_classes}
 use Rattle.edit_space.specs.NewLists.{named_lists}
-use Rattle.edit_space.specs.After.{opposite_route_entry, opposite_packet_entry, new_route_entries, new_packet_entries}
+use Rattle.edit_space.specs.After.{opposite_route_entry, opposite_packet_entry, new_route_entries}
+use Rattle.edit_space.specs.After.{new_packet_entries}
 
 -- the interface at the place, if it is one of the router
 abbrev pub own_face : Network → ℕ → ℕ → Option FaceRow
 own_face net router place =
     option_and_then (λ f. if f.router.0 == router then Some f else None) (slice_get net.faces place)
 
--- The line that turns the session of the interface at the place: under OSPF it makes it passive or active, under eBGP it shuts
--- its neighbour down or no longer does.
+-- The line that turns the session of the interface at the place: under OSPF it makes it passive or
+-- active, under eBGP it shuts its neighbour down or no longer does.
 abbrev pub session_line : Protocol → Network → ℕ → FaceRow → Option Command
 session_line Ospf net place face = Some (commands.Passive (not face.passive) (Some face.name))
 session_line Bgp net place face =
-    option_map (λ s. commands.NeighborDown s.peer (not s.down)) (session_at net (record { 0 = place }))
+    option_map (λ s. commands.NeighborDown s.peer (not s.down))
+    (session_at net (record { 0 = place }))
 
 -- the line that the edit adds to the process of the router, if it turns a session of it
 abbrev pub turning_line : Network → ℕ → Edit → Option Command
@@ -48,10 +52,12 @@ turning_line net router other = None
 
 -- the line that binds the new list of this name at its neighbour, if it is a route list
 abbrev pub filter_line : Network → List ℕ → NewList → Option Command
-filter_line net name (lists.Route face) = option_map (λ s. commands.NeighborList s.peer name) (session_at net face)
+filter_line net name (lists.Route face) =
+    option_map (λ s. commands.NeighborList s.peer name) (session_at net face)
 filter_line net name (lists.Packet face) = None
 
--- the lines that edits add to the process of the router: those that turn sessions, then those that bind new route lists
+-- the lines that edits add to the process of the router: those that turn sessions, then those that
+-- bind new route lists
 abbrev pub process_lines : Network → List Edit → ℕ → List Command
 process_lines net chosen router =
     filter_map (turning_line net router) chosen ++
@@ -61,7 +67,8 @@ process_lines net chosen router =
 abbrev pub list_for : Network → List ℕ → List ℕ → NewList → Option (List ℕ)
 list_for net face name (lists.Route other) = None
 list_for net face name (lists.Packet place) =
-    option_and_then (λ row. if bytes_eq row.name face then Some name else None) (slice_get net.faces place.0)
+    option_and_then (λ row. if bytes_eq row.name face then Some name else None)
+    (slice_get net.faces place.0)
 
 -- the name of the new packet list of the router's interface of this name, if it has one
 abbrev pub new_inbound : Network → List Edit → ℕ → List ℕ → Option (List ℕ)
@@ -76,13 +83,15 @@ if_own_list router name other named x =
 -- the prefix for which the edit puts an entry in front of the router's route list of this name
 abbrev pub prefix_for : Network → ℕ → List ℕ → Edit → Option Prefix
 prefix_for net router name (edits.RouteList list prefix) =
-    option_and_then (λ l. if_own_list router name l.router.0 l.name prefix) (slice_get net.route_lists list.0)
+    option_and_then (λ l. if_own_list router name l.router.0 l.name prefix)
+    (slice_get net.route_lists list.0)
 prefix_for net router name other = None
 
 -- the class for which the edit puts an entry in front of the router's packet list of this name
 abbrev pub class_for : Network → ℕ → List ℕ → Edit → Option Class
 class_for net router name (edits.PacketList list class) =
-    option_and_then (λ l. if_own_list router name l.router.0 l.name class) (slice_get net.packet_lists list.0)
+    option_and_then (λ l. if_own_list router name l.router.0 l.name class)
+    (slice_get net.packet_lists list.0)
 class_for net router name other = None
 
 -- what the line of an entry says

@@ -1,4 +1,5 @@
--- The settings of a file without the numbers of its lines and without those of the entries of its lists.
+-- The settings of a file without the numbers of its lines and without those of the entries of its
+-- lists.
 use Rattle.std.specs.Prelude.{false, None, map, option_map}
 use Rattle.ios_words.specs.declared.commands.Command.{Command}
 use Rattle.ios_words.specs.declared.commands.Command.TheVariants as commands

@@ -1,5 +1,7 @@
--- What is asked of a network and of the edits that are chosen, so that the settings after the edits have a network.
-use Rattle.std.specs.Prelude.{◌≡◌, ℕ, ◌+◌, ◌^◌, ◌<◌, ◌≤◌, IsFalse, IsTrue, Some, List, [], Contains, length, slice_get}
+-- What is asked of a network and of the edits that are chosen, so that the settings after the edits
+-- have a network.
+use Rattle.std.specs.Prelude.{◌≡◌, ℕ, ◌+◌, ◌^◌, ◌<◌, ◌≤◌, IsFalse, IsTrue, Some, List, [], Contains}
+use Rattle.std.specs.Prelude.{length, slice_get}
 use Rattle.std.specs.List.{filter_map}
 use Rattle.net_model.specs.declared.rows.FaceRow.{FaceRow}
 use Rattle.net_model.specs.declared.rows.Network.{Network}
@@ -13,16 +15,18 @@ use Rattle.edit_space.specs.declared.edit_kinds.Edit.TheVariants as edits
 use Rattle.patched_settings.specs.Additions.{process_lines, prefix_for, class_for}
 use Rattle.edit_space.specs.NewLists.{named_lists}
 
--- The edit makes a new list only where none is bound, and an entry of a packet list is for a class whose sources lie in a host
--- network.
+-- The edit makes a new list only where none is bound, and an entry of a packet list is for a class
+-- whose sources lie in a host network.
 abbrev pub IsFitting : Network → Edit → Type 0
 IsFitting net (edits.Session face) = Unit {0}
 IsFitting net (edits.RouteList list prefix) = Unit {0}
 IsFitting net (edits.RouteNew face prefix) =
-    (session : SessionRow) → Contains net.sessions session → session.face ≡ face → IsFalse session.bound
+    (session : SessionRow) → Contains net.sessions session → session.face ≡ face →
+    IsFalse session.bound
 IsFitting net (edits.PacketList list class) = HasHost net class.from
 IsFitting net (edits.PacketNew face class) =
-    HasHost net class.from × ((row : FaceRow) → slice_get net.faces face.0 ≡ Some row → IsFalse row.bound_in)
+    HasHost net class.from ×
+    ((row : FaceRow) → slice_get net.faces face.0 ≡ Some row → IsFalse row.bound_in)
 
 -- this holds of each of the edits
 abbrev pub AreFitting : Network → List Edit → Type 0
@@ -30,8 +34,8 @@ AreFitting net chosen = (edit : Edit) → Contains chosen edit → IsFitting net
 
 -- each list of the files has room for all the edits, and so has a new one
 pub record HasRoom (chosen : List Edit) (configs : List Config) : Type 0 where
-  pub old : (config : Config) → Contains configs config → (list : ListText) → Contains config.lists list →
-      length list.entries + length chosen ≤ 16384
+  pub old : (config : Config) → Contains configs config →
+      (list : ListText) → Contains config.lists list → length list.entries + length chosen ≤ 16384
   pub new : length chosen < 16384
 
 -- the edits add nothing to the file of the router
@@ -41,7 +45,9 @@ pub record IsUntouched (net : Network) (chosen : List Edit) (router : ℕ) : Typ
   pub prefixes : (name : List ℕ) → filter_map (prefix_for net router name) chosen ≡ []
   pub classes : (name : List ℕ) → filter_map (class_for net router name) chosen ≡ []
 
--- the names of the network's interfaces and the addresses of its neighbours can stand in lines of router files
+-- the names of the network's interfaces and the addresses of its neighbours can stand in lines of
+-- router files
 pub record IsWritable (net : Network) : Type 0 where
-  pub faces : (place : ℕ) (row : FaceRow) → slice_get net.faces place ≡ Some row → IsTrue (is_face_name row.name)
+  pub faces : (place : ℕ) (row : FaceRow) → slice_get net.faces place ≡ Some row →
+      IsTrue (is_face_name row.name)
   pub peers : (session : SessionRow) → Contains net.sessions session → session.peer < 2 ^ 32

@@ -11,18 +11,22 @@ use Rattle.edit_space.specs.declared.edit_kinds.Edit.{Edit}
 use Rattle.edit_space.specs.declared.new_lists.NewList.{NewList}
 use Rattle.edit_space.specs.Numbered.{EachRow}
 use Rattle.patched_settings.specs.Plain.{said, plain_list}
-use Rattle.patched_settings.specs.Additions.{process_lines, new_inbound, front_lines, new_list_lines, new_list_kind, new_list_form}
+use Rattle.patched_settings.specs.Additions.{process_lines, new_inbound, front_lines}
+use Rattle.patched_settings.specs.Additions.{new_list_lines, new_list_kind, new_list_form}
 use Rattle.edit_space.specs.NewLists.{named_lists}
 
--- an interface of the router after the edits: its new packet list is bound inbound, where it has one
+-- an interface of the router after the edits: its new packet list is bound inbound, where it has
+-- one
 abbrev pub face_with : Network → List Edit → ℕ → FaceText → FaceText
 face_with net chosen router face =
-    record face { list_in = option_or (option_map said (new_inbound net chosen router face.name)) face.list_in }
+    record face
+    { list_in = option_or (option_map said (new_inbound net chosen router face.name)) face.list_in }
 
 -- a list of the router after the edits: the new entries stand before the old ones
 abbrev pub list_with : Network → List Edit → ℕ → ListText → ListText
 list_with net chosen router list =
-    record list { entries = map said (front_lines net chosen router list list.kind) ++ list.entries }
+    record list
+    { entries = map said (front_lines net chosen router list list.kind) ++ list.entries }
 
 -- the new list of this name
 abbrev pub new_list_text : List Edit → List ℕ → NewList → ListText
@@ -44,9 +48,10 @@ abbrev pub process_with : Network → List Edit → ℕ → ProcessText → Proc
 process_with net chosen router process =
     record process { lines = process.lines ++ map said (process_lines net chosen router) }
 
--- The new settings of the router's file are the old ones after the edits of the network, but for the numbers of lines and of
--- entries: the new lists stand together somewhere among the old ones.
-pub record AreSettingsAfter (net : Network) (chosen : List Edit) (router : ℕ) (old new : Config) : Type 0 where
+-- The new settings of the router's file are the old ones after the edits of the network, but for
+-- the numbers of lines and of entries: the new lists stand together somewhere among the old ones.
+pub record AreSettingsAfter (net : Network) (chosen : List Edit) (router : ℕ)
+    (old new : Config) : Type 0 where
   pub hostname : option_map bare_setting new.hostname ≡ option_map bare_setting old.hostname
   pub faces : map bare_face new.faces ≡ map (face_with net chosen router) (map bare_face old.faces)
   pub front : List ListText

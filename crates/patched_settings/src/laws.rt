@@ -1,13 +1,16 @@
 //! Laws over the definitions alone: each is the contract of a function that does nothing.
-ghost use Rattle.patched_settings.specs.Laws.{EditsAreFitting, NetworksAreWritable, SettingsHaveTheNetwork, ShortListsHaveRoom, UntouchedFilesStay};
+ghost use Rattle.patched_settings.specs.Laws.{EditsAreFitting, NetworksAreWritable};
+ghost use Rattle.patched_settings.specs.Laws.{SettingsHaveTheNetwork, ShortListsHaveRoom};
+ghost use Rattle.patched_settings.specs.Laws.{UntouchedFilesStay};
 
-/// Files that say the settings after edits are refused for no reason, and their network is the network after the edits.
+/// Files that say the settings after edits are refused for no reason, and their network is the
+/// network after the edits.
 pub fn settings_have_the_network()
     ensures { SettingsHaveTheNetwork }
 {}
 
-/// The edits of a network for a document make new lists only where none is bound, and deny only packets from host
-/// networks: so they never stop the routing protocol.
+/// The edits of a network for a document make new lists only where none is bound, and deny only
+/// packets from host networks: so they never stop the routing protocol.
 pub fn edits_are_fitting()
     ensures { EditsAreFitting }
 {}

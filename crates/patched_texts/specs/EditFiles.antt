@@ -1,5 +1,7 @@
--- A file of a network that edits are put into: what all parts of the law on patched files ask of it.
-use Rattle.std.specs.Prelude.{◌≡◌, ◌≢◌, ℕ, ◌+◌, ◌≤◌, ◌<◌, ◌⊎◌, true, Some, List, [], ◌∷◌, length, codes, slice_get, Contains, IsTrue}
+-- A file of a network that edits are put into: what all parts of the law on patched files ask of
+-- it.
+use Rattle.std.specs.Prelude.{◌≡◌, ◌≢◌, ℕ, ◌+◌, ◌≤◌, ◌<◌, ◌⊎◌, true, Some, List, [], ◌∷◌, length}
+use Rattle.std.specs.Prelude.{codes, slice_get, Contains, IsTrue}
 use Rattle.std.specs.List.{AllByRecursion}
 use Rattle.arc_base.specs.declared.place.Face.{Face}
 use Rattle.arc_base.specs.PrefixText.{number_of}
@@ -41,21 +43,27 @@ use Rattle.edit_space.specs.NewLists.{named_lists}
 use Rattle.patched_settings.specs.Premises.{IsWritable}
 use Rattle.patched_texts.specs.NewListSites.{IsNewName, AreDifferent}
 
--- The lines of lists that stand as lines are top lines, prefix lists are not named as the word of an inert row, and extended lists that stand as lines have
--- numbers of extended lists.
+-- The lines of lists that stand as lines are top lines, prefix lists are not named as the word of
+-- an inert row, and extended lists that stand as lines have numbers of extended lists.
 pub record HaveListLines (cs : List FileCommand) : Type 0 where
-  pub tops : (c : FileCommand) → Contains cs c → (name : List ℕ) → (groups.part_of c ≡ groups.Lines name) ⊎ (groups.part_of c ≡ groups.PrefixLines name) → c.block ≡ 0
-  pub words : (list : ListText) → Contains (config_of cs).lists list → list.form ≡ forms.PrefixLines → list.name ≢ codes "sequence-number"
-  pub numbers : (list : ListText) → Contains (config_of cs).lists list → list.form ≡ forms.Lines → list.kind ≡ Extended → list_kind (number_of list.name) ≡ Some true
+  pub tops : (c : FileCommand) → Contains cs c → (name : List ℕ) →
+      (groups.part_of c ≡ groups.Lines name) ⊎ (groups.part_of c ≡ groups.PrefixLines name) →
+      c.block ≡ 0
+  pub words : (list : ListText) → Contains (config_of cs).lists list →
+      list.form ≡ forms.PrefixLines → list.name ≢ codes "sequence-number"
+  pub numbers : (list : ListText) → Contains (config_of cs).lists list → list.form ≡ forms.Lines →
+      list.kind ≡ Extended → list_kind (number_of list.name) ≡ Some true
 
--- the file has the packet list of this row at its place: an extended one, as a block or as lines of its number
+-- the file has the packet list of this row at its place: an extended one, as a block or as lines of
+-- its number
 pub record HasPacketList (cs : List FileCommand) (row : PacketList) : Type 0 where
   pub list : ListText
   pub among : Contains (config_of cs).lists list
   pub place : packet_place (places_of (config_of cs)) row.name ≡ Some (list_place list)
   pub name : list.name ≡ row.name
   pub kind : list.kind ≡ Extended
-  pub form : (list.form ≡ forms.Block) ⊎ ((list.form ≡ forms.Lines) × (list_kind (number_of list.name) ≡ Some true))
+  pub form : (list.form ≡ forms.Block) ⊎
+      ((list.form ≡ forms.Lines) × (list_kind (number_of list.name) ≡ Some true))
   pub entries : row.entries ≡ packet_entries list
   pub some : list.entries ≢ []
 
@@ -72,8 +80,10 @@ pub record HasRouteList (cs : List FileCommand) (row : RouteList) : Type 0 where
   pub entries : row.entries ≡ route_entries list
   pub some : list.entries ≢ []
 
--- the file has the interface that is at this place of the network, at the same place of all interfaces
-pub record HasFace (net : Network) (places : List Places) (router : ℕ) (cs : List FileCommand) (place : ℕ) : Type 0 where
+-- the file has the interface that is at this place of the network, at the same place of all
+-- interfaces
+pub record HasFace (net : Network) (places : List Places) (router : ℕ) (cs : List FileCommand)
+    (place : ℕ) : Type 0 where
   pub row : FaceRow
   pub at : slice_get net.faces place ≡ Some row
   pub own : row.router.0 ≡ router
@@ -82,17 +92,20 @@ pub record HasFace (net : Network) (places : List Places) (router : ℕ) (cs : L
   pub name : face.name ≡ row.name
   pub place_is : slice_get (face_places places) place ≡ Some (face_place face)
 
--- The file of the router, with these lines and commands, is one of the network's, and the edits are those of the network: they put
--- entries only into lists that the file has and only for classes that one entry can say, new lists have free names, and there is
--- room for all.
-pub record IsEditedFile (net : Network) (places : List Places) (chosen : List Edit) (router : ℕ) (text : List ℕ) (lines : Lines) (cs : List FileCommand) : Type 0 where
+-- The file of the router, with these lines and commands, is one of the network's, and the edits are
+-- those of the network: they put entries only into lists that the file has and only for classes
+-- that one entry can say, new lists have free names, and there is room for all.
+pub record IsEditedFile (net : Network) (places : List Places) (chosen : List Edit) (router : ℕ)
+    (text : List ℕ) (lines : Lines) (cs : List FileCommand) : Type 0 where
   pub valid : IsValid net
   pub writable : IsWritable net
   pub fits : FitsProtocol net.protocol net
   pub are : AreLinesOf text lines
   pub cut : CanBeCut text
   pub stand : AreCommandsIn (text_lines text) cs
-  pub tops : (c : FileCommand) → Contains cs c → (name : List ℕ) → (groups.part_of c ≡ groups.Lines name) ⊎ (groups.part_of c ≡ groups.PrefixLines name) → c.block ≡ 0
+  pub tops : (c : FileCommand) → Contains cs c → (name : List ℕ) →
+      (groups.part_of c ≡ groups.Lines name) ⊎ (groups.part_of c ≡ groups.PrefixLines name) →
+      c.block ≡ 0
   pub once : StandOnce cs
   pub rising : NumbersRise (config_of cs).lists
   pub process : ProcessText
@@ -100,10 +113,17 @@ pub record IsEditedFile (net : Network) (places : List Places) (chosen : List Ed
   pub runs : protocol_of_kind process.kind ≡ net.protocol
   pub names : AllByRecursion (IsNewName chosen) (named_lists net chosen router)
   pub different : AreDifferent (named_lists net chosen router)
-  pub free : (named : NewList × List ℕ) → Contains (named_lists net chosen router) named → (list : ListText) → Contains (config_of cs).lists list → list.name ≢ named.1
-  pub packets : (id : ℕ) (row : PacketList) → slice_get net.packet_lists id ≡ Some row → row.router.0 ≡ router → list_classes chosen id ≢ [] → HasPacketList cs row
-  pub routes : (id : ℕ) (row : RouteList) → slice_get net.route_lists id ≡ Some row → row.router.0 ≡ router → list_prefixes chosen id ≢ [] → HasRouteList cs row
-  pub classes : (id : ℕ) (class : Class) → Contains (list_classes chosen id) class → IsTrue (is_writable class.service)
-  pub faces : (face : Face) (name : List ℕ) → Contains (named_lists net chosen router) (Packet face, name) → HasFace net places router cs face.0
-  pub room : (list : ListText) → Contains (config_of cs).lists list → length list.entries + length chosen ≤ 16384
+  pub free : (named : NewList × List ℕ) → Contains (named_lists net chosen router) named →
+      (list : ListText) → Contains (config_of cs).lists list → list.name ≢ named.1
+  pub packets : (id : ℕ) (row : PacketList) → slice_get net.packet_lists id ≡ Some row →
+      row.router.0 ≡ router → list_classes chosen id ≢ [] → HasPacketList cs row
+  pub routes : (id : ℕ) (row : RouteList) → slice_get net.route_lists id ≡ Some row →
+      row.router.0 ≡ router → list_prefixes chosen id ≢ [] → HasRouteList cs row
+  pub classes : (id : ℕ) (class : Class) → Contains (list_classes chosen id) class →
+      IsTrue (is_writable class.service)
+  pub faces : (face : Face) (name : List ℕ) →
+      Contains (named_lists net chosen router) (Packet face, name) →
+      HasFace net places router cs face.0
+  pub room : (list : ListText) → Contains (config_of cs).lists list →
+      length list.entries + length chosen ≤ 16384
   pub few : length chosen < 16384

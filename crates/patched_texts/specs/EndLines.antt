@@ -34,33 +34,44 @@ process_kind Bgp = kinds.Bgp
 
 -- the names of the router's new lists can stand in lines
 abbrev pub AreNamed : Network → List Edit → ℕ → Type 0
-AreNamed net chosen router = (named : NewList × List ℕ) → Contains (named_lists net chosen router) named → IsTrue (is_name named.1)
+AreNamed net chosen router =
+    (named : NewList × List ℕ) → Contains (named_lists net chosen router) named →
+    IsTrue (is_name named.1)
 
 -- a command as a line without numbers gives it
 abbrev pub unplaced : Command → FileCommand
 unplaced command = record { line = 0; block = 0; command = command }
 
--- the lines that turn sessions and bind new route lists are read in the process as the commands that do
+-- the lines that turn sessions and bind new route lists are read in the process as the commands
+-- that do
 abbrev pub ProcessLinesAreRead : Type 0
 ProcessLinesAreRead =
-    (net : Network) (chosen : List Edit) (router block : ℕ) → IsWritable net → FitsProtocol net.protocol net → AreNamed net chosen router →
-    AreLinesIn (process_kind net.protocol) block (session_lines net chosen router ++ filter_lines net chosen router) (process_lines net chosen router) ×
+    (net : Network) (chosen : List Edit) (router block : ℕ) → IsWritable net →
+    FitsProtocol net.protocol net → AreNamed net chosen router →
+    AreLinesIn (process_kind net.protocol) block (session_lines net chosen router ++
+    filter_lines net chosen router) (process_lines net chosen router) ×
     AllByRecursion IsFit (session_lines net chosen router ++ filter_lines net chosen router)
 
 -- the line that binds a new packet list is read at its interface as the command that does
 abbrev pub GroupLinesAreFit : Type 0
 GroupLinesAreFit =
     (name : List ℕ) (block : ℕ) → IsTrue (is_name name) →
-    (IsLineOf (spaced (group_words name)) kinds.Interface block (commands.Group name true) × IsQuiet (commands.Group name true)) × IsFit (spaced (group_words name))
+    (IsLineOf (spaced (group_words name)) kinds.Interface block (commands.Group name true) ×
+    IsQuiet (commands.Group name true)) × IsFit (spaced (group_words name))
 
 -- a process with these commands at its end is the process after the edits
 abbrev pub ProcessesGrow : Type 0
 ProcessesGrow =
-    (net : Network) (chosen : List Edit) (router : ℕ) (head : FileCommand) (rest : List FileCommand) →
-    process_of (bare head ∷ (map bare rest ++ map unplaced (process_lines net chosen router))) ≡ map (process_with net chosen router) (process_of (map bare (head ∷ rest)))
+    (net : Network) (chosen : List Edit) (router : ℕ) (head : FileCommand)
+    (rest : List FileCommand) →
+    process_of (bare head ∷ (map bare rest ++ map unplaced (process_lines net chosen router)))
+    ≡ map (process_with net chosen router) (process_of (map bare (head ∷ rest)))
 
 -- and so is an interface with its binding
 abbrev pub FacesGrow : Type 0
 FacesGrow =
-    (net : Network) (chosen : List Edit) (router : ℕ) (head : FileCommand) (rest : List FileCommand) (face name : List ℕ) → head.command ≡ commands.Interface face → new_inbound net chosen router face ≡ Some name →
-    face_of (bare head ∷ (map bare rest ++ unplaced (commands.Group name true) ∷ [])) ≡ map (face_with net chosen router) (face_of (map bare (head ∷ rest)))
+    (net : Network) (chosen : List Edit) (router : ℕ) (head : FileCommand) (rest : List FileCommand)
+    (face name : List ℕ) → head.command ≡ commands.Interface face →
+    new_inbound net chosen router face ≡ Some name →
+    face_of (bare head ∷ (map bare rest ++ unplaced (commands.Group name true) ∷ []))
+    ≡ map (face_with net chosen router) (face_of (map bare (head ∷ rest)))

@@ -19,4 +19,6 @@ pub record HasFaceBlock (cs : List FileCommand) (face : FaceText) : Type 0 where
 
 -- each interface that the commands set has its block among them
 abbrev pub FacesHaveBlocks : Type 0
-FacesHaveBlocks = (lines : List (List ℕ)) (cs : List FileCommand) (face : FaceText) → AreCommandsIn lines cs → Contains (config_of cs).faces face → HasFaceBlock cs face
+FacesHaveBlocks =
+    (lines : List (List ℕ)) (cs : List FileCommand) (face : FaceText) → AreCommandsIn lines cs →
+    Contains (config_of cs).faces face → HasFaceBlock cs face

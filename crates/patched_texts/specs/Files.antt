@@ -29,9 +29,11 @@ use Rattle.patched_texts.specs.Fits.{CanBePatched}
 use Rattle.patched_texts.specs.Grown.{GrowAsEdited}
 use Rattle.patched_texts.specs.Sites.{HaveSites}
 
--- What is put into the text are good sites of these commands. With them the commands grow as the edits make them: nothing stands twice,
--- and numbers rise.
-pub record IsSited (net : Network) (chosen : List Edit) (router : ℕ) (text : List ℕ) (lines : Lines) (cs : List FileCommand) (before : List (ℕ × List ℕ)) (numbers : List (ℕ × NewNumber)) (after : List (ℕ × List ℕ)) : Type 0 where
+-- What is put into the text are good sites of these commands. With them the commands grow as the
+-- edits make them: nothing stands twice, and numbers rise.
+pub record IsSited (net : Network) (chosen : List Edit) (router : ℕ) (text : List ℕ) (lines : Lines)
+    (cs : List FileCommand) (before : List (ℕ × List ℕ)) (numbers : List (ℕ × NewNumber))
+    (after : List (ℕ × List ℕ)) : Type 0 where
   pub put : FileCommand → Site
   pub can : CanBePatched text lines before numbers after
   pub have : HaveSites text (line_end text lines.rows) before numbers after put 1 lines.rows cs
@@ -50,7 +52,8 @@ pub record IsSited (net : Network) (chosen : List Edit) (router : ℕ) (text : L
   pub rising : NumbersRise (config_of (new_commands put cs)).lists
 
 -- the text is a router file with the settings after the edits
-pub record IsFileAfter (net : Network) (chosen : List Edit) (router : ℕ) (config : Config) (new : List ℕ) : Type 0 where
+pub record IsFileAfter (net : Network) (chosen : List Edit) (router : ℕ) (config : Config)
+    (new : List ℕ) : Type 0 where
   pub now : Config
   pub says : Says new now
   pub after : AreSettingsAfter net chosen router config now
@@ -58,26 +61,39 @@ pub record IsFileAfter (net : Network) (chosen : List Edit) (router : ℕ) (conf
 -- a patched file whose lines are good sites has the settings after the edits
 abbrev pub SitedFilesAreAfter : Type 0
 SitedFilesAreAfter =
-    (net : Network) (chosen : List Edit) (router : ℕ) (text new : List ℕ) (config : Config) (says : Says text config) (lines : Lines) (before : List (ℕ × List ℕ)) (numbers : List (ℕ × NewNumber)) (after : List (ℕ × List ℕ)) →
-    AreLinesOf text lines → new ≡ patched_text text lines before numbers after → IsSited net chosen router text lines says.is_config.commands before numbers after → IsFileAfter net chosen router config new
+    (net : Network) (chosen : List Edit) (router : ℕ) (text new : List ℕ) (config : Config)
+    (says : Says text config) (lines : Lines) (before : List (ℕ × List ℕ))
+    (numbers : List (ℕ × NewNumber)) (after : List (ℕ × List ℕ)) →
+    AreLinesOf text lines → new ≡ patched_text text lines before numbers after →
+    IsSited net chosen router text lines says.is_config.commands before numbers after →
+    IsFileAfter net chosen router config new
 
 -- files that each have the settings after the edits have the network after the edits
 abbrev pub FilesHaveTheNetwork : Type 0
 FilesHaveTheNetwork =
-    (doc : Document) (files new : List (List ℕ)) (net : Network) (was : IsNetworkOf doc files net) (chosen : List Edit) (after : Network) → IsValid net → IsCountable net → AreFitting net chosen → HasRoom chosen was.configs →
-    length new ≡ length was.configs →
-    ((router : ℕ) (config : Config) (text : List ℕ) → slice_get was.configs router ≡ Some config → slice_get new router ≡ Some text → IsFileAfter net chosen router config text) →
+    (doc : Document) (files new : List (List ℕ)) (net : Network) (was : IsNetworkOf doc files net)
+    (chosen : List Edit) (after : Network) → IsValid net → IsCountable net → AreFitting net chosen →
+    HasRoom chosen was.configs → length new ≡ length was.configs →
+    ((router : ℕ) (config : Config) (text : List ℕ) → slice_get was.configs router ≡ Some config →
+    slice_get new router ≡ Some text → IsFileAfter net chosen router config text) →
     IsAfter net chosen after → IsNetworkOf doc new after
 
 -- what the edits put into each file are good sites of its commands
 abbrev pub AreSited : (built : Built) → List Edit → List (List ℕ) → List Config → Type 0
 AreSited built chosen files configs =
-    (router : ℕ) (config : Config) (text : List ℕ) (says : Says text config) (lines : Lines) → slice_get configs router ≡ Some config → slice_get files router ≡ Some text → AreLinesOf text lines →
+    (router : ℕ) (config : Config) (text : List ℕ) (says : Says text config) (lines : Lines) →
+    slice_get configs router ≡ Some config →
+    slice_get files router ≡ Some text → AreLinesOf text lines →
     IsSited built.net chosen router text lines says.is_config.commands
-    (lines_before built.net (places_of config) chosen router) (numbers_at built.net (places_of config) chosen router) (lines_after built.net built.places (places_of config) chosen router)
+    (lines_before built.net (places_of config) chosen router)
+    (numbers_at built.net (places_of config) chosen router)
+    (lines_after built.net built.places (places_of config) chosen router)
 
 -- patched files whose lines are good sites have the network after the edits
 abbrev pub SitedFilesHaveTheNetwork : Type 0
 SitedFilesHaveTheNetwork =
-    (doc : Document) (files new : List (List ℕ)) (built : Built) (was : IsBuilt doc files built) (chosen : List Edit) (after : Network) → IsValid built.net → IsCountable built.net → AreFitting built.net chosen → HasRoom chosen was.network.configs →
-    AreSited built chosen files was.network.configs → ArePatched built chosen files new → IsAfter built.net chosen after → IsNetworkOf doc new after
+    (doc : Document) (files new : List (List ℕ)) (built : Built) (was : IsBuilt doc files built)
+    (chosen : List Edit) (after : Network) → IsValid built.net → IsCountable built.net →
+    AreFitting built.net chosen → HasRoom chosen was.network.configs →
+    AreSited built chosen files was.network.configs → ArePatched built chosen files new →
+    IsAfter built.net chosen after → IsNetworkOf doc new after

@@ -1,5 +1,6 @@
 -- What may be put into a text so that it falls into the lines that were meant.
-use Rattle.std.specs.Prelude.{◌≡◌, ℕ, ◌==◌, ◌<◌, ◌&&◌, ◌⊎◌, Bool, true, false, List, [], ◌∷◌, length, if◌then◌else◌}
+use Rattle.std.specs.Prelude.{◌≡◌, ℕ, ◌==◌, ◌<◌, ◌&&◌, ◌⊎◌, Bool, true, false, List, [], ◌∷◌}
+use Rattle.std.specs.Prelude.{length, if◌then◌else◌}
 use Rattle.std.specs.List.{AllByRecursion, enumerate_from}
 use Rattle.ios_lines.specs.declared.line.Line.{Line}
 use Rattle.ios_lines.specs.declared.line.Lines.{Lines}
@@ -33,7 +34,8 @@ without_last (b ∷ c ∷ line) = b ∷ without_last (c ∷ line)
 -- a line that gains an end: a line feed alone takes a carriage return before it into the line's end
 abbrev pub parted : List ℕ → List ℕ → Ended
 parted end line =
-    if ends_with_return line && (length end == 1) then record { line = without_last line; end = 13 ∷ end } else record { line = line; end = end }
+    if ends_with_return line && (length end == 1)
+    then record { line = without_last line; end = 13 ∷ end } else record { line = line; end = end }
 
 -- a last line that has no end, with lines after it: each but the last gains an end
 abbrev pub hanging : List ℕ → List ℕ → List (List ℕ) → List Ended
@@ -48,16 +50,23 @@ hung_line end line (next ∷ lines) = (parted end line).line
 -- the line that a row is, with these numbers, before these lines
 abbrev pub row_line : List ℕ → List ℕ → Line → List NewNumber → List (List ℕ) → List ℕ
 row_line text end row numbers after =
-    if row.end == 0 then hung_line end (row_bytes text row numbers) after else row_bytes text row numbers
+    if row.end == 0 then hung_line end (row_bytes text row numbers) after
+    else row_bytes text row numbers
 
--- what is put at a row may be put there, and the row is still a line, which has an end or is the last one
-pub record Fits (text end : List ℕ) (before : List (ℕ × List ℕ)) (numbers : List (ℕ × NewNumber)) (after : List (ℕ × List ℕ)) (row : ℕ × Line) : Type 0 where
+-- what is put at a row may be put there, and the row is still a line, which has an end or is the
+-- last one
+pub record Fits (text end : List ℕ) (before : List (ℕ × List ℕ)) (numbers : List (ℕ × NewNumber))
+    (after : List (ℕ × List ℕ)) (row : ℕ × Line) : Type 0 where
   pub before_fit : AllByRecursion IsFit (of_number row.0 before)
   pub after_fit : AllByRecursion IsFit (of_number row.0 after)
-  pub ended_row : (row.1.end == 0) ≡ false → IsEnded (record { line = row_bytes text row.1 (of_number row.0 numbers); end = end_of text row.1 })
-  pub hanging_row : (row.1.end == 0) ≡ true → (end_of text row.1 ≡ []) × AreEnded (hanging end (row_bytes text row.1 (of_number row.0 numbers)) (of_number row.0 after))
+  pub ended_row : (row.1.end == 0) ≡ false → IsEnded
+      (record { line = row_bytes text row.1 (of_number row.0 numbers); end = end_of text row.1 })
+  pub hanging_row : (row.1.end == 0) ≡ true → (end_of text row.1 ≡ []) × AreEnded
+      (hanging end (row_bytes text row.1 (of_number row.0 numbers)) (of_number row.0 after))
 
 -- the same of all rows
-pub record CanBePatched (text : List ℕ) (lines : Lines) (before : List (ℕ × List ℕ)) (numbers : List (ℕ × NewNumber)) (after : List (ℕ × List ℕ)) : Type 0 where
+pub record CanBePatched (text : List ℕ) (lines : Lines) (before : List (ℕ × List ℕ))
+    (numbers : List (ℕ × NewNumber)) (after : List (ℕ × List ℕ)) : Type 0 where
   pub ends : IsLineEnd (line_end text lines.rows)
-  pub fits : AllByRecursion (Fits text (line_end text lines.rows) before numbers after) (enumerate_from 1 lines.rows)
+  pub fits : AllByRecursion (Fits text (line_end text lines.rows) before numbers after)
+      (enumerate_from 1 lines.rows)

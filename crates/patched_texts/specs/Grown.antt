@@ -1,4 +1,5 @@
--- Commands with others of their parts around them, and new lists among them, as edits of a network grow them.
+-- Commands with others of their parts around them, and new lists among them, as edits of a network
+-- grow them.
 use Rattle.std.specs.Prelude.{◌≡◌, ℕ, List, [], ◌++◌, map, Contains, option_map}
 use Rattle.std.specs.List.{flat_map}
 use Rattle.net_model.specs.declared.rows.Network.{Network}
@@ -14,15 +15,24 @@ use Rattle.patched_settings.specs.SettingsAfter.{face_with, list_with, process_w
 abbrev pub new_groups : List FileCommand → List (List FileCommand)
 new_groups added = map (map bare) (map (members added) (distinct (map part_of added)))
 
--- each group sets after the edits what it set, with what they add; the new groups set the new lists, and the name of the router stays
-pub record GrowAsEdited (net : Network) (chosen : List Edit) (router : ℕ) (grow : FileCommand → List FileCommand) (front back added : List FileCommand) : Type 0 where
+-- each group sets after the edits what it set, with what they add; the new groups set the new
+-- lists, and the name of the router stays
+pub record GrowAsEdited (net : Network) (chosen : List Edit) (router : ℕ)
+    (grow : FileCommand → List FileCommand) (front back added : List FileCommand) : Type 0 where
   pub faces : (q : Part) → Contains (distinct (map part_of (front ++ back))) q →
-      face_of (map bare (flat_map grow (members (front ++ back) q))) ≡ map (face_with net chosen router) (face_of (map bare (members (front ++ back) q)))
+      face_of (map bare (flat_map grow (members (front ++ back) q)))
+      ≡ map (face_with net chosen router) (face_of (map bare (members (front ++ back) q)))
   pub lists : (q : Part) → Contains (distinct (map part_of (front ++ back))) q →
-      map plain_list (list_of (map bare (flat_map grow (members (front ++ back) q)))) ≡ map (list_with net chosen router) (map plain_list (list_of (map bare (members (front ++ back) q))))
+      map plain_list (list_of (map bare (flat_map grow (members (front ++ back) q))))
+      ≡ map (list_with net chosen router)
+      (map plain_list (list_of (map bare (members (front ++ back) q))))
   pub process : (q : Part) → Contains (distinct (map part_of (front ++ back))) q →
-      process_of (map bare (flat_map grow (members (front ++ back) q))) ≡ map (process_with net chosen router) (process_of (map bare (members (front ++ back) q)))
+      process_of (map bare (flat_map grow (members (front ++ back) q)))
+      ≡ map (process_with net chosen router) (process_of (map bare (members (front ++ back) q)))
   pub new_faces : flat_map face_of (new_groups added) ≡ []
-  pub new_lists : map plain_list (flat_map list_of (new_groups added)) ≡ new_list_texts net chosen router
+  pub new_lists :
+      map plain_list (flat_map list_of (new_groups added)) ≡ new_list_texts net chosen router
   pub new_process : flat_map process_of (new_groups added) ≡ []
-  pub hostname : option_map bare_setting (router_name (flat_map grow front ++ (added ++ flat_map grow back))) ≡ option_map bare_setting (router_name (front ++ back))
+  pub hostname :
+      option_map bare_setting (router_name (flat_map grow front ++ (added ++ flat_map grow back)))
+      ≡ option_map bare_setting (router_name (front ++ back))

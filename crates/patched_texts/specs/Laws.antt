@@ -23,7 +23,8 @@ use Rattle.edited_lines.specs.Grown.{HasGrownGroups}
 use Rattle.edited_lines.specs.Sites.{Site, new_lines, AreChunks, chunk_lines}
 use Rattle.edit_space.specs.declared.new_lists.NewList.{NewList}
 use Rattle.line_patcher.specs.NewListLines.{new_list_lines}
-use Rattle.patched_texts.specs.NewListSites.{IsNewName, AreClear, AreDifferent, list_chunks, SetNewLists}
+use Rattle.patched_texts.specs.NewListSites.{IsNewName, AreClear, AreDifferent, list_chunks}
+use Rattle.patched_texts.specs.NewListSites.{SetNewLists}
 use Rattle.patched_texts.specs.Grown.{GrowAsEdited}
 use Rattle.patched_texts.specs.Sessions.{AreSessions}
 use Rattle.patched_texts.specs.Fits.{CanBePatched}
@@ -32,35 +33,47 @@ use Rattle.patched_texts.specs.Sites.{HaveSites}
 -- files after edits that turn sessions alone have the network after these edits
 abbrev pub SessionFilesHaveTheNetwork : Type 0
 SessionFilesHaveTheNetwork =
-    (doc : Document) (files new : List (List ℕ)) (built : Built) (was : IsBuilt doc files built) (chosen : List Edit) (after : Network) →
-    IsValid built.net → IsCountable built.net → AreFitting built.net chosen → HasRoom chosen was.network.configs → AreSessions chosen →
+    (doc : Document) (files new : List (List ℕ)) (built : Built) (was : IsBuilt doc files built)
+    (chosen : List Edit) (after : Network) → IsValid built.net → IsCountable built.net →
+    AreFitting built.net chosen → HasRoom chosen was.network.configs → AreSessions chosen →
     ArePatched built chosen files new → IsAfter built.net chosen after → IsNetworkOf doc new after
 
--- the lines of a patched text are those of the sites of its commands, where all that is put in may stand in lines
+-- the lines of a patched text are those of the sites of its commands, where all that is put in may
+-- stand in lines
 abbrev pub PatchedTextsHaveSites : Type 0
 PatchedTextsHaveSites =
-    (text : List ℕ) (lines : Lines) (before : List (ℕ × List ℕ)) (numbers : List (ℕ × NewNumber)) (after : List (ℕ × List ℕ)) (put : FileCommand → Site) (commands : List FileCommand) →
-    AreLinesOf text lines → CanBePatched text lines before numbers after → HaveSites text (line_end text lines.rows) before numbers after put 1 lines.rows commands →
-    text_lines (patched_text text lines before numbers after) ≡ new_lines put 1 (text_lines text) commands
+    (text : List ℕ) (lines : Lines) (before : List (ℕ × List ℕ)) (numbers : List (ℕ × NewNumber))
+    (after : List (ℕ × List ℕ)) (put : FileCommand → Site) (commands : List FileCommand) →
+    AreLinesOf text lines → CanBePatched text lines before numbers after →
+    HaveSites text (line_end text lines.rows) before numbers after put 1 lines.rows commands →
+    text_lines (patched_text text lines before numbers after)
+    ≡ new_lines put 1 (text_lines text) commands
 
 -- commands that grow as edits make them set the settings after the edits
 abbrev pub GrownSettingsAreAfter : Type 0
 GrownSettingsAreAfter =
-    (net : Network) (chosen : List Edit) (router : ℕ) (grow : FileCommand → List FileCommand) (front back added all : List FileCommand) →
+    (net : Network) (chosen : List Edit) (router : ℕ) (grow : FileCommand → List FileCommand)
+    (front back added all : List FileCommand) →
     HasGrownGroups grow front back added → GrowAsEdited net chosen router grow front back added →
-    bare_config (config_of all) ≡ bare_config (config_of (flat_map grow front ++ (added ++ flat_map grow back))) →
+    bare_config (config_of all)
+    ≡ bare_config (config_of (flat_map grow front ++ (added ++ flat_map grow back))) →
     AreSettingsAfter net chosen router (config_of (front ++ back)) (config_of all)
 
 -- the lines of new lists may be put before a top line, and are these lists' lines
 abbrev pub NewListsAreChunks : Type 0
 NewListsAreChunks =
-    (chosen : List Edit) (number key : ℕ) (later : List FileCommand) (named : List (NewList × List ℕ)) → AllByRecursion (IsNewName chosen) named → number < key → AreClear key later →
-    AreChunks number later (list_chunks chosen key named)
+    (chosen : List Edit) (number key : ℕ) (later : List FileCommand)
+    (named : List (NewList × List ℕ)) → AllByRecursion (IsNewName chosen) named → number < key →
+    AreClear key later → AreChunks number later (list_chunks chosen key named)
 
 abbrev pub NewListsHaveTheirLines : Type 0
 NewListsHaveTheirLines =
-    (chosen : List Edit) (key : ℕ) (named : List (NewList × List ℕ)) → flat_map chunk_lines (list_chunks chosen key named) ≡ flat_map (λ l. new_list_lines chosen l.0 l.1) named
+    (chosen : List Edit) (key : ℕ) (named : List (NewList × List ℕ)) →
+    flat_map chunk_lines (list_chunks chosen key named)
+    ≡ flat_map (λ l. new_list_lines chosen l.0 l.1) named
 
 -- and they set these lists
 abbrev pub NewListsSetThemselves : Type 0
-NewListsSetThemselves = (chosen : List Edit) (key : ℕ) (named : List (NewList × List ℕ)) → AreDifferent named → SetNewLists chosen key named
+NewListsSetThemselves =
+    (chosen : List Edit) (key : ℕ) (named : List (NewList × List ℕ)) → AreDifferent named →
+    SetNewLists chosen key named

@@ -17,7 +17,8 @@ use Rattle.patched_settings.specs.SettingsAfter.{list_with}
 
 -- which list a command begins: its name, its kind and its form
 abbrev pub list_begun : Command → Option (List ℕ × ListKind × ListForm)
-list_begun (ListBlock extended name) = Some (name, if extended then Extended else Standard, forms.Block)
+list_begun (ListBlock extended name) =
+    Some (name, if extended then Extended else Standard, forms.Block)
 list_begun (ListLine name entry) = Some (name, kind_of_number name, forms.Lines)
 list_begun (PrefixLine name number entry) = Some (name, Prefix, forms.PrefixLines)
 list_begun _ = None
@@ -25,7 +26,11 @@ list_begun _ = None
 -- a list with the entries of the edits before its old ones is the list after the edits
 abbrev pub ListsGrow : Type 0
 ListsGrow =
-    (net : Network) (chosen : List Edit) (router : ℕ) (first next : FileCommand) (old new : List FileCommand) (list : ListText) → map plain_list (list_of (first ∷ old)) ≡ list ∷ [] →
+    (net : Network) (chosen : List Edit) (router : ℕ)
+    (first next : FileCommand) (old new : List FileCommand) (list : ListText) →
+    map plain_list (list_of (first ∷ old)) ≡ list ∷ [] →
     list_begun next.command ≡ list_begun first.command →
-    map plain_entry (entries (next ∷ new)) ≡ map said (front_lines net chosen router list list.kind) ++ map plain_entry (entries (first ∷ old)) →
+    map plain_entry (entries (next ∷ new))
+    ≡ map said (front_lines net chosen router list list.kind) ++
+    map plain_entry (entries (first ∷ old)) →
     map plain_list (list_of (next ∷ new)) ≡ map (list_with net chosen router) (list ∷ [])

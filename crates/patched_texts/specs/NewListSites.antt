@@ -1,12 +1,14 @@
 -- The lines of new lists with the commands that they are read as.
-use Rattle.std.specs.Prelude.{◌≡◌, ◌≢◌, ℕ, ◌+◌, ◌*◌, ◌≤◌, true, false, Some, None, List, [], ◌∷◌, ◌++◌, map, length, codes, Contains, IsTrue}
+use Rattle.std.specs.Prelude.{◌≡◌, ◌≢◌, ℕ, ◌+◌, ◌*◌, ◌≤◌, true, false, Some, None, List, [], ◌∷◌}
+use Rattle.std.specs.Prelude.{◌++◌, map, length, codes, Contains, IsTrue}
 use Rattle.std.specs.List.{AllByRecursion, enumerate_from, flat_map}
 use Rattle.arc_base.specs.declared.prefix.Prefix.{Prefix}
 use Rattle.net_model.specs.declared.policies.Class.{Class}
 use Rattle.ios_lines.specs.Written.{spaced}
 use Rattle.ios_words.specs.declared.commands.Command.TheVariants as commands
 use Rattle.arc_base.specs.NameForms.{is_name}
-use Rattle.ios_words.specs.Printed.{permit_all_words, list_head_words, entry_words, top_line, route_text, all_routes}
+use Rattle.ios_words.specs.Printed.{permit_all_words, list_head_words, entry_words, top_line}
+use Rattle.ios_words.specs.Printed.{route_text, all_routes}
 use Rattle.net_build.specs.Lists.{packet_text}
 use Rattle.edit_space.specs.After.{class_entry, every_packet}
 use Rattle.edit_space.specs.Changes.{new_prefixes, new_classes}
@@ -25,43 +27,60 @@ use Rattle.patched_texts.specs.Grown.{new_groups}
 
 -- the entries of a new route list, counted from 1
 abbrev pub deny_written : List ℕ → ℕ × Prefix → Written
-deny_written name entry = record { line = deny_line name entry; command = commands.PrefixLine name (Some (5 * entry.0)) (route_text false entry.1) }
+deny_written name entry = record {
+  line = deny_line name entry;
+  command = commands.PrefixLine name (Some (5 * entry.0)) (route_text false entry.1);
+}
 
 abbrev pub permit_all_written : List ℕ → ℕ → Written
-permit_all_written name number = record { line = top_line (permit_all_words name number); command = commands.PrefixLine name (Some number) all_routes }
+permit_all_written name number = record {
+  line = top_line (permit_all_words name number);
+  command = commands.PrefixLine name (Some number) all_routes;
+}
 
 abbrev pub route_written : List ℕ → List Prefix → List Written
-route_written name prefixes = map (deny_written name) (enumerate_from 1 prefixes) ++ permit_all_written name (5 * (length prefixes + 1)) ∷ []
+route_written name prefixes =
+    map (deny_written name) (enumerate_from 1 prefixes) ++
+    permit_all_written name (5 * (length prefixes + 1)) ∷ []
 
 -- the entries of a new packet list, and its head
 abbrev pub deny_class_written : Class → Written
-deny_class_written class = record { line = deny_class_line class; command = commands.Entry None (packet_text (class_entry false class)) }
+deny_class_written class = record {
+  line = deny_class_line class;
+  command = commands.Entry None (packet_text (class_entry false class));
+}
 
 abbrev pub packet_written : List Class → List Written
-packet_written classes =
-    map deny_class_written classes ++
-    record { line = spaced (entry_words None (packet_text every_packet)); command = commands.Entry None (packet_text every_packet) } ∷ []
+packet_written classes = map deny_class_written classes ++ record {
+  line = spaced (entry_words None (packet_text every_packet));
+  command = commands.Entry None (packet_text every_packet);
+} ∷ []
 
 abbrev pub head_written : List ℕ → Written
-head_written name = record { line = top_line (list_head_words name); command = commands.ListBlock true name }
+head_written name =
+    record { line = top_line (list_head_words name); command = commands.ListBlock true name }
 
 -- the chunks of a new list of this name; the block of a packet list has this number here
 abbrev pub new_chunks : List Edit → ℕ → NewList → List ℕ → List Chunk
-new_chunks chosen key (Route face) name = map Single (route_written name (new_prefixes chosen face.0))
-new_chunks chosen key (Packet face) name = NewBlock key (head_written name) (packet_written (new_classes chosen face.0)) (codes "!") ∷ []
+new_chunks chosen key (Route face) name =
+    map Single (route_written name (new_prefixes chosen face.0))
+new_chunks chosen key (Packet face) name =
+    NewBlock key (head_written name) (packet_written (new_classes chosen face.0)) (codes "!") ∷ []
 
 -- the chunks of several, whose blocks are counted
 abbrev pub list_chunks : List Edit → ℕ → List (NewList × List ℕ) → List Chunk
 list_chunks chosen key [] = []
-list_chunks chosen key (named ∷ more) = new_chunks chosen key named.0 named.1 ++ list_chunks chosen (key + 1) more
+list_chunks chosen key (named ∷ more) =
+    new_chunks chosen key named.0 named.1 ++ list_chunks chosen (key + 1) more
 
--- the name may be that of a new list; a new route list has not too many entries for their numbers, and one entry of a new packet
--- list can say each of its classes
+-- the name may be that of a new list; a new route list has not too many entries for their numbers,
+-- and one entry of a new packet list can say each of its classes
 pub record IsNewName (chosen : List Edit) (named : NewList × List ℕ) : Type 0 where
   pub name : IsTrue (is_name named.1)
   pub other : named.1 ≢ codes "sequence-number"
   pub few : (face : ℕ) → length (new_prefixes chosen face) ≤ 16384
-  pub writable : (face : ℕ) (class : Class) → Contains (new_classes chosen face) class → IsTrue (is_writable class.service)
+  pub writable : (face : ℕ) (class : Class) → Contains (new_classes chosen face) class →
+      IsTrue (is_writable class.service)
 
 -- no command is of a block from this number on
 abbrev pub AreClear : ℕ → List FileCommand → Type 0
@@ -73,7 +92,12 @@ AreDifferent [] = Unit {0}
 AreDifferent (named ∷ more) = AllByRecursion (λ other. named.1 ≢ other.1) more × AreDifferent more
 
 -- the groups of new lists set these lists and nothing else
-pub record SetNewLists (chosen : List Edit) (key : ℕ) (named : List (NewList × List ℕ)) : Type 0 where
-  pub lists : map plain_list (flat_map list_of (new_groups (flat_map chunk_commands (list_chunks chosen key named)))) ≡ map (λ l. new_list_text chosen l.1 l.0) named
-  pub faces : flat_map face_of (new_groups (flat_map chunk_commands (list_chunks chosen key named))) ≡ []
-  pub process : flat_map process_of (new_groups (flat_map chunk_commands (list_chunks chosen key named))) ≡ []
+pub record SetNewLists (chosen : List Edit) (key : ℕ)
+    (named : List (NewList × List ℕ)) : Type 0 where
+  pub lists : map plain_list
+      (flat_map list_of (new_groups (flat_map chunk_commands (list_chunks chosen key named))))
+      ≡ map (λ l. new_list_text chosen l.1 l.0) named
+  pub faces :
+      flat_map face_of (new_groups (flat_map chunk_commands (list_chunks chosen key named))) ≡ []
+  pub process :
+      flat_map process_of (new_groups (flat_map chunk_commands (list_chunks chosen key named))) ≡ []

@@ -11,21 +11,28 @@ use Rattle.edited_lines.specs.Sites.{Site, chunk_lines, bytes_of}
 use Rattle.patched_texts.specs.Fits.{row_line}
 
 -- the row of this number has the lines and bytes of a site
-pub record HasSite (text end : List ℕ) (before : List (ℕ × List ℕ)) (numbers : List (ℕ × NewNumber)) (after : List (ℕ × List ℕ)) (site : Site) (n : ℕ) (row : Line) : Type 0 where
+pub record HasSite (text end : List ℕ) (before : List (ℕ × List ℕ)) (numbers : List (ℕ × NewNumber))
+    (after : List (ℕ × List ℕ)) (site : Site) (n : ℕ) (row : Line) : Type 0 where
   pub lines_before : of_number n before ≡ flat_map chunk_lines site.tops ++ bytes_of site.entries
   pub line : row_line text end row (of_number n numbers) (of_number n after) ≡ site.line
   pub lines_after : of_number n after ≡ bytes_of site.after
 
 -- nothing is put at the row of this number
-pub record HasNone (text : List ℕ) (before : List (ℕ × List ℕ)) (numbers : List (ℕ × NewNumber)) (after : List (ℕ × List ℕ)) (n : ℕ) (row : Line) : Type 0 where
+pub record HasNone (text : List ℕ) (before : List (ℕ × List ℕ)) (numbers : List (ℕ × NewNumber))
+    (after : List (ℕ × List ℕ)) (n : ℕ) (row : Line) : Type 0 where
   pub none_before : of_number n before ≡ []
   pub line : row_bytes text row (of_number n numbers) ≡ part text row.span
   pub none_after : of_number n after ≡ []
 
 -- the rows from this number on have the sites of these commands, and nothing is put at other rows
-abbrev pub HaveSites : List ℕ → List ℕ → List (ℕ × List ℕ) → List (ℕ × NewNumber) → List (ℕ × List ℕ) → (FileCommand → Site) → ℕ → List Line → List FileCommand → Type 0
+abbrev pub HaveSites : List ℕ → List ℕ → List (ℕ × List ℕ) → List (ℕ × NewNumber) →
+    List (ℕ × List ℕ) → (FileCommand → Site) → ℕ → List Line → List FileCommand → Type 0
 HaveSites text end before numbers after put n [] ds = Unit {0}
-HaveSites text end before numbers after put n (row ∷ rows) [] = HasNone text before numbers after n row × HaveSites text end before numbers after put (n + 1) rows []
+HaveSites text end before numbers after put n (row ∷ rows) [] =
+    HasNone text before numbers after n row ×
+    HaveSites text end before numbers after put (n + 1) rows []
 HaveSites text end before numbers after put n (row ∷ rows) (c ∷ ds) =
-    MatchBool (c.line == n) (HasSite text end before numbers after (put c) n row × HaveSites text end before numbers after put (n + 1) rows ds)
-    (HasNone text before numbers after n row × HaveSites text end before numbers after put (n + 1) rows (c ∷ ds))
+    MatchBool (c.line == n) (HasSite text end before numbers after (put c) n row ×
+    HaveSites text end before numbers after put (n + 1) rows ds)
+    (HasNone text before numbers after n row ×
+    HaveSites text end before numbers after put (n + 1) rows (c ∷ ds))

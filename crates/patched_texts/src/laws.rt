@@ -1,13 +1,25 @@
 //! Laws over the definitions alone: each is the contract of a function that does nothing.
-ghost use Rattle.patched_texts.specs.EndLines.{FacesGrow, GroupLinesAreFit, ProcessLinesAreRead, ProcessesGrow};
-ghost use Rattle.patched_texts.specs.EntrySites.{BlockEntriesAreRead, EntriesAreRenumbered, EntriesHaveTheirLines, ListEntriesAreRead, PrefixEntriesAreRead, PrefixLinesAreRenumbered, NumbersAreWords};
+ghost use Rattle.patched_texts.specs.EndLines.{FacesGrow, GroupLinesAreFit, ProcessLinesAreRead};
+ghost use Rattle.patched_texts.specs.EndLines.{ProcessesGrow};
+ghost use Rattle.patched_texts.specs.EntrySites.{BlockEntriesAreRead, EntriesAreRenumbered};
+ghost use Rattle.patched_texts.specs.EntrySites.{EntriesHaveTheirLines, ListEntriesAreRead};
+ghost use Rattle.patched_texts.specs.EntrySites.{PrefixEntriesAreRead, PrefixLinesAreRenumbered};
+ghost use Rattle.patched_texts.specs.EntrySites.{NumbersAreWords};
 ghost use Rattle.patched_texts.specs.FaceBlocks.{FacesHaveBlocks};
-ghost use Rattle.patched_texts.specs.Files.{FilesHaveTheNetwork, SitedFilesAreAfter, SitedFilesHaveTheNetwork};
-ghost use Rattle.patched_texts.specs.EditSiteLaws.{CommandsGrowByEdits, CommandsHaveListLines, EditSitesAreGood, EditSitesAreThere, EditedFilesAreFiles, EditedFilesAreSited, EditedFilesHaveTheNetwork, EditedTextsCanBePatched};
+ghost use Rattle.patched_texts.specs.Files.{FilesHaveTheNetwork, SitedFilesAreAfter};
+ghost use Rattle.patched_texts.specs.Files.{SitedFilesHaveTheNetwork};
+ghost use Rattle.patched_texts.specs.EditSiteLaws.{CommandsGrowByEdits, CommandsHaveListLines};
+ghost use Rattle.patched_texts.specs.EditSiteLaws.{EditSitesAreGood, EditSitesAreThere};
+ghost use Rattle.patched_texts.specs.EditSiteLaws.{EditedFilesAreFiles, EditedFilesAreSited};
+ghost use Rattle.patched_texts.specs.EditSiteLaws.{EditedFilesHaveTheNetwork};
+ghost use Rattle.patched_texts.specs.EditSiteLaws.{EditedTextsCanBePatched};
 ghost use Rattle.patched_texts.specs.ListsGrow.{ListsGrow};
-ghost use Rattle.patched_texts.specs.Laws.{GrownSettingsAreAfter, NewListsAreChunks, NewListsHaveTheirLines, NewListsSetThemselves, PatchedTextsHaveSites, SessionFilesHaveTheNetwork};
+ghost use Rattle.patched_texts.specs.Laws.{GrownSettingsAreAfter, NewListsAreChunks};
+ghost use Rattle.patched_texts.specs.Laws.{NewListsHaveTheirLines, NewListsSetThemselves};
+ghost use Rattle.patched_texts.specs.Laws.{PatchedTextsHaveSites, SessionFilesHaveTheNetwork};
 
-/// Files with lines at the ends of their processes that turn sessions have the network after the edits.
+/// Files with lines at the ends of their processes that turn sessions have the network after the
+/// edits.
 pub fn session_files_have_the_network()
     ensures { SessionFilesHaveTheNetwork }
 {}
@@ -17,20 +29,22 @@ pub fn patched_texts_have_sites()
     ensures { PatchedTextsHaveSites }
 {}
 
-/// Commands with those of edits around them, and with new lists among them, set the settings after the edits.
+/// Commands with those of edits around them, and with new lists among them, set the settings after
+/// the edits.
 pub fn grown_settings_are_after()
     ensures { GrownSettingsAreAfter }
 {}
 
-/// The lines of new lists may stand before the head of a process, and set these lists and nothing else.
+/// The lines of new lists may stand before the head of a process, and set these lists and nothing
+/// else.
 pub fn new_lists_are_chunks()
     ensures good { NewListsAreChunks }
     ensures lines { NewListsHaveTheirLines }
     ensures set { NewListsSetThemselves }
 {}
 
-/// The lines that edits put at the ends of processes and interfaces are read there as the commands of the settings after
-/// the edits.
+/// The lines that edits put at the ends of processes and interfaces are read there as the commands
+/// of the settings after the edits.
 pub fn end_lines_are_read()
     ensures process { ProcessLinesAreRead }
     ensures binding { GroupLinesAreFit }
@@ -43,8 +57,8 @@ pub fn faces_have_blocks()
     ensures { FacesHaveBlocks }
 {}
 
-/// The entries that edits put into lists are read as these entries, and an entry of an extended list's block with another
-/// number as the entry that it was.
+/// The entries that edits put into lists are read as these entries, and an entry of an extended
+/// list's block with another number as the entry that it was.
 pub fn entries_are_read()
     ensures lines { EntriesHaveTheirLines }
     ensures block { BlockEntriesAreRead }
@@ -55,20 +69,22 @@ pub fn entries_are_read()
     ensures number { NumbersAreWords }
 {}
 
-/// A list with the entries of edits before its old ones is the list of the settings after the edits.
+/// A list with the entries of edits before its old ones is the list of the settings after the
+/// edits.
 pub fn lists_grow()
     ensures { ListsGrow }
 {}
 
-/// Patched files into which good sites of their commands are put have the settings after the edits, and all of them the
-/// network after the edits.
+/// Patched files into which good sites of their commands are put have the settings after the edits,
+/// and all of them the network after the edits.
 pub fn sited_files_have_the_network()
     ensures file { SitedFilesAreAfter }
     ensures files { FilesHaveTheNetwork }
     ensures network { SitedFilesHaveTheNetwork }
 {}
 
-/// What edits put into a router file stands at its commands as good sites, with which the commands grow as the edits make them.
+/// What edits put into a router file stands at its commands as good sites, with which the commands
+/// grow as the edits make them.
 pub fn edits_are_sites()
     ensures there { EditSitesAreThere }
     ensures can { EditedTextsCanBePatched }

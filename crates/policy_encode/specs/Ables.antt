@@ -14,7 +14,9 @@ use Rattle.edit_space.specs.EditLists.{is_same}
 
 -- whether the session names the far interface: its address, and the AS of its router
 abbrev pub names : Network → SessionRow → FaceRow → Bool
-names net s far = option_map_or (λ a. a == s.peer) far.addr false && option_map_or (λ r. s.remote == r.asn) (slice_get net.routers far.router.0) false
+names net s far =
+    option_map_or (λ a. a == s.peer) far.addr false &&
+    option_map_or (λ r. s.remote == r.asn) (slice_get net.routers far.router.0) false
 
 -- whether the interface takes part in the protocol towards the far one
 abbrev pub takes_part : Protocol → Network → Option SessionRow → FaceRow → FaceRow → Bool
@@ -23,11 +25,13 @@ takes_part Bgp net session near far = option_map_or (λ s. names net s far) sess
 
 -- whether the interface makes its link able from its side: it is up, has an address, and takes part
 abbrev pub is_able_end : Network → Option SessionRow → FaceRow → FaceRow → Bool
-is_able_end net session near far = near.up && is_some near.addr && takes_part net.protocol net session near far
+is_able_end net session near far =
+    near.up && is_some near.addr && takes_part net.protocol net session near far
 
 -- whether the link between these two interfaces is able: both make it so
 abbrev pub is_able : Network → LinkRow → FaceRow → FaceRow → Bool
-is_able net link a b = is_able_end net (session_at net link.a) a b && is_able_end net (session_at net link.b) b a
+is_able net link a b =
+    is_able_end net (session_at net link.a) a b && is_able_end net (session_at net link.b) b a
 
 -- whether this is the interface's host network, is told, and the interface is up
 abbrev pub tells : Prefix → FaceRow → Bool

@@ -1,5 +1,7 @@
--- The conditions of a network: its own answers on sessions, routes and packets, each turned by the edit that acts on it.
-use Rattle.std.specs.Prelude.{◌&&◌, not, Bool, true, false, Option, Some, None, List, slice_get, if◌then◌else◌}
+-- The conditions of a network: its own answers on sessions, routes and packets, each turned by the
+-- edit that acts on it.
+use Rattle.std.specs.Prelude.{◌&&◌, not, Bool, true, false, Option, Some, None, List, slice_get}
+use Rattle.std.specs.Prelude.{if◌then◌else◌}
 use Rattle.std.specs.Option.{option_map_or}
 use Rattle.arc_base.specs.declared.place.Face.{Face}
 use Rattle.arc_base.specs.declared.place.ListId.{ListId}
@@ -19,37 +21,47 @@ use Rattle.edit_space.specs.declared.edit_kinds.Edit.{Edit}
 use Rattle.edit_space.specs.declared.edit_kinds.Edit.TheVariants as edits
 use Rattle.policy_encode.specs.Turning.{turned}
 
--- whether the interface talks to its neighbour: it is not passive, and no session of it is shut down
+-- whether the interface talks to its neighbour: it is not passive, and no session of it is shut
+-- down
 abbrev pub is_open : Option SessionRow → FaceRow → Bool
 is_open session face = not face.passive && option_map_or (λ s. not s.down) session true
 
 -- when the interface at this place talks to its neighbour
 abbrev pub session_condition : Network → List Edit → Face → FaceRow → Condition
-session_condition net list face row = turned list (edits.Session face) (is_open (session_at net face) row)
+session_condition net list face row =
+    turned list (edits.Session face) (is_open (session_at net face) row)
 
 -- whether the route list with this place permits the prefix
 abbrev pub route_answer : Network → ListId → Prefix → Bool
-route_answer net id to = option_map_or (λ l. route_permits l.entries to) (slice_get net.route_lists id.0) false
+route_answer net id to =
+    option_map_or (λ l. route_permits l.entries to) (slice_get net.route_lists id.0) false
 
--- when the session of this interface, at which this route list is bound, takes the prefix: without a list it does, until a new one denies it
+-- when the session of this interface, at which this route list is bound, takes the prefix: without
+-- a list it does, until a new one denies it
 abbrev pub filter_condition : Network → List Edit → Prefix → Face → Option ListId → Condition
 filter_condition net list to face None = turned list (edits.RouteNew face to) true
-filter_condition net list to face (Some id) = turned list (edits.RouteList id to) (route_answer net id to)
+filter_condition net list to face (Some id) =
+    turned list (edits.RouteList id to) (route_answer net id to)
 
--- when the interface, of which this is the session, takes a route for the prefix; without a session always
+-- when the interface, of which this is the session, takes a route for the prefix; without a session
+-- always
 abbrev pub route_condition : Network → List Edit → Prefix → Face → Option SessionRow → Condition
 route_condition net list to face None = Always
 route_condition net list to face (Some s) = filter_condition net list to face s.filter
 
 -- whether the packet list with this place permits the first packet of the class
 abbrev pub packet_answer : Network → ListId → Class → Bool
-packet_answer net id class = option_map_or (λ l. permits l.entries (first_packet class)) (slice_get net.packet_lists id.0) false
+packet_answer net id class =
+    option_map_or (λ l. permits l.entries (first_packet class))
+    (slice_get net.packet_lists id.0) false
 
 -- when the packet list permits the class, wherever it is bound
 abbrev pub list_condition : Network → List Edit → Class → ListId → Condition
-list_condition net list class id = turned list (edits.PacketList id class) (packet_answer net id class)
+list_condition net list class id =
+    turned list (edits.PacketList id class) (packet_answer net id class)
 
--- when the interface at this place, with this list inbound, takes the class in: without a list it does, until a new one denies it
+-- when the interface at this place, with this list inbound, takes the class in: without a list it
+-- does, until a new one denies it
 abbrev pub inbound_condition : Network → List Edit → Class → Face → Option ListId → Condition
 inbound_condition net list class face None = turned list (edits.PacketNew face class) true
 inbound_condition net list class face (Some id) = list_condition net list class id
@@ -66,9 +78,11 @@ arc_lists net list tail head head_row class = record {
   inbound = inbound_condition net list class head head_row.list_in;
 }
 
--- when the packets of the class enter at the source and leave at the target: never where the interface is down
+-- when the packets of the class enter at the source and leave at the target: never where the
+-- interface is down
 abbrev pub class_ends : Network → List Edit → Face → FaceRow → FaceRow → Class → ClassEnds
 class_ends net list source source_row target class = record {
-  enter = (if source_row.up then inbound_condition net list class source source_row.list_in else Never);
+  enter =
+      (if source_row.up then inbound_condition net list class source source_row.list_in else Never);
   leave = (if target.up then outbound_condition net list class target.list_out else Never);
 }

@@ -14,7 +14,8 @@ use Rattle.edit_space.specs.declared.edit_kinds.EditFault.TheVariants.{Limit, Me
 use Rattle.policy_encode.specs.Questions.{AreConditions}
 
 -- the formula and its tops are those of the network's conditions, for prices up to the bound
-pub record IsRepairFormula (net : Network) (doc : Document) (list : List Edit) (bound : ℕ) (formula : Formula) (tops : List Lit) : Type 0 where
+pub record IsRepairFormula (net : Network) (doc : Document) (list : List Edit) (bound : ℕ)
+    (formula : Formula) (tops : List Lit) : Type 0 where
   pub conditions : ConditionNet
   pub are : AreConditions net doc list conditions
   pub formula_is : formula ≡ repair_formula conditions bound
@@ -22,23 +23,28 @@ pub record IsRepairFormula (net : Network) (doc : Document) (list : List Edit) (
 
 -- the network of conditions of the network, the document and the edits has this property
 abbrev pub HasConditions : Network → Document → List Edit → (ConditionNet → Type 0) → Type 0
-HasConditions net doc list P = (conditions : ConditionNet) × AreConditions net doc list conditions × P conditions
+HasConditions net doc list P =
+    (conditions : ConditionNet) × AreConditions net doc list conditions × P conditions
 
 -- the formula has at most 16,777,216 variables and at most 32,000,000 literals
 abbrev pub IsWithin : Network → Document → List Edit → ℕ → Type 0
-IsWithin net doc list bound = HasConditions net doc list (λ conditions. IsWithinLimits conditions bound)
+IsWithin net doc list bound =
+    HasConditions net doc list (λ conditions. IsWithinLimits conditions bound)
 
 -- the formula has so many variables, more than 16,777,216
 abbrev pub PassesVariables : Network → Document → List Edit → ℕ → ℕ → Type 0
-PassesVariables net doc list bound count = HasConditions net doc list (λ conditions. HasTooManyVariables conditions bound count)
+PassesVariables net doc list bound count =
+    HasConditions net doc list (λ conditions. HasTooManyVariables conditions bound count)
 
 -- it has not, but so many literals, more than 32,000,000, or the most that can be counted
 abbrev pub PassesLiterals : Network → Document → List Edit → ℕ → ℕ → Type 0
-PassesLiterals net doc list bound count = HasConditions net doc list (λ conditions. HasTooManyLiterals conditions bound count)
+PassesLiterals net doc list bound count =
+    HasConditions net doc list (λ conditions. HasTooManyLiterals conditions bound count)
 
 -- the fault names the limit that the formula passes, or is want of memory
 abbrev pub IsFaultOf : Network → Document → List Edit → ℕ → EditFault → Type 0
-IsFaultOf net doc list bound (Limit limits.Variables count) = PassesVariables net doc list bound count
+IsFaultOf net doc list bound (Limit limits.Variables count) =
+    PassesVariables net doc list bound count
 IsFaultOf net doc list bound (Limit limits.Literals count) = PassesLiterals net doc list bound count
 IsFaultOf net doc list bound (Limit other count) = ⊥
 IsFaultOf net doc list bound Memory = Unit {0}

@@ -1,4 +1,5 @@
--- What the repair formula says: its models are the sets of edits that mend the network within their price.
+-- What the repair formula says: its models are the sets of edits that mend the network within their
+-- price.
 use Rattle.std.specs.Prelude.{◌≡◌, ◌↔◌, ◌⊎◌, ℕ, ◌+◌, ◌≤◌, Bool, List, length, All, Contains}
 use Rattle.net_model.specs.declared.policies.Class.{Class}
 use Rattle.net_model.specs.declared.policies.Document.{Document}
@@ -24,7 +25,8 @@ use Rattle.policy_encode.specs.Questions.{IsQuestion}
 use Rattle.policy_encode.specs.Formulas.{IsRepairFormula}
 
 -- the flags choose edits of the valid network for the document, and this is the network after them
-pub record IsEdited (net : Network) (doc : Document) (list : List Edit) (flags : List Bool) (after : Network) : Type 0 where
+pub record IsEdited (net : Network) (doc : Document) (list : List Edit) (flags : List Bool)
+    (after : Network) : Type 0 where
   pub valid : IsValid net
   pub edits : AreEdits net doc list
   pub one_each : length flags ≡ length list
@@ -32,14 +34,16 @@ pub record IsEdited (net : Network) (doc : Document) (list : List Edit) (flags :
   pub valid_after : IsValid after
 
 -- some model of the formula begins with the flags and keeps the bound
-pub record HasModel (formula : Formula) (tops : List Lit) (flags : List Bool) (bound : ℕ) : Type 0 where
+pub record HasModel (formula : Formula) (tops : List Lit) (flags : List Bool)
+    (bound : ℕ) : Type 0 where
   pub assignment : ℕ → Bool
   pub begins : BeginsWith assignment flags
   pub satisfies : Satisfies assignment formula
   pub keeps : KeepsBound assignment tops bound
 
 -- one model that begins with the flags keeps each bound from their price to the greatest
-pub record HasOneModel (formula : Formula) (tops : List Lit) (flags : List Bool) (price most : ℕ) : Type 0 where
+pub record HasOneModel (formula : Formula) (tops : List Lit) (flags : List Bool)
+    (price most : ℕ) : Type 0 where
   pub assignment : ℕ → Bool
   pub begins : BeginsWith assignment flags
   pub satisfies : Satisfies assignment formula
@@ -50,37 +54,56 @@ abbrev pub price_of_flags : Document → List Edit → List Bool → ℕ
 price_of_flags doc list flags = price_of doc.weights (chosen_of list flags)
 
 -- the flags mend the network at no more than this price: the network after them meets the document
-pub record IsRepair (doc : Document) (list : List Edit) (flags : List Bool) (after : Network) (bound : ℕ) : Type 0 where
+pub record IsRepair (doc : Document) (list : List Edit) (flags : List Bool) (after : Network)
+    (bound : ℕ) : Type 0 where
   pub met : MeetsDocument after doc
   pub affordable : price_of_flags doc list flags ≤ bound
 
--- the question of a policy stands for the network after the edits: each routed arc stands in it, under conditions that hold, each of its arcs
--- whose conditions hold is routed, and all else that it asks holds exactly where the network's own lists permit
+-- the question of a policy stands for the network after the edits: each routed arc stands in it,
+-- under conditions that hold, each of its arcs whose conditions hold is routed, and all else that
+-- it asks holds exactly where the network's own lists permit
 abbrev pub QuestionsMirrorNetworks : Type 0
-QuestionsMirrorNetworks = (net : Network) (doc : Document) (list : List Edit) (flags : List Bool) (after : Network) → IsEdited net doc list flags after →
-    (policy : Policy) (question : Question) → Contains doc.policies policy → IsQuestion net doc.policies list policy question →
-    (ends : Ends) (classes : List Class) → AreEnds after (subject policy) ends → AreClasses net doc.policies policy classes →
+QuestionsMirrorNetworks =
+    (net : Network) (doc : Document) (list : List Edit) (flags : List Bool) (after : Network) →
+    IsEdited net doc list flags after →
+    (policy : Policy) (question : Question) → Contains doc.policies policy →
+    IsQuestion net doc.policies list policy question →
+    (ends : Ends) (classes : List Class) → AreEnds after (subject policy) ends →
+    AreClasses net doc.policies policy classes →
     Mirrors after ends classes (chosen_in flags) question
 
--- the question of a policy is met by a choice of edits exactly where the network after them meets the policy
+-- the question of a policy is met by a choice of edits exactly where the network after them meets
+-- the policy
 abbrev pub QuestionsArePolicies : Type 0
-QuestionsArePolicies = (net : Network) (doc : Document) (list : List Edit) (flags : List Bool) (after : Network) → IsEdited net doc list flags after →
-    (policy : Policy) (question : Question) → Contains doc.policies policy → IsQuestion net doc.policies list policy question →
+QuestionsArePolicies =
+    (net : Network) (doc : Document) (list : List Edit) (flags : List Bool) (after : Network) →
+    IsEdited net doc list flags after →
+    (policy : Policy) (question : Question) → Contains doc.policies policy →
+    IsQuestion net doc.policies list policy question →
     IsMet (chosen_in flags) question ↔ Meets after policy
 
--- the formula under a bound has a model that begins with the flags exactly where they mend the network at no more than that price
+-- the formula under a bound has a model that begins with the flags exactly where they mend the
+-- network at no more than that price
 abbrev pub ModelsAreRepairs : Type 0
-ModelsAreRepairs = (net : Network) (doc : Document) (list : List Edit) (most : ℕ) (formula : Formula) (tops : List Lit) (flags : List Bool) (after : Network) (bound : ℕ) →
-    IsRepairFormula net doc list most formula tops → IsEdited net doc list flags after → bound ≤ most →
+ModelsAreRepairs =
+    (net : Network) (doc : Document) (list : List Edit) (most : ℕ) (formula : Formula)
+    (tops : List Lit) (flags : List Bool) (after : Network) (bound : ℕ) →
+    IsRepairFormula net doc list most formula tops →
+    IsEdited net doc list flags after → bound ≤ most →
     HasModel formula tops flags bound ↔ IsRepair doc list flags after bound
 
--- where the network after the flags' edits meets the document, one model that begins with them keeps each bound from their price on
+-- where the network after the flags' edits meets the document, one model that begins with them
+-- keeps each bound from their price on
 abbrev pub OneModelServes : Type 0
-OneModelServes = (net : Network) (doc : Document) (list : List Edit) (most : ℕ) (formula : Formula) (tops : List Lit) (flags : List Bool) (after : Network) →
-    IsRepairFormula net doc list most formula tops → IsEdited net doc list flags after → MeetsDocument after doc →
+OneModelServes =
+    (net : Network) (doc : Document) (list : List Edit) (most : ℕ) (formula : Formula)
+    (tops : List Lit) (flags : List Bool) (after : Network) →
+    IsRepairFormula net doc list most formula tops →
+    IsEdited net doc list flags after → MeetsDocument after doc →
     HasOneModel formula tops flags (price_of_flags doc list flags) most
 
--- the formula is fit for a search: its literals and its tops are of its variables, the first of which are the edits', and each bound has a top, if any has
+-- the formula is fit for a search: its literals and its tops are of its variables, the first of
+-- which are the edits', and each bound has a top, if any has
 pub record IsSearchable (formula : Formula) (tops : List Lit) (edits most : ℕ) : Type 0 where
   pub clauses : All (λ c. All (IsVariableOf formula.vars) c.lits) formula.clauses
   pub range : All (IsVariableOf formula.vars) tops
@@ -89,10 +112,14 @@ pub record IsSearchable (formula : Formula) (tops : List Lit) (edits most : ℕ)
 
 -- the repair formula of a valid network is fit for a search
 abbrev pub FormulasAreSearchable : Type 0
-FormulasAreSearchable = (net : Network) (doc : Document) (list : List Edit) (most : ℕ) (formula : Formula) (tops : List Lit) →
-    IsValid net → IsRepairFormula net doc list most formula tops → IsSearchable formula tops (length list) most
+FormulasAreSearchable =
+    (net : Network) (doc : Document) (list : List Edit) (most : ℕ) (formula : Formula)
+    (tops : List Lit) → IsValid net → IsRepairFormula net doc list most formula tops →
+    IsSearchable formula tops (length list) most
 
 -- a network, a document and a list of edits have at most one repair formula
 abbrev pub HaveOneFormula : Type 0
-HaveOneFormula = (net : Network) (doc : Document) (list : List Edit) (most : ℕ) (formula other : Formula) (tops others : List Lit) →
-    IsValid net → IsRepairFormula net doc list most formula tops → IsRepairFormula net doc list most other others → (formula ≡ other) × (tops ≡ others)
+HaveOneFormula =
+    (net : Network) (doc : Document) (list : List Edit) (most : ℕ) (formula other : Formula)
+    (tops others : List Lit) → IsValid net → IsRepairFormula net doc list most formula tops →
+    IsRepairFormula net doc list most other others → (formula ≡ other) × (tops ≡ others)

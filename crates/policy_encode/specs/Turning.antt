@@ -1,11 +1,14 @@
 -- Which edit turns an answer of the network, and the condition that this makes of the answer.
-use Rattle.std.specs.Prelude.{ℕ, ◌&&◌, nat_eq, Bool, true, false, Option, Some, None, List, position}
+use Rattle.std.specs.Prelude.{ℕ, ◌&&◌, nat_eq, Bool, true, false, Option, Some, None, List}
+use Rattle.std.specs.Prelude.{position}
 use Rattle.condition_formula.specs.declared.condition.Condition.{Condition}
-use Rattle.condition_formula.specs.declared.condition.Condition.TheVariants.{Always, Never, If, Unless}
+use Rattle.condition_formula.specs.declared.condition.Condition.TheVariants.{Always, Never, If}
+use Rattle.condition_formula.specs.declared.condition.Condition.TheVariants.{Unless}
 use Rattle.edit_space.specs.declared.edit_kinds.Edit.{Edit}
 use Rattle.edit_space.specs.declared.edit_kinds.Edit.TheVariants as edits
 
--- the numbers that make an edit: its kind, the place where it acts, and of its entry the prefix, or the two prefixes and the range of services
+-- the numbers that make an edit: its kind, the place where it acts, and of its entry the prefix, or
+-- the two prefixes and the range of services
 abbrev pub Key : Type 0
 Key = ℕ × ℕ × ℕ × ℕ × ℕ × ℕ × ℕ × ℕ
 
@@ -14,13 +17,32 @@ abbrev pub key_of : Edit → Key
 key_of (edits.Session face) = (0, face.0, 0, 0, 0, 0, 0, 0)
 key_of (edits.RouteList list to) = (1, list.0, to.addr, to.len, 0, 0, 0, 0)
 key_of (edits.RouteNew face to) = (2, face.0, to.addr, to.len, 0, 0, 0, 0)
-key_of (edits.PacketList list class) = (3, list.0, class.from.addr, class.from.len, class.to.addr, class.to.len, class.service.low, class.service.high)
-key_of (edits.PacketNew face class) = (4, face.0, class.from.addr, class.from.len, class.to.addr, class.to.len, class.service.low, class.service.high)
+key_of (edits.PacketList list class) = (
+  3,
+  list.0,
+  class.from.addr,
+  class.from.len,
+  class.to.addr,
+  class.to.len,
+  class.service.low,
+  class.service.high,
+)
+key_of (edits.PacketNew face class) = (
+  4,
+  face.0,
+  class.from.addr,
+  class.from.len,
+  class.to.addr,
+  class.to.len,
+  class.service.low,
+  class.service.high,
+)
 
 -- whether the two have the same numbers
 abbrev pub same_key : Key → Key → Bool
 same_key k l =
-    ((((((nat_eq k.0 l.0 && nat_eq k.1 l.1) && nat_eq k.2 l.2) && nat_eq k.3 l.3) && nat_eq k.4 l.4) && nat_eq k.5 l.5) && nat_eq k.6 l.6) && nat_eq k.7 l.7
+    ((((((nat_eq k.0 l.0 && nat_eq k.1 l.1) && nat_eq k.2 l.2) && nat_eq k.3 l.3) &&
+    nat_eq k.4 l.4) && nat_eq k.5 l.5) && nat_eq k.6 l.6) && nat_eq k.7 l.7
 
 -- whether the two edits are the same
 abbrev pub is_same : Edit → Edit → Bool
@@ -30,7 +52,8 @@ is_same e f = same_key (key_of e) (key_of f)
 abbrev pub place_of : List Edit → Edit → Option ℕ
 place_of list edit = position (is_same edit) list
 
--- the condition that holds as the answer says, and the other way round where the edit at this place is chosen
+-- the condition that holds as the answer says, and the other way round where the edit at this place
+-- is chosen
 abbrev pub condition_at : Bool → Option ℕ → Condition
 condition_at true None = Always
 condition_at false None = Never

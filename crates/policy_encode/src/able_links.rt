@@ -2,7 +2,8 @@
 ghost use Rattle.std.specs.Prelude.{◌≡◌};
 ghost use Rattle.std.specs.Option.{option_copied};
 ghost use Rattle.edit_space.specs.EditLists.{is_same};
-ghost use Rattle.policy_encode.specs.Ables.{names, takes_part, is_able_end, is_able, tells, is_told};
+ghost use Rattle.policy_encode.specs.Ables.{names, takes_part, is_able_end, is_able, tells};
+ghost use Rattle.policy_encode.specs.Ables.{is_told};
 
 use arc_base::Prefix;
 use net_model::{FaceRow, LinkRow, Network, Protocol, SessionRow};
@@ -18,7 +19,8 @@ fn names(net: &Network, session: &SessionRow, far: &FaceRow) -> bool
 }
 
 fn takes_part(net: &Network, session: Option<&SessionRow>, near: &FaceRow, far: &FaceRow) -> bool
-    ensures { result ≡ takes_part net.now.protocol net.now (option_copied session.entry) near.now far.now }
+    ensures { result
+        ≡ takes_part net.now.protocol net.now (option_copied session.entry) near.now far.now }
 {
     match net.protocol {
         Protocol::Ospf => near.enabled,

@@ -2,7 +2,10 @@
 ghost use Rattle.std.specs.Prelude.{◌≡◌, ◌<◌, ◌^◌, List, length};
 ghost use Rattle.std.specs.Option.{option_copied};
 ghost use Rattle.edit_space.specs.declared.edit_kinds.Edit.{Edit as AnyEdit};
-ghost use Rattle.policy_encode.specs.Answers.{is_open, session_condition, route_answer, filter_condition, route_condition, packet_answer, list_condition, inbound_condition, outbound_condition, arc_lists, class_ends};
+ghost use Rattle.policy_encode.specs.Answers.{is_open, session_condition, route_answer};
+ghost use Rattle.policy_encode.specs.Answers.{filter_condition, route_condition, packet_answer};
+ghost use Rattle.policy_encode.specs.Answers.{list_condition, inbound_condition};
+ghost use Rattle.policy_encode.specs.Answers.{outbound_condition, arc_lists, class_ends};
 ghost use Rattle.policy_encode.specs.Finding.{IsIndexOf};
 
 use crate::edit_index::EditIndex;
@@ -32,7 +35,8 @@ pub(crate) fn session_condition(
     row: &FaceRow,
 ) -> Condition
     requires { length index.now.keys.keys < 2 ^ 32 }
-    ensures { (list : List AnyEdit) → IsIndexOf list index.now → result ≡ session_condition net.now list face row.now }
+    ensures { (list : List AnyEdit) → IsIndexOf list index.now →
+        result ≡ session_condition net.now list face row.now }
 {
     index.turned(Edit::Session(face), is_open(net.session_at(face), row))
 }
@@ -54,7 +58,8 @@ fn filter_condition(
     filter: Option<ListId>,
 ) -> Condition
     requires { length index.now.keys.keys < 2 ^ 32 }
-    ensures { (list : List AnyEdit) → IsIndexOf list index.now → result ≡ filter_condition net.now list to face filter }
+    ensures { (list : List AnyEdit) → IsIndexOf list index.now →
+        result ≡ filter_condition net.now list to face filter }
 {
     match filter {
         Some(id) => index.turned(Edit::RouteList(id, to), route_answer(net, id, to)),
@@ -71,7 +76,8 @@ pub(crate) fn route_condition(
     session: Option<&SessionRow>,
 ) -> Condition
     requires { length index.now.keys.keys < 2 ^ 32 }
-    ensures { (list : List AnyEdit) → IsIndexOf list index.now → result ≡ route_condition net.now list to face (option_copied session.entry) }
+    ensures { (list : List AnyEdit) → IsIndexOf list index.now →
+        result ≡ route_condition net.now list to face (option_copied session.entry) }
 {
     match session {
         Some(session) => filter_condition(net, index, to, face, session.filter),
@@ -90,7 +96,8 @@ fn packet_answer(net: &Network, id: ListId, class: Class) -> bool
 
 fn list_condition(net: &Network, index: &EditIndex, class: Class, id: ListId) -> Condition
     requires { length index.now.keys.keys < 2 ^ 32 }
-    ensures { (list : List AnyEdit) → IsIndexOf list index.now → result ≡ list_condition net.now list class id }
+    ensures { (list : List AnyEdit) → IsIndexOf list index.now →
+        result ≡ list_condition net.now list class id }
 {
     index.turned(Edit::PacketList(id, class), packet_answer(net, id, class))
 }
@@ -103,7 +110,8 @@ fn inbound_condition(
     bound: Option<ListId>,
 ) -> Condition
     requires { length index.now.keys.keys < 2 ^ 32 }
-    ensures { (list : List AnyEdit) → IsIndexOf list index.now → result ≡ inbound_condition net.now list class face bound }
+    ensures { (list : List AnyEdit) → IsIndexOf list index.now →
+        result ≡ inbound_condition net.now list class face bound }
 {
     match bound {
         Some(list) => list_condition(net, index, class, list),
@@ -118,7 +126,8 @@ fn outbound_condition(
     bound: Option<ListId>,
 ) -> Condition
     requires { length index.now.keys.keys < 2 ^ 32 }
-    ensures { (list : List AnyEdit) → IsIndexOf list index.now → result ≡ outbound_condition net.now list class bound }
+    ensures { (list : List AnyEdit) → IsIndexOf list index.now →
+        result ≡ outbound_condition net.now list class bound }
 {
     match bound {
         Some(id) => list_condition(net, index, class, id),
@@ -136,7 +145,8 @@ pub(crate) fn arc_lists(
     class: Class,
 ) -> ArcLists
     requires { length index.now.keys.keys < 2 ^ 32 }
-    ensures { (list : List AnyEdit) → IsIndexOf list index.now → result ≡ arc_lists net.now list tail.now head head_row.now class }
+    ensures { (list : List AnyEdit) → IsIndexOf list index.now →
+        result ≡ arc_lists net.now list tail.now head head_row.now class }
 {
     ArcLists {
         outbound: outbound_condition(net, index, class, tail.list_out),
@@ -154,7 +164,8 @@ pub(crate) fn class_ends(
     class: Class,
 ) -> ClassEnds
     requires { length index.now.keys.keys < 2 ^ 32 }
-    ensures { (list : List AnyEdit) → IsIndexOf list index.now → result ≡ class_ends net.now list source source_row.now target.now class }
+    ensures { (list : List AnyEdit) → IsIndexOf list index.now →
+        result ≡ class_ends net.now list source source_row.now target.now class }
 {
     let enter = if source_row.up {
         inbound_condition(net, index, class, source, source_row.list_in)

@@ -1,10 +1,12 @@
 //! The arcs to a host network, each with its conditions.
-ghost use Rattle.std.specs.Prelude.{◌≡◌, ◌<◌, ◌^◌, ◌++◌, ◌∷◌, [], not, filter, map, List, length, slice_get, Some, IfOk, OnOk};
+ghost use Rattle.std.specs.Prelude.{◌≡◌, ◌<◌, ◌^◌, ◌++◌, ◌∷◌, [], not, filter, map, List, length};
+ghost use Rattle.std.specs.Prelude.{slice_get, Some, IfOk, OnOk};
 ghost use Rattle.std.specs.List.{list_any};
 ghost use Rattle.std.specs.Option.{option_copied};
 ghost use Rattle.edit_space.specs.declared.edit_kinds.Edit.{Edit as AnyEdit};
 ghost use Rattle.policy_encode.specs.Answers.{arc_lists};
-ghost use Rattle.policy_encode.specs.Questions.{is_never, routing_of, tail_row, head_row, arc_over, able_arcs, link_arcs, arcs_to};
+ghost use Rattle.policy_encode.specs.Questions.{is_never, routing_of, tail_row, head_row, arc_over};
+ghost use Rattle.policy_encode.specs.Questions.{able_arcs, link_arcs, arcs_to};
 ghost use Rattle.policy_encode.specs.Finding.{IsIndexOf};
 
 use crate::able_links::{is_able, is_told};
@@ -41,7 +43,8 @@ fn routing(
     from_a: bool,
 ) -> Result<List<Condition>, Memory>
     requires { length index.now.keys.keys < 2 ^ 32 }
-    ensures { IfOk result (λ routing. (list : List AnyEdit) → IsIndexOf list index.now → routing ≡ routing_of net.now list to link.now a.now b.now from_a) }
+    ensures { IfOk result (λ routing. (list : List AnyEdit) → IsIndexOf list index.now →
+        routing ≡ routing_of net.now list to link.now a.now b.now from_a) }
 {
     let tail = link.tail(from_a);
     let mut routing = List::make(alloc);
@@ -62,7 +65,8 @@ fn lists(
     head_row: &FaceRow,
 ) -> Result<List<ArcLists>, Memory>
     requires { length index.now.keys.keys < 2 ^ 32 }
-    ensures { IfOk result (λ lists. (list : List AnyEdit) → IsIndexOf list index.now → lists ≡ map (arc_lists net.now list tail.now head head_row.now) classes.now) }
+    ensures { IfOk result (λ lists. (list : List AnyEdit) → IsIndexOf list index.now →
+        lists ≡ map (arc_lists net.now list tail.now head head_row.now) classes.now) }
 {
     let mut lists = List::make(alloc);
     for class in classes.slice() {
@@ -88,7 +92,8 @@ fn arc_over(
     from_a: bool,
 ) -> Result<ConditionArc, Memory>
     requires { length index.now.keys.keys < 2 ^ 32 }
-    ensures { IfOk result (λ arc. (list : List AnyEdit) → IsIndexOf list index.now → arc ≡ arc_over net.now list to classes.now (link.0, row.now) a.now b.now from_a) }
+    ensures { IfOk result (λ arc. (list : List AnyEdit) → IsIndexOf list index.now →
+        arc ≡ arc_over net.now list to classes.now (link.0, row.now) a.now b.now from_a) }
 {
     let tail = if from_a { a } else { b };
     let head = if from_a { b } else { a };
@@ -106,7 +111,8 @@ fn arc_over(
 
 /// Adds the arc, unless a condition of it never holds.
 fn add(arcs: &mut List<ConditionArc>, arc: ConditionArc) -> Result<(), Memory>
-    ensures { OnOk result (arcs.new ≡ arcs.old ++ filter (λ x. not (list_any is_never x.routing)) (arc ∷ [])) }
+    ensures { OnOk result
+        (arcs.new ≡ arcs.old ++ filter (λ x. not (list_any is_never x.routing)) (arc ∷ [])) }
 {
     if !is_never_routed(&arc) {
         push(arcs, arc)?;
@@ -128,7 +134,8 @@ fn add_able(
     b: &FaceRow,
 ) -> Result<(), Memory>
     requires { length index.now.keys.keys < 2 ^ 32 }
-    ensures { OnOk result ((list : List AnyEdit) → IsIndexOf list index.now → arcs.new ≡ arcs.old ++ able_arcs net.now list to classes.now (link.0, row.now) a.now b.now) }
+    ensures { OnOk result ((list : List AnyEdit) → IsIndexOf list index.now → arcs.new ≡ arcs.old ++
+        able_arcs net.now list to classes.now (link.0, row.now) a.now b.now) }
 {
     let forth = arc_over(alloc, net, index, to, classes, link, row, a, b, true)?;
     add(arcs, forth)?;
@@ -149,7 +156,8 @@ fn add_link(
     row: &LinkRow,
 ) -> Result<(), Memory>
     requires { length index.now.keys.keys < 2 ^ 32 }
-    ensures { OnOk result ((list : List AnyEdit) → IsIndexOf list index.now → arcs.new ≡ arcs.old ++ link_arcs net.now list to classes.now (link.0, row.now)) }
+    ensures { OnOk result ((list : List AnyEdit) → IsIndexOf list index.now →
+        arcs.new ≡ arcs.old ++ link_arcs net.now list to classes.now (link.0, row.now)) }
 {
     let Some(a) = net.faces.get(row.a.0) else {
         return Ok(());
@@ -172,7 +180,8 @@ pub(crate) fn arcs_to(
     classes: &List<Class>,
 ) -> Result<List<ConditionArc>, Memory>
     requires { length index.now.keys.keys < 2 ^ 32 }
-    ensures { IfOk result (λ arcs. (list : List AnyEdit) → IsIndexOf list index.now → arcs ≡ arcs_to net.now list to classes.now) }
+    ensures { IfOk result (λ arcs. (list : List AnyEdit) → IsIndexOf list index.now →
+        arcs ≡ arcs_to net.now list to classes.now) }
 {
     let mut arcs = List::make(alloc);
     if !is_told(net, to) {

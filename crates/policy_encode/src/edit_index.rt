@@ -10,8 +10,8 @@ use edit_space::Edit;
 use indexmap::IndexSet;
 use std::alloc::Global;
 
-/// The numbers that make an edit: its kind, the place where it acts, and of its entry the prefix, or the two prefixes and the
-/// range of services.
+/// The numbers that make an edit: its kind, the place where it acts, and of its entry the prefix,
+/// or the two prefixes and the range of services.
 pub(crate) type EditKey = (u8, u32, u32, u8, u32, u8, u32, u32);
 
 /// The numbers of an edit.
@@ -37,7 +37,8 @@ fn key_of(edit: &Edit) -> EditKey
     }
 }
 
-/// The condition that holds as the answer says, and the other way round where the edit at the place is chosen.
+/// The condition that holds as the answer says, and the other way round where the edit at the place
+/// is chosen.
 fn condition_at(answer: bool, place: Option<u32>) -> Condition
     ensures { result ≡ condition_at answer place }
 {
@@ -92,7 +93,8 @@ impl EditIndex {
     /// The condition for an answer that the edit turns, if it is one of the list.
     pub(crate) fn turned(&self, edit: Edit, answer: bool) -> Condition
         requires { length self.now.keys.keys < 2 ^ 32 }
-        ensures { (list : List AnyEdit) → IsIndexOf list self.now → result ≡ turned list edit answer }
+        ensures { (list : List AnyEdit) → IsIndexOf list self.now →
+            result ≡ turned list edit answer }
     {
         condition_at(answer, self.place_of(edit))
     }

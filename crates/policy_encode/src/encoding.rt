@@ -1,5 +1,6 @@
 //! The formula of a network, a document and a list of edits.
-ghost use Rattle.std.specs.Prelude.{◌≡◌, ◌≤◌, ◌<◌, ◌^◌, List as Items, length, map, All, IfOk, IfErr, OnOk};
+ghost use Rattle.std.specs.Prelude.{◌≡◌, ◌≤◌, ◌<◌, ◌^◌, List as Items, length, map, All, IfOk};
+ghost use Rattle.std.specs.Prelude.{IfErr, OnOk};
 ghost use Rattle.std.specs.List.{AllZip};
 ghost use Rattle.net_model.specs.Forwarding.{HasEnds};
 ghost use Rattle.net_model.specs.Packets.{subject};
@@ -54,7 +55,8 @@ fn questions(
     requires failures { All (λ policy. HasFewFailures policy.kind) doc.now.policies }
     requires few { HasFewClasses net.now doc.now }
     requires index { length index.now.keys.keys < 2 ^ 32 }
-    ensures { IfOk result (λ qs. (list : Items AnyEdit) → IsIndexOf list index.now → AllZip (IsQuestion net.now doc.now.policies list) doc.now.policies qs) }
+    ensures { IfOk result (λ qs. (list : Items AnyEdit) → IsIndexOf list index.now →
+        AllZip (IsQuestion net.now doc.now.policies list) doc.now.policies qs) }
 {
     let mut questions = List::make(alloc);
     for (which, policy) in doc.policies.slice().iter().enumerate() {
@@ -91,9 +93,11 @@ fn conditions(
     })
 }
 
-/// The repair formula for prices up to the bound. Its first variables are those of the edits, in order.
+/// The repair formula for prices up to the bound. Its first variables are those of the edits, in
+/// order.
 ///
-/// It goes over the arcs and classes of each policy once, and takes time in proportion to the literals.
+/// It goes over the arcs and classes of each policy once, and takes time in proportion to the
+/// literals.
 pub fn encode(
     alloc: Global,
     net: &Network,
@@ -109,7 +113,8 @@ pub fn encode(
     requires edits { AreEdits net.now doc.now edits.now }
     requires few_edits { length edits.now ≤ 8192 }
     requires bound { bound ≤ 512 }
-    ensures formula { IfOk result (λ e. IsRepairFormula net.now doc.now edits.now bound e.formula e.tops) }
+    ensures formula { IfOk result (λ e.
+        IsRepairFormula net.now doc.now edits.now bound e.formula e.tops) }
     ensures variables { IfOk result (λ e. e.formula.vars ≤ 16777216) }
     ensures limits { OnOk result (IsWithin net.now doc.now edits.now bound) }
     ensures fault { IfErr result (IsFaultOf net.now doc.now edits.now bound) }

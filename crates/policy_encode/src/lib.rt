@@ -1,6 +1,7 @@
-//! The repair formula of a network, a document and its edits: it has a model exactly for each set of edits after which the
-//! network meets the document, within their price. Each answer of the network is a condition of at most one edit; the
-//! clauses over the conditions are those of `condition_formula`.
+//! The repair formula of a network, a document and its edits: it has a model exactly for each set
+//! of edits after which the network meets the document, within their price. Each answer of the
+//! network is a condition of at most one edit; the clauses over the conditions are those of
+//! `condition_formula`.
 #![tactic(auto)]
 
 mod able_links;

@@ -1,5 +1,6 @@
 //! The questions of policies.
-ghost use Rattle.std.specs.Prelude.{◌≡◌, ◌<◌, ◌≤◌, ◌^◌, map, List, length, slice_get, Some, All, IfOk, IfErr, IfSome};
+ghost use Rattle.std.specs.Prelude.{◌≡◌, ◌<◌, ◌≤◌, ◌^◌, map, List, length, slice_get, Some, All};
+ghost use Rattle.std.specs.Prelude.{IfOk, IfErr, IfSome};
 ghost use Rattle.std.specs.List.{AllZip};
 ghost use Rattle.edit_space.specs.declared.edit_kinds.Edit.{Edit as AnyEdit};
 ghost use Rattle.edit_space.specs.EditLists.{HasFewClasses};
@@ -55,7 +56,8 @@ fn all_ends(
     classes: &List<Class>,
 ) -> Result<List<ClassEnds>, Memory>
     requires { length index.now.keys.keys < 2 ^ 32 }
-    ensures { IfOk result (λ ends. (list : List AnyEdit) → IsIndexOf list index.now → ends ≡ map (class_ends net.now list source source_row.now target.now) classes.now) }
+    ensures { IfOk result (λ ends. (list : List AnyEdit) → IsIndexOf list index.now →
+        ends ≡ map (class_ends net.now list source source_row.now target.now) classes.now) }
 {
     let mut ends = List::make(alloc);
     for class in classes.slice() {
@@ -76,7 +78,8 @@ fn few_classes(
 ) -> Result<List<Class>, Memory>
     requires place { which < length doc.now.policies }
     requires few { HasFewClasses net.now doc.now }
-    ensures { IfOk result (λ cs. IfSome (slice_get doc.now.policies which) (λ p. AreClasses net.now doc.now.policies p cs)) }
+    ensures { IfOk result (λ cs.
+        IfSome (slice_get doc.now.policies which) (λ p. AreClasses net.now doc.now.policies p cs)) }
 {
     match classes(alloc, net, &doc.policies, which) {
         Ok(parts) => Ok(parts),
@@ -99,7 +102,8 @@ pub(crate) fn question(
     requires failures { HasFewFailures policy.now.kind }
     requires few { HasFewClasses net.now doc.now }
     requires index { length index.now.keys.keys < 2 ^ 32 }
-    ensures { IfOk result (λ q. (list : List AnyEdit) → IsIndexOf list index.now → IsQuestion net.now doc.now.policies list policy.now q) }
+    ensures { IfOk result (λ q. (list : List AnyEdit) → IsIndexOf list index.now →
+        IsQuestion net.now doc.now.policies list policy.now q) }
 {
     let source = host_place(net, policy.from);
     let target = host_place(net, policy.to);

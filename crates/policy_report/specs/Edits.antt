@@ -1,6 +1,9 @@
--- The texts of edits. A text begins with the word `edit` and tells what is turned: the session of a router's interface, or the
--- answer of a list, or of a new list at a neighbour or an interface, for a prefix or a class.
-use Rattle.std.specs.Prelude.{◌≡◌, ℕ, ◌+◌, ◌<◌, ◌^◌, ◌↔◌, List, [], ◌∷◌, ◌++◌, All, AllPairs, Option, Some, option_map, IsSomeAnd, bytes_eq, codes, drop, map, slice_get}
+-- The texts of edits. A text begins with the word `edit` and tells what is turned: the session of a
+-- router's interface, or the answer of a list, or of a new list at a neighbour or an interface, for
+-- a prefix or a class.
+use Rattle.std.specs.Prelude.{◌≡◌, ℕ, ◌+◌, ◌<◌, ◌^◌, ◌↔◌, List, [], ◌∷◌, ◌++◌, All, AllPairs}
+use Rattle.std.specs.Prelude.{Option, Some, option_map, IsSomeAnd, bytes_eq, codes, drop, map}
+use Rattle.std.specs.Prelude.{slice_get}
 use Rattle.std.specs.List.{concat, position}
 use Rattle.std.specs.Option.{option_map_or}
 use Rattle.arc_base.specs.declared.place.Face.{Face}
@@ -12,7 +15,8 @@ use Rattle.net_model.specs.declared.rows.Network.{Network}
 use Rattle.net_model.specs.Routing.{session_at}
 use Rattle.net_model.specs.Validity.{IsValid}
 use Rattle.edit_space.specs.declared.edit_kinds.Edit.{Edit}
-use Rattle.edit_space.specs.declared.edit_kinds.Edit.TheVariants.{Session, RouteList, RouteNew, PacketList, PacketNew}
+use Rattle.edit_space.specs.declared.edit_kinds.Edit.TheVariants.{Session, RouteList, RouteNew}
+use Rattle.edit_space.specs.declared.edit_kinds.Edit.TheVariants.{PacketList, PacketNew}
 use Rattle.edit_space.specs.EditLists.{AreEdits}
 use Rattle.policy_report.specs.Lines.{after_spaces, line}
 use Rattle.policy_report.specs.Reports.{class_words}
@@ -35,21 +39,28 @@ neighbor_text net face = option_map_or (λ s. address_text s.peer) (session_at n
 -- the name of the route list's router, and its own
 abbrev pub route_list_words : Network → ListId → List (List ℕ)
 route_list_words net list =
-    option_map_or (λ l. router_name net l.router ∷ codes "list" ∷ l.name ∷ []) (slice_get net.route_lists list.0) []
+    option_map_or (λ l. router_name net l.router ∷ codes "list" ∷ l.name ∷ [])
+    (slice_get net.route_lists list.0) []
 
 -- the name of the packet list's router, and its own
 abbrev pub packet_list_words : Network → ListId → List (List ℕ)
 packet_list_words net list =
-    option_map_or (λ l. router_name net l.router ∷ codes "list" ∷ l.name ∷ []) (slice_get net.packet_lists list.0) []
+    option_map_or (λ l. router_name net l.router ∷ codes "list" ∷ l.name ∷ [])
+    (slice_get net.packet_lists list.0) []
 
 -- what the text of the edit says after its first word
 abbrev pub edit_words : Network → Edit → List (List ℕ)
 edit_words net (Session face) = codes "session" ∷ owner_name net face ∷ face_name net face ∷ []
-edit_words net (RouteList list prefix) = codes "route" ∷ (route_list_words net list ++ prefix_text prefix ∷ [])
+edit_words net (RouteList list prefix) =
+    codes "route" ∷ (route_list_words net list ++ prefix_text prefix ∷ [])
 edit_words net (RouteNew face prefix) =
-    codes "route" ∷ owner_name net face ∷ codes "neighbor" ∷ neighbor_text net face ∷ prefix_text prefix ∷ []
-edit_words net (PacketList list class) = codes "packet" ∷ (packet_list_words net list ++ class_words class)
-edit_words net (PacketNew face class) = codes "packet" ∷ owner_name net face ∷ codes "interface" ∷ face_name net face ∷ class_words class
+    codes "route" ∷ owner_name net face ∷ codes "neighbor" ∷ neighbor_text net face ∷
+    prefix_text prefix ∷ []
+edit_words net (PacketList list class) =
+    codes "packet" ∷ (packet_list_words net list ++ class_words class)
+edit_words net (PacketNew face class) =
+    codes "packet" ∷ owner_name net face ∷ codes "interface" ∷
+    face_name net face ∷ class_words class
 
 -- the text of the edit, without a line end
 abbrev pub edit_text : Network → Edit → List ℕ
@@ -69,7 +80,8 @@ edit_of net edits text = position (λ edit. bytes_eq (edit_text net edit) text) 
 
 -- the same among the edits from this place on
 abbrev pub edit_from : Network → List Edit → ℕ → List ℕ → Option ℕ
-edit_from net edits next text = option_map (λ place. next + place) (edit_of net (drop next edits) text)
+edit_from net edits next text =
+    option_map (λ place. next + place) (edit_of net (drop next edits) text)
 
 -- no two of the edits have one text
 abbrev pub AreToldApart : Network → List Edit → Type 0
@@ -81,9 +93,12 @@ HasAddresses net = All (λ session. session.peer < 2 ^ 32) net.sessions
 
 -- no two edits of a network have one text
 abbrev pub EditsAreToldApart : Type 0
-EditsAreToldApart = (net : Network) (doc : Document) (edits : List Edit) → IsValid net → HasAddresses net → AreEdits net doc edits → AreToldApart net edits
+EditsAreToldApart =
+    (net : Network) (doc : Document) (edits : List Edit) → IsValid net → HasAddresses net →
+    AreEdits net doc edits → AreToldApart net edits
 
 -- an edit is found by its text, and by no other
 abbrev pub EditTextsAreExact : Type 0
-EditTextsAreExact = (net : Network) (edits : List Edit) → AreToldApart net edits → (text : List ℕ) (at : ℕ) →
-    (edit_of net edits text ≡ Some at) ↔ IsTextAt net edits at text
+EditTextsAreExact =
+    (net : Network) (edits : List Edit) → AreToldApart net edits →
+    (text : List ℕ) (at : ℕ) → (edit_of net edits text ≡ Some at) ↔ IsTextAt net edits at text

@@ -1,6 +1,8 @@
--- What the lines of a report are read as. Each line has one spelling: its words stand with one space between them, and
--- numbers, addresses and prefixes have the one form in which they are written.
-use Rattle.std.specs.Prelude.{ℕ, ◌-◌, ◌==◌, ◌&&◌, nat_le, Bool, true, false, if◌then◌else◌, List, [], ◌∷◌, length, Option, Some, None, bytes_eq, codes}
+-- What the lines of a report are read as. Each line has one spelling: its words stand with one
+-- space between them, and numbers, addresses and prefixes have the one form in which they are
+-- written.
+use Rattle.std.specs.Prelude.{ℕ, ◌-◌, ◌==◌, ◌&&◌, nat_le, Bool, true, false, if◌then◌else◌, List}
+use Rattle.std.specs.Prelude.{[], ◌∷◌, length, Option, Some, None, bytes_eq, codes}
 use Rattle.std.specs.List.{slice_split}
 use Rattle.std.specs.Option.{option_map_or}
 use Rattle.arc_base.specs.declared.place.Link.{Link}
@@ -63,8 +65,8 @@ side_of (router ∷ routers) (name ∷ names) =
     then (do side ← side_of routers names; Some (true ∷ side))
     else (do side ← side_of routers (name ∷ names); Some (false ∷ side))
 
--- the services that the first word names, and the words after it; where it names none, all services,
--- and the words as they are
+-- the services that the first word names, and the words after it; where it names none, all
+-- services, and the words as they are
 abbrev pub services_at : List (List ℕ) → Service × List (List ℕ)
 services_at [] = (whole_service, [])
 services_at (word ∷ words) =
@@ -78,8 +80,8 @@ class_at (first ∷ second ∷ words) = do
   Some (record { from = from; to = to; service = (services_at words).0 }, (services_at words).1)
 class_at words = None
 
--- the service that the first word names, and the words after it; where it names none, the service 0,
--- and the words as they are
+-- the service that the first word names, and the words after it; where it names none, the service
+-- 0, and the words as they are
 abbrev pub service_at : List (List ℕ) → ℕ × List (List ℕ)
 service_at [] = (0, [])
 service_at (word ∷ words) =
@@ -190,7 +192,9 @@ yes_of asked count = if count == 0 then Whole (verdicts.Closed []) else Open (dr
 
 -- a no: the walk, or the class that is denied, or the cut with its side
 abbrev pub no_of : Asked → ℕ → Option Block
-no_of Reach count = if count == 1 then Some (Open drafts.Denied) else if count == 2 then Some (Open drafts.Cut) else None
+no_of Reach count =
+    if count == 1 then Some (Open drafts.Denied) else if count == 2
+    then Some (Open drafts.Cut) else None
 no_of asked count = if count == 1 then Some (Open drafts.Walk) else None
 
 -- a refusal: the packet with its link

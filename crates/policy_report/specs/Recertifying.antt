@@ -1,7 +1,9 @@
--- A certificate is read again: a reader that takes its lines in order gives back its head, its edits, its verdicts, the steps of
--- its proof log and its end, and a text of which each line is taken, the first of them as a repair's and the last as the end, is
--- the certificate of a claim, with a proof log in any lines that tell its steps.
-use Rattle.std.specs.Prelude.{◌≡◌, ℕ, ◌+◌, ◌≤◌, Bool, true, false, List, [], ◌∷◌, ◌++◌, codes, length, map, All, Option, Some, None, Result, Ok, Err}
+-- A certificate is read again: a reader that takes its lines in order gives back its head, its
+-- edits, its verdicts, the steps of its proof log and its end, and a text of which each line is
+-- taken, the first of them as a repair's and the last as the end, is the certificate of a claim,
+-- with a proof log in any lines that tell its steps.
+use Rattle.std.specs.Prelude.{◌≡◌, ℕ, ◌+◌, ◌≤◌, Bool, true, false, List, [], ◌∷◌, ◌++◌, codes}
+use Rattle.std.specs.Prelude.{length, map, All, Option, Some, None, Result, Ok, Err}
 use Rattle.std.specs.List.{AllZip}
 use Rattle.arc_base.specs.declared.certificate.CertKind.TheVariants.{NoClaim}
 use Rattle.cnf_types.specs.Words.{lines}
@@ -22,7 +24,8 @@ use Rattle.policy_report.specs.declared.got.Got.TheVariants as gots
 use Rattle.policy_report.specs.declared.got.Got.TheVariants.{More, Head, End}
 use Rattle.policy_report.specs.declared.got.CertForm.TheVariants.{Repaired, NoRepair}
 use Rattle.policy_report.specs.declared.got.CertFault.{CertFault}
-use Rattle.policy_report.specs.Certificates.{head_line, claim_line, shown_lines, certificate_text, budget_text}
+use Rattle.policy_report.specs.Certificates.{head_line, claim_line, shown_lines, certificate_text}
+use Rattle.policy_report.specs.Certificates.{budget_text}
 use Rattle.policy_report.specs.Edits.{AreToldApart, HasAddresses}
 use Rattle.policy_report.specs.Rereading.{IsReadable, IsWhole, answers, blocks_answers}
 use Rattle.policy_report.specs.Steps.{start}
@@ -53,8 +56,10 @@ edits_answers places rest = map (λ place. Ok (gots.Edit place)) places ++ rest
 -- the answers to a certificate
 abbrev pub certificate_answers : Network → Claim → List Told → List (Result Got CertFault)
 certificate_answers net (claims.Repaired price bound chosen verdicts) told =
-    Ok More ∷ Ok (Head (Repaired price bound)) ∷ edits_answers (chosen_from 0 chosen) (blocks_answers net 0 verdicts (log_answers told))
-certificate_answers net (claims.NoRepair bound) told = Ok More ∷ Ok (Head (NoRepair bound)) ∷ log_answers told
+    Ok More ∷ Ok (Head (Repaired price bound)) ∷
+    edits_answers (chosen_from 0 chosen) (blocks_answers net 0 verdicts (log_answers told))
+certificate_answers net (claims.NoRepair bound) told =
+    Ok More ∷ Ok (Head (NoRepair bound)) ∷ log_answers told
 
 -- each line is taken, the first one as the head of a repair and the last one as the end
 abbrev pub IsWholeRepair : List (Result Got CertFault) → Type 0
@@ -67,37 +72,53 @@ IsYes (Closed sides) = Unit {0}
 IsYes (Paths paths) = Unit {0}
 IsYes other = ⊥
 
--- the claim can be told in a certificate: numbers have 32 bits, and a repair has one flag for each edit and one yes for each policy
+-- the claim can be told in a certificate: numbers have 32 bits, and a repair has one flag for each
+-- edit and one yes for each policy
 abbrev pub IsToldClaim : Network → Document → List edits.Edit → Claim → Type 0
 IsToldClaim net doc all (claims.Repaired price bound chosen verdicts) =
-    (price ≤ 4294967295) × (bound ≤ 4294967295) × (length chosen ≡ length all) × AllZip (IsReadable net) doc.policies verdicts × All IsYes verdicts
+    (price ≤ 4294967295) × (bound ≤ 4294967295) × (length chosen ≡ length all) ×
+    AllZip (IsReadable net) doc.policies verdicts × All IsYes verdicts
 IsToldClaim net doc all (claims.NoRepair bound) = bound ≤ 4294967295
 
 -- the lines are those of a certificate of the claim, with a proof log whose lines tell these steps
-pub record IsCertificate (net : Network) (doc : Document) (all : List edits.Edit) (claim : Claim) (told : List Told) (ls : List (List ℕ)) : Type 0 where
+pub record IsCertificate (net : Network) (doc : Document) (all : List edits.Edit) (claim : Claim)
+    (told : List Told) (ls : List (List ℕ)) : Type 0 where
   pub is_told : IsToldClaim net doc all claim
   pub log : List (List ℕ)
   pub read : map reading log ≡ map Ok told
-  pub are : ls ≡ lines (head_line ++ claim_line claim ++ shown_lines net doc all claim) ++ codes "log" ∷ (log ++ codes "end" ∷ [])
+  pub are : ls ≡ lines (head_line ++ claim_line claim ++ shown_lines net doc all claim) ++
+      codes "log" ∷ (log ++ codes "end" ∷ [])
 
 -- what is written for a claim is its certificate
 abbrev pub CertificatesAreWritten : Type 0
-CertificatesAreWritten = (net : Network) (doc : Document) (all : List edits.Edit) (claim : Claim) (log : Log) → IsToldClaim net doc all claim → All HasLine log.steps →
-    IsCertificate net doc all claim (map Some log.steps) (lines (certificate_text net doc all claim log))
+CertificatesAreWritten =
+    (net : Network) (doc : Document) (all : List edits.Edit) (claim : Claim) (log : Log) →
+    IsToldClaim net doc all claim → All HasLine log.steps →
+    IsCertificate net doc all claim (map Some log.steps)
+    (lines (certificate_text net doc all claim log))
 
 -- the lines of a certificate are read again
 abbrev pub CertificatesAreReadAgain : Type 0
-CertificatesAreReadAgain = (net : Network) (doc : Document) (all : List edits.Edit) (claim : Claim) (told : List Told) (ls : List (List ℕ)) →
+CertificatesAreReadAgain =
+    (net : Network) (doc : Document) (all : List edits.Edit) (claim : Claim) (told : List Told)
+    (ls : List (List ℕ)) →
     IsValid net → HasAddresses net → length doc.policies ≤ 4294967295 → AreToldApart net all →
-    IsCertificate net doc all claim told ls → answers net doc all start ls ≡ certificate_answers net claim told
+    IsCertificate net doc all claim told ls →
+    answers net doc all start ls ≡ certificate_answers net claim told
 
 -- only the lines of a certificate are taken
 abbrev pub OnlyCertificatesAreTaken : Type 0
-OnlyCertificatesAreTaken = (net : Network) (doc : Document) (all : List edits.Edit) (ls : List (List ℕ)) → IsValid net → HasAddresses net → length doc.policies ≤ 4294967295 →
-    IsWholeRepair (answers net doc all start ls) → (claim : Claim) × (told : List Told) × IsCertificate net doc all claim told ls
+OnlyCertificatesAreTaken =
+    (net : Network) (doc : Document) (all : List edits.Edit) (ls : List (List ℕ)) → IsValid net →
+    HasAddresses net → length doc.policies ≤ 4294967295 →
+    IsWholeRepair (answers net doc all start ls) →
+    (claim : Claim) × (told : List Told) × IsCertificate net doc all claim told ls
 
 -- where the budget was used up the second line is refused, since it claims nothing
 abbrev pub BudgetsAreRefused : Type 0
-BudgetsAreRefused = (net : Network) (doc : Document) (all : List edits.Edit) (limit bound : ℕ) (log : Log) → limit ≤ 4294967295 → bound ≤ 4294967295 →
+BudgetsAreRefused =
+    (net : Network) (doc : Document) (all : List edits.Edit) (limit bound : ℕ) (log : Log) →
+    limit ≤ 4294967295 → bound ≤ 4294967295 →
     (rest : List (Result Got CertFault)) ×
-    (answers net doc all start (lines (budget_text limit bound log)) ≡ Ok More ∷ Err (record { line = 2; kind = NoClaim }) ∷ rest)
+    (answers net doc all start (lines (budget_text limit bound log))
+    ≡ Ok More ∷ Err (record { line = 2; kind = NoClaim }) ∷ rest)

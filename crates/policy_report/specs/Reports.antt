@@ -1,5 +1,7 @@
--- The text of a report: its head, for each policy a line with the answer and the lines of its witness, and its end.
-use Rattle.std.specs.Prelude.{ℕ, ◌+◌, Bool, true, false, List, [], ◌∷◌, ◌++◌, length, map, codes, decimal}
+-- The text of a report: its head, for each policy a line with the answer and the lines of its
+-- witness, and its end.
+use Rattle.std.specs.Prelude.{ℕ, ◌+◌, Bool, true, false, List, [], ◌∷◌, ◌++◌, length, map, codes}
+use Rattle.std.specs.Prelude.{decimal}
 use Rattle.std.specs.List.{concat}
 use Rattle.arc_base.specs.declared.place.Link.{Link}
 use Rattle.arc_base.specs.PrefixText.{address_text, prefix_text}
@@ -14,7 +16,8 @@ use Rattle.net_model.specs.declared.rows.Network.{Network}
 use Rattle.net_model.specs.declared.verdicts.ClassSide.{ClassSide}
 use Rattle.net_model.specs.declared.verdicts.LinkPath.{LinkPath}
 use Rattle.net_model.specs.declared.verdicts.Verdict.{Verdict}
-use Rattle.net_model.specs.declared.verdicts.Verdict.TheVariants.{Closed, Paths, Walk, Denied, Cut, Refused}
+use Rattle.net_model.specs.declared.verdicts.Verdict.TheVariants.{Closed, Paths, Walk, Denied, Cut}
+use Rattle.net_model.specs.declared.verdicts.Verdict.TheVariants.{Refused}
 use Rattle.policy_report.specs.Lines.{line}
 use Rattle.policy_report.specs.ServiceWords.{range_words, service_words}
 
@@ -55,7 +58,8 @@ packet_words packet =
 
 -- a class and the routers that its packets may get to
 abbrev pub closed_line : Network → ClassSide → List ℕ
-closed_line net shown = line (codes "closed") (class_words shown.class ++ side_words net.routers shown.side)
+closed_line net shown =
+    line (codes "closed") (class_words shown.class ++ side_words net.routers shown.side)
 
 -- the links of a path
 abbrev pub path_line : LinkPath → List ℕ
@@ -70,20 +74,24 @@ refused_line packet link =
 abbrev pub witness_lines : Network → Verdict → List (List ℕ)
 witness_lines net (Closed sides) = map (closed_line net) sides
 witness_lines net (Paths paths) = map path_line paths
-witness_lines net (Walk class path) = line (codes "walk") (class_words class ++ link_words path.links) ∷ []
+witness_lines net (Walk class path) =
+    line (codes "walk") (class_words class ++ link_words path.links) ∷ []
 witness_lines net (Denied class) = line (codes "denied") (class_words class) ∷ []
 witness_lines net (Cut links side) =
     line (codes "cut") (link_words links) ∷ line (codes "side") (side_words net.routers side) ∷ []
 witness_lines net (Refused packet link) = refused_line packet link ∷ []
 
--- the first line of a policy's block: its number, what it asks, the answer and how many lines follow
+-- the first line of a policy's block: its number, what it asks, the answer and how many lines
+-- follow
 abbrev pub answer_line : ℕ → Network → Policy → Verdict → List ℕ
 answer_line number net policy verdict =
-    line (decimal number) (kind_word policy.kind ∷ answer_word verdict ∷ decimal (length (witness_lines net verdict)) ∷ [])
+    line (decimal number) (kind_word policy.kind ∷ answer_word verdict ∷
+    decimal (length (witness_lines net verdict)) ∷ [])
 
 -- the block of the policy with this number
 abbrev pub block_text : ℕ → Network → Policy → Verdict → List ℕ
-block_text number net policy verdict = answer_line number net policy verdict ++ concat (witness_lines net verdict)
+block_text number net policy verdict =
+    answer_line number net policy verdict ++ concat (witness_lines net verdict)
 
 -- the blocks of policies that are numbered from here on
 abbrev pub blocks_text : ℕ → Network → List Policy → List Verdict → List ℕ
@@ -95,4 +103,5 @@ blocks_text number net (policy ∷ policies) (verdict ∷ verdicts) =
 -- the report
 abbrev pub report_text : Network → Document → List Verdict → List ℕ
 report_text net doc verdicts =
-    line (codes "arc-report") (codes "1" ∷ []) ++ blocks_text 1 net doc.policies verdicts ++ line (codes "end") []
+    line (codes "arc-report") (codes "1" ∷ []) ++ blocks_text 1 net doc.policies verdicts ++
+    line (codes "end") []

@@ -1,8 +1,10 @@
--- How services are written, and what a word of them stands for. A service is written as its protocol
--- and its port with a dot between them, a range of services as its first and its last with a dash
--- between them, and `service:` stands before either. Numbers have no zero before another digit. For
--- all services, and for the service 0 of a packet, no word stands.
-use Rattle.std.specs.Prelude.{◌≡◌, ◌≢◌, ℕ, ◌+◌, ◌*◌, ◌/◌, ◌%◌, ◌^◌, ◌<◌, ◌==◌, ◌&&◌, ◌↔◌, nat_lt, nat_le, Bool, true, false, if◌then◌else◌, List, [], ◌∷◌, ◌++◌, codes, decimal, bytes_eq, Option, Some, None, refl}
+-- How services are written, and what a word of them stands for. A service is written as its
+-- protocol and its port with a dot between them, a range of services as its first and its last with
+-- a dash between them, and `service:` stands before either. Numbers have no zero before another
+-- digit. For all services, and for the service 0 of a packet, no word stands.
+use Rattle.std.specs.Prelude.{◌≡◌, ◌≢◌, ℕ, ◌+◌, ◌*◌, ◌/◌, ◌%◌, ◌^◌, ◌<◌, ◌==◌, ◌&&◌, ◌↔◌, nat_lt}
+use Rattle.std.specs.Prelude.{nat_le, Bool, true, false, if◌then◌else◌, List, [], ◌∷◌, ◌++◌, codes}
+use Rattle.std.specs.Prelude.{decimal, bytes_eq, Option, Some, None, refl}
 use Rattle.std.proofs.lemmas.Bool.{and_parts, leb-true, ltb-true}
 use Rattle.arc_base.specs.Cuts.{cut_at}
 use Rattle.arc_base.specs.PrefixText.{number_of}
@@ -45,11 +47,12 @@ service_of text = do
   if nat_le protocol 255 && nat_le port 65535 then Some (protocol * 65536 + port) else None
 
 -- the range from the one service to the other, where the test of them comes out true
-abbrev pub range_if : (low high : ℕ) (test : Bool) → (nat_le low high && nat_lt high 16777216) ≡ test → Option Service
+abbrev pub range_if : (low high : ℕ) (test : Bool) →
+    (nat_le low high && nat_lt high 16777216) ≡ test → Option Service
 range_if low high false e = None
 range_if low high true e =
-    let (ordered, in_range) = and_parts _ _ e in
-    Some (record { low = low; high = high; ordered = leb-true _ _ ordered; in_range = ltb-true _ _ in_range })
+    let (ordered, in_range) = and_parts _ _ e in Some (record
+    { low = low; high = high; ordered = leb-true _ _ ordered; in_range = ltb-true _ _ in_range })
 
 -- the range from the one service to the other, where there is one
 abbrev pub range_from : ℕ → ℕ → Option Service
@@ -80,8 +83,10 @@ range_named word = do
 
 -- a word names a service exactly where it is that service's word, and none names the service 0
 abbrev pub ServiceWordsAreExact : Type 0
-ServiceWordsAreExact = (word : List ℕ) (service : ℕ) →
-    (service_named word ≡ Some service) ↔ ((word ≡ service_word service) × (service < 2 ^ 24) × (service ≢ 0))
+ServiceWordsAreExact =
+    (word : List ℕ) (service : ℕ) →
+    (service_named word ≡ Some service) ↔
+    ((word ≡ service_word service) × (service < 2 ^ 24) × (service ≢ 0))
 
 -- a word names a range of services exactly where it is that range's word, and none names all
 abbrev pub RangeWordsAreExact : Type 0

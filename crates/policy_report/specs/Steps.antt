@@ -1,13 +1,18 @@
--- How a reader goes over the lines of a certificate. The first line is the head. In a report then come the blocks, one for
--- each policy in order, and the line `end`. In a repair the second line is the answer; where that is a repair, the edits
--- follow in order and the blocks, each of them a yes; then come the line `log`, the lines of the proof log and the line `end`.
--- The first line that is not of this form is rejected, and by which word, each line says: `form` where it is no line that may
--- stand there, `no-claim` where the answer claims nothing, `edit` where the line of an edit names none that comes after the
--- one before, `policy` where a block is missing, too many or of another policy, `not-yes` where the block of a repair is no
--- yes, and `no-end` where a line follows the end.
-use Rattle.std.specs.Prelude.{◌≡◌, ◌⊎◌, ℕ, ◌+◌, ◌-◌, ◌==◌, ◌&&◌, nat_lt, nat_le, Bool, true, false, if◌then◌else◌, List, [], ◌∷◌, ◌++◌, length, Option, Some, None, Result, Ok, Err, bytes_eq, codes, slice_get}
+-- How a reader goes over the lines of a certificate. The first line is the head. In a report then
+-- come the blocks, one for each policy in order, and the line `end`. In a repair the second line is
+-- the answer; where that is a repair, the edits follow in order and the blocks, each of them a yes;
+-- then come the line `log`, the lines of the proof log and the line `end`.
+-- The first line that is not of this form is rejected, and by which word, each line says: `form`
+-- where it is no line that may stand there, `no-claim` where the answer claims nothing, `edit`
+-- where the line of an edit names none that comes after the one before, `policy` where a block is
+-- missing, too many or of another policy, `not-yes` where the block of a repair is no yes, and
+-- `no-end` where a line follows the end.
+use Rattle.std.specs.Prelude.{◌≡◌, ◌⊎◌, ℕ, ◌+◌, ◌-◌, ◌==◌, ◌&&◌, nat_lt, nat_le, Bool, true, false}
+use Rattle.std.specs.Prelude.{if◌then◌else◌, List, [], ◌∷◌, ◌++◌, length, Option, Some, None}
+use Rattle.std.specs.Prelude.{Result, Ok, Err, bytes_eq, codes, slice_get}
 use Rattle.arc_base.specs.declared.certificate.CertKind.{CertKind}
-use Rattle.arc_base.specs.declared.certificate.CertKind.TheVariants.{Form, NoClaim, Edit, Policy, NotYes, NoEnd, Memory}
+use Rattle.arc_base.specs.declared.certificate.CertKind.TheVariants.{Form, NoClaim, Edit, Policy}
+use Rattle.arc_base.specs.declared.certificate.CertKind.TheVariants.{NotYes, NoEnd, Memory}
 use Rattle.arc_base.specs.Options.{◌>>=◌}
 use Rattle.arc_base.specs.Words.{words}
 use Rattle.edit_space.specs.declared.edit_kinds.Edit as edits
@@ -40,7 +45,9 @@ use Rattle.policy_report.specs.declared.stages.Stage.TheVariants as stages
 use Rattle.policy_report.specs.declared.stages.Text.{Text}
 use Rattle.policy_report.specs.declared.stages.Text.TheVariants.{Report, Repair}
 use Rattle.policy_report.specs.Edits.{edit_from}
-use Rattle.policy_report.specs.Readings.{answer_of, line_words, heading_of, asked_by, closed_of, path_of, walk_of, denied_of, cut_of, side_line_of, refused_of}
+use Rattle.policy_report.specs.Readings.{answer_of, line_words, heading_of, asked_by, closed_of}
+use Rattle.policy_report.specs.Readings.{path_of, walk_of, denied_of, cut_of, side_line_of}
+use Rattle.policy_report.specs.Readings.{refused_of}
 
 -- where a reader stands: how many lines it has read, and what may come next
 pub record Standing : Type 0 where
@@ -64,7 +71,10 @@ next_line line = if line == 18446744073709551615 then line else line + 1
 
 -- the line with this number is rejected
 abbrev pub fails : ℕ → CertKind → Step
-fails line kind = (record { line = line; stage = stages.Failed (record { line = line; kind = kind }) }, Err (record { line = line; kind = kind }))
+fails line kind = (
+  record { line = line; stage = stages.Failed (record { line = line; kind = kind }) },
+  Err (record { line = line; kind = kind }),
+)
 
 -- it is taken, and then this may come
 abbrev pub goes : ℕ → Stage → Got → Step
@@ -73,16 +83,19 @@ goes line stage got = (record { line = line; stage = stage }, Ok got)
 -- it is a line of the block of the policy at this place
 abbrev pub goes_on : ℕ → Text → ℕ → Block → Step
 goes_on line text which (Open draft) = goes line (stages.Within text which draft) More
-goes_on line text which (Whole verdict) = goes line (stages.Between text (which + 1)) (Verdict which verdict)
+goes_on line text which (Whole verdict) =
+    goes line (stages.Between text (which + 1)) (Verdict which verdict)
 
 -- one more side, or path
 abbrev pub with_side : ℕ → List ClassSide → ClassSide → Block
 with_side left sides shown =
-    if nat_le left 1 then Whole (verdicts.Closed (sides ++ shown ∷ [])) else Open (drafts.Sides (left - 1) (sides ++ shown ∷ []))
+    if nat_le left 1 then Whole (verdicts.Closed (sides ++ shown ∷ []))
+    else Open (drafts.Sides (left - 1) (sides ++ shown ∷ []))
 
 abbrev pub with_path : ℕ → List LinkPath → LinkPath → Block
 with_path left paths path =
-    if nat_le left 1 then Whole (verdicts.Paths (paths ++ path ∷ [])) else Open (drafts.Paths (left - 1) (paths ++ path ∷ []))
+    if nat_le left 1 then Whole (verdicts.Paths (paths ++ path ∷ []))
+    else Open (drafts.Paths (left - 1) (paths ++ path ∷ []))
 
 -- the block with a line of these words, where they are of the form that comes next
 abbrev pub grown : Network → Draft → List (List ℕ) → Option Block
@@ -118,7 +131,8 @@ asks_same _ _ = false
 -- whether the block with this first line is that of the policy, which has this place
 abbrev pub is_of_policy : Option policies.Policy → ℕ → Heading → Bool
 is_of_policy None which heading = false
-is_of_policy (Some policy) which heading = (heading.number == which + 1) && asks_same heading.asked (asked_by policy.kind)
+is_of_policy (Some policy) which heading =
+    (heading.number == which + 1) && asks_same heading.asked (asked_by policy.kind)
 
 abbrev pub is_of : List policies.Policy → ℕ → Heading → Bool
 is_of all which heading = is_of_policy (slice_get all which) which heading
@@ -141,8 +155,8 @@ may_stand Repair block = is_yes block
 abbrev pub begun : Document → ℕ → Text → ℕ → Option Heading → Step
 begun doc line text which None = fails line Form
 begun doc line text which (Some heading) =
-    if is_of doc.policies which heading
-    then (if may_stand text heading.block then goes_on line text which heading.block else fails line NotYes)
+    if is_of doc.policies which heading then (if may_stand text heading.block
+    then goes_on line text which heading.block else fails line NotYes)
     else fails line Policy
 
 -- the line `end` after all blocks: it closes a report
@@ -158,8 +172,10 @@ logs line Repair = goes line stages.Steps More
 -- a line between blocks, of which so many are read
 abbrev pub between : Document → ℕ → Text → ℕ → List ℕ → Step
 between doc line text which bytes =
-    if bytes_eq bytes (codes "end") then (if nat_lt which (length doc.policies) then fails line Policy else closed line text)
-    else if bytes_eq bytes (codes "log") then (if nat_lt which (length doc.policies) then fails line Policy else logs line text)
+    if bytes_eq bytes (codes "end")
+    then (if nat_lt which (length doc.policies) then fails line Policy else closed line text)
+    else if bytes_eq bytes (codes "log")
+    then (if nat_lt which (length doc.policies) then fails line Policy else logs line text)
     else begun doc line text which (heading_of (line_words bytes))
 
 -- a line of a block
@@ -168,19 +184,22 @@ went_on line text which None = fails line Form
 went_on line text which (Some block) = goes_on line text which block
 
 abbrev pub within : Network → ℕ → Text → ℕ → Draft → List ℕ → Step
-within net line text which draft bytes = went_on line text which (grown net draft (line_words bytes))
+within net line text which draft bytes =
+    went_on line text which (grown net draft (line_words bytes))
 
 -- the first line
 abbrev pub head : ℕ → List ℕ → Step
 head line bytes =
-    if bytes_eq bytes (codes "arc-report 1") then goes line (stages.Between Report 0) (Head forms.Report)
+    if bytes_eq bytes (codes "arc-report 1")
+    then goes line (stages.Between Report 0) (Head forms.Report)
     else if bytes_eq bytes (codes "arc-repair 1") then goes line stages.Answer More
     else fails line Form
 
 -- the answer of a repair
 abbrev pub answered : ℕ → Option Answer → Step
 answered line None = fails line Form
-answered line (Some (Repaired price bound)) = goes line (stages.Edits 0) (Head (forms.Repaired price bound))
+answered line (Some (Repaired price bound)) =
+    goes line (stages.Edits 0) (Head (forms.Repaired price bound))
 answered line (Some (NoRepair bound)) = goes line stages.Log (Head (forms.NoRepair bound))
 answered line (Some Budget) = fails line NoClaim
 
@@ -197,11 +216,13 @@ edited line (Some place) = goes line (stages.Edits (place + 1)) (gots.Edit place
 -- a line after the answer that there is a repair; the edits before this place stand before it
 abbrev pub editing : Network → Document → List edits.Edit → ℕ → ℕ → List ℕ → Step
 editing net doc all line next bytes =
-    if is_edit (words bytes) then edited line (edit_from net all next bytes) else between doc line Repair 0 bytes
+    if is_edit (words bytes) then edited line (edit_from net all next bytes)
+    else between doc line Repair 0 bytes
 
 -- the line after the answer that there is no repair
 abbrev pub logging : ℕ → List ℕ → Step
-logging line bytes = if bytes_eq bytes (codes "log") then goes line stages.Steps More else fails line Form
+logging line bytes =
+    if bytes_eq bytes (codes "log") then goes line stages.Steps More else fails line Form
 
 -- a line of the proof log
 abbrev pub logged : ℕ → Result (Option steps.Step) LineKind → Step
@@ -211,7 +232,8 @@ logged line (Err kind) = fails line Form
 
 -- a line after the line `log`
 abbrev pub proving : ℕ → List ℕ → Step
-proving line bytes = if bytes_eq bytes (codes "end") then goes line stages.Ended End else logged line (reading bytes)
+proving line bytes =
+    if bytes_eq bytes (codes "end") then goes line stages.Ended End else logged line (reading bytes)
 
 -- the line with this number, by what may come
 abbrev pub stepped : Network → Document → List edits.Edit → ℕ → Stage → List ℕ → Step
@@ -219,11 +241,13 @@ stepped net doc all line stages.Head bytes = head line bytes
 stepped net doc all line stages.Answer bytes = answered line (answer_of (line_words bytes))
 stepped net doc all line (stages.Edits next) bytes = editing net doc all line next bytes
 stepped net doc all line (stages.Between text which) bytes = between doc line text which bytes
-stepped net doc all line (stages.Within text which draft) bytes = within net line text which draft bytes
+stepped net doc all line (stages.Within text which draft) bytes =
+    within net line text which draft bytes
 stepped net doc all line stages.Log bytes = logging line bytes
 stepped net doc all line stages.Steps bytes = proving line bytes
 stepped net doc all line stages.Ended bytes = fails line NoEnd
-stepped net doc all line (stages.Failed fault) bytes = (record { line = line; stage = stages.Failed fault }, Err fault)
+stepped net doc all line (stages.Failed fault) bytes =
+    (record { line = line; stage = stages.Failed fault }, Err fault)
 
 -- the next line
 abbrev pub step : Network → Document → List edits.Edit → Standing → List ℕ → Step
@@ -233,7 +257,8 @@ step net doc all s bytes = stepped net doc all (next_line s.line) s.stage bytes
 abbrev pub IsRead : Step → ℕ → Standing → Result Got CertFault → Type 0
 IsRead expected line now result = ((now, result) ≡ expected) ⊎ ((now, result) ≡ fails line Memory)
 
--- memory can be wanting for the words of a line only: the head is read so, and so is what follows the end or a rejected line
+-- memory can be wanting for the words of a line only: the head is read so, and so is what follows
+-- the end or a rejected line
 abbrev pub IsSurelyRead : Stage → Step → Standing → Result Got CertFault → Type 0
 IsSurelyRead stages.Head expected now result = (now, result) ≡ expected
 IsSurelyRead stages.Log expected now result = (now, result) ≡ expected

@@ -3,7 +3,8 @@ ghost use Rattle.std.specs.Prelude.{◌≡◌, ◌++◌, ◌∷◌, [], codes, d
 ghost use Rattle.edit_space.specs.Prices.{chosen_of};
 ghost use Rattle.policy_report.specs.Lines.{line};
 ghost use Rattle.policy_report.specs.Edits.{edit_lines};
-ghost use Rattle.policy_report.specs.Certificates.{claim_line, shown_lines, log_lines, budget_line, certificate_text, budget_text, IsWholeClaim};
+ghost use Rattle.policy_report.specs.Certificates.{claim_line, shown_lines, log_lines, budget_line};
+ghost use Rattle.policy_report.specs.Certificates.{certificate_text, budget_text, IsWholeClaim};
 
 use crate::edits::push_edit;
 use crate::reports::push_blocks;
@@ -70,7 +71,8 @@ fn push_edit_line(
     Ok(())
 }
 
-/// The lines of the edits that are chosen, in the order of the list, each with a line feed behind it.
+/// The lines of the edits that are chosen, in the order of the list, each with a line feed behind
+/// it.
 pub fn edit_lines(
     alloc: Global,
     net: &Network,
@@ -78,7 +80,8 @@ pub fn edit_lines(
     chosen: &[bool],
 ) -> Result<Vec<u8>, Memory>
     requires { length chosen.now ≡ length edits.now }
-    ensures { IfOk result (λ text. text.items ≡ edit_lines net.now (chosen_of edits.now chosen.now)) }
+    ensures { IfOk result (λ text.
+        text.items ≡ edit_lines net.now (chosen_of edits.now chosen.now)) }
 {
     let mut text = Vec::new(alloc);
     push_chosen(alloc, &mut text, net, edits.slice(), chosen)?;
@@ -122,9 +125,10 @@ fn push_log(alloc: Global, text: &mut Vec<u8>, log: &Log) -> Result<(), Memory>
     Ok(())
 }
 
-/// The certificate of a claim: for a repair its edits in the order of the list, and a block with the witness of each
-/// policy in the network after them, then the proof log that shows that nothing cheaper is enough. Each line ends in a
-/// line feed. The routers' names and the links are the same before the edits and after them.
+/// The certificate of a claim: for a repair its edits in the order of the list, and a block with
+/// the witness of each policy in the network after them, then the proof log that shows that nothing
+/// cheaper is enough. Each line ends in a line feed. The routers' names and the links are the same
+/// before the edits and after them.
 pub fn certificate(
     alloc: Global,
     net: &Network,
@@ -134,7 +138,8 @@ pub fn certificate(
     log: &Log,
 ) -> Result<Vec<u8>, Memory>
     requires { IsWholeClaim doc.now edits.now claim.now }
-    ensures { IfOk result (λ text. text.items ≡ certificate_text net.now doc.now edits.now claim.now log.now) }
+    ensures { IfOk result (λ text.
+        text.items ≡ certificate_text net.now doc.now edits.now claim.now log.now) }
 {
     let mut text = Vec::new(alloc);
     text.extend_from_slice(b"arc-repair 1\n")?;
@@ -144,8 +149,8 @@ pub fn certificate(
     Ok(text)
 }
 
-/// What is written where the search used up its budget of so many learnt clauses, within a bound on the price. It
-/// claims nothing, and its log shows the work that was done.
+/// What is written where the search used up its budget of so many learnt clauses, within a bound on
+/// the price. It claims nothing, and its log shows the work that was done.
 pub fn budget(alloc: Global, limit: u64, bound: u32, log: &Log) -> Result<Vec<u8>, Memory>
     ensures { IfOk result (λ text. text.items ≡ budget_text limit bound log.now) }
 {

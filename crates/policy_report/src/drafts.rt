@@ -35,7 +35,8 @@ pub(crate) enum Block {
     Whole(Verdict),
 }
 
-/// The first line of a block: the policy's number, what it asks, and the witness that the answer announces.
+/// The first line of a block: the policy's number, what it asks, and the witness that the answer
+/// announces.
 #[derive(Drop)]
 pub(crate) struct Heading {
     pub(crate) number: u32,

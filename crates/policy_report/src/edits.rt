@@ -1,8 +1,11 @@
 //! The texts of edits, and the edit that a text names.
-ghost use Rattle.std.specs.Prelude.{◌≡◌, ◌<◌, ◌≤◌, ◌++◌, ◌∷◌, [], bytes_eq, codes, length, IfOk, IfSome, OnOk};
+ghost use Rattle.std.specs.Prelude.{◌≡◌, ◌<◌, ◌≤◌, ◌++◌, ◌∷◌, [], bytes_eq, codes, length, IfOk};
+ghost use Rattle.std.specs.Prelude.{IfSome, OnOk};
 ghost use Rattle.arc_base.specs.PrefixText.{prefix_text};
 ghost use Rattle.policy_report.specs.Lines.{after_spaces};
-ghost use Rattle.policy_report.specs.Edits.{router_name, owner_name, face_name, neighbor_text, route_list_words, packet_list_words, edit_words, edit_text, edit_of, edit_from, IsTextAt};
+ghost use Rattle.policy_report.specs.Edits.{router_name, owner_name, face_name, neighbor_text};
+ghost use Rattle.policy_report.specs.Edits.{route_list_words, packet_list_words, edit_words};
+ghost use Rattle.policy_report.specs.Edits.{edit_text, edit_of, edit_from, IsTextAt};
 
 use crate::words::{push_address_word, push_class, push_prefix_word, push_word};
 use arc_base::{Face, List, ListId, Memory, Prefix, Router};
@@ -62,7 +65,8 @@ fn push_words(text: &mut Vec<u8>, first: &[u8], second: &[u8], third: &[u8]) -> 
 
 /// The router of a route list, and the list.
 fn push_route_list(text: &mut Vec<u8>, net: &Network, list: ListId) -> Result<(), Memory>
-    ensures { OnOk result (text.new.items ≡ text.old.items ++ after_spaces (route_list_words net.now list)) }
+    ensures { OnOk result
+        (text.new.items ≡ text.old.items ++ after_spaces (route_list_words net.now list)) }
 {
     match net.route_lists.get(list.0) {
         Some(row) => push_words(
@@ -77,7 +81,8 @@ fn push_route_list(text: &mut Vec<u8>, net: &Network, list: ListId) -> Result<()
 
 /// The router of a packet list, and the list.
 fn push_packet_list(text: &mut Vec<u8>, net: &Network, list: ListId) -> Result<(), Memory>
-    ensures { OnOk result (text.new.items ≡ text.old.items ++ after_spaces (packet_list_words net.now list)) }
+    ensures { OnOk result
+        (text.new.items ≡ text.old.items ++ after_spaces (packet_list_words net.now list)) }
 {
     match net.packet_lists.get(list.0) {
         Some(row) => push_words(
@@ -92,8 +97,8 @@ fn push_packet_list(text: &mut Vec<u8>, net: &Network, list: ListId) -> Result<(
 
 /// The router of an interface, and the interface.
 fn push_face(text: &mut Vec<u8>, net: &Network, face: Face) -> Result<(), Memory>
-    ensures { OnOk result (text.new.items
-        ≡ text.old.items ++ after_spaces (owner_name net.now face ∷ codes "interface" ∷ face_name net.now face ∷ [])) }
+    ensures { OnOk result (text.new.items ≡ text.old.items ++
+        after_spaces (owner_name net.now face ∷ codes "interface" ∷ face_name net.now face ∷ [])) }
 {
     push_words(
         text,
@@ -111,7 +116,8 @@ fn push_route_entry(
     list: ListId,
     prefix: &Prefix,
 ) -> Result<(), Memory>
-    ensures { OnOk result (text.new.items ≡ text.old.items ++ after_spaces (edit_words net.now (Edit.RouteList list prefix.now))) }
+    ensures { OnOk result (text.new.items ≡ text.old.items ++
+        after_spaces (edit_words net.now (Edit.RouteList list prefix.now))) }
 {
     push_word(text, b"route")?;
     push_route_list(text, net, list)?;
@@ -127,7 +133,8 @@ fn push_packet_entry(
     list: ListId,
     class: &Class,
 ) -> Result<(), Memory>
-    ensures { OnOk result (text.new.items ≡ text.old.items ++ after_spaces (edit_words net.now (Edit.PacketList list class.now))) }
+    ensures { OnOk result (text.new.items ≡ text.old.items ++
+        after_spaces (edit_words net.now (Edit.PacketList list class.now))) }
 {
     push_word(text, b"packet")?;
     push_packet_list(text, net, list)?;
@@ -143,7 +150,8 @@ fn push_new_packet_entry(
     face: Face,
     class: &Class,
 ) -> Result<(), Memory>
-    ensures { OnOk result (text.new.items ≡ text.old.items ++ after_spaces (edit_words net.now (Edit.PacketNew face class.now))) }
+    ensures { OnOk result (text.new.items ≡ text.old.items ++
+        after_spaces (edit_words net.now (Edit.PacketNew face class.now))) }
 {
     push_word(text, b"packet")?;
     push_face(text, net, face)?;
@@ -158,7 +166,8 @@ fn push_edit_words(
     net: &Network,
     edit: &Edit,
 ) -> Result<(), Memory>
-    ensures { OnOk result (text.new.items ≡ text.old.items ++ after_spaces (edit_words net.now edit.now)) }
+    ensures { OnOk result
+        (text.new.items ≡ text.old.items ++ after_spaces (edit_words net.now edit.now)) }
 {
     match edit {
         Edit::Session(face) => {
@@ -198,8 +207,8 @@ pub(crate) fn push_edit(
 /// The text of the edit at this place, without a line end: `edit session ROUTER IFNAME`,
 /// `edit route ROUTER list NAME P/L`, `edit route ROUTER neighbor A P/L`,
 /// `edit packet ROUTER list NAME P/L P/L [SERVICE]` or
-/// `edit packet ROUTER interface IFNAME P/L P/L [SERVICE]`. SERVICE is `service:P.N-P.N`, and is left
-/// out where the edit speaks of all services.
+/// `edit packet ROUTER interface IFNAME P/L P/L [SERVICE]`. SERVICE is `service:P.N-P.N`, and is
+/// left out where the edit speaks of all services.
 pub fn edit_text(
     alloc: Global,
     net: &Network,
@@ -264,8 +273,8 @@ pub(crate) fn edit_from(
     }
 }
 
-/// The place of the edit that has this text, which stands without a line end; `None` exactly where no edit has it. It takes
-/// time linear in the edits.
+/// The place of the edit that has this text, which stands without a line end; `None` exactly where
+/// no edit has it. It takes time linear in the edits.
 pub fn edit_line(
     alloc: Global,
     net: &Network,

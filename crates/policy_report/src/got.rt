@@ -5,11 +5,13 @@ use proof_log::Step;
 /// What a line of a certificate tells its reader.
 #[derive(Drop)]
 pub enum Got {
-    /// A line that is a part of what goes on: of a block or of the head, or the line before the log, or a comment in it.
+    /// A line that is a part of what goes on: of a block or of the head, or the line before the
+    /// log, or a comment in it.
     More,
     /// The line that says what is claimed: the first one of a report, the second one of a repair.
     Head(CertForm),
-    /// The last line of a block: the policy's place in the document, and the verdict that the block shows.
+    /// The last line of a block: the policy's place in the document, and the verdict that the block
+    /// shows.
     Verdict(u32, Verdict),
     /// An edit, by its place in the list of edits.
     Edit(u32),

@@ -1,7 +1,8 @@
 //! The lines of witnesses.
 ghost use Rattle.std.specs.Prelude.{◌≡◌, ◌++◌, codes, OnOk};
 ghost use Rattle.policy_report.specs.Lines.{line};
-ghost use Rattle.policy_report.specs.Reports.{class_words, link_words, side_words, closed_line, path_line, refused_line};
+ghost use Rattle.policy_report.specs.Reports.{class_words, link_words, side_words, closed_line};
+ghost use Rattle.policy_report.specs.Reports.{path_line, refused_line};
 
 use crate::words::{push_class, push_count, push_links, push_packet, push_side};
 use arc_base::{Link, Memory};
@@ -53,7 +54,8 @@ pub(crate) fn push_walk_line(
 
 /// A class of which no packet gets through.
 pub fn push_denied_line(alloc: Global, text: &mut Vec<u8>, class: &Class) -> Result<(), Memory>
-    ensures { OnOk result (text.new.items ≡ text.old.items ++ line (codes "denied") (class_words class.now)) }
+    ensures { OnOk result
+        (text.new.items ≡ text.old.items ++ line (codes "denied") (class_words class.now)) }
 {
     text.extend_from_slice(b"denied")?;
     push_class(alloc, text, class)?;
@@ -63,7 +65,8 @@ pub fn push_denied_line(alloc: Global, text: &mut Vec<u8>, class: &Class) -> Res
 
 /// The links of a cut.
 pub(crate) fn push_cut_line(alloc: Global, text: &mut Vec<u8>, links: &[Link]) -> Result<(), Memory>
-    ensures { OnOk result (text.new.items ≡ text.old.items ++ line (codes "cut") (link_words links.now)) }
+    ensures { OnOk result
+        (text.new.items ≡ text.old.items ++ line (codes "cut") (link_words links.now)) }
 {
     text.extend_from_slice(b"cut")?;
     push_links(alloc, text, links)?;

@@ -2,7 +2,10 @@
 ghost use Rattle.std.specs.Prelude.{◌≡◌, ◌<◌, [], IfSome, if◌then◌else◌};
 ghost use Rattle.arc_base.specs.Words.{words};
 ghost use Rattle.policy_report.specs.Readings.{answer_of, line_words};
-ghost use Rattle.policy_report.specs.Steps.{standing, start, next_line, fails, goes, goes_on, is_edit, is_of, is_yes, may_stand, closed, logs, head, answered, edited, editing, logging, proving, between, within, step, IsRead, IsSurelyRead};
+ghost use Rattle.policy_report.specs.Steps.{standing, start, next_line, fails, goes, goes_on};
+ghost use Rattle.policy_report.specs.Steps.{is_edit, is_of, is_yes, may_stand, closed, logs, head};
+ghost use Rattle.policy_report.specs.Steps.{answered, edited, editing, logging, proving, between};
+ghost use Rattle.policy_report.specs.Steps.{within, step, IsRead, IsSurelyRead};
 
 use crate::answers::{Answer, answer_of};
 use crate::drafts::{Asked, Block, Draft, Heading};
@@ -20,8 +23,8 @@ use proof_log::LineKind;
 use std::alloc::Global;
 use std::mem;
 
-/// A reader of one certificate, which takes its lines in order. All of them are read for the same network, document and list
-/// of edits.
+/// A reader of one certificate, which takes its lines in order. All of them are read for the same
+/// network, document and list of edits.
 #[derive(Drop)]
 pub struct Reader {
     alloc: Global,
@@ -160,7 +163,8 @@ impl Reader {
 
     // Reads the answer of a repair.
     fn read_answer(&mut self, line: &[u8]) -> Result<Got, CertFault>
-        ensures { IsRead (answered self.old.line (answer_of (line_words line.now))) self.old.line (standing self.new) result }
+        ensures { IsRead (answered self.old.line (answer_of (line_words line.now))) self.old.line
+            (standing self.new) result }
     {
         match line_words(self.alloc, line) {
             Ok(words) => self.go_answered(answer_of(words.as_slice())),
@@ -188,7 +192,8 @@ impl Reader {
         next: u32,
         line: &[u8],
     ) -> Result<Got, CertFault>
-        ensures { IsRead (editing net.now doc.now edits.now self.old.line next line.now) self.old.line (standing self.new) result }
+        ensures { IsRead (editing net.now doc.now edits.now self.old.line next line.now)
+            self.old.line (standing self.new) result }
     {
         if !is_edit(line) {
             return self.read_between(doc, Text::Repair, 0, line);
@@ -201,7 +206,8 @@ impl Reader {
 
     // Reads the line `end` between two blocks.
     fn read_end(&mut self, text: Text, are_all_read: bool) -> Result<Got, CertFault>
-        ensures { (standing self.new, result) ≡ (if are_all_read then closed self.old.line text else fails self.old.line CertKind.Policy) }
+        ensures { (standing self.new, result) ≡ (if are_all_read then closed self.old.line text
+            else fails self.old.line CertKind.Policy) }
     {
         if !are_all_read {
             return self.fail(CertKind::Policy);
@@ -214,7 +220,8 @@ impl Reader {
 
     // Reads the line `log` between two blocks.
     fn read_log(&mut self, text: Text, are_all_read: bool) -> Result<Got, CertFault>
-        ensures { (standing self.new, result) ≡ (if are_all_read then logs self.old.line text else fails self.old.line CertKind.Policy) }
+        ensures { (standing self.new, result) ≡ (if are_all_read then logs self.old.line text
+            else fails self.old.line CertKind.Policy) }
     {
         if !are_all_read {
             return self.fail(CertKind::Policy);
@@ -233,7 +240,8 @@ impl Reader {
         which: u64,
         line: &[u8],
     ) -> Result<Got, CertFault>
-        ensures { IsRead (between doc.now self.old.line text which line.now) self.old.line (standing self.new) result }
+        ensures { IsRead (between doc.now self.old.line text which line.now) self.old.line
+            (standing self.new) result }
     {
         let are_all_read = which >= u64::from(doc.policies.len());
         if line == b"end".as_slice() {
@@ -267,7 +275,8 @@ impl Reader {
         draft: Draft,
         line: &[u8],
     ) -> Result<Got, CertFault>
-        ensures { IsRead (within net.now self.old.line text which draft line.now) self.old.line (standing self.new) result }
+        ensures { IsRead (within net.now self.old.line text which draft line.now) self.old.line
+            (standing self.new) result }
     {
         match grown(self.alloc, net, draft, line) {
             Ok(Some(block)) => self.go_on(text, which, block),
@@ -302,9 +311,10 @@ impl Reader {
         }
     }
 
-    /// Reads the next line, which is given without its line feed. After a fault it answers that fault again. A fault
-    /// of the kind `Memory` is want of memory, and none of the line's. The lines of edits take time linear in the edits
-    /// all together, and each other line in its bytes, or in the routers where it is a side.
+    /// Reads the next line, which is given without its line feed. After a fault it answers that
+    /// fault again. A fault of the kind `Memory` is want of memory, and none of the line's. The
+    /// lines of edits take time linear in the edits all together, and each other line in its bytes,
+    /// or in the routers where it is a side.
     pub fn line(
         &mut self,
         net: &Network,
@@ -312,8 +322,11 @@ impl Reader {
         edits: &List<Edit>,
         text: &[u8],
     ) -> Result<Got, CertFault>
-        ensures read { IsRead (step net.now doc.now edits.now (standing self.old) text.now) (next_line self.old.line) (standing self.new) result }
-        ensures surely { IsSurelyRead self.old.stage (step net.now doc.now edits.now (standing self.old) text.now) (standing self.new) result }
+        ensures read { IsRead (step net.now doc.now edits.now (standing self.old) text.now)
+            (next_line self.old.line) (standing self.new) result }
+        ensures surely { IsSurelyRead self.old.stage
+            (step net.now doc.now edits.now (standing self.old) text.now)
+            (standing self.new) result }
     {
         self.line = next_line(self.line);
         match mem::replace(&mut self.stage, Stage::Ended) {
@@ -341,8 +354,10 @@ impl Reader {
         doc: &Document,
         text: &[u8],
     ) -> Result<Got, CertFault>
-        ensures read { IsRead (step net.now doc.now [] (standing self.old) text.now) (next_line self.old.line) (standing self.new) result }
-        ensures surely { IsSurelyRead self.old.stage (step net.now doc.now [] (standing self.old) text.now) (standing self.new) result }
+        ensures read { IsRead (step net.now doc.now [] (standing self.old) text.now)
+            (next_line self.old.line) (standing self.new) result }
+        ensures surely { IsSurelyRead self.old.stage
+            (step net.now doc.now [] (standing self.old) text.now) (standing self.new) result }
     {
         let edits = List::make(self.alloc);
         self.line(net, doc, &edits, text)

@@ -1,6 +1,9 @@
 //! What the lines of a report are read as. Each line has one spelling.
 ghost use Rattle.std.specs.Prelude.{◌≡◌, ◌↔◌, map, option_map, slice_get, Some, IfOk, IsTrue};
-ghost use Rattle.policy_report.specs.Readings.{line_words, count_of, link_of, all_links, side_of, services_at, class_at, service_at, packet_at, lone_link, after_word, closed_of, path_of, walk_of, denied_of, cut_of, side_line_of, refused_of};
+ghost use Rattle.policy_report.specs.Readings.{line_words, count_of, link_of, all_links, side_of};
+ghost use Rattle.policy_report.specs.Readings.{services_at, class_at, service_at, packet_at};
+ghost use Rattle.policy_report.specs.Readings.{lone_link, after_word, closed_of, path_of, walk_of};
+ghost use Rattle.policy_report.specs.Readings.{denied_of, cut_of, side_line_of, refused_of};
 
 use crate::services::{range_named, service_named};
 use arc_base::{Link, List, Memory, read_address, read_number, read_prefix};
@@ -54,7 +57,8 @@ fn all_links(alloc: Global, links: usize, words: &[&[u8]]) -> Result<Option<List
 
 /// Whether the router is the one that is named at this place.
 fn is_named(router: &RouterRow, names: &[&[u8]], place: usize) -> bool
-    ensures { IsTrue result ↔ (slice_get (map (λ name. name.now) names.now) place ≡ Some router.now.name) }
+    ensures { IsTrue result ↔
+        (slice_get (map (λ name. name.now) names.now) place ≡ Some router.now.name) }
 {
     match names.get(place) {
         Some(name) => router.name.is(name),
@@ -155,7 +159,8 @@ fn lone_link(links: usize, words: &[&[u8]]) -> Option<Link>
 
 /// The words after this first word, if the line begins with it.
 pub(crate) fn after_word<'w, 'a>(words: &'w [&'a [u8]], first: &[u8]) -> Option<&'w [&'a [u8]]>
-    ensures { option_map (λ rest. map (λ word. word.now) rest.now) result ≡ after_word first.now (map (λ word. word.now) words.now) }
+    ensures { option_map (λ rest. map (λ word. word.now) rest.now) result
+        ≡ after_word first.now (map (λ word. word.now) words.now) }
 {
     match words {
         [word, rest @ ..] if *word == first => Some(rest),

@@ -1,7 +1,8 @@
 ghost use Rattle.std.specs.Prelude.{◌≡◌, ◌++◌, ◌∷◌, [], length, IfOk, OnOk};
 ghost use Rattle.net_model.specs.declared.rows.Network.{Network};
 ghost use Rattle.policy_report.specs.Lines.{after_spaces};
-ghost use Rattle.policy_report.specs.Reports.{kind_word, answer_word, answer_line, block_text, blocks_text, report_text};
+ghost use Rattle.policy_report.specs.Reports.{kind_word, answer_word, answer_line, block_text};
+ghost use Rattle.policy_report.specs.Reports.{blocks_text, report_text};
 
 use crate::witness::{count_lines, push_witness};
 use crate::words::{push_count, push_word};
@@ -9,8 +10,8 @@ use arc_base::{List, Memory, push_number};
 use net_model::{Document, Network, Policy, PolicyKind, Verdict};
 use std::alloc::Global;
 
-/// The report of these verdicts, one for each policy in order. Links and policies are counted from 1, and each line
-/// ends in a line feed.
+/// The report of these verdicts, one for each policy in order. Links and policies are counted from
+/// 1, and each line ends in a line feed.
 pub fn report(
     alloc: Global,
     net: &Network,

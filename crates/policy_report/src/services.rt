@@ -1,9 +1,12 @@
-//! Services as words of a line: `service:P.N` for a service, `service:P.N-P.N` for a range of them. P
-//! is the protocol (0 to 255, as IANA assigns them) and N the destination port (0 to 65,535). The
+//! Services as words of a line: `service:P.N` for a service, `service:P.N-P.N` for a range of them.
+//! P is the protocol (0 to 255, as IANA assigns them) and N the destination port (0 to 65,535). The
 //! service 0 and the range of all services have no word.
 ghost use Rattle.std.specs.Prelude.{◌≡◌, ◌<◌, ◌^◌, ◌++◌, ◌∷◌, option_map, IfSome, OnOk};
 ghost use Rattle.policy_report.specs.Lines.{after_spaces};
-ghost use Rattle.policy_report.specs.ServiceWords.{service_text, service_word, range_word, is_whole, service_words, range_words, service_of, after_colon, service_named, range_from, range_named};
+ghost use Rattle.policy_report.specs.ServiceWords.{service_text, service_word, range_word};
+ghost use Rattle.policy_report.specs.ServiceWords.{is_whole, service_words, range_words};
+ghost use Rattle.policy_report.specs.ServiceWords.{service_of, after_colon, service_named};
+ghost use Rattle.policy_report.specs.ServiceWords.{range_from, range_named};
 
 use arc_base::{Memory, cut_at, push_number, read_number};
 use net_model::Service;
@@ -45,7 +48,8 @@ pub(crate) fn push_packet_service(
     text: &mut Vec<u8>,
     service: u32,
 ) -> Result<(), Memory>
-    ensures { OnOk result (text.new.items ≡ text.old.items ++ after_spaces (service_words service)) }
+    ensures { OnOk result
+        (text.new.items ≡ text.old.items ++ after_spaces (service_words service)) }
 {
     if service == 0 {
         return Ok(());
@@ -66,7 +70,8 @@ pub(crate) fn push_class_services(
     text: &mut Vec<u8>,
     range: &Service,
 ) -> Result<(), Memory>
-    ensures { OnOk result (text.new.items ≡ text.old.items ++ after_spaces (range_words range.now)) }
+    ensures { OnOk result
+        (text.new.items ≡ text.old.items ++ after_spaces (range_words range.now)) }
 {
     if is_whole(range) {
         return Ok(());

@@ -31,7 +31,8 @@ pub fn push_witness(
     net: &Network,
     verdict: &Verdict,
 ) -> Result<(), Memory>
-    ensures { OnOk result (text.new.items ≡ text.old.items ++ concat (witness_lines net.now verdict.now)) }
+    ensures { OnOk result
+        (text.new.items ≡ text.old.items ++ concat (witness_lines net.now verdict.now)) }
 {
     match verdict {
         Verdict::Closed(sides) => push_sides(alloc, text, net, sides.slice()),
@@ -52,7 +53,8 @@ fn push_sides(
     net: &Network,
     sides: &[ClassSide],
 ) -> Result<(), Memory>
-    ensures { OnOk result (text.new.items ≡ text.old.items ++ concat (map (closed_line net.now) sides.now)) }
+    ensures { OnOk result
+        (text.new.items ≡ text.old.items ++ concat (map (closed_line net.now) sides.now)) }
 {
     for shown in sides {
         push_closed_line(alloc, text, net, shown)?;

@@ -50,7 +50,8 @@ pub(crate) fn push_address_word(
 
 /// The two prefixes of a class, and its services if they are not all of them.
 pub fn push_class(alloc: Global, text: &mut Vec<u8>, class: &Class) -> Result<(), Memory>
-    ensures { OnOk result (text.new.items ≡ text.old.items ++ after_spaces (class_words class.now)) }
+    ensures { OnOk result
+        (text.new.items ≡ text.old.items ++ after_spaces (class_words class.now)) }
 {
     push_prefix_word(alloc, text, &class.from)?;
     push_prefix_word(alloc, text, &class.to)?;
@@ -59,7 +60,8 @@ pub fn push_class(alloc: Global, text: &mut Vec<u8>, class: &Class) -> Result<()
 
 /// The two addresses of a packet, and its service if it is not 0.
 pub(crate) fn push_packet(alloc: Global, text: &mut Vec<u8>, packet: &Packet) -> Result<(), Memory>
-    ensures { OnOk result (text.new.items ≡ text.old.items ++ after_spaces (packet_words packet.now)) }
+    ensures { OnOk result
+        (text.new.items ≡ text.old.items ++ after_spaces (packet_words packet.now)) }
 {
     push_address_word(alloc, text, packet.from)?;
     push_address_word(alloc, text, packet.to)?;
@@ -82,7 +84,8 @@ pub(crate) fn push_side(
     routers: &[RouterRow],
     side: &[bool],
 ) -> Result<(), Memory>
-    ensures { OnOk result (text.new.items ≡ text.old.items ++ after_spaces (side_words routers.now side.now)) }
+    ensures { OnOk result
+        (text.new.items ≡ text.old.items ++ after_spaces (side_words routers.now side.now)) }
 {
     for (place, router) in routers.iter().enumerate() {
         push_if(text, router.name.bytes(), is_on(side, place))?;

@@ -1,6 +1,7 @@
-//! The cheapest model of a formula whose models have prices. Each search ends with a model, whose price the next one has to
-//! beat, or with a refutation, which shows that the last price was the least. The contracts say that no model is cheaper,
-//! and that the one log of all searches shows it to a checker.
+//! The cheapest model of a formula whose models have prices. Each search ends with a model, whose
+//! price the next one has to beat, or with a refutation, which shows that the last price was the
+//! least. The contracts say that no model is cheaper, and that the one log of all searches shows it
+//! to a checker.
 #![tactic(auto)]
 
 mod beginning;

@@ -1,5 +1,7 @@
 -- What a checker knows, when a step is accepted, and what is known after it.
-use Rattle.std.specs.Prelude.{◌≡◌, ℕ, suc, zero, Bool, true, false, if◌then◌else◌, ◌==◌, ◌||◌, nat_lt, List, [], ◌∷◌, length, map, Option, Some, None, is_none, slice_get, position, option_to_list}
+use Rattle.std.specs.Prelude.{◌≡◌, ℕ, suc, zero, Bool, true, false, if◌then◌else◌, ◌==◌, ◌||◌}
+use Rattle.std.specs.Prelude.{nat_lt, List, [], ◌∷◌, length, map, Option, Some, None, is_none}
+use Rattle.std.specs.Prelude.{slice_get, position, option_to_list}
 use Rattle.std.specs.Option.{option_map}
 use Rattle.std.specs.List.{list_any}
 use Rattle.cnf_types.specs.declared.literal.Lit.{Lit}
@@ -9,11 +11,14 @@ use Rattle.cnf_types.specs.Literals.{negated}
 use Rattle.proof_log.specs.declared.steps.Step.{Step}
 use Rattle.proof_log.specs.declared.steps.Step.TheVariants.{Add, Drop, Bound}
 use Rattle.proof_check.specs.declared.faults.StepFault.{StepFault}
-use Rattle.proof_check.specs.declared.faults.StepFault.TheVariants.{IdNotRising, NegativeHint, UnknownId, HintNotUnit, NoConflict, BoundTooLow, BoundTooHigh, Memory}
+use Rattle.proof_check.specs.declared.faults.StepFault.TheVariants.{IdNotRising, NegativeHint}
+use Rattle.proof_check.specs.declared.faults.StepFault.TheVariants.{UnknownId, HintNotUnit}
+use Rattle.proof_check.specs.declared.faults.StepFault.TheVariants.{NoConflict, BoundTooLow}
+use Rattle.proof_check.specs.declared.faults.StepFault.TheVariants.{BoundTooHigh, Memory}
 use Rattle.proof_check.specs.Propagation.{chain_fault, is_among}
 
--- the live clause of each id, the greatest id so far, the least bound allowed, the literals "the price is at least j" for
--- j from 1 on, and whether an empty clause was added
+-- the live clause of each id, the greatest id so far, the least bound allowed, the literals "the
+-- price is at least j" for j from 1 on, and whether an empty clause was added
 pub record Knowledge : Type 0 where
   pub clause : ℕ → Option (List Lit)
   pub last : ℕ
@@ -28,7 +33,13 @@ formula_clause clauses (suc n) = option_map (λ c. c.lits) (slice_get clauses n)
 
 -- what is known before the first step
 abbrev pub start : Formula → Option ℕ → List Lit → Knowledge
-start f least tops = record { clause = formula_clause f.clauses; last = length f.clauses; least = least; tops = tops; refuted = false }
+start f least tops = record {
+  clause = formula_clause f.clauses;
+  last = length f.clauses;
+  least = least;
+  tops = tops;
+  refuted = false;
+}
 
 -- one clause more
 abbrev pub with_clause : (ℕ → Option (List Lit)) → ℕ → List Lit → ℕ → Option (List Lit)
@@ -49,7 +60,9 @@ is_too_low (Some least) price = nat_lt price least
 
 -- why a bound is not accepted
 abbrev pub bound_fault : Option ℕ → List Lit → ℕ → Option StepFault
-bound_fault least tops price = if is_too_low least price then Some BoundTooLow else (if nat_lt price (length tops) then None else Some BoundTooHigh)
+bound_fault least tops price =
+    if is_too_low least price then Some BoundTooLow
+    else (if nat_lt price (length tops) then None else Some BoundTooHigh)
 
 -- an id has to be above every id before it
 abbrev pub rising : ℕ → ℕ → Option StepFault → Option StepFault

@@ -1,5 +1,6 @@
 -- Accepted and refuting logs, and what they show.
-use Rattle.std.specs.Prelude.{◌≡◌, ℕ, Bool, false, IsTrue, List, [], ◌∷◌, fold, Option, None, slice_get, IfSome}
+use Rattle.std.specs.Prelude.{◌≡◌, ℕ, Bool, false, IsTrue, List, [], ◌∷◌, fold, Option, None}
+use Rattle.std.specs.Prelude.{slice_get, IfSome}
 use Rattle.std.specs.List.{list_any}
 use Rattle.cnf_types.specs.declared.literal.Lit.{Lit}
 use Rattle.cnf_types.specs.declared.clauses.Formula.{Formula}
@@ -28,17 +29,24 @@ adds_empty (Bound id price) = false
 abbrev pub IsRefuting : List Step → Type 0
 IsRefuting steps = IsTrue (list_any adds_empty steps)
 
--- the assignment keeps the price to the bound, if the step is one: the literal "the price is at least W + 1" is false
+-- the assignment keeps the price to the bound, if the step is one: the literal "the price is at
+-- least W + 1" is false
 abbrev pub KeepsBound : (ℕ → Bool) → List Lit → Step → Type 0
 KeepsBound assignment tops (Add id lits hints) = Unit {0}
 KeepsBound assignment tops (Drop ids) = Unit {0}
-KeepsBound assignment tops (Bound id price) = IfSome (slice_get tops price) (λ top. IsTrue (value assignment (negated top)))
+KeepsBound assignment tops (Bound id price) =
+    IfSome (slice_get tops price) (λ top. IsTrue (value assignment (negated top)))
 
 -- it keeps to all bounds of a log
 abbrev pub KeepsBounds : (ℕ → Bool) → List Lit → List Step → Type 0
 KeepsBounds assignment tops [] = Unit {0}
-KeepsBounds assignment tops (s ∷ steps) = KeepsBound assignment tops s × KeepsBounds assignment tops steps
+KeepsBounds assignment tops (s ∷ steps) =
+    KeepsBound assignment tops s × KeepsBounds assignment tops steps
 
--- an accepted log that is refuting shows that no assignment satisfies the formula and keeps to the bounds
+-- an accepted log that is refuting shows that no assignment satisfies the formula and keeps to the
+-- bounds
 abbrev pub AcceptedLogsAreSound : Type 0
-AcceptedLogsAreSound = (f : Formula) (least : Option ℕ) (tops : List Lit) (steps : List Step) → IsAccepted (start f least tops) steps → IsRefuting steps → (assignment : ℕ → Bool) → Satisfies assignment f → KeepsBounds assignment tops steps → ⊥
+AcceptedLogsAreSound =
+    (f : Formula) (least : Option ℕ) (tops : List Lit) (steps : List Step) →
+    IsAccepted (start f least tops) steps → IsRefuting steps →
+    (assignment : ℕ → Bool) → Satisfies assignment f → KeepsBounds assignment tops steps → ⊥

@@ -1,5 +1,6 @@
 -- What the text of a proof is judged to.
-use Rattle.std.specs.Prelude.{ℕ, ◌+◌, if◌then◌else◌, List, [], ◌∷◌, Option, Some, None, Result, Ok, Err, IsSomeAnd}
+use Rattle.std.specs.Prelude.{ℕ, ◌+◌, if◌then◌else◌, List, [], ◌∷◌, Option, Some, None, Result, Ok}
+use Rattle.std.specs.Prelude.{Err, IsSomeAnd}
 use Rattle.std.specs.Option.{option_map}
 use Rattle.arc_base.specs.declared.certificate.CertKind.{CertKind}
 use Rattle.arc_base.specs.declared.certificate.CertKind.TheVariants as kinds
@@ -29,7 +30,9 @@ steps_of (line ∷ ls) = with_line (reading line) (steps_of ls)
 
 -- the text is an accepted log for the formula that adds the empty clause
 abbrev pub IsRefutation : Formula → List ℕ → Type 0
-IsRefutation f proof = IsSomeAnd (steps_of (lines proof)) (λ steps. IsAccepted (start f None []) steps × IsRefuting steps)
+IsRefutation f proof =
+    IsSomeAnd (steps_of (lines proof)) (λ steps.
+    IsAccepted (start f None []) steps × IsRefuting steps)
 
 -- the kind of reason for which a step is not accepted
 abbrev pub fault_kind : StepFault → CertKind
@@ -62,4 +65,6 @@ rejected_or None number rest = rest
 -- the outcome of a log's lines, the first of them with this number
 abbrev pub log_outcome : Knowledge → ℕ → List (List ℕ) → Outcome
 log_outcome k number [] = if k.refuted then Accepted else Rejected number NotRefuted
-log_outcome k number (line ∷ ls) = rejected_or (line_rejection (reading line) k) number (log_outcome (line_after (reading line) k) (number + 1) ls)
+log_outcome k number (line ∷ ls) =
+    rejected_or (line_rejection (reading line) k) number
+    (log_outcome (line_after (reading line) k) (number + 1) ls)

@@ -15,8 +15,16 @@ near_or None far = far
 
 -- the live clause under an id: in the vector, or past its end in the map
 abbrev pub clause_in : Live → ℕ → Option (List Lit)
-clause_in live id = option_map (λ (v : Vec Lit Global). v.items) (near_or (slice_get live.near.items id) (get nat_eq live.far id))
+clause_in live id =
+    option_map (λ (v : Vec Lit Global). v.items)
+    (near_or (slice_get live.near.items id) (get nat_eq live.far id))
 
 -- what the checker knows
 abbrev pub known : Checker → Knowledge
-known c = record { clause = clause_in c.live; last = c.last; least = c.least; tops = c.tops.items; refuted = c.refuted }
+known c = record {
+  clause = clause_in c.live;
+  last = c.last;
+  least = c.least;
+  tops = c.tops.items;
+  refuted = c.refuted;
+}

@@ -21,14 +21,15 @@ pub struct Checker {
 }
 
 impl Checker {
-    ghost use Rattle.std.specs.Prelude.{◌≡◌, ◌<◌, ◌^◌, length, None, IfOk, IfErr, OnOk, OnErr, ℕ, Bool, List as Items, IsTrue, ◌↔◌, nat_lt};
+    ghost use Rattle.std.specs.Prelude.{◌≡◌, ◌<◌, ◌^◌, length, None, IfOk, IfErr, OnOk, OnErr, ℕ};
+    ghost use Rattle.std.specs.Prelude.{Bool, List as Items, IsTrue, ◌↔◌, nat_lt};
     ghost use Rattle.cnf_types.specs.Formulas.{Satisfies};
     ghost use Rattle.proof_check.specs.Logs.{after_all, IsAccepted, IsRefuting, KeepsBounds};
     ghost use Rattle.proof_check.specs.Knowledge.{start, step_fault, after, IsFirst};
     ghost use Rattle.proof_check.specs.View.{known};
 
-    /// A checker that knows the formula. `least` is the lowest bound that is allowed, where there is one. `tops` has,
-    /// at place j - 1, the literal "the price is at least j".
+    /// A checker that knows the formula. `least` is the lowest bound that is allowed, where there
+    /// is one. `tops` has, at place j - 1, the literal "the price is at least j".
     pub fn make(
         alloc: Global,
         f: &Formula,
@@ -60,9 +61,12 @@ impl Checker {
     /// Adds a clause, which the hints have to show.
     fn add(&mut self, id: u64, lits: &[Lit], hints: &[i64]) -> Result<(), StepFault>
         requires { length hints.now < 2 ^ 32 }
-        ensures ok { OnOk result (step_fault (known self.old) (Step.Add id lits.now hints.now) ≡ None) }
-        ensures after { OnOk result (known self.new ≡ after (known self.old) (Step.Add id lits.now hints.now)) }
-        ensures fault { IfErr result (IsFirst (step_fault (known self.old) (Step.Add id lits.now hints.now))) }
+        ensures ok { OnOk result
+            (step_fault (known self.old) (Step.Add id lits.now hints.now) ≡ None) }
+        ensures after { OnOk result
+            (known self.new ≡ after (known self.old) (Step.Add id lits.now hints.now)) }
+        ensures fault { IfErr result
+            (IsFirst (step_fault (known self.old) (Step.Add id lits.now hints.now))) }
         ensures same { OnErr result (known self.new ≡ known self.old) }
     {
         if !self.rises(id) {
@@ -93,7 +97,8 @@ impl Checker {
     /// Adds the clause that the price is at most so much.
     fn bound(&mut self, id: u64, price: u32) -> Result<(), StepFault>
         ensures ok { OnOk result (step_fault (known self.old) (Step.Bound id price) ≡ None) }
-        ensures after { OnOk result (known self.new ≡ after (known self.old) (Step.Bound id price)) }
+        ensures after { OnOk result
+            (known self.new ≡ after (known self.old) (Step.Bound id price)) }
         ensures fault { IfErr result (IsFirst (step_fault (known self.old) (Step.Bound id price))) }
         ensures same { OnErr result (known self.new ≡ known self.old) }
     {
@@ -126,15 +131,20 @@ impl Checker {
         }
     }
 
-    /// Whether an accepted step added the empty clause. Then no assignment satisfies the formula and keeps to the
-    /// bounds.
+    /// Whether an accepted step added the empty clause. Then no assignment satisfies the formula
+    /// and keeps to the bounds.
     pub fn refuted(&self) -> bool
         ensures value { result ≡ (known self.now).refuted }
-        ensures exact { (f : Formula) (steps : Items Step) → known self.now ≡ after_all (start f (known self.now).least (known self.now).tops) steps → (IsTrue result ↔ IsRefuting steps) }
-        ensures sound { IsTrue result → (f : Formula) (steps : Items Step) →
+        ensures exact { (f : Formula) (steps : Items Step) → known self.now
+            ≡ after_all (start f (known self.now).least (known self.now).tops) steps →
+            (IsTrue result ↔ IsRefuting steps) }
+        ensures sound { IsTrue result →
+            (f : Formula) (steps : Items Step) →
             IsAccepted (start f (known self.now).least (known self.now).tops) steps →
-            known self.now ≡ after_all (start f (known self.now).least (known self.now).tops) steps →
-            (assignment : ℕ → Bool) → Satisfies assignment f → KeepsBounds assignment (known self.now).tops steps → ⊥ }
+            known self.now
+            ≡ after_all (start f (known self.now).least (known self.now).tops) steps →
+            (assignment : ℕ → Bool) → Satisfies assignment f →
+            KeepsBounds assignment (known self.now).tops steps → ⊥ }
     {
         self.refuted
     }

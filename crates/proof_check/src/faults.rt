@@ -9,7 +9,8 @@ pub enum StepFault {
     NegativeHint(u32),
     /// The hint, or the dropped id, at this place is the id of no live clause.
     UnknownId(u32),
-    /// The clause of the hint at this place has two different literals that are not known to be false.
+    /// The clause of the hint at this place has two different literals that are not known to be
+    /// false.
     HintNotUnit(u32),
     /// No hint's clause has only literals that are known to be false.
     NoConflict,

@@ -1,12 +1,14 @@
 //! Flags that are all taken away at once.
-ghost use Rattle.std.specs.Prelude.{◌≡◌, ◌<◌, true, false, length, replicate, slice_get, slice_set, IfOk};
+ghost use Rattle.std.specs.Prelude.{◌≡◌, ◌<◌, true, false, length, replicate, slice_get, slice_set};
+ghost use Rattle.std.specs.Prelude.{IfOk};
 
 use arc_base::Memory;
 use std::alloc::Global;
 use std::marker::Model;
 
-/// Flags, each under its place. A flag is set where its stamp is the current one, so that all are taken away in constant
-/// time, and only once in 2^32 times in time linear in their number. Contracts see the list of the flags.
+/// Flags, each under its place. A flag is set where its stamp is the current one, so that all are
+/// taken away in constant time, and only once in 2^32 times in time linear in their number.
+/// Contracts see the list of the flags.
 #[derive(Debug, Drop)]
 pub(crate) struct Flags {
     stamps: Vec<u32>,

@@ -10,8 +10,9 @@ use crate::live::Live;
 use cnf_types::Lit;
 use std::alloc::Global;
 
-/// Follows the hints of a clause that is to be added, with its literals false, up to a conflict, in time linear in the
-/// literals of the clause and of those that are hinted at. The marks of earlier steps do not matter.
+/// Follows the hints of a clause that is to be added, with its literals false, up to a conflict, in
+/// time linear in the literals of the clause and of those that are hinted at. The marks of earlier
+/// steps do not matter.
 pub(crate) fn follow(
     alloc: Global,
     live: &Live,
@@ -20,8 +21,10 @@ pub(crate) fn follow(
     hints: &[i64],
 ) -> Result<(), StepFault>
     requires { length hints.now < 2 ^ 32 }
-    ensures ok { OnOk result (chain_fault (clause_in live.now) (is_among lits.now) 0 hints.now ≡ None) }
-    ensures fault { IfErr result (IsFirst (chain_fault (clause_in live.now) (is_among lits.now) 0 hints.now)) }
+    ensures ok { OnOk result
+        (chain_fault (clause_in live.now) (is_among lits.now) 0 hints.now ≡ None) }
+    ensures fault { IfErr result
+        (IsFirst (chain_fault (clause_in live.now) (is_among lits.now) 0 hints.now)) }
 {
     marks.restart(alloc, lits)?;
     for (place, hint) in hints.iter().enumerate() {

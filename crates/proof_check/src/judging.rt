@@ -4,7 +4,8 @@ ghost use Rattle.cnf_types.specs.Words.{lines};
 ghost use Rattle.cnf_types.specs.Formulas.{Satisfies};
 ghost use Rattle.proof_log.specs.Reading.{reading};
 ghost use Rattle.proof_check.specs.Knowledge.{start};
-ghost use Rattle.proof_check.specs.Outcomes.{fault_kind, line_rejection, line_after, log_outcome, IsRefutation};
+ghost use Rattle.proof_check.specs.Outcomes.{fault_kind, line_rejection, line_after, log_outcome};
+ghost use Rattle.proof_check.specs.Outcomes.{IsRefutation};
 ghost use Rattle.proof_check.specs.View.{known};
 
 use crate::checker::Checker;
@@ -37,8 +38,10 @@ pub fn judge_line(
     checker: &mut Checker,
     line: &[u8],
 ) -> Result<Option<Rejection>, Memory>
-    ensures rejection { IfOk result (λ r. r ≡ line_rejection (reading line.now) (known checker.old)) }
-    ensures after { IfOk result (λ r. IsNone r → known checker.new ≡ line_after (reading line.now) (known checker.old)) }
+    ensures rejection { IfOk result (λ r.
+        r ≡ line_rejection (reading line.now) (known checker.old)) }
+    ensures after { IfOk result (λ r. IsNone r →
+        known checker.new ≡ line_after (reading line.now) (known checker.old)) }
 {
     match step(alloc, line) {
         Ok(None) => Ok(None),
@@ -74,12 +77,13 @@ fn judge_lines(alloc: Global, f: &Formula, proof: &[u8]) -> Result<Outcome, Memo
     }
 }
 
-/// Judges the text of a proof that no assignment satisfies the formula, in time linear in its bytes and in the
-/// literals of the hinted clauses. There are no prices, so each bound is too high.
+/// Judges the text of a proof that no assignment satisfies the formula, in time linear in its bytes
+/// and in the literals of the hinted clauses. There are no prices, so each bound is too high.
 pub fn check_log(alloc: Global, f: &Formula, proof: &[u8]) -> Result<Outcome, Memory>
     ensures outcome { IfOk result (λ o. o ≡ log_outcome (start f.now None []) 1 (lines proof.now)) }
     ensures accepted { IfOk result (λ o. (o ≡ Outcome.Accepted) ↔ IsRefutation f.now proof.now) }
-    ensures sound { IfOk result (λ o. o ≡ Outcome.Accepted → (assignment : ℕ → Bool) → Satisfies assignment f.now → ⊥) }
+    ensures sound { IfOk result (λ o. o ≡ Outcome.Accepted →
+        (assignment : ℕ → Bool) → Satisfies assignment f.now → ⊥) }
 {
     judge_lines(alloc, f, proof)
 }

@@ -9,8 +9,8 @@ use cnf_types::Lit;
 use std::alloc::Global;
 use std::collections::HashSet;
 
-/// What is left of a clause without the literals that are false: nothing, one literal however often it stands there,
-/// or different ones.
+/// What is left of a clause without the literals that are false: nothing, one literal however often
+/// it stands there, or different ones.
 #[derive(Clone, Copy, Debug, PartialEq, Eq)]
 pub(crate) enum Left {
     Nothing,
@@ -18,7 +18,8 @@ pub(crate) enum Left {
     More,
 }
 
-/// The literals that are false, by their codes: a flag for each small code, and a set of the others.
+/// The literals that are false, by their codes: a flag for each small code, and a set of the
+/// others.
 #[derive(Debug, Drop)]
 pub(crate) struct Marks {
     near: Flags,
@@ -48,7 +49,8 @@ impl Marks {
 
     /// Marks one literal more.
     pub fn mark(&mut self, lit: Lit) -> Result<(), Memory>
-        ensures { OnOk result ((m : Lit) → is_marked self.new m ≡ with_literal lit (is_marked self.old) m) }
+        ensures { OnOk result ((m : Lit) →
+            is_marked self.new m ≡ with_literal lit (is_marked self.old) m) }
     {
         if lit.code < self.near.len() as u64 {
             self.near.set(lit.code as usize);

@@ -1,5 +1,6 @@
 //! Live clauses under their ids.
-ghost use Rattle.std.specs.Prelude.{◌≡◌, [], ◌∷◌, ℕ, ◌<◌, ◌^◌, length, position, is_none, option_map, IfOk, OnOk, OnErr};
+ghost use Rattle.std.specs.Prelude.{◌≡◌, [], ◌∷◌, ℕ, ◌<◌, ◌^◌, length, position, is_none};
+ghost use Rattle.std.specs.Prelude.{option_map, IfOk, OnOk, OnErr};
 ghost use Rattle.proof_check.specs.Knowledge.{formula_clause, with_clause, without_clauses};
 ghost use Rattle.proof_check.specs.View.{clause_in};
 
@@ -8,8 +9,8 @@ use cnf_types::{Clause, Lit};
 use std::alloc::Global;
 use std::collections::HashMap;
 
-/// The live clauses: each in a vector at the place of its id, as long as the ids follow one another from 0 on, and the
-/// others in a map.
+/// The live clauses: each in a vector at the place of its id, as long as the ids follow one another
+/// from 0 on, and the others in a map.
 #[derive(Drop)]
 pub(crate) struct Live {
     near: Vec<Option<Vec<Lit>>>,
@@ -20,7 +21,8 @@ impl Live {
     /// The clauses of a formula, under the ids from 1 on.
     pub fn of(alloc: Global, clauses: &[Clause]) -> Result<Live, Memory>
         requires { length clauses.now < 2 ^ 32 }
-        ensures { IfOk result (λ live. (id : ℕ) → clause_in live id ≡ formula_clause clauses.now id) }
+        ensures { IfOk result (λ live. (id : ℕ) →
+            clause_in live id ≡ formula_clause clauses.now id) }
     {
         let mut near = Vec::with_capacity(alloc, clauses.len() + 1)?;
         near.push(None)?;
@@ -46,7 +48,8 @@ impl Live {
 
     /// Takes out the clause of an id.
     fn remove(&mut self, id: u64)
-        ensures { (j : ℕ) → clause_in self.new j ≡ without_clauses (clause_in self.old) (id ∷ []) j }
+        ensures { (j : ℕ) →
+            clause_in self.new j ≡ without_clauses (clause_in self.old) (id ∷ []) j }
     {
         if id < self.near.len() as u64 {
             self.near[id as usize] = None;
@@ -73,7 +76,8 @@ impl Live {
 
     /// Puts a clause under an id.
     pub fn put(&mut self, alloc: Global, id: u64, lits: &[Lit]) -> Result<(), Memory>
-        ensures ok { OnOk result ((j : ℕ) → clause_in self.new j ≡ with_clause (clause_in self.old) id lits.now j) }
+        ensures ok { OnOk result ((j : ℕ) →
+            clause_in self.new j ≡ with_clause (clause_in self.old) id lits.now j) }
         ensures err { OnErr result ((j : ℕ) → clause_in self.new j ≡ clause_in self.old j) }
     {
         let clause = Vec::from_slice(alloc, lits)?;

@@ -16,7 +16,7 @@ pub enum Rejection {
 pub enum Outcome {
     /// Each step is accepted, and one adds the empty clause.
     Accepted,
-    /// The first line that is rejected, counted from 1, and why. A proof that does not refute is rejected at the line
-    /// after its last one.
+    /// The first line that is rejected, counted from 1, and why. A proof that does not refute is
+    /// rejected at the line after its last one.
     Rejected(u64, Rejection),
 }

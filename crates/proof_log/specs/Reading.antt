@@ -1,5 +1,8 @@
 -- What a line of a proof log is read as.
-use Rattle.std.specs.Prelude.{◌≡◌, ℕ, ◌-◌, ◌^◌, ◌<◌, ◌≤◌, ℤ, pos, negsuc, Bool, true, false, if◌then◌else◌, ◌==◌, ◌&&◌, ◌||◌, not, codes, nat_le, nat_lt, List, [], ◌∷◌, map, Option, Some, None, is_none, Result, Ok, Err, filter_map, unsigned_abs}
+use Rattle.std.specs.Prelude.{◌≡◌, ℕ, ◌-◌, ◌^◌, ◌<◌, ◌≤◌, ℤ, pos, negsuc, Bool, true, false}
+use Rattle.std.specs.Prelude.{if◌then◌else◌, ◌==◌, ◌&&◌, ◌||◌, not, codes, nat_le, nat_lt, List, []}
+use Rattle.std.specs.Prelude.{◌∷◌, map, Option, Some, None, is_none, Result, Ok, Err, filter_map}
+use Rattle.std.specs.Prelude.{unsigned_abs}
 use Rattle.std.specs.List.{list_any, list_all, slice_split}
 use Rattle.std.specs.Str.{bytes_eq}
 use Rattle.cnf_types.specs.Numbers.{number}
@@ -19,7 +22,9 @@ log_number word = number (2 ^ 63 - 1) word
 
 -- the letters d and b stand for a drop and a bound
 abbrev pub sign_of : List ℕ → Sign
-sign_of word = if bytes_eq word (codes "d") then Drops else (if bytes_eq word (codes "b") then Bounds else Adds)
+sign_of word =
+    if bytes_eq word (codes "d") then Drops
+    else (if bytes_eq word (codes "b") then Bounds else Adds)
 
 -- what the word in the second place says that a line does
 abbrev pub sign : List (List ℕ) → Sign
@@ -56,17 +61,22 @@ is_negative (negsuc n) = true
 
 -- `ID LITS 0 HINTS 0`, from what stands between the zeros after the id
 abbrev pub add_of : ℤ → List (List ℤ) → Option Step
-add_of id (lits ∷ hints ∷ [] ∷ []) = if is_positive id then Some (Add (unsigned_abs id) (map literal_of lits) hints) else None
+add_of id (lits ∷ hints ∷ [] ∷ []) =
+    if is_positive id then Some (Add (unsigned_abs id) (map literal_of lits) hints) else None
 add_of id _ = None
 
 -- `NUM d IDS 0`
 abbrev pub drop_of : ℤ → List (List ℤ) → Option Step
-drop_of num (ids ∷ [] ∷ []) = if not (is_negative num) && list_all is_positive ids then Some (Drop (map unsigned_abs ids)) else None
+drop_of num (ids ∷ [] ∷ []) =
+    if not (is_negative num) && list_all is_positive ids
+    then Some (Drop (map unsigned_abs ids)) else None
 drop_of num _ = None
 
 -- `ID b W 0`
 abbrev pub bound_of : ℤ → List ℤ → Option Step
-bound_of id (price ∷ end ∷ []) = if is_positive id && (not (is_negative price) && nat_lt (unsigned_abs price) (2 ^ 32) && is_zero end) then Some (Bound (unsigned_abs id) (unsigned_abs price)) else None
+bound_of id (price ∷ end ∷ []) = if is_positive id &&
+    (not (is_negative price) && nat_lt (unsigned_abs price) (2 ^ 32) && is_zero end)
+    then Some (Bound (unsigned_abs id) (unsigned_abs price)) else None
 bound_of id _ = None
 
 -- a step, or a line of no such form
@@ -81,13 +91,18 @@ formed Adds (id ∷ zs) = add_of id (slice_split is_zero zs)
 formed Drops (num ∷ zs) = drop_of num (slice_split is_zero zs)
 formed Bounds (id ∷ zs) = bound_of id zs
 
--- the step that a line's words write: each number has to be good, and then the line has to have one of the three forms
+-- the step that a line's words write: each number has to be good, and then the line has to have one
+-- of the three forms
 abbrev pub step_of_words : List (List ℕ) → Result (Option Step) LineKind
-step_of_words ws = if list_any is_bad (number_words ws) then Err BadNumber else ok_or_bad_line (formed (sign ws) (numbers (number_words ws)))
+step_of_words ws =
+    if list_any is_bad (number_words ws) then Err BadNumber
+    else ok_or_bad_line (formed (sign ws) (numbers (number_words ws)))
 
 -- what a line is read as; an empty line and a comment are read as no step
 unfoldable pub reading : List ℕ → Result (Option Step) LineKind
-reading line = if not (is_filled (without_return line)) || is_comment line then Ok None else step_of_words (line_words line)
+reading line =
+    if not (is_filled (without_return line)) || is_comment line then Ok None
+    else step_of_words (line_words line)
 
 -- the fault is that of the line, or want of memory
 abbrev pub IsFaultOf : List ℕ → LineKind → Type 0

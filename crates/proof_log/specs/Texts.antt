@@ -1,5 +1,7 @@
 -- The text of a proof log.
-use Rattle.std.specs.Prelude.{◌≡◌, ℕ, suc, ◌+◌, ◌-◌, ◌*◌, ◌/◌, ◌<◌, ◌≤◌, ◌^◌, ℤ, pos, negsuc, Bool, true, false, if◌then◌else◌, List, [], ◌∷◌, ◌++◌, map, flat_map, codes, decimal, All, Some, Ok, unsigned_abs, ◌≢◌}
+use Rattle.std.specs.Prelude.{◌≡◌, ℕ, suc, ◌+◌, ◌-◌, ◌*◌, ◌/◌, ◌<◌, ◌≤◌, ◌^◌, ℤ, pos, negsuc, Bool}
+use Rattle.std.specs.Prelude.{true, false, if◌then◌else◌, List, [], ◌∷◌, ◌++◌, map, flat_map, codes}
+use Rattle.std.specs.Prelude.{decimal, All, Some, Ok, unsigned_abs, ◌≢◌}
 use Rattle.std.specs.Fmt.{signed_decimal}
 use Rattle.cnf_types.specs.declared.literal.Lit.{Lit}
 use Rattle.cnf_types.specs.Literals.{variable, is_positive}
@@ -19,8 +21,11 @@ before_spaces ws = flat_map (λ w. w ++ 32 ∷ []) ws
 
 -- the line of a step, where `last` is the id of the last clause added before it, or 0
 abbrev pub step_text : ℕ → Step → List ℕ
-step_text last (Add id lits hints) = decimal id ++ codes " " ++ before_spaces (map literal_text lits) ++ codes "0 " ++ before_spaces (map signed_decimal hints) ++ codes "0"
-step_text last (Drop ids) = decimal last ++ codes " d " ++ before_spaces (map decimal ids) ++ codes "0"
+step_text last (Add id lits hints) =
+    decimal id ++ codes " " ++ before_spaces (map literal_text lits) ++ codes "0 " ++
+    before_spaces (map signed_decimal hints) ++ codes "0"
+step_text last (Drop ids) =
+    decimal last ++ codes " d " ++ before_spaces (map decimal ids) ++ codes "0"
 step_text last (Bound id price) = decimal id ++ codes " b " ++ decimal price ++ codes " 0"
 
 -- the id of the last clause added, after a step
@@ -41,7 +46,8 @@ log_text log = steps_text 0 log.steps
 abbrev pub IsId : ℕ → Type 0
 IsId id = (0 < id) × (id < 2 ^ 63)
 
--- a literal of a variable from 1 to 2 ^ 63 - 1, and a hint other than 0 and of an absolute value below 2 ^ 63
+-- a literal of a variable from 1 to 2 ^ 63 - 1, and a hint other than 0 and of an absolute value
+-- below 2 ^ 63
 abbrev pub IsLiteral : Lit → Type 0
 IsLiteral l = (0 < variable l) × (variable l < 2 ^ 63)
 
@@ -56,4 +62,6 @@ HasLine (Bound id price) = IsId id × (price < 2 ^ 32)
 
 -- the lines of a log's text are read as the log's steps
 abbrev pub LinesAreReadAgain : Type 0
-LinesAreReadAgain = (log : Log) → All HasLine log.steps → map reading (lines (log_text log)) ≡ map (λ s. Ok (Some s)) log.steps
+LinesAreReadAgain =
+    (log : Log) → All HasLine log.steps →
+    map reading (lines (log_text log)) ≡ map (λ s. Ok (Some s)) log.steps

@@ -1,5 +1,7 @@
 //! The step that the numbers of a line write.
-ghost use Rattle.std.specs.Prelude.{◌≡◌, ◌<◌, ◌≤◌, ◌^◌, ◌-◌, ◌++◌, [], ◌∷◌, ℕ, ℤ, None, length, map, take, false, All, IsTrue, IfOk, OnOk, IsErrOf, IfNone, IfSome, MatchOption, unsigned_abs};
+ghost use Rattle.std.specs.Prelude.{◌≡◌, ◌<◌, ◌≤◌, ◌^◌, ◌-◌, ◌++◌, [], ◌∷◌, ℕ, ℤ, None, length};
+ghost use Rattle.std.specs.Prelude.{map, take, false, All, IsTrue, IfOk, OnOk, IsErrOf, IfNone};
+ghost use Rattle.std.specs.Prelude.{IfSome, MatchOption, unsigned_abs};
 ghost use Rattle.std.specs.List.{list_all, slice_split};
 ghost use Rattle.cnf_types.specs.Dimacs.{is_zero, literal_of};
 ghost use Rattle.proof_log.specs.Reading.{add_of, drop_of, bound_of, is_positive, formed};
@@ -20,7 +22,8 @@ fn is_zero(number: i64) -> bool
 /// What stands before the first 0 and after it, or `None` where there is no 0.
 fn until_zero(numbers: &[i64]) -> Option<(&[i64], &[i64])>
     ensures none { IfNone result (slice_split is_zero numbers.now ≡ numbers.now ∷ []) }
-    ensures found { IfSome result (λ found. slice_split is_zero numbers.now ≡ found.0.now ∷ slice_split is_zero found.1.now) }
+    ensures found { IfSome result (λ found.
+        slice_split is_zero numbers.now ≡ found.0.now ∷ slice_split is_zero found.1.now) }
     ensures free { IfSome result (λ found. All (λ z. is_zero z ≡ false) found.0.now) }
     ensures front { IfSome result (λ found. found.0.now ≡ take (length found.0.now) numbers.now) }
 {
@@ -36,16 +39,19 @@ fn until_zero(numbers: &[i64]) -> Option<(&[i64], &[i64])>
 /// What stands before the first 0, if that is the last number.
 fn one_part(numbers: &[i64]) -> Option<&[i64]>
     ensures part { IfSome result (λ part. slice_split is_zero numbers.now ≡ part.now ∷ [] ∷ []) }
-    ensures none { IfNone result ((num : ℤ) → drop_of num (slice_split is_zero numbers.now) ≡ None) }
+    ensures none { IfNone result ((num : ℤ) →
+        drop_of num (slice_split is_zero numbers.now) ≡ None) }
 {
     let (part, rest) = until_zero(numbers)?;
     if rest.is_empty() { Some(part) } else { None }
 }
 
 #[tactic(auto, using(crate::proofs::Zeros::no_add_at))]
-/// What stands before the first 0 and what stands between it and the second, if that is the last number.
+/// What stands before the first 0 and what stands between it and the second, if that is the last
+/// number.
 fn two_parts(numbers: &[i64]) -> Option<(&[i64], &[i64])>
-    ensures parts { IfSome result (λ parts. slice_split is_zero numbers.now ≡ parts.0.now ∷ parts.1.now ∷ [] ∷ []) }
+    ensures parts { IfSome result (λ parts.
+        slice_split is_zero numbers.now ≡ parts.0.now ∷ parts.1.now ∷ [] ∷ []) }
     ensures free { IfSome result (λ parts. All (λ z. is_zero z ≡ false) parts.0.now) }
     ensures front { IfSome result (λ parts. parts.0.now ≡ take (length parts.0.now) numbers.now) }
     ensures none { IfNone result ((id : ℤ) → add_of id (slice_split is_zero numbers.now) ≡ None) }

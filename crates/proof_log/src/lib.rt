@@ -1,6 +1,6 @@
-//! Proof logs: the steps that add a clause with its hints, drop clauses or assert a bound, and their text, which is
-//! that of LRAT without RAT steps, with lines for bounds. Each line that is written is read as the step that it was
-//! written from.
+//! Proof logs: the steps that add a clause with its hints, drop clauses or assert a bound, and
+//! their text, which is that of LRAT without RAT steps, with lines for bounds. Each line that is
+//! written is read as the step that it was written from.
 #![tactic(auto)]
 
 mod interpreting;

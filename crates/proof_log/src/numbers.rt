@@ -1,5 +1,6 @@
 //! The numbers of a line of a proof log.
-ghost use Rattle.std.specs.Prelude.{◌≡◌, ◌<◌, ◌≤◌, ◌^◌, ◌-◌, ◌||◌, [], ◌∷◌, ℕ, length, ◌++◌, IsTrue, IsFalse, IfOk, OnOk, IsErrOf, IfNone, IfSome};
+ghost use Rattle.std.specs.Prelude.{◌≡◌, ◌<◌, ◌≤◌, ◌^◌, ◌-◌, ◌||◌, [], ◌∷◌, ℕ, length, ◌++◌};
+ghost use Rattle.std.specs.Prelude.{IsTrue, IsFalse, IfOk, OnOk, IsErrOf, IfNone, IfSome};
 ghost use Rattle.std.specs.List.{list_any, slice_split};
 ghost use Rattle.arc_base.specs.Words.{words};
 ghost use Rattle.cnf_types.specs.Dimacs.{is_zero};
@@ -83,7 +84,8 @@ pub(crate) fn read_numbers(alloc: Global, line: &[u8]) -> Result<Numbers, LineKi
     ensures good { OnOk result (IsFalse (list_any is_bad (number_words (words line.now)))) }
     ensures all { IfOk result (λ found. found.all.items ≡ numbers (number_words (words line.now))) }
     ensures sign { IfOk result (λ found. found.sign ≡ sign (words line.now)) }
-    ensures bad { IsErrOf result LineKind.BadNumber → IsTrue (list_any is_bad (number_words (words line.now))) }
+    ensures bad { IsErrOf result LineKind.BadNumber →
+        IsTrue (list_any is_bad (number_words (words line.now))) }
     ensures form { IsErrOf result LineKind.BadLine → ⊥ }
 {
     let Ok(mut all) = Vec::with_capacity(alloc, line.len() / 4 + 4) else {

@@ -1,7 +1,9 @@
 //! The text of a proof log.
-ghost use Rattle.std.specs.Prelude.{◌≡◌, ◌<◌, ◌^◌, ◌++◌, ◌∷◌, [], All, IfOk, OnOk, string_bytes, map, decimal, codes};
+ghost use Rattle.std.specs.Prelude.{◌≡◌, ◌<◌, ◌^◌, ◌++◌, ◌∷◌, [], All, IfOk, OnOk, string_bytes};
+ghost use Rattle.std.specs.Prelude.{map, decimal, codes};
 ghost use Rattle.std.specs.Fmt.{signed_decimal};
-ghost use Rattle.proof_log.specs.Texts.{before_spaces, HasLine, literal_text, log_text, step_text, last_added};
+ghost use Rattle.proof_log.specs.Texts.{before_spaces, HasLine, literal_text, log_text, step_text};
+ghost use Rattle.proof_log.specs.Texts.{last_added};
 
 use crate::steps::{Log, Step};
 use arc_base::Memory;
@@ -11,7 +13,8 @@ use std::fmt::Write;
 
 /// Writes a literal and a space.
 fn push_literal(text: &mut String, lit: Lit) -> Result<(), Memory>
-    ensures { OnOk result (string_bytes text.new ≡ string_bytes text.old ++ (literal_text lit ++ 32 ∷ [])) }
+    ensures { OnOk result
+        (string_bytes text.new ≡ string_bytes text.old ++ (literal_text lit ++ 32 ∷ [])) }
 {
     let written = if lit.positive() {
         write!(text, "{} ", lit.var())
@@ -23,7 +26,8 @@ fn push_literal(text: &mut String, lit: Lit) -> Result<(), Memory>
 
 /// Writes literals, each with a space behind it.
 fn push_literals(text: &mut String, lits: &[Lit]) -> Result<(), Memory>
-    ensures { OnOk result (string_bytes text.new ≡ string_bytes text.old ++ before_spaces (map literal_text lits.now)) }
+    ensures { OnOk result (string_bytes text.new ≡ string_bytes text.old ++
+        before_spaces (map literal_text lits.now)) }
 {
     for lit in lits {
         push_literal(text, *lit)?;
@@ -33,7 +37,8 @@ fn push_literals(text: &mut String, lits: &[Lit]) -> Result<(), Memory>
 
 /// Writes hints, each with a space behind it.
 fn push_hints(text: &mut String, hints: &[i64]) -> Result<(), Memory>
-    ensures { OnOk result (string_bytes text.new ≡ string_bytes text.old ++ before_spaces (map signed_decimal hints.now)) }
+    ensures { OnOk result (string_bytes text.new ≡ string_bytes text.old ++
+        before_spaces (map signed_decimal hints.now)) }
 {
     for hint in hints {
         write!(text, "{hint} ").map_err(|_| Memory)?;
@@ -43,7 +48,8 @@ fn push_hints(text: &mut String, hints: &[i64]) -> Result<(), Memory>
 
 /// Writes ids, each with a space behind it.
 fn push_ids(text: &mut String, ids: &[u64]) -> Result<(), Memory>
-    ensures { OnOk result (string_bytes text.new ≡ string_bytes text.old ++ before_spaces (map decimal ids.now)) }
+    ensures { OnOk result
+        (string_bytes text.new ≡ string_bytes text.old ++ before_spaces (map decimal ids.now)) }
 {
     for id in ids {
         write!(text, "{id} ").map_err(|_| Memory)?;
@@ -54,7 +60,8 @@ fn push_ids(text: &mut String, ids: &[u64]) -> Result<(), Memory>
 /// Writes the line of a step that adds a clause.
 fn push_add(text: &mut String, id: u64, lits: &[Lit], hints: &[i64]) -> Result<(), Memory>
     ensures { OnOk result (string_bytes text.new ≡ string_bytes text.old
-        ++ (decimal id ++ codes " " ++ before_spaces (map literal_text lits.now) ++ codes "0 " ++ before_spaces (map signed_decimal hints.now) ++ codes "0\n")) }
+        ++ (decimal id ++ codes " " ++ before_spaces (map literal_text lits.now) ++ codes "0 "
+        ++ before_spaces (map signed_decimal hints.now) ++ codes "0\n")) }
 {
     write!(text, "{id} ").map_err(|_| Memory)?;
     push_literals(text, lits)?;
@@ -75,9 +82,11 @@ fn push_drop(text: &mut String, last: u64, ids: &[u64]) -> Result<(), Memory>
     Ok(())
 }
 
-/// Writes the line of a step, and gives the id of the last clause added then. `last` is that before the step.
+/// Writes the line of a step, and gives the id of the last clause added then. `last` is that before
+/// the step.
 fn push_step(text: &mut String, last: u64, step: &Step) -> Result<u64, Memory>
-    ensures text { OnOk result (string_bytes text.new ≡ string_bytes text.old ++ (step_text last step.now ++ 10 ∷ [])) }
+    ensures text { OnOk result
+        (string_bytes text.new ≡ string_bytes text.old ++ (step_text last step.now ++ 10 ∷ [])) }
     ensures last { IfOk result (λ id. id ≡ last_added last step.now) }
 {
     match step {
@@ -96,8 +105,8 @@ fn push_step(text: &mut String, last: u64, step: &Step) -> Result<u64, Memory>
     }
 }
 
-/// The text of a log: a line for each step, with single spaces and no comments. The number before the `d` of a drop
-/// is the id of the last clause added before it, or 0.
+/// The text of a log: a line for each step, with single spaces and no comments. The number before
+/// the `d` of a drop is the id of the last clause added before it, or 0.
 pub fn text(alloc: Global, log: &Log) -> Result<Vec<u8>, Memory>
     ensures { IfOk result (λ text. text.items ≡ log_text log.now) }
 {

@@ -30,9 +30,10 @@ impl From<Memory> for LineKind {
     }
 }
 
-/// The step that a line of a proof log writes, or `None` for a comment, which begins with `c`, or an empty line. The
-/// line stands without its line feed; a carriage return may end it. Lines are `ID LITS.. 0 HINTS.. 0`,
-/// `NUM d IDS.. 0` and `ID b W 0`, with ids from 1 to 2^63 - 1, NUM from 0, and W below 2^32.
+/// The step that a line of a proof log writes, or `None` for a comment, which begins with `c`, or
+/// an empty line. The line stands without its line feed; a carriage return may end it. Lines are
+/// `ID LITS.. 0 HINTS.. 0`, `NUM d IDS.. 0` and `ID b W 0`, with ids from 1 to 2^63 - 1, NUM from
+/// 0, and W below 2^32.
 #[tactic(auto, unfolding(crate::specs::Reading::reading))]
 pub fn step(alloc: Global, line: &[u8]) -> Result<Option<Step>, LineKind>
     ensures step { IfOk result (λ s. reading line.now ≡ Ok s) }

@@ -4,8 +4,8 @@ use cnf_types::Lit;
 /// A step of a proof log.
 #[derive(Debug, Drop)]
 pub enum Step {
-    /// A new clause with its id. A positive hint is the id of a clause; a negative one belongs to RAT steps, which
-    /// are not accepted.
+    /// A new clause with its id. A positive hint is the id of a clause; a negative one belongs to
+    /// RAT steps, which are not accepted.
     Add {
         id: u64,
         lits: List<Lit>,

@@ -1,5 +1,7 @@
--- A command that judges one more policy beside those of the document: it goes from the one prefix of the words to the other, and stands at the end of their list.
-use Rattle.std.specs.Prelude.{◌≡◌, ◌⊎◌, ◌<◌, ◌-◌, ℕ, List, [], ◌∷◌, ◌++◌, length, slice_get, Some, Result, Ok, Err}
+-- A command that judges one more policy beside those of the document: it goes from the one prefix
+-- of the words to the other, and stands at the end of their list.
+use Rattle.std.specs.Prelude.{◌≡◌, ◌⊎◌, ◌<◌, ◌-◌, ℕ, List, [], ◌∷◌, ◌++◌, length, slice_get, Some}
+use Rattle.std.specs.Prelude.{Result, Ok, Err}
 use Rattle.arc_base.specs.declared.prefix.Prefix.{Prefix}
 use Rattle.arc_base.specs.declared.refusal.Kind.TheVariants.{Endpoint, Limit}
 use Rattle.arc_base.specs.declared.refusal.LimitKind.TheVariants.{Classes}
@@ -20,8 +22,10 @@ use Rattle.run_files.specs.Refusals.{refusal_of}
 abbrev pub judged : Document → Policy → List Policy
 judged doc policy = doc.policies ++ policy ∷ []
 
--- the document and its files have a network, and the policy's prefixes do not lie in two different host networks of it
-pub record RefusesEnds (document : List ℕ) (policy : Policy) (files : Files) (r : FileRefusal) : Type 0 where
+-- the document and its files have a network, and the policy's prefixes do not lie in two different
+-- host networks of it
+pub record RefusesEnds (document : List ℕ) (policy : Policy) (files : Files)
+    (r : FileRefusal) : Type 0 where
   pub doc : Document
   pub net : Network
   pub input : HoldsInput Judging [] document files doc net
@@ -29,7 +33,8 @@ pub record RefusesEnds (document : List ℕ) (policy : Policy) (files : Files) (
   pub told : r ≡ refusal_of document 0 Endpoint
 
 -- with the policy the document's policies have too many classes
-pub record RefusesClassesWith (document : List ℕ) (policy : Policy) (files : Files) (r : FileRefusal) : Type 0 where
+pub record RefusesClassesWith (document : List ℕ) (policy : Policy) (files : Files)
+    (r : FileRefusal) : Type 0 where
   pub doc : Document
   pub net : Network
   pub input : HoldsInput Judging [] document files doc net
@@ -40,8 +45,10 @@ pub record RefusesClassesWith (document : List ℕ) (policy : Policy) (files : F
 
 -- the policies with this one at their end, or the refusal of its prefixes
 abbrev pub AddsPolicy : List ℕ → Network → List Policy → Policy → Result (List Policy) Stop → Type 0
-AddsPolicy document net policies policy (Ok judged) = HasEndpoints net policy.from policy.to × (judged ≡ policies ++ policy ∷ [])
-AddsPolicy document net policies policy (Err (stops.Refused r)) = (¬ HasEndpoints net policy.from policy.to) × (r ≡ refusal_of document 0 Endpoint)
+AddsPolicy document net policies policy (Ok judged) =
+    HasEndpoints net policy.from policy.to × (judged ≡ policies ++ policy ∷ [])
+AddsPolicy document net policies policy (Err (stops.Refused r)) =
+    (¬ HasEndpoints net policy.from policy.to) × (r ≡ refusal_of document 0 Endpoint)
 AddsPolicy document net policies policy (Err stops.Memory) = Unit {0}
 AddsPolicy document net policies policy (Err stops.Failed) = ⊥
 

@@ -23,13 +23,20 @@ use Rattle.reach_commands.specs.Added.{judged, RefusesEnds, RefusesClassesWith}
 
 -- the policy that the words make, of all services: reach under at most so many failed routers
 abbrev pub nodes_policy : NodesWords → Policy
-nodes_policy words = record { kind = Reach words.failures; from = words.from; to = words.to; service = whole_service }
+nodes_policy words = record {
+  kind = Reach words.failures;
+  from = words.from;
+  to = words.to;
+  service = whole_service;
+}
 
--- The first refusal: of the input; that the prefixes do not lie in two different host networks; or that there are too many classes.
+-- The first refusal: of the input; that the prefixes do not lie in two different host networks; or
+-- that there are too many classes.
 abbrev pub IsNodesRefusal : NodesWords → Files → FileRefusal → Type 0
 IsNodesRefusal words files r =
     IsInputRefusal Judging [] words.document files r ⊎
-    (RefusesEnds words.document (nodes_policy words) files r ⊎ RefusesClassesWith words.document (nodes_policy words) files r)
+    (RefusesEnds words.document (nodes_policy words) files r ⊎
+    RefusesClassesWith words.document (nodes_policy words) files r)
 
 -- 0 for a yes, and else 1
 abbrev pub nodes_status : NodeVerdict → ℕ
@@ -50,7 +57,8 @@ pub record IsNodesAnswer (words : NodesWords) (files : Files) (done : Done) : Ty
   pub writes : done.writes ≡ []
   pub status : done.status ≡ nodes_status verdict
 
--- the input has a network with these ends and not too many classes, which meets the policy whichever so many routers fail
+-- the input has a network with these ends and not too many classes, which meets the policy
+-- whichever so many routers fail
 pub record NodesSayYes (words : NodesWords) (files : Files) : Type 0 where
   pub doc : Document
   pub net : Network
@@ -59,7 +67,8 @@ pub record NodesSayYes (words : NodesWords) (files : Files) : Type 0 where
   pub classes : HasFewClasses net (judged doc (nodes_policy words))
   pub meets : MeetsPast net (nodes_policy words)
 
--- it has such a network, which does not: some packet is stuck once some of so many routers fail, or the policy is not clear
+-- it has such a network, which does not: some packet is stuck once some of so many routers fail, or
+-- the policy is not clear
 pub record NodesSayNo (words : NodesWords) (files : Files) : Type 0 where
   pub doc : Document
   pub net : Network

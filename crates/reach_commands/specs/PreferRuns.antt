@@ -1,5 +1,6 @@
 -- The command `prefers DOC FROM TO ROUTERS`.
-use Rattle.std.specs.Prelude.{◌≡◌, ◌↔◌, ◌⊎◌, ℕ, ◌+◌, ◌<◌, List, [], Option, Some, None, MatchOption, IfSome, slice_get, Result, Ok, Err}
+use Rattle.std.specs.Prelude.{◌≡◌, ◌↔◌, ◌⊎◌, ℕ, ◌+◌, ◌<◌, List, [], Option, Some, None, MatchOption}
+use Rattle.std.specs.Prelude.{IfSome, slice_get, Result, Ok, Err}
 use Rattle.std.specs.List.{AllZip}
 use Rattle.arc_base.specs.declared.place.Router.{Router}
 use Rattle.arc_base.specs.declared.refusal.Kind.TheVariants.{UnknownRouter}
@@ -30,7 +31,8 @@ use Rattle.reach_commands.specs.Added.{judged, RefusesEnds, RefusesClassesWith}
 
 -- the policy that the words make, of which only the prefixes count
 abbrev pub prefers_policy : PrefersWords → Policy
-prefers_policy words = record { kind = Reach 0; from = words.from; to = words.to; service = whole_service }
+prefers_policy words =
+    record { kind = Reach 0; from = words.from; to = words.to; service = whole_service }
 
 -- the router of the network has this name
 abbrev pub IsNamed : Network → List ℕ → Router → Type 0
@@ -45,7 +47,8 @@ pub record IsFirstUnknown (net : Network) (names : List (List ℕ)) (place : ℕ
   pub name : List ℕ
   pub at_place : slice_get names place ≡ Some name
   pub unknown : IsUnknown net name
-  pub before : (k : ℕ) (other : List ℕ) → k < place → slice_get names k ≡ Some other → (router : Router) × IsNamed net other router
+  pub before : (k : ℕ) (other : List ℕ) → k < place → slice_get names k ≡ Some other →
+      (router : Router) × IsNamed net other router
 
 -- these are the routers of the names, one for each in order
 abbrev pub AreNamed : Network → List (List ℕ) → List Router → Type 0
@@ -62,16 +65,19 @@ pub record RefusesRouter (words : PrefersWords) (files : Files) (r : FileRefusal
   pub told : r ≡ refusal_of words.document (place + 1) UnknownRouter
 
 -- each name is a router's, and there are too many classes
-pub record RefusesPreferClasses (words : PrefersWords) (files : Files) (r : FileRefusal) : Type 0 where
+pub record RefusesPreferClasses (words : PrefersWords) (files : Files)
+    (r : FileRefusal) : Type 0 where
   pub many : RefusesClassesWith words.document (prefers_policy words) files r
   pub wanted : List Router
   pub named : AreNamed many.net words.routers wanted
 
--- The first refusal: of the input; that the prefixes do not lie in two different host networks; that a name is no router's; or that there are too many classes.
+-- The first refusal: of the input; that the prefixes do not lie in two different host networks;
+-- that a name is no router's; or that there are too many classes.
 abbrev pub IsPrefersRefusal : PrefersWords → Files → FileRefusal → Type 0
 IsPrefersRefusal words files r =
     IsInputRefusal Judging [] words.document files r ⊎
-    (RefusesEnds words.document (prefers_policy words) files r ⊎ (RefusesRouter words files r ⊎ RefusesPreferClasses words files r))
+    (RefusesEnds words.document (prefers_policy words) files r ⊎
+    (RefusesRouter words files r ⊎ RefusesPreferClasses words files r))
 
 -- 0 where there is no fault, and else 1
 abbrev pub prefers_status : Option Stray → ℕ
@@ -90,12 +96,14 @@ pub record IsPrefersAnswer (words : PrefersWords) (files : Files) (done : Done) 
   pub classes : HasFewClasses net (judged doc (prefers_policy words))
   pub answer : Preferred
   pub right : IsRightPreferred net (prefers_policy words) wanted answer
-  pub first : IfSome answer.fault (IsOfFirstClass net (judged doc (prefers_policy words)) (prefers_policy words) wanted)
+  pub first : IfSome answer.fault
+      (IsOfFirstClass net (judged doc (prefers_policy words)) (prefers_policy words) wanted)
   pub text : done.text ≡ prefers_text net answer
   pub writes : done.writes ≡ []
   pub status : done.status ≡ prefers_status answer.fault
 
--- the input has a network with these ends and routers and not too many classes, which prefers the list
+-- the input has a network with these ends and routers and not too many classes, which prefers the
+-- list
 pub record PrefersSaysYes (words : PrefersWords) (files : Files) : Type 0 where
   pub doc : Document
   pub net : Network
@@ -132,6 +140,8 @@ pub record TellsPrefers (words : PrefersWords) (status : ℕ) (files : Files) : 
 -- what looking for the routers of the names answers
 abbrev pub FindsRouters : List ℕ → Network → List (List ℕ) → Result (List Router) Stop → Type 0
 FindsRouters document net names (Ok wanted) = AreNamed net names wanted
-FindsRouters document net names (Err (stops.Refused r)) = (place : ℕ) × IsFirstUnknown net names place × (r ≡ refusal_of document (place + 1) UnknownRouter)
+FindsRouters document net names (Err (stops.Refused r)) =
+    (place : ℕ) × IsFirstUnknown net names place ×
+    (r ≡ refusal_of document (place + 1) UnknownRouter)
 FindsRouters document net names (Err stops.Memory) = Unit {0}
 FindsRouters document net names (Err stops.Failed) = ⊥

@@ -1,5 +1,6 @@
 -- The command `recheck DOC REPORT`.
-use Rattle.std.specs.Prelude.{◌≡◌, ◌↔◌, ◌⊎◌, ℕ, List, [], Option, Some, None, if◌then◌else◌, length, slice_get, IsSomeAnd}
+use Rattle.std.specs.Prelude.{◌≡◌, ◌↔◌, ◌⊎◌, ℕ, List, [], Option, Some, None, if◌then◌else◌, length}
+use Rattle.std.specs.Prelude.{slice_get, IsSomeAnd}
 use Rattle.std.specs.List.{AllZip, list_all}
 use Rattle.arc_base.specs.declared.place.Link.{Link}
 use Rattle.arc_outside.specs.Files.{Files}
@@ -34,24 +35,30 @@ pub record RefusesReport (words : RecheckWords) (files : Files) (r : FileRefusal
   pub refused : read_refusal proof_limit files words.report ≡ Some r
 
 -- the old report is held, and the router files, their network or its classes are refused
-pub record RefusesBehindReport (words : RecheckWords) (files : Files) (r : FileRefusal) : Type 0 where
+pub record RefusesBehindReport (words : RecheckWords) (files : Files)
+    (r : FileRefusal) : Type 0 where
   pub held : read_refusal proof_limit files words.report ≡ None
-  pub refused : IsFilesRefusal Judging [] words.document files r ⊎ RefusesClasses Judging words.document files r
+  pub refused : IsFilesRefusal Judging [] words.document files r ⊎
+      RefusesClasses Judging words.document files r
 
--- The first refusal: of the document; of the old report's file; of the router files and their network; or that there are too many classes.
+-- The first refusal: of the document; of the old report's file; of the router files and their
+-- network; or that there are too many classes.
 abbrev pub IsRecheckRefusal : RecheckWords → Files → FileRefusal → Type 0
 IsRecheckRefusal words files r =
     (read_refusal document_limit files words.document ≡ Some r) ⊎
-    (RefusesDocument words.document files r ⊎ (RefusesReport words files r ⊎ RefusesBehindReport words files r))
+    (RefusesDocument words.document files r ⊎
+    (RefusesReport words files r ⊎ RefusesBehindReport words files r))
 
 -- the verdicts of the blocks that the old report holds, from that of the first policy on
 abbrev pub held_of : Network → Document → List ℕ → List Verdict
 held_of net doc text = held_verdicts (answers net doc [] start (lines text))
 
 -- one recheck for each policy in order, against the block that is held for it
-pub record AreRechecked (net : Network) (policies : List Policy) (held : List Verdict) (rechecked : List Rechecked) : Type 0 where
+pub record AreRechecked (net : Network) (policies : List Policy) (held : List Verdict)
+    (rechecked : List Rechecked) : Type 0 where
   pub count : length rechecked ≡ length policies
-  pub each : (k : ℕ) (policy : Policy) → slice_get policies k ≡ Some policy → IsSomeAnd (slice_get rechecked k) (IsRechecked net policies policy (slice_get held k))
+  pub each : (k : ℕ) (policy : Policy) → slice_get policies k ≡ Some policy →
+      IsSomeAnd (slice_get rechecked k) (IsRechecked net policies policy (slice_get held k))
 
 -- 0 where each verdict is a yes, and else 1
 abbrev pub rechecked_status : List Rechecked → ℕ
@@ -66,14 +73,16 @@ pub record IsRecheckAnswer (words : RecheckWords) (files : Files) (done : Done) 
   pub held : read_refusal proof_limit files words.report ≡ None
   pub classes : HasFewClasses net doc.policies
   pub rechecked : List Rechecked
-  pub are_rechecked : AreRechecked net doc.policies (held_of net doc (bytes_at files words.report)) rechecked
+  pub are_rechecked :
+      AreRechecked net doc.policies (held_of net doc (bytes_at files words.report)) rechecked
   pub alone : List (Option (List Link))
   pub are_alone : AllZip (IsAloneAnswer net) doc.policies alone
   pub text : done.text ≡ recheck_text net doc.policies rechecked alone
   pub writes : done.writes ≡ []
   pub status : done.status ≡ rechecked_status rechecked
 
--- the input has a network and not too many classes, the old report can be read, and the network meets every policy
+-- the input has a network and not too many classes, the old report can be read, and the network
+-- meets every policy
 pub record RecheckSaysYes (words : RecheckWords) (files : Files) : Type 0 where
   pub doc : Document
   pub net : Network
@@ -96,7 +105,8 @@ pub record RecheckIsRefused (words : RecheckWords) (files : Files) : Type 0 wher
   pub refusal : FileRefusal
   pub refused : IsRecheckRefusal words files refusal
 
--- Which of the three it is, the status tells: 0 for yes, 1 for no, and 5 for refused. Whatever the old report holds, it is that of `verify`.
+-- Which of the three it is, the status tells: 0 for yes, 1 for no, and 5 for refused. Whatever the
+-- old report holds, it is that of `verify`.
 pub record TellsRecheck (words : RecheckWords) (status : ℕ) (files : Files) : Type 0 where
   pub yes_exactly : (status ≡ 0) ↔ RecheckSaysYes words files
   pub no_exactly : (status ≡ 1) ↔ RecheckSaysNo words files

@@ -11,7 +11,8 @@ use net_model::{Network, Policy};
 use run_files::{Stop, refused};
 use std::alloc::Global;
 
-/// The policies with one more at their end. The document is refused where that does not go from one host network to another.
+/// The policies with one more at their end. The document is refused where that does not go from one
+/// host network to another.
 pub(crate) fn with_policy(
     alloc: Global,
     document: &Name,

@@ -9,7 +9,8 @@ ghost use Rattle.run_inputs.specs.Counts.{HasFewClasses};
 ghost use Rattle.run_files.specs.Answers.{Answers, IsJudging, OnlyReads};
 ghost use Rattle.run_files.specs.Limits.{least_limit};
 ghost use Rattle.reach_commands.specs.Added.{IsLast};
-ghost use Rattle.reach_commands.specs.PreferRuns.{prefers_policy, prefers_status, IsPrefersRefusal, IsPrefersAnswer};
+ghost use Rattle.reach_commands.specs.PreferRuns.{prefers_policy, prefers_status, IsPrefersRefusal};
+ghost use Rattle.reach_commands.specs.PreferRuns.{IsPrefersAnswer};
 
 use crate::added::with_policy;
 use crate::routers::routers_named;
@@ -35,7 +36,8 @@ fn policy_of(words: &PrefersWords) -> Policy
     }
 }
 
-/// The answer for the policy, which is the last. All classes are few, and no policy has more than all of them.
+/// The answer for the policy, which is the last. All classes are few, and no policy has more than
+/// all of them.
 fn answer_last(
     alloc: Global,
     net: &Network,
@@ -48,7 +50,8 @@ fn answer_last(
     requires ends { HasEnds net.now (subject policy) }
     requires few { HasFewClasses net.now policies.now }
     ensures right { IfOk result (IsRightPreferred net.now policy wanted.now) }
-    ensures first { IfOk result (λ a. IfSome a.fault (IsOfFirstClass net.now policies.now policy wanted.now)) }
+    ensures first { IfOk result (λ a.
+        IfSome a.fault (IsOfFirstClass net.now policies.now policy wanted.now)) }
 {
     let last = policies.len() - 1;
     match arc_prefer::prefers(alloc, net, policies, last, wanted) {
@@ -69,11 +72,14 @@ fn status_of(answer: &Preferred) -> u8
     }
 }
 
-/// Judges whether, with all links up, the packets from the one prefix to the other go by exactly these routers, and tells the
-/// answer with its distances and, where it is a no, what goes another way.
+/// Judges whether, with all links up, the packets from the one prefix to the other go by exactly
+/// these routers, and tells the answer with its distances and, where it is a no, what goes another
+/// way.
 pub fn prefers<S: Store>(alloc: Global, words: &PrefersWords, store: &mut S) -> Result<Done, Stop>
-    ensures answer { Answers IsJudging (IsPrefersRefusal words.now) (IsPrefersAnswer words.now) (S.held store.old) result }
-    ensures reads { OnlyReads least_limit S.held S.faults S.absences S.taken store.old store.new result }
+    ensures answer { Answers IsJudging (IsPrefersRefusal words.now) (IsPrefersAnswer words.now)
+        (S.held store.old) result }
+    ensures reads { OnlyReads least_limit S.held S.faults S.absences S.taken
+        store.old store.new result }
 {
     let policy = policy_of(words);
     let input = read_input(alloc, &words.document, &[], Limits::Judging, store)?;

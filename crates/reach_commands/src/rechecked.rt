@@ -7,7 +7,8 @@ ghost use Rattle.run_inputs.specs.Counts.{HasFewClasses};
 ghost use Rattle.run_inputs.specs.Inputs.{IsFit};
 ghost use Rattle.run_files.specs.Answers.{Answers, IsJudging, OnlyReads};
 ghost use Rattle.run_files.specs.Limits.{least_limit};
-ghost use Rattle.reach_commands.specs.RecheckRuns.{AreRechecked, rechecked_status, IsRecheckRefusal, IsRecheckAnswer};
+ghost use Rattle.reach_commands.specs.RecheckRuns.{AreRechecked, rechecked_status};
+ghost use Rattle.reach_commands.specs.RecheckRuns.{IsRecheckRefusal, IsRecheckAnswer};
 
 use arc_base::{Link, List, Memory, Name};
 use arc_outside::Store;
@@ -19,8 +20,8 @@ use run_inputs::{Input, count_classes, read_document, read_files};
 use std::alloc::Global;
 use verdicts::JudgeFault;
 
-/// Rechecks each policy in order against the block that is held for it. All classes are few, and no policy has more than all of
-/// them.
+/// Rechecks each policy in order against the block that is held for it. All classes are few, and no
+/// policy has more than all of them.
 fn recheck_all(
     alloc: Global,
     input: &Input,
@@ -81,11 +82,14 @@ fn are_all_yes(rechecked: &[Rechecked]) -> bool
     rechecked.iter().all(|one| is_yes(&one.verdict))
 }
 
-/// Rechecks an old report over the document and the router files as they are now: keeps each verdict whose witness is still
-/// right, gives the others anew, and tells for each reach policy that holds the links whose failure alone breaks it.
+/// Rechecks an old report over the document and the router files as they are now: keeps each
+/// verdict whose witness is still right, gives the others anew, and tells for each reach policy
+/// that holds the links whose failure alone breaks it.
 pub fn recheck<S: Store>(alloc: Global, words: &RecheckWords, store: &mut S) -> Result<Done, Stop>
-    ensures answer { Answers IsJudging (IsRecheckRefusal words.now) (IsRecheckAnswer words.now) (S.held store.old) result }
-    ensures reads { OnlyReads least_limit S.held S.faults S.absences S.taken store.old store.new result }
+    ensures answer { Answers IsJudging (IsRecheckRefusal words.now) (IsRecheckAnswer words.now)
+        (S.held store.old) result }
+    ensures reads { OnlyReads least_limit S.held S.faults S.absences S.taken
+        store.old store.new result }
 {
     let doc = read_document(alloc, &words.document, store)?;
     let bytes = read_file(alloc, store, &words.report, PROOF_LIMIT)?;

@@ -10,7 +10,8 @@ ghost use Rattle.run_inputs.specs.Counts.{HasFewClasses};
 ghost use Rattle.run_files.specs.Answers.{Answers, IsJudging, OnlyReads};
 ghost use Rattle.run_files.specs.Limits.{least_limit};
 ghost use Rattle.reach_commands.specs.Added.{IsLast};
-ghost use Rattle.reach_commands.specs.Nodes.{nodes_policy, nodes_status, IsNodesRefusal, IsNodesAnswer};
+ghost use Rattle.reach_commands.specs.Nodes.{nodes_policy, nodes_status, IsNodesRefusal};
+ghost use Rattle.reach_commands.specs.Nodes.{IsNodesAnswer};
 
 use crate::added::with_policy;
 use arc_base::{List, Memory, Name};
@@ -35,7 +36,8 @@ fn policy_of(words: &NodesWords) -> Policy
     }
 }
 
-/// The verdict on the policy, which is the last. All classes are few, and no policy has more than all of them.
+/// The verdict on the policy, which is the last. All classes are few, and no policy has more than
+/// all of them.
 fn judge_last(
     alloc: Global,
     net: &Network,
@@ -69,12 +71,14 @@ fn status_of(verdict: &NodeVerdict) -> u8
     }
 }
 
-/// Judges whether the packets from the one prefix to the other reach it whichever so many routers fail beside their ends, and
-/// tells the verdict with its witness.
+/// Judges whether the packets from the one prefix to the other reach it whichever so many routers
+/// fail beside their ends, and tells the verdict with its witness.
 pub fn nodes<S: Store>(alloc: Global, words: &NodesWords, store: &mut S) -> Result<Done, Stop>
     requires few { words.now.failures ≤ 16 }
-    ensures answer { Answers IsJudging (IsNodesRefusal words.now) (IsNodesAnswer words.now) (S.held store.old) result }
-    ensures reads { OnlyReads least_limit S.held S.faults S.absences S.taken store.old store.new result }
+    ensures answer { Answers IsJudging (IsNodesRefusal words.now) (IsNodesAnswer words.now)
+        (S.held store.old) result }
+    ensures reads { OnlyReads least_limit S.held S.faults S.absences S.taken
+        store.old store.new result }
 {
     let policy = policy_of(words);
     let input = read_input(alloc, &words.document, &[], Limits::Judging, store)?;

@@ -30,7 +30,8 @@ fn is_named(net: &Network, name: &[u8], place: u32) -> bool
     }
 }
 
-/// The routers of these names in order. The first name that no router has is refused, by its place from 1.
+/// The routers of these names in order. The first name that no router has is refused, by its place
+/// from 1.
 pub(crate) fn routers_named(
     alloc: Global,
     document: &Name,
@@ -52,7 +53,8 @@ pub(crate) fn routers_named(
 /// The router of the name at this place, if there is one.
 fn named_at(net: &Network, names: &List<Name>, place: u32) -> Option<Router>
     requires { place < length names.now }
-    ensures some { IfSome result (λ router. IfSome (slice_get names.now place) (λ name. IsNamed net.now name router)) }
+    ensures some { IfSome result (λ router.
+        IfSome (slice_get names.now place) (λ name. IsNamed net.now name router)) }
     ensures none { IfNone result (IfSome (slice_get names.now place) (IsUnknown net.now)) }
 {
     match names.get(place) {

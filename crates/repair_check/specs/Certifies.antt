@@ -29,9 +29,10 @@ use Rattle.arc_repair.specs.Answers.{ClaimsFew}
 use Rattle.arc_repair.specs.Claims.{IsCertificate, IsTrueClaim, claim_bound}
 use Rattle.repair_check.specs.Outcomes.{Answers, IsOutcome}
 
--- the text is a certificate of this claim: its lines are those of the claim's text with a log between its two lines, and that log
--- shows the claim
-pub record Certifies (net : Network) (doc : Document) (list : List Edit) (claim : Claim) (text : List ℕ) : Type 0 where
+-- the text is a certificate of this claim: its lines are those of the claim's text with a log
+-- between its two lines, and that log shows the claim
+pub record Certifies (net : Network) (doc : Document) (list : List Edit) (claim : Claim)
+    (text : List ℕ) : Type 0 where
   pub told : List Told
   pub is_text : texts.IsCertificate net doc list claim told (lines text)
   pub certificate : IsCertificate net doc list claim (filter_map (λ t. t) told)
@@ -42,24 +43,33 @@ IsCertified net doc list text = (claim : Claim) × Certifies net doc list claim 
 
 -- the judgement of a text tells exactly whether it is a certificate
 abbrev pub CertificatesAreAccepted : Type 0
-CertificatesAreAccepted = (net : Network) (doc : Document) (list : List Edit) (text : List ℕ) (o : Outcome) → IsValid net → IsCountable net → HasAddresses net →
-    AreEdits net doc list → length doc.policies ≤ 4294967295 → IsOutcome net doc list text o → (o ≡ Accepted) ↔ IsCertified net doc list text
+CertificatesAreAccepted =
+    (net : Network) (doc : Document) (list : List Edit) (text : List ℕ) (o : Outcome) →
+    IsValid net → IsCountable net → HasAddresses net →
+    AreEdits net doc list → length doc.policies ≤ 4294967295 → IsOutcome net doc list text o →
+    (o ≡ Accepted) ↔ IsCertified net doc list text
 
 -- and of what has a certificate each claim is true
 abbrev pub CertifiedClaimsAreTrue : Type 0
-CertifiedClaimsAreTrue = (net : Network) (doc : Document) (list : List Edit) (text : List ℕ) (claim : Claim) → IsValid net → IsCountable net →
+CertifiedClaimsAreTrue =
+    (net : Network) (doc : Document) (list : List Edit) (text : List ℕ) (claim : Claim) →
+    IsValid net → IsCountable net →
     AreEdits net doc list → Certifies net doc list claim text → IsTrueClaim net doc list claim
 
--- what is written for a claim and a log that shows it is a certificate of the claim, where each verdict shows few sides or paths
+-- what is written for a claim and a log that shows it is a certificate of the claim, where each
+-- verdict shows few sides or paths
 abbrev pub WrittenClaimsAreCertified : Type 0
-WrittenClaimsAreCertified = (net : Network) (doc : Document) (list : List Edit) (claim : Claim) (log : Log) → IsCertificate net doc list claim log.steps → ClaimsFew claim →
+WrittenClaimsAreCertified =
+    (net : Network) (doc : Document) (list : List Edit) (claim : Claim) (log : Log) →
+    IsCertificate net doc list claim log.steps → ClaimsFew claim →
     All HasLine log.steps → Certifies net doc list claim (certificate_text net doc list claim log)
 
 -- what is claimed names this bound
 abbrev pub HasBound : ℕ → CertForm → Type 0
 HasBound bound form = ((price : ℕ) × (form ≡ Repaired price bound)) ⊎ (form ≡ NoRepair bound)
 
--- the lines begin with the head of a repair and an answer in its form, with this bound, which is at most 512
+-- the lines begin with the head of a repair and an answer in its form, with this bound, which is at
+-- most 512
 pub record CountsBound (told : Answers) (bound : ℕ) : Type 0 where
   pub few : bound ≤ 512
   pub form : CertForm
@@ -77,11 +87,14 @@ IsCounted net doc list told = (bound : ℕ) → CountsBound told bound → IsWit
 
 -- a certificate of a claim names the claim's bound, so that only for this the formula is counted
 abbrev pub CertificatesNameTheirBound : Type 0
-CertificatesNameTheirBound = (net : Network) (doc : Document) (list : List Edit) (claim : Claim) (text : List ℕ) → IsValid net → HasAddresses net → AreEdits net doc list →
-    length doc.policies ≤ 4294967295 → Certifies net doc list claim text → IsWithin net doc list (claim_bound claim) →
+CertificatesNameTheirBound =
+    (net : Network) (doc : Document) (list : List Edit) (claim : Claim) (text : List ℕ) →
+    IsValid net → HasAddresses net → AreEdits net doc list → length doc.policies ≤ 4294967295 →
+    Certifies net doc list claim text → IsWithin net doc list (claim_bound claim) →
     IsCounted net doc list (text_answers net doc list text)
 
 -- the formula is counted, and passes the limit that the fault names; or memory is wanting
 abbrev pub IsCountFault : Network → Document → List Edit → Answers → EditFault → Type 0
-IsCountFault net doc list told (Limit what count) = (bound : ℕ) × CountsBound told bound × IsFaultOf net doc list bound (Limit what count)
+IsCountFault net doc list told (Limit what count) =
+    (bound : ℕ) × CountsBound told bound × IsFaultOf net doc list bound (Limit what count)
 IsCountFault net doc list told Memory = Unit {0}

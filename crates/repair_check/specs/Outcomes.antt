@@ -1,8 +1,10 @@
--- What the text of a certificate of a repair is judged to, by what a reader answers to its lines. The first line is told that is
--- rejected: one that the reader rejects; the line of the answer where its price is wrong; the first line of a block whose verdict
--- is not right in the network after the edits; a step of the log that is not accepted; the line `end` where something is left
+-- What the text of a certificate of a repair is judged to, by what a reader answers to its lines.
+-- The first line is told that is rejected: one that the reader rejects; the line of the answer
+-- where its price is wrong; the first line of a block whose verdict is not right in the network
+-- after the edits; a step of the log that is not accepted; the line `end` where something is left
 -- to refute; or the line after the last one where the text ends too early.
-use Rattle.std.specs.Prelude.{◌≡◌, ◌⊎◌, ℕ, ◌+◌, ◌<◌, ◌≤◌, ◌==◌, ◌||◌, Bool, true, false, not, List, [], ◌∷◌, length, Some, MatchBool, MatchOption, Result, Ok, Err, set}
+use Rattle.std.specs.Prelude.{◌≡◌, ◌⊎◌, ℕ, ◌+◌, ◌<◌, ◌≤◌, ◌==◌, ◌||◌, Bool, true, false, not, List}
+use Rattle.std.specs.Prelude.{[], ◌∷◌, length, Some, MatchBool, MatchOption, Result, Ok, Err, set}
 use Rattle.arc_base.specs.declared.certificate.CertKind.{CertKind}
 use Rattle.arc_base.specs.declared.certificate.CertKind.TheVariants as kinds
 use Rattle.cnf_types.specs.declared.clauses.Formula.{Formula}
@@ -49,16 +51,19 @@ abbrev pub IsEnded : ℕ → Answers → Outcome → Type 0
 IsEnded number [] o = o ≡ Accepted
 IsEnded number (told ∷ rest) o = o ≡ rejected number kinds.NoEnd
 
--- The outcome by the lines of the log that are left, where the next of them has this number and this is known. At the line `end`
--- the empty clause has to be known, but for a claim with nothing to refute.
+-- The outcome by the lines of the log that are left, where the next of them has this number and
+-- this is known. At the line `end` the empty clause has to be known, but for a claim with nothing
+-- to refute.
 abbrev pub IsLogOutcome : Bool → Knowledge → ℕ → Answers → Outcome → Type 0
 IsLogOutcome needs known number [] o = o ≡ rejected number kinds.NoEnd
 IsLogOutcome needs known number (Err fault ∷ rest) o = o ≡ Rejected fault
 IsLogOutcome needs known number (Ok More ∷ rest) o = IsLogOutcome needs known (number + 1) rest o
 IsLogOutcome needs known number (Ok (Step s) ∷ rest) o =
-    MatchOption (step_fault known s) (IsLogOutcome needs (after known s) (number + 1) rest o) (λ fault. o ≡ rejected number (fault_kind fault))
+    MatchOption (step_fault known s) (IsLogOutcome needs (after known s) (number + 1) rest o)
+    (λ fault. o ≡ rejected number (fault_kind fault))
 IsLogOutcome needs known number (Ok End ∷ rest) o =
-    MatchBool (not needs || known.refuted) (IsEnded (number + 1) rest o) (o ≡ rejected number kinds.NotRefuted)
+    MatchBool (not needs || known.refuted) (IsEnded (number + 1) rest o)
+    (o ≡ rejected number kinds.NotRefuted)
 IsLogOutcome needs known number (Ok other ∷ rest) o = o ≡ rejected number kinds.Form
 
 -- the outcome by the line before the log of a claim that there is no repair, and the lines after it
@@ -68,47 +73,65 @@ IsReadyOutcome known number (Err fault ∷ rest) o = o ≡ Rejected fault
 IsReadyOutcome known number (Ok More ∷ rest) o = IsLogOutcome true known (number + 1) rest o
 IsReadyOutcome known number (Ok other ∷ rest) o = o ≡ rejected number kinds.Form
 
--- The outcome by the lines after the edits, where this is the network after them. So many policies are judged, and the block that
--- the next line belongs to begins at `first`. A line that goes on is one of a block, or, when all policies are judged, that
--- before the log. A verdict that is not right is rejected at the first line of its block.
-abbrev pub IsBlocksOutcome : Network → List Policy → Bool → Knowledge → ℕ → ℕ → ℕ → Answers → Outcome → Type 0
+-- The outcome by the lines after the edits, where this is the network after them. So many policies
+-- are judged, and the block that the next line belongs to begins at `first`. A line that goes on is
+-- one of a block, or, when all policies are judged, that before the log. A verdict that is not
+-- right is rejected at the first line of its block.
+abbrev pub IsBlocksOutcome : Network → List Policy → Bool → Knowledge → ℕ → ℕ → ℕ →
+    Answers → Outcome → Type 0
 IsBlocksOutcome now policies needs known judged first number [] o = o ≡ rejected number kinds.NoEnd
-IsBlocksOutcome now policies needs known judged first number (Err fault ∷ rest) o = o ≡ Rejected fault
+IsBlocksOutcome now policies needs known judged first number (Err fault ∷ rest) o =
+    o ≡ Rejected fault
 IsBlocksOutcome now policies needs known judged first number (Ok More ∷ rest) o =
-    MatchBool (judged == length policies) (IsLogOutcome needs known (number + 1) rest o) (IsBlocksOutcome now policies needs known judged first (number + 1) rest o)
+    MatchBool (judged == length policies) (IsLogOutcome needs known (number + 1) rest o)
+    (IsBlocksOutcome now policies needs known judged first (number + 1) rest o)
 IsBlocksOutcome now policies needs known judged first number (Ok (Verdict which v) ∷ rest) o =
-    (IsRightAt now policies which v × IsBlocksOutcome now policies needs known (which + 1) (number + 1) (number + 1) rest o) ⊎
+    (IsRightAt now policies which v ×
+    IsBlocksOutcome now policies needs known (which + 1) (number + 1) (number + 1) rest o) ⊎
     ((¬ IsRightAt now policies which v) × (o ≡ rejected first kinds.Witness))
-IsBlocksOutcome now policies needs known judged first number (Ok other ∷ rest) o = o ≡ rejected number kinds.Form
+IsBlocksOutcome now policies needs known judged first number (Ok other ∷ rest) o =
+    o ≡ rejected number kinds.Form
 
--- The edits have ended before the line with this number, and their price is right: what follows is judged in the network after
--- them, with the repair formula for the bound and one less than the price as the least bound of the log.
-pub record AfterEdits (net : Network) (doc : Document) (list : List edits.Edit) (price bound : ℕ) (flags : List Bool) (number : ℕ) (told : Answers) (o : Outcome) : Type 0 where
+-- The edits have ended before the line with this number, and their price is right: what follows is
+-- judged in the network after them, with the repair formula for the bound and one less than the
+-- price as the least bound of the log.
+pub record AfterEdits (net : Network) (doc : Document) (list : List edits.Edit) (price bound : ℕ)
+    (flags : List Bool) (number : ℕ) (told : Answers) (o : Outcome) : Type 0 where
   pub priced : ¬ IsMispriced doc list price bound flags
   pub now : Network
   pub is_after : IsAfter net (chosen_of list flags) now
   pub formula : Formula
   pub tops : List Lit
   pub is_formula : IsRepairFormula net doc list bound formula tops
-  pub outcome : IsBlocksOutcome now doc.policies (is_above_zero price) (start formula (least_below price) tops) 0 number number told o
+  pub outcome : IsBlocksOutcome now doc.policies (is_above_zero price)
+      (start formula (least_below price) tops) 0 number number told o
 
--- the outcome where the edits have ended: a price that is wrong is rejected at the line of the answer
-abbrev pub IsEditsEnd : Network → Document → List edits.Edit → ℕ → ℕ → List Bool → ℕ → Answers → Outcome → Type 0
+-- the outcome where the edits have ended: a price that is wrong is rejected at the line of the
+-- answer
+abbrev pub IsEditsEnd : Network → Document → List edits.Edit → ℕ → ℕ → List Bool → ℕ →
+    Answers → Outcome → Type 0
 IsEditsEnd net doc list price bound flags number told o =
-    (IsMispriced doc list price bound flags × (o ≡ rejected 2 kinds.Price)) ⊎ AfterEdits net doc list price bound flags number told o
+    (IsMispriced doc list price bound flags × (o ≡ rejected 2 kinds.Price)) ⊎
+    AfterEdits net doc list price bound flags number told o
 
--- The outcome by the lines after the answer that there is a repair, where these edits are chosen so far. A line whose first word
--- is `edit` is taken as an edit or rejected as one; any other line, or the end of the text, ends the edits before it is judged.
-abbrev pub IsEditsOutcome : Network → Document → List edits.Edit → ℕ → ℕ → List Bool → ℕ → Answers → Outcome → Type 0
-IsEditsOutcome net doc list price bound flags number [] o = IsEditsEnd net doc list price bound flags number [] o
+-- The outcome by the lines after the answer that there is a repair, where these edits are chosen so
+-- far. A line whose first word is `edit` is taken as an edit or rejected as one; any other line, or
+-- the end of the text, ends the edits before it is judged.
+abbrev pub IsEditsOutcome : Network → Document → List edits.Edit → ℕ → ℕ → List Bool → ℕ →
+    Answers → Outcome → Type 0
+IsEditsOutcome net doc list price bound flags number [] o =
+    IsEditsEnd net doc list price bound flags number [] o
 IsEditsOutcome net doc list price bound flags number (Err fault ∷ rest) o =
-    MatchBool (is_edit_kind fault.kind) (o ≡ Rejected fault) (IsEditsEnd net doc list price bound flags number (Err fault ∷ rest) o)
+    MatchBool (is_edit_kind fault.kind) (o ≡ Rejected fault)
+    (IsEditsEnd net doc list price bound flags number (Err fault ∷ rest) o)
 IsEditsOutcome net doc list price bound flags number (Ok (Edit place) ∷ rest) o =
     IsEditsOutcome net doc list price bound (set flags place true) (number + 1) rest o
-IsEditsOutcome net doc list price bound flags number (Ok got ∷ rest) o = IsEditsEnd net doc list price bound flags number (Ok got ∷ rest) o
+IsEditsOutcome net doc list price bound flags number (Ok got ∷ rest) o =
+    IsEditsEnd net doc list price bound flags number (Ok got ∷ rest) o
 
 -- the outcome by the lines after the answer that there is no repair within a bound of at most 512
-pub record AfterNone (net : Network) (doc : Document) (list : List edits.Edit) (bound number : ℕ) (told : Answers) (o : Outcome) : Type 0 where
+pub record AfterNone (net : Network) (doc : Document) (list : List edits.Edit) (bound number : ℕ)
+    (told : Answers) (o : Outcome) : Type 0 where
   pub few : bound ≤ 512
   pub formula : Formula
   pub tops : List Lit
@@ -122,16 +145,19 @@ IsAnswerOutcome net doc list number (Err fault ∷ rest) o = o ≡ Rejected faul
 IsAnswerOutcome net doc list number (Ok (Head (Repaired price bound)) ∷ rest) o =
     IsEditsOutcome net doc list price bound (none_of list) (number + 1) rest o
 IsAnswerOutcome net doc list number (Ok (Head (NoRepair bound)) ∷ rest) o =
-    ((512 < bound) × (o ≡ rejected 2 kinds.Price)) ⊎ AfterNone net doc list bound (number + 1) rest o
+    ((512 < bound) × (o ≡ rejected 2 kinds.Price)) ⊎
+    AfterNone net doc list bound (number + 1) rest o
 IsAnswerOutcome net doc list number (Ok other ∷ rest) o = o ≡ rejected number kinds.Form
 
 -- the outcome by all lines
 abbrev pub IsHeadOutcome : Network → Document → List edits.Edit → ℕ → Answers → Outcome → Type 0
 IsHeadOutcome net doc list number [] o = o ≡ rejected number kinds.NoEnd
 IsHeadOutcome net doc list number (Err fault ∷ rest) o = o ≡ Rejected fault
-IsHeadOutcome net doc list number (Ok More ∷ rest) o = IsAnswerOutcome net doc list (number + 1) rest o
+IsHeadOutcome net doc list number (Ok More ∷ rest) o =
+    IsAnswerOutcome net doc list (number + 1) rest o
 IsHeadOutcome net doc list number (Ok other ∷ rest) o = o ≡ rejected number kinds.Form
 
 -- what a text is judged to
 abbrev pub IsOutcome : Network → Document → List edits.Edit → List ℕ → Outcome → Type 0
-IsOutcome net doc list text o = IsHeadOutcome net doc list 1 (answers net doc list reader.start (lines text)) o
+IsOutcome net doc list text o =
+    IsHeadOutcome net doc list 1 (answers net doc list reader.start (lines text)) o

@@ -1,5 +1,6 @@
 -- The judgement line by line: what the lines so far leave to be judged.
-use Rattle.std.specs.Prelude.{◌≡◌, ℕ, ◌+◌, ◌<◌, ◌≤◌, Bool, true, Option, Some, List, [], ◌∷◌, length, All, MatchOption, Result, Ok, Err, IsFalse}
+use Rattle.std.specs.Prelude.{◌≡◌, ℕ, ◌+◌, ◌<◌, ◌≤◌, Bool, true, Option, Some, List, [], ◌∷◌}
+use Rattle.std.specs.Prelude.{length, All, MatchOption, Result, Ok, Err, IsFalse}
 use Rattle.cnf_types.specs.declared.clauses.Formula.{Formula}
 use Rattle.cnf_types.specs.declared.literal.Lit.{Lit}
 use Rattle.net_model.specs.declared.policies.Document.{Document}
@@ -28,22 +29,30 @@ use Rattle.repair_check.specs.declared.phases.Next.TheVariants.{Line, Done}
 use Rattle.repair_check.specs.declared.phases.Phase.{Phase}
 use Rattle.repair_check.specs.declared.phases.Phase.TheVariants as phases
 use Rattle.repair_check.specs.Certifies.{IsCounted, IsCountFault}
-use Rattle.repair_check.specs.Outcomes.{Answers, is_edit_kind, IsHeadOutcome, IsAnswerOutcome, IsEditsOutcome, IsBlocksOutcome, IsReadyOutcome, IsLogOutcome, IsEnded}
+use Rattle.repair_check.specs.Outcomes.{Answers, is_edit_kind, IsHeadOutcome, IsAnswerOutcome}
+use Rattle.repair_check.specs.Outcomes.{IsEditsOutcome, IsBlocksOutcome, IsReadyOutcome}
+use Rattle.repair_check.specs.Outcomes.{IsLogOutcome, IsEnded}
 
--- the checker stands before the first step of a log, for the repair formula of this bound and this least bound of the log
-pub record IsReady (net : Network) (doc : Document) (list : List Edit) (bound : ℕ) (least : Option ℕ) (checker : Checker) : Type 0 where
+-- the checker stands before the first step of a log, for the repair formula of this bound and this
+-- least bound of the log
+pub record IsReady (net : Network) (doc : Document) (list : List Edit) (bound : ℕ)
+    (least : Option ℕ) (checker : Checker) : Type 0 where
   pub few : bound ≤ 512
   pub formula : Formula
   pub tops : List Lit
   pub is_formula : IsRepairFormula net doc list bound formula tops
   pub knows : known checker ≡ start formula least tops
 
--- the checker is ready for the log of a repair of this price, or there is none where the bound passes 512
+-- the checker is ready for the log of a repair of this price, or there is none where the bound
+-- passes 512
 abbrev pub IsReadyWithin : Network → Document → List Edit → ℕ → ℕ → Option Checker → Type 0
-IsReadyWithin net doc list price bound log = MatchOption log (512 < bound) (IsReady net doc list bound (least_below price))
+IsReadyWithin net doc list price bound log =
+    MatchOption log (512 < bound) (IsReady net doc list bound (least_below price))
 
--- what is judged after the edits: the network after them, in which no policy is judged yet, and the checker before the log
-pub record IsOpened (net : Network) (doc : Document) (list : List Edit) (price bound : ℕ) (flags : List Bool) (number : ℕ) (blocks : Blocks) : Type 0 where
+-- what is judged after the edits: the network after them, in which no policy is judged yet, and the
+-- checker before the log
+pub record IsOpened (net : Network) (doc : Document) (list : List Edit) (price bound : ℕ)
+    (flags : List Bool) (number : ℕ) (blocks : Blocks) : Type 0 where
   pub priced : ¬ IsMispriced doc list price bound flags
   pub is_after : IsAfter net (chosen_of list flags) blocks.now
   pub ready : IsReady net doc list bound (least_below price) blocks.checker
@@ -58,48 +67,65 @@ pub record IsJudgeable (doc : Document) (now : Network) : Type 0 where
 
 -- the phase holds together
 abbrev pub IsGoing : Network → Document → List Edit → Phase → Type 0
-IsGoing net doc list (phases.Edits price bound chosen log) = (length chosen.items ≡ length list) × IsReadyWithin net doc list price bound log
+IsGoing net doc list (phases.Edits price bound chosen log) =
+    (length chosen.items ≡ length list) × IsReadyWithin net doc list price bound log
 IsGoing net doc list (phases.Blocks blocks) = IsJudgeable doc blocks.now
 IsGoing net doc list other = Unit {0}
 
 -- the outcome by the lines that are left, in this phase
 abbrev pub IsBlocksLeft : Document → Blocks → ℕ → Answers → Outcome → Type 0
-IsBlocksLeft doc b number told o = IsBlocksOutcome b.now doc.policies b.needs (known b.checker) b.judged b.first number told o
+IsBlocksLeft doc b number told o =
+    IsBlocksOutcome b.now doc.policies b.needs (known b.checker) b.judged b.first number told o
 
 abbrev pub IsPhaseOutcome : Network → Document → List Edit → Phase → ℕ → Answers → Outcome → Type 0
 IsPhaseOutcome net doc list phases.Head number told o = IsHeadOutcome net doc list number told o
 IsPhaseOutcome net doc list phases.Answer number told o = IsAnswerOutcome net doc list number told o
-IsPhaseOutcome net doc list (phases.Edits price bound chosen log) number told o = IsEditsOutcome net doc list price bound chosen.items number told o
-IsPhaseOutcome net doc list (phases.Blocks blocks) number told o = IsBlocksLeft doc blocks number told o
-IsPhaseOutcome net doc list (phases.Ready checker) number told o = IsReadyOutcome (known checker) number told o
-IsPhaseOutcome net doc list (phases.Log needs checker) number told o = IsLogOutcome needs (known checker) number told o
+IsPhaseOutcome net doc list (phases.Edits price bound chosen log) number told o =
+    IsEditsOutcome net doc list price bound chosen.items number told o
+IsPhaseOutcome net doc list (phases.Blocks blocks) number told o =
+    IsBlocksLeft doc blocks number told o
+IsPhaseOutcome net doc list (phases.Ready checker) number told o =
+    IsReadyOutcome (known checker) number told o
+IsPhaseOutcome net doc list (phases.Log needs checker) number told o =
+    IsLogOutcome needs (known checker) number told o
 IsPhaseOutcome net doc list phases.Ended number told o = IsEnded number told o
 
--- how the lines that are left lie in all lines: the head and the answer are the first two, and behind them the formula is counted
+-- how the lines that are left lie in all lines: the head and the answer are the first two, and
+-- behind them the formula is counted
 abbrev pub IsAt : Network → Document → List Edit → Answers → Phase → Answers → Type 0
 IsAt net doc list all phases.Head rest = all ≡ rest
 IsAt net doc list all phases.Answer rest = all ≡ Ok More ∷ rest
 IsAt net doc list all other rest = IsCounted net doc list all
 
 -- the line leads from the one phase to the other
-pub record Goes (net : Network) (doc : Document) (list : List Edit) (phase : Phase) (number : ℕ) (told : Result Got CertFault) (next : Phase) : Type 0 where
+pub record Goes (net : Network) (doc : Document) (list : List Edit) (phase : Phase) (number : ℕ)
+    (told : Result Got CertFault) (next : Phase) : Type 0 where
   pub going : IsGoing net doc list next
-  pub outcome : (rest : Answers) (o : Outcome) → IsPhaseOutcome net doc list next (number + 1) rest o → IsPhaseOutcome net doc list phase number (told ∷ rest) o
-  pub at : (all rest : Answers) → IsAt net doc list all phase (told ∷ rest) → IsAt net doc list all next rest
+  pub outcome : (rest : Answers) (o : Outcome) →
+      IsPhaseOutcome net doc list next (number + 1) rest o →
+      IsPhaseOutcome net doc list phase number (told ∷ rest) o
+  pub at : (all rest : Answers) → IsAt net doc list all phase (told ∷ rest) →
+      IsAt net doc list all next rest
 
 -- the line settles the outcome, whatever follows
-pub record Settles (net : Network) (doc : Document) (list : List Edit) (phase : Phase) (number : ℕ) (told : Result Got CertFault) (o : Outcome) : Type 0 where
+pub record Settles (net : Network) (doc : Document) (list : List Edit) (phase : Phase) (number : ℕ)
+    (told : Result Got CertFault) (o : Outcome) : Type 0 where
   pub outcome : (rest : Answers) → IsPhaseOutcome net doc list phase number (told ∷ rest) o
-  pub at : (all rest : Answers) → IsAt net doc list all phase (told ∷ rest) → IsCounted net doc list all
+  pub at : (all rest : Answers) → IsAt net doc list all phase (told ∷ rest) →
+      IsCounted net doc list all
 
 -- what a line leads to
-abbrev pub LeadsTo : Network → Document → List Edit → Phase → ℕ → Result Got CertFault → Next → Type 0
+abbrev pub LeadsTo : Network → Document → List Edit → Phase → ℕ →
+    Result Got CertFault → Next → Type 0
 LeadsTo net doc list phase number told (Line next) = Goes net doc list phase number told next
 LeadsTo net doc list phase number told (Done o) = Settles net doc list phase number told o
 
 -- a fault comes of counting at the line of the answer only
-abbrev pub IsFaultAt : Network → Document → List Edit → Phase → Result Got CertFault → EditFault → Type 0
-IsFaultAt net doc list phase told fault = (all rest : Answers) → IsAt net doc list all phase (told ∷ rest) → IsCountFault net doc list all fault
+abbrev pub IsFaultAt : Network → Document → List Edit → Phase →
+    Result Got CertFault → EditFault → Type 0
+IsFaultAt net doc list phase told fault =
+    (all rest : Answers) → IsAt net doc list all phase (told ∷ rest) →
+    IsCountFault net doc list all fault
 
 -- the line is none of an edit: it ends the edits
 abbrev pub EndsEdits : Result Got CertFault → Type 0

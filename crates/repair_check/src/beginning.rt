@@ -1,5 +1,6 @@
 //! The lines before the blocks: what they claim, and what is judged once that is known.
-ghost use Rattle.std.specs.Prelude.{◌≡◌, ◌<◌, ◌≤◌, Some, None, List as Items, length, All, IfOk, IfErr, IfSome, OnOk, MatchOption};
+ghost use Rattle.std.specs.Prelude.{◌≡◌, ◌<◌, ◌≤◌, Some, None, List as Items, length, All, IfOk};
+ghost use Rattle.std.specs.Prelude.{IfErr, IfSome, OnOk, MatchOption};
 ghost use Rattle.net_model.specs.Forwarding.{HasEnds};
 ghost use Rattle.net_model.specs.Packets.{subject};
 ghost use Rattle.net_model.specs.Validity.{IsValid};
@@ -10,7 +11,8 @@ ghost use Rattle.arc_repair.specs.Checks.{IsMispriced};
 ghost use Rattle.arc_repair.specs.Repairs.{none_of};
 ghost use Rattle.price_descent.specs.Outcomes.{least_below};
 ghost use Rattle.repair_check.specs.Outcomes.{rejected};
-ghost use Rattle.repair_check.specs.Phases.{IsFaultAt, IsJudgeable, IsOpened, IsReady, IsReadyWithin, LeadsTo};
+ghost use Rattle.repair_check.specs.Phases.{IsFaultAt, IsJudgeable, IsOpened, IsReady};
+ghost use Rattle.repair_check.specs.Phases.{IsReadyWithin, LeadsTo};
 
 use crate::phases::{Blocks, Next, Phase};
 use arc_base::{CertKind, List, Memory};
@@ -87,8 +89,10 @@ fn begin_repair(
     requires edits { AreEdits net.now doc.now list.now }
     requires few { length list.now ≤ 8192 }
     requires few_classes { HasFewClasses net.now doc.now }
-    ensures leads { IfOk result (LeadsTo net.now doc.now list.now Phase.Answer number (Ok (Got.Head (CertForm.Repaired price bound)))) }
-    ensures fault { IfErr result (IsFaultAt net.now doc.now list.now Phase.Answer (Ok (Got.Head (CertForm.Repaired price bound)))) }
+    ensures leads { IfOk result (LeadsTo net.now doc.now list.now Phase.Answer number
+        (Ok (Got.Head (CertForm.Repaired price bound)))) }
+    ensures fault { IfErr result (IsFaultAt net.now doc.now list.now Phase.Answer
+        (Ok (Got.Head (CertForm.Repaired price bound)))) }
 {
     let log = if bound <= 512 {
         Some(ready(alloc, net, doc, list, bound, least_below(price))?)
@@ -115,8 +119,10 @@ fn begin_none(
     requires edits { AreEdits net.now doc.now list.now }
     requires few { length list.now ≤ 8192 }
     requires few_classes { HasFewClasses net.now doc.now }
-    ensures leads { IfOk result (LeadsTo net.now doc.now list.now Phase.Answer number (Ok (Got.Head (CertForm.NoRepair bound)))) }
-    ensures fault { IfErr result (IsFaultAt net.now doc.now list.now Phase.Answer (Ok (Got.Head (CertForm.NoRepair bound)))) }
+    ensures leads { IfOk result (LeadsTo net.now doc.now list.now Phase.Answer number
+        (Ok (Got.Head (CertForm.NoRepair bound)))) }
+    ensures fault { IfErr result (IsFaultAt net.now doc.now list.now Phase.Answer
+        (Ok (Got.Head (CertForm.NoRepair bound)))) }
 {
     if bound > 512 {
         return Ok(rejected(2, CertKind::Price));
@@ -127,7 +133,8 @@ fn begin_none(
 
 /// Judges the first line.
 pub(crate) fn judge_head(number: u64, told: Result<Got, CertFault>) -> Next
-    ensures { (net : Network) (doc : Document) (list : Items Edit) → LeadsTo net doc list Phase.Head number told result }
+    ensures { (net : Network) (doc : Document) (list : Items Edit) →
+        LeadsTo net doc list Phase.Head number told result }
 {
     match told {
         Ok(Got::More) => Next::Line(Phase::Answer),
@@ -176,7 +183,8 @@ pub(crate) fn judge_answer(
     }
 }
 
-/// What is judged where the edits end before the line with this number; nothing where their price is wrong.
+/// What is judged where the edits end before the line with this number; nothing where their price
+/// is wrong.
 pub(crate) fn end_edits(
     alloc: Global,
     net: &Network,
@@ -192,8 +200,11 @@ pub(crate) fn end_edits(
     requires ends { All (λ policy. HasEnds net.now (subject policy)) doc.now.policies }
     requires flags { length chosen.items ≡ length list.now }
     requires ready { IsReadyWithin net.now doc.now list.now claimed bound log }
-    ensures opened { IfOk result (λ opened. MatchOption opened (IsMispriced doc.now list.now claimed bound chosen.items) (IsOpened net.now doc.now list.now claimed bound chosen.items number)) }
-    ensures judgeable { IfOk result (λ opened. IfSome opened (λ blocks. IsJudgeable doc.now blocks.now)) }
+    ensures opened { IfOk result (λ opened.
+        MatchOption opened (IsMispriced doc.now list.now claimed bound chosen.items)
+        (IsOpened net.now doc.now list.now claimed bound chosen.items number)) }
+    ensures judgeable { IfOk result (λ opened.
+        IfSome opened (λ blocks. IsJudgeable doc.now blocks.now)) }
 {
     let Some(checker) = log else {
         return Ok(None);

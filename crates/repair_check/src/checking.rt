@@ -105,8 +105,10 @@ fn read_line(
     list: &List<Edit>,
     line: &[u8],
 ) -> Result<Result<Got, CertFault>, Memory>
-    ensures reader { IfOk result (λ told. standing reader.new ≡ (step net.now doc.now list.now (standing reader.old) line.now).0) }
-    ensures told { IfOk result (λ told. told ≡ (step net.now doc.now list.now (standing reader.old) line.now).1) }
+    ensures reader { IfOk result (λ told.
+        standing reader.new ≡ (step net.now doc.now list.now (standing reader.old) line.now).0) }
+    ensures told { IfOk result (λ told.
+        told ≡ (step net.now doc.now list.now (standing reader.old) line.now).1) }
 {
     match reader.line(net, doc, list, line) {
         Ok(got) => Ok(Ok(got)),
@@ -119,11 +121,12 @@ fn read_line(
     }
 }
 
-/// Judges a text as the certificate of a repair over the network, the document and the network's edits.
+/// Judges a text as the certificate of a repair over the network, the document and the network's
+/// edits.
 ///
-/// The formula is counted at the line of the answer, where that is in its form with a bound of at most 512, and made once. Reading
-/// takes time linear in the bytes, and for the lines of edits in the edits; a step of the log takes time linear in the clauses
-/// that its hints name.
+/// The formula is counted at the line of the answer, where that is in its form with a bound of at
+/// most 512, and made once. Reading takes time linear in the bytes, and for the lines of edits in
+/// the edits; a step of the log takes time linear in the clauses that its hints name.
 pub fn check_repair(
     alloc: Global,
     net: &Network,
@@ -140,9 +143,12 @@ pub fn check_repair(
     requires few_classes { HasFewClasses net.now doc.now }
     requires countable { IsCountable net.now }
     ensures outcome { IfOk result (IsOutcome net.now doc.now list.now text.now) }
-    ensures accepted { IfOk result (λ o. (o ≡ Outcome.Accepted) ↔ IsCertified net.now doc.now list.now text.now) }
-    ensures counted { IfOk result (λ o. IsCounted net.now doc.now list.now (text_answers net.now doc.now list.now text.now)) }
-    ensures fault { IfErr result (IsCountFault net.now doc.now list.now (text_answers net.now doc.now list.now text.now)) }
+    ensures accepted { IfOk result (λ o. (o ≡ Outcome.Accepted) ↔
+        IsCertified net.now doc.now list.now text.now) }
+    ensures counted { IfOk result (λ o.
+        IsCounted net.now doc.now list.now (text_answers net.now doc.now list.now text.now)) }
+    ensures fault { IfErr result
+        (IsCountFault net.now doc.now list.now (text_answers net.now doc.now list.now text.now)) }
 {
     read_addresses(net);
     certificates_are_accepted();

@@ -1,5 +1,6 @@
 //! The lines after the answer, one by one.
-ghost use Rattle.std.specs.Prelude.{◌≡◌, ◌↔◌, ◌<◌, ◌≤◌, List as Items, true, length, set, All, IfOk, IsTrue};
+ghost use Rattle.std.specs.Prelude.{◌≡◌, ◌↔◌, ◌<◌, ◌≤◌, List as Items, true, length, set, All};
+ghost use Rattle.std.specs.Prelude.{IfOk, IsTrue};
 ghost use Rattle.net_model.specs.Forwarding.{HasEnds};
 ghost use Rattle.net_model.specs.Packets.{subject};
 ghost use Rattle.net_model.specs.Validity.{IsValid};
@@ -102,7 +103,8 @@ pub(crate) fn judge_ready(checker: Checker, number: u64, told: Result<Got, CertF
 // Judges a line that goes on: one of a block, or that before the log.
 fn go_on(doc: &Document, blocks: Blocks, number: u64) -> Next
     requires { IsJudgeable doc.now blocks.now }
-    ensures { (net : Network) (list : Items Edit) → LeadsTo net doc.now list (Phase.Blocks blocks) number (Ok Got.More) result }
+    ensures { (net : Network) (list : Items Edit) →
+        LeadsTo net doc.now list (Phase.Blocks blocks) number (Ok Got.More) result }
 {
     if blocks.judged == u64::from(doc.policies.len()) {
         Next::Line(Phase::Log(blocks.needs, blocks.checker))
@@ -116,7 +118,8 @@ fn judge_verdict(doc: &Document, blocks: Blocks, number: u64, which: u32, verdic
     requires judgeable { IsJudgeable doc.now blocks.now }
     requires number { number < 18446744073709551615 }
     ensures { (net : Network) (list : Items Edit) →
-        LeadsTo net doc.now list (Phase.Blocks blocks) number (Ok (Got.Verdict which verdict.now)) result }
+        LeadsTo net doc.now list (Phase.Blocks blocks) number
+        (Ok (Got.Verdict which verdict.now)) result }
 {
     if !is_right_at(&blocks.now, doc.policies.slice(), which, verdict) {
         return rejected(blocks.first, CertKind::Witness);
@@ -139,7 +142,8 @@ pub(crate) fn judge_block(
 ) -> Next
     requires judgeable { IsJudgeable doc.now blocks.now }
     requires number { number < 18446744073709551615 }
-    ensures { (net : Network) (list : Items Edit) → LeadsTo net doc.now list (Phase.Blocks blocks) number told result }
+    ensures { (net : Network) (list : Items Edit) →
+        LeadsTo net doc.now list (Phase.Blocks blocks) number told result }
 {
     match told {
         Ok(Got::More) => go_on(doc, blocks, number),
@@ -182,7 +186,8 @@ fn judge_after_edits(
     requires ready { IsReadyWithin net.now doc.now list.now price bound log }
     requires number { number < 18446744073709551615 }
     requires ends_edits { EndsEdits told }
-    ensures { IfOk result (LeadsTo net.now doc.now list.now (Phase.Edits price bound chosen log) number told) }
+    ensures { IfOk result
+        (LeadsTo net.now doc.now list.now (Phase.Edits price bound chosen log) number told) }
 {
     match end_edits(alloc, net, doc, list, price, bound, chosen, log, number)? {
         Some(blocks) => Ok(judge_block(doc, blocks, number, told)),
@@ -208,7 +213,8 @@ pub(crate) fn judge_edits(
     requires flags { length chosen.items ≡ length list.now }
     requires ready { IsReadyWithin net.now doc.now list.now price bound log }
     requires number { number < 18446744073709551615 }
-    ensures { IfOk result (LeadsTo net.now doc.now list.now (Phase.Edits price bound chosen log) number told) }
+    ensures { IfOk result
+        (LeadsTo net.now doc.now list.now (Phase.Edits price bound chosen log) number told) }
 {
     match told {
         Ok(Got::Edit(place)) => {

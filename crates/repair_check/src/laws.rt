@@ -1,5 +1,6 @@
 //! Laws over the definitions alone: each is the contract of a function that does nothing.
-ghost use Rattle.repair_check.specs.Certifies.{CertificatesAreAccepted, CertificatesNameTheirBound, CertifiedClaimsAreTrue, WrittenClaimsAreCertified};
+ghost use Rattle.repair_check.specs.Certifies.{CertificatesAreAccepted, CertificatesNameTheirBound};
+ghost use Rattle.repair_check.specs.Certifies.{CertifiedClaimsAreTrue, WrittenClaimsAreCertified};
 
 use arc_repair::laws::certificates_are_true;
 use edit_space::laws::networks_after_edits_are_valid;
@@ -26,7 +27,8 @@ pub fn certified_claims_are_true()
     certificates_are_true();
 }
 
-/// What is written for a claim and a log that shows it is a certificate of the claim, and names the claim's bound.
+/// What is written for a claim and a log that shows it is a certificate of the claim, and names the
+/// claim's bound.
 pub fn written_claims_are_certified()
     ensures certified { WrittenClaimsAreCertified }
     ensures bounded { CertificatesNameTheirBound }

@@ -1,6 +1,7 @@
-//! The judgement of the certificate of a repair, line by line: its price, its verdicts in the network after its edits, and its log
-//! for the repair formula. A text is accepted exactly where it is the certificate of a claim, and such a claim is true; of any other
-//! text the first line is told that is rejected.
+//! The judgement of the certificate of a repair, line by line: its price, its verdicts in the
+//! network after its edits, and its log for the repair formula. A text is accepted exactly where it
+//! is the certificate of a claim, and such a claim is true; of any other text the first line is
+//! told that is rejected.
 #![tactic(auto)]
 
 mod addresses;

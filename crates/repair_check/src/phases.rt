@@ -24,8 +24,8 @@ pub(crate) enum Phase {
     Head,
     /// The answer, and what follows it.
     Answer,
-    /// Edits: the price and the bound that are claimed, the edits that are chosen so far, and what the log will be judged by,
-    /// where the bound is at most 512.
+    /// Edits: the price and the bound that are claimed, the edits that are chosen so far, and what
+    /// the log will be judged by, where the bound is at most 512.
     Edits(u32, u32, Vec<bool>, Option<Checker>),
     /// The blocks of the policies.
     Blocks(Blocks),

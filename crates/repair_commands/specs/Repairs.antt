@@ -1,5 +1,7 @@
--- The command `repair DOC --out SUFFIX --proof NAME [--max-price N] [--conflicts N]`: its first refusal and its answer.
-use Rattle.std.specs.Prelude.{◌≡◌, ◌⊎◌, ℕ, ◌≤◌, Bool, true, false, List, [], ◌∷◌, ◌++◌, length, All, codes, decimal}
+-- The command `repair DOC --out SUFFIX --proof NAME [--max-price N] [--conflicts N]`: its first
+-- refusal and its answer.
+use Rattle.std.specs.Prelude.{◌≡◌, ◌⊎◌, ℕ, ◌≤◌, Bool, true, false, List, [], ◌∷◌, ◌++◌, length, All}
+use Rattle.std.specs.Prelude.{codes, decimal}
 use Rattle.arc_base.specs.declared.refusal.Kind.TheVariants.{Limit, OutputName}
 use Rattle.arc_base.specs.declared.refusal.LimitKind.{LimitKind}
 use Rattle.arc_outside.specs.Files.{Files}
@@ -20,7 +22,8 @@ use Rattle.policy_report.specs.Certificates.{budget_text, certificate_text}
 use Rattle.policy_report.specs.Edits.{edit_lines}
 use Rattle.arc_repair.specs.declared.answer.Answer.{Answer}
 use Rattle.arc_repair.specs.declared.answer.Answer.TheVariants.{Done as Claimed, Budget}
-use Rattle.arc_repair.specs.Answers.{AnswersFew, IsAnswer, IsRepairFault, IsUntouched, KeepsLimits, answer_steps}
+use Rattle.arc_repair.specs.Answers.{AnswersFew, IsAnswer, IsRepairFault, IsUntouched, KeepsLimits}
+use Rattle.arc_repair.specs.Answers.{answer_steps}
 use Rattle.arc_repair.specs.Repairs.{Mends, none_of}
 use Rattle.output_files.specs.Outputs.{clashes, copy_names, wrote_lines, IsCopyName}
 use Rattle.changed_files.specs.Changes.{Changes, IsEditable}
@@ -30,7 +33,8 @@ use Rattle.run_files.specs.declared.outcome.Done.{Done}
 use Rattle.run_files.specs.declared.outcome.FileRefusal.{FileRefusal}
 use Rattle.run_files.specs.Limits.{proof_limit}
 use Rattle.run_files.specs.Refusals.{refusal_of}
-use Rattle.run_inputs.specs.Inputs.{HoldsDocument, HoldsInput, IsDocumentRefusal, IsFilesRefusal, contents}
+use Rattle.run_inputs.specs.Inputs.{HoldsDocument, HoldsInput, IsDocumentRefusal, IsFilesRefusal}
+use Rattle.run_inputs.specs.Inputs.{contents}
 
 -- the files that the command may write: a copy of each router file, and the certificate
 abbrev pub output_names : RepairWords → Document → List (List ℕ)
@@ -55,7 +59,8 @@ pub record RefusesSources (words : RepairWords) (files : Files) (r : FileRefusal
   pub refused : IsFilesRefusal Editing [] words.document files r
 
 -- no name is taken, and the document and its files have a network
-pub record HasNetwork (words : RepairWords) (files : Files) (doc : Document) (net : Network) : Type 0 where
+pub record HasNetwork (words : RepairWords) (files : Files) (doc : Document)
+    (net : Network) : Type 0 where
   pub free : has_clash words doc ≡ false
   pub input : HoldsInput Editing [] words.document files doc net
 
@@ -70,43 +75,53 @@ pub record RefusesCounts (words : RepairWords) (files : Files) (r : FileRefusal)
   pub fault : IsRepairFault net doc words.bound (faults.Limit what count)
   pub told : r ≡ refusal_of words.document 0 (Limit what count)
 
--- The first refusal: of the document; of the names of the outputs; of the router files and their network; or of a count.
+-- The first refusal: of the document; of the names of the outputs; of the router files and their
+-- network; or of a count.
 abbrev pub IsRepairRefusal : RepairWords → Files → FileRefusal → Type 0
 IsRepairRefusal words files r =
     IsDocumentRefusal words.document files r
     ⊎ (RefusesOutputs words files r ⊎ (RefusesSources words files r ⊎ RefusesCounts words files r))
 
--- what is told and written: the lines that tell it, the copies of changed files, the certificate, and the status
-pub record Writes (words : RepairWords) (told : List ℕ) (changed : List (List ℕ × List ℕ)) (certificate : List ℕ) (status : ℕ)
-    (done : Done) : Type 0 where
+-- what is told and written: the lines that tell it, the copies of changed files, the certificate,
+-- and the status
+pub record Writes (words : RepairWords) (told : List ℕ) (changed : List (List ℕ × List ℕ))
+    (certificate : List ℕ) (status : ℕ) (done : Done) : Type 0 where
   pub writes : done.writes ≡ changed ++ (words.proof, certificate) ∷ []
   pub text : done.text ≡ told ++ wrote_lines done.writes
   pub short : length certificate ≤ proof_limit
   pub status_is : done.status ≡ status
 
--- a repair tells its price and its edits, and writes the files that these change, and its certificate
-pub record WritesRepair (words : RepairWords) (doc : Document) (built : Built) (olds : List (List ℕ)) (list : List Edit) (price : ℕ)
+-- a repair tells its price and its edits, and writes the files that these change, and its
+-- certificate
+pub record WritesRepair (words : RepairWords) (doc : Document) (built : Built)
+    (olds : List (List ℕ)) (list : List Edit) (price : ℕ)
     (flags : List Bool) (certificate : List ℕ) (done : Done) : Type 0 where
   pub changed : List (List ℕ × List ℕ)
   pub changes : Changes words.suffix doc built olds (chosen_of list flags) changed
-  pub writes : Writes words (codes "repaired " ++ decimal price ++ codes "\n" ++ edit_lines built.net (chosen_of list flags)) changed
-      certificate 0 done
+  pub writes : Writes words (codes "repaired " ++ decimal price ++ codes "\n" ++
+      edit_lines built.net (chosen_of list flags)) changed certificate 0 done
 
 -- a claim that there is no repair tells its bound, and writes its certificate
-abbrev pub WritesClaim : RepairWords → Document → Built → List (List ℕ) → List Edit → Claim → Log → Done → Type 0
+abbrev pub WritesClaim : RepairWords → Document → Built → List (List ℕ) → List Edit →
+    Claim → Log → Done → Type 0
 WritesClaim words doc built olds list (Repaired price bound flags verdicts) log done =
-    WritesRepair words doc built olds list price flags (certificate_text built.net doc list (Repaired price bound flags verdicts) log) done
+    WritesRepair words doc built olds list price flags
+    (certificate_text built.net doc list (Repaired price bound flags verdicts) log) done
 WritesClaim words doc built olds list (NoRepair bound) log done =
-    Writes words (codes "none " ++ decimal bound ++ codes "\n") [] (certificate_text built.net doc list (NoRepair bound) log) 2 done
+    Writes words (codes "none " ++ decimal bound ++ codes "\n") []
+    (certificate_text built.net doc list (NoRepair bound) log) 2 done
 
 -- a log that is spent tells its limit, and writes what was used up
-abbrev pub WritesAnswer : RepairWords → Document → Built → List (List ℕ) → List Edit → Answer → Done → Type 0
-WritesAnswer words doc built olds list (Claimed claim log) done = WritesClaim words doc built olds list claim log done
+abbrev pub WritesAnswer : RepairWords → Document → Built → List (List ℕ) → List Edit →
+    Answer → Done → Type 0
+WritesAnswer words doc built olds list (Claimed claim log) done =
+    WritesClaim words doc built olds list claim log done
 WritesAnswer words doc built olds list (Budget log) done =
-    Writes words (codes "budget " ++ decimal words.conflicts ++ codes "\n") [] (budget_text words.conflicts words.bound log) 3 done
+    Writes words (codes "budget " ++ decimal words.conflicts ++ codes "\n") []
+    (budget_text words.conflicts words.bound log) 3 done
 
--- an answer of the command: status 0, 2 or 3; copies of router files are written after 0 only, and the last file that is written
--- is the certificate
+-- an answer of the command: status 0, 2 or 3; copies of router files are written after 0 only, and
+-- the last file that is written is the certificate
 pub record WritesCertificate (words : RepairWords) (done : Done) : Type 0 where
   pub status : (done.status ≡ 0) ⊎ ((done.status ≡ 2) ⊎ (done.status ≡ 3))
   pub changed : List (List ℕ × List ℕ)
@@ -115,9 +130,11 @@ pub record WritesCertificate (words : RepairWords) (done : Done) : Type 0 where
   pub certificate : List ℕ
   pub writes : done.writes ≡ changed ++ (words.proof, certificate) ∷ []
 
--- what a repair of the network answers within a bound on its price and a limit of conflicts: over its edits, which are few, as is its
--- formula; each verdict shows few sides or paths. A network that meets the document is left as it is.
-pub record IsAnswered (bound conflicts : ℕ) (net : Network) (doc : Document) (list : List Edit) (answer : Answer) : Type 0 where
+-- what a repair of the network answers within a bound on its price and a limit of conflicts: over
+-- its edits, which are few, as is its formula; each verdict shows few sides or paths. A network
+-- that meets the document is left as it is.
+pub record IsAnswered (bound conflicts : ℕ) (net : Network) (doc : Document) (list : List Edit)
+    (answer : Answer) : Type 0 where
   pub edits : AreEdits net doc list
   pub limits : KeepsLimits net doc list bound
   pub is_answer : IsAnswer net doc list bound conflicts answer

@@ -22,12 +22,14 @@ IsWholeAnswer doc list (Claimed claim log) = IsWholeClaim doc list claim
 IsWholeAnswer doc list (Budget log) = Unit {0}
 
 -- the edits of the network, and what its repair answers
-pub record IsFound (words : RepairWords) (net : Network) (doc : Document) (list : List Edit) (answer : Answer) : Type 0 where
+pub record IsFound (words : RepairWords) (net : Network) (doc : Document) (list : List Edit)
+    (answer : Answer) : Type 0 where
   pub answered : IsAnswered words.bound words.conflicts net doc list answer
   pub few : length list ≤ 8192
   pub countable : IsCountable net
 
 -- a count that passes its limit refuses the document, but for want of memory
 abbrev pub StopsFor : List ℕ → EditFault → Stop → Type 0
-StopsFor document (faults.Limit what count) stop = (stop ≡ stops.Memory) ⊎ (stop ≡ stops.Refused (refusal_of document 0 (Limit what count)))
+StopsFor document (faults.Limit what count) stop =
+    (stop ≡ stops.Memory) ⊎ (stop ≡ stops.Refused (refusal_of document 0 (Limit what count)))
 StopsFor document faults.Memory stop = stop ≡ stops.Memory

@@ -26,23 +26,26 @@ use Rattle.run_inputs.specs.Inputs.{contents}
 use Rattle.repair_commands.specs.Repairs.{HasNetwork, IsRepairRefusal}
 
 -- the document and its files have a network, these are its edits, and nothing passes its limit
-pub record IsRepairable (words : RepairWords) (files : Files) (doc : Document) (net : Network) (list : List Edit) : Type 0 where
+pub record IsRepairable (words : RepairWords) (files : Files) (doc : Document) (net : Network)
+    (list : List Edit) : Type 0 where
   pub has : HasNetwork words files doc net
   pub edits : AreEdits net doc list
   pub limits : KeepsLimits net doc list words.bound
 
--- the certificate of this claim was written, whose log adds at most as many clauses as the words allow
-pub record HoldsCertificate (words : RepairWords) (net : Network) (doc : Document) (list : List Edit) (claim : Claim)
-    (after : Files) : Type 0 where
+-- the certificate of this claim was written, whose log adds at most as many clauses as the words
+-- allow
+pub record HoldsCertificate (words : RepairWords) (net : Network) (doc : Document)
+    (list : List Edit) (claim : Claim) (after : Files) : Type 0 where
   pub log : Log
   pub certificate : IsCertificate net doc list claim log.steps
   pub lines : All HasLine log.steps
   pub within : additions log.steps ≤ words.conflicts
   pub written : after words.proof ≡ Some (certificate_text net doc list claim log)
 
--- These are the edits of the network that are the cheapest after which it meets every policy, at a price within the bound. The
--- router files as the command left them are the patches by these edits of those that were read; read again, they have exactly the
--- network after these edits, which meets every policy. The certificate of this was written, and all names but its own and those of the
+-- These are the edits of the network that are the cheapest after which it meets every policy, at a
+-- price within the bound. The router files as the command left them are the patches by these edits
+-- of those that were read; read again, they have exactly the network after these edits, which meets
+-- every policy. The certificate of this was written, and all names but its own and those of the
 -- copies of changed files hold what they held.
 pub record HasCheapest (words : RepairWords) (before after : Files) : Type 0 where
   pub doc : Document
@@ -61,11 +64,14 @@ pub record HasCheapest (words : RepairWords) (before after : Files) : Type 0 whe
   pub patched : AreLeftPatched words.suffix doc built before after (chosen_of list flags)
   pub read_again : AreReadAgain words.suffix doc before after repaired
   pub verdicts : List Verdict
-  pub certified : HoldsCertificate words built.net doc list (Repaired price words.bound flags verdicts) after
-  pub kept : (name : List ℕ) → ¬ (name ≡ words.proof) → ¬ Contains (changed_names words.suffix doc before patched.new) name
+  pub certified :
+      HoldsCertificate words built.net doc list (Repaired price words.bound flags verdicts) after
+  pub kept : (name : List ℕ) → ¬ (name ≡ words.proof)
+      → ¬ Contains (changed_names words.suffix doc before patched.new) name
       → after name ≡ before name
 
--- no edits within the bound make the network meet every policy; the certificate of this was written, and nothing else
+-- no edits within the bound make the network meet every policy; the certificate of this was
+-- written, and nothing else
 pub record HasNone (words : RepairWords) (before after : Files) : Type 0 where
   pub doc : Document
   pub net : Network
@@ -75,8 +81,9 @@ pub record HasNone (words : RepairWords) (before after : Files) : Type 0 where
   pub certified : HoldsCertificate words net doc list (NoRepair words.bound) after
   pub kept : (name : List ℕ) → ¬ (name ≡ words.proof) → after name ≡ before name
 
--- what was written is a log that is spent for the repair formula, and nothing else: each of its bounds is that of the words, or one
--- less than the price of edits after which the network meets every policy, and as it is it does not
+-- what was written is a log that is spent for the repair formula, and nothing else: each of its
+-- bounds is that of the words, or one less than the price of edits after which the network meets
+-- every policy, and as it is it does not
 pub record HoldsSpentLog (words : RepairWords) (before after : Files) : Type 0 where
   pub doc : Document
   pub net : Network
@@ -111,8 +118,9 @@ pub record IsRepairRefused (words : RepairWords) (files : Files) : Type 0 where
   pub refusal : FileRefusal
   pub refused : IsRepairRefusal words files refusal
 
--- What the status tells, of the files before and after: 0 for the cheapest repair, 2 where there is none within the bound, 3 in place of
--- either where what was written is a spent log, and 5 for refused, with nothing written.
+-- What the status tells, of the files before and after: 0 for the cheapest repair, 2 where there is
+-- none within the bound, 3 in place of either where what was written is a spent log, and 5 for
+-- refused, with nothing written.
 pub record TellsRepair (words : RepairWords) (status : ℕ) (before after : Files) : Type 0 where
   pub repaired : status ≡ 0 → HasCheapest words before after
   pub none : status ≡ 2 → HasNone words before after

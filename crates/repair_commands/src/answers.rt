@@ -1,5 +1,6 @@
 //! What the answer of a repair writes.
-ghost use Rattle.std.specs.Prelude.{◌≡◌, ◌<◌, ◌≤◌, ◌-◌, ◌^◌, ◌++◌, [], length, All, IfOk, codes, decimal};
+ghost use Rattle.std.specs.Prelude.{◌≡◌, ◌<◌, ◌≤◌, ◌-◌, ◌^◌, ◌++◌, [], length, All, IfOk, codes};
+ghost use Rattle.std.specs.Prelude.{decimal};
 ghost use Rattle.net_build.specs.Networks.{IsBuiltWithin};
 ghost use Rattle.edit_space.specs.EditLists.{AreEdits};
 ghost use Rattle.edit_space.specs.Prices.{chosen_of};
@@ -21,8 +22,8 @@ use run_files::{Done, PROOF_LIMIT};
 use run_inputs::Sources;
 use std::alloc::Global;
 
-// The answer that tells these lines and writes these files, and then the certificate. Want of memory stands for a certificate
-// that is longer than one may be.
+// The answer that tells these lines and writes these files, and then the certificate. Want of
+// memory stands for a certificate that is longer than one may be.
 fn done_with(
     alloc: Global,
     words: &RepairWords,
@@ -69,7 +70,8 @@ fn repair_lines(
     chosen: &[bool],
 ) -> Result<Vec<u8>, Memory>
     requires { length chosen.now ≡ length list.now }
-    ensures { IfOk result (λ text. text.items ≡ codes "repaired " ++ decimal price ++ codes "\n" ++ edit_lines net.now (chosen_of list.now chosen.now)) }
+    ensures { IfOk result (λ text. text.items ≡ codes "repaired " ++ decimal price ++ codes "\n" ++
+        edit_lines net.now (chosen_of list.now chosen.now)) }
 {
     let mut text = number_line(alloc, b"repaired ", u64::from(price))?;
     let edits = edit_lines(alloc, net, list, chosen)?;
@@ -95,7 +97,8 @@ fn repair_done(
     requires edits { AreEdits sources.now.built.net doc.now list.now }
     requires few { length list.now ≤ 8192 }
     requires flags { length chosen.now ≡ length list.now }
-    ensures { IfOk result (WritesRepair words.now doc.now sources.now.built sources.now.files list.now price chosen.now certificate.items) }
+    ensures { IfOk result (WritesRepair words.now doc.now sources.now.built sources.now.files
+        list.now price chosen.now certificate.items) }
 {
     let told = repair_lines(alloc, &sources.built.net, list, price, chosen)?;
     let changed = changes(alloc, &words.suffix, doc, sources, list, chosen)?;
@@ -119,7 +122,8 @@ fn claim_done(
     requires edits { AreEdits sources.now.built.net doc.now list.now }
     requires few { length list.now ≤ 8192 }
     requires whole { IsWholeClaim doc.now list.now claim.now }
-    ensures { IfOk result (WritesClaim words.now doc.now sources.now.built sources.now.files list.now claim.now log.now) }
+    ensures { IfOk result (WritesClaim words.now doc.now sources.now.built sources.now.files
+        list.now claim.now log.now) }
 {
     let proof = certificate(alloc, &sources.built.net, doc, list, claim, log)?;
     match claim {
@@ -144,14 +148,17 @@ fn claim_done(
 
 // What was used up, and what is written of it.
 fn budget_done(alloc: Global, words: &RepairWords, log: &Log) -> Result<Done, Memory>
-    ensures { IfOk result (Writes words.now (codes "budget " ++ decimal words.now.conflicts ++ codes "\n") [] (budget_text words.now.conflicts words.now.bound log.now) 3) }
+    ensures { IfOk result
+        (Writes words.now (codes "budget " ++ decimal words.now.conflicts ++ codes "\n") []
+        (budget_text words.now.conflicts words.now.bound log.now) 3) }
 {
     let told = number_line(alloc, b"budget ", words.conflicts)?;
     let proof = budget(alloc, words.conflicts, words.bound, log)?;
     done_with(alloc, words, told, List::make(alloc), proof, 3)
 }
 
-/// The answer with what it writes: a repair the changed files and its certificate, and each other its certificate alone.
+/// The answer with what it writes: a repair the changed files and its certificate, and each other
+/// its certificate alone.
 pub fn answer_done(
     alloc: Global,
     words: &RepairWords,
@@ -167,7 +174,8 @@ pub fn answer_done(
     requires edits { AreEdits sources.now.built.net doc.now list.now }
     requires few { length list.now ≤ 8192 }
     requires whole { IsWholeAnswer doc.now list.now answer.now }
-    ensures { IfOk result (WritesAnswer words.now doc.now sources.now.built sources.now.files list.now answer.now) }
+    ensures { IfOk result
+        (WritesAnswer words.now doc.now sources.now.built sources.now.files list.now answer.now) }
 {
     match answer {
         Answer::Done(claim, log) => claim_done(alloc, words, doc, sources, list, claim, log),

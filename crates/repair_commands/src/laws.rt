@@ -6,5 +6,6 @@ ghost use Rattle.repair_commands.specs.Tells.{TellsRepair};
 
 /// What the status of `repair` tells.
 pub fn repair_is_told()
-    ensures { (words : RepairWords) → IsTold (IsRepairRefusal words) (IsRepaired words) (TellsRepair words) }
+    ensures { (words : RepairWords) →
+        IsTold (IsRepairRefusal words) (IsRepaired words) (TellsRepair words) }
 {}

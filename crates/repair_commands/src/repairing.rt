@@ -8,7 +8,8 @@ ghost use Rattle.net_model.specs.Policies.{HasFewFailures};
 ghost use Rattle.arc_repair.specs.Answers.{IsRepairFault};
 ghost use Rattle.run_files.specs.Answers.{Answers, OnlyReads};
 ghost use Rattle.run_files.specs.Limits.{least_limit};
-ghost use Rattle.repair_commands.specs.Repairs.{has_clash, IsRepaired, IsRepairRefusal, WritesCertificate};
+ghost use Rattle.repair_commands.specs.Repairs.{has_clash, IsRepaired, IsRepairRefusal};
+ghost use Rattle.repair_commands.specs.Repairs.{WritesCertificate};
 ghost use Rattle.repair_commands.specs.Steps.{IsFound, StopsFor};
 
 use crate::answers::answer_done;
@@ -33,7 +34,8 @@ fn has_clash(alloc: Global, words: &RepairWords, doc: &Document) -> Result<bool,
     Ok(clashes(&words.document, routers, outputs.as_slice()))
 }
 
-/// The stop for a fault in listing edits or making their formula: a count that passes its limit refuses the document.
+/// The stop for a fault in listing edits or making their formula: a count that passes its limit
+/// refuses the document.
 pub fn fault_stop(alloc: Global, document: &Name, fault: EditFault) -> Stop
     ensures { StopsFor document.now fault result }
 {
@@ -64,12 +66,15 @@ fn find_repair(
     Ok((list, answer))
 }
 
-/// Finds the cheapest edits after which the network meets the document, and writes the changed files and a certificate.
+/// Finds the cheapest edits after which the network meets the document, and writes the changed
+/// files and a certificate.
 pub fn repair<S: Store>(alloc: Global, words: &RepairWords, store: &mut S) -> Result<Done, Stop>
     requires bound { words.now.bound ≤ 512 }
     requires most { words.now.conflicts ≤ 200000 }
-    ensures answer { Answers (WritesCertificate words.now) (IsRepairRefusal words.now) (IsRepaired words.now) (S.held store.old) result }
-    ensures reads { OnlyReads least_limit S.held S.faults S.absences S.taken store.old store.new result }
+    ensures answer { Answers (WritesCertificate words.now) (IsRepairRefusal words.now)
+        (IsRepaired words.now) (S.held store.old) result }
+    ensures reads { OnlyReads least_limit S.held S.faults S.absences S.taken
+        store.old store.new result }
 {
     let doc = read_document(alloc, &words.document, store)?;
     if has_clash(alloc, words, &doc)? {

@@ -1,5 +1,5 @@
-//! Networks of two routers, of OSPF and of eBGP, built from their files: their edits, their repair formulas and their cheapest
-//! repairs, as they were worked out by hand. They only test.
+//! Networks of two routers, of OSPF and of eBGP, built from their files: their edits, their repair
+//! formulas and their cheapest repairs, as they were worked out by hand. They only test.
 #![tactic(auto)]
 
 #[cfg(test)]

@@ -73,10 +73,12 @@ fn file(alloc: Global, text: &str) -> Result<Name, Memory>
     Name::make(alloc, text.as_bytes())
 }
 
-/// The pair of these files, with a document of one policy of this kind from the one host network to the other.
+/// The pair of these files, with a document of one policy of this kind from the one host network to
+/// the other.
 fn built(alloc: Global, kind: &str, first: &str, second: &str) -> Result<Pair, NetFault>
     ensures valid { IfOk result (λ pair. IsValid pair.net) }
-    ensures ends { IfOk result (λ pair. All (λ policy. HasEnds pair.net (subject policy)) pair.doc.policies) }
+    ensures ends { IfOk result (λ pair.
+        All (λ policy. HasEnds pair.net (subject policy)) pair.doc.policies) }
     ensures well_formed { IfOk result (λ pair. IsWellFormed pair.doc) }
 {
     let text = format!(in alloc;
@@ -101,7 +103,8 @@ fn built(alloc: Global, kind: &str, first: &str, second: &str) -> Result<Pair, N
 /// The two routers under OSPF.
 pub fn ospf(alloc: Global, kind: &str) -> Result<Pair, NetFault>
     ensures valid { IfOk result (λ pair. IsValid pair.net) }
-    ensures ends { IfOk result (λ pair. All (λ policy. HasEnds pair.net (subject policy)) pair.doc.policies) }
+    ensures ends { IfOk result (λ pair.
+        All (λ policy. HasEnds pair.net (subject policy)) pair.doc.policies) }
     ensures well_formed { IfOk result (λ pair. IsWellFormed pair.doc) }
 {
     built(alloc, kind, OSPF_1, OSPF_2)
@@ -110,7 +113,8 @@ pub fn ospf(alloc: Global, kind: &str) -> Result<Pair, NetFault>
 /// The two routers, each an AS of its own, with a session over the link.
 pub fn bgp(alloc: Global, kind: &str) -> Result<Pair, NetFault>
     ensures valid { IfOk result (λ pair. IsValid pair.net) }
-    ensures ends { IfOk result (λ pair. All (λ policy. HasEnds pair.net (subject policy)) pair.doc.policies) }
+    ensures ends { IfOk result (λ pair.
+        All (λ policy. HasEnds pair.net (subject policy)) pair.doc.policies) }
     ensures well_formed { IfOk result (λ pair. IsWellFormed pair.doc) }
 {
     built(alloc, kind, BGP_1, BGP_2)

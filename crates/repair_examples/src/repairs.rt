@@ -13,8 +13,8 @@ use proof_log::Log;
 use std::alloc::Global;
 use std::test::Fail;
 
-/// What is claimed: the price of a repair, or that there is none; and whether the claim is accepted with its log, and with an
-/// empty one.
+/// What is claimed: the price of a repair, or that there is none; and whether the claim is accepted
+/// with its log, and with an empty one.
 #[derive(Clone, Copy, Debug, PartialEq, Eq)]
 struct Outcome {
     price: Option<u32>,
@@ -72,8 +72,9 @@ fn repaired(alloc: Global, pair: &Pair, bound: u32) -> Result<Option<Outcome>, E
     }
 }
 
-// Packets from r1's users are to be blocked: a list at one interface is enough, or a session that is turned. Without an edit
-// they are delivered; that no edit is too few has to be shown, and that a network which is met needs none does not.
+// Packets from r1's users are to be blocked: a list at one interface is enough, or a session that
+// is turned. Without an edit they are delivered; that no edit is too few has to be shown, and that
+// a network which is met needs none does not.
 #[test]
 fn the_cheapest_repair_is_accepted(rt: HostRuntime) -> Result<(), Fail> {
     let alloc = rt.alloc();

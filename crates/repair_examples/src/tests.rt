@@ -112,7 +112,8 @@ edit packet r2 interface GigabitEthernet0/1 10.1.0.0/24 10.2.0.0/24
     Ok(())
 }
 
-// Variables 1 to 6 are the edits; 7 and 8 tell which routers the packets are kept on, and 9 to 14 the price up to each edit.
+// Variables 1 to 6 are the edits; 7 and 8 tell which routers the packets are kept on, and 9 to 14
+// the price up to each edit.
 #[test]
 fn the_formula_of_a_blocked_policy(rt: HostRuntime) -> Result<(), Fail> {
     let alloc = rt.alloc();
@@ -133,7 +134,8 @@ fn the_formulas_of_other_policies(rt: HostRuntime) -> Result<(), Fail> {
     // one for each router; enters, both arcs, leaves, and eleven for the prices
     let through = encoded(alloc, &ospf(alloc, THROUGH)?, 0)?;
     assert_eq!(rt; counts(&through), (14, 15, 35, 1));
-    // one for each arc; enters, two lists, four sessions, out of the source, into the target, no way back, and one link
+    // one for each arc; enters, two lists, four sessions, out of the source, into the target, no
+    // way back, and one link
     let reach = encoded(alloc, &ospf(alloc, REACH)?, 0)?;
     assert_eq!(rt; counts(&reach), (14, 23, 43, 1));
     Ok(())

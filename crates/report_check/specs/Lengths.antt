@@ -22,5 +22,7 @@ HasFewFailures (Reach k) = k ≤ 1024
 
 -- a report of right verdicts with few lines each, on at most 256 policies, has at most 2 ^ 40 bytes
 abbrev pub RightReportsAreShort : Type 0
-RightReportsAreShort = (net : Network) (doc : Document) (vs : List Verdict) → IsValid net → length doc.policies ≤ 256 → All (λ p. HasFewFailures p.kind) doc.policies →
-    AllZip (IsRight net) doc.policies vs → All (HasFewLines net) vs → length (report_text net doc vs) ≤ 2 ^ 40
+RightReportsAreShort =
+    (net : Network) (doc : Document) (vs : List Verdict) → IsValid net → length doc.policies ≤ 256 →
+    All (λ p. HasFewFailures p.kind) doc.policies → AllZip (IsRight net) doc.policies vs →
+    All (HasFewLines net) vs → length (report_text net doc vs) ≤ 2 ^ 40

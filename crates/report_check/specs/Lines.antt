@@ -15,7 +15,10 @@ IsLine (Line begins) = Unit {0}
 IsLine (Done o) = ⊥
 
 -- what a line's answer leads to: to an outcome, or to that of the rest
-abbrev pub LeadsTo : Network → List Policy → ℕ → ℕ → Result Got CertFault → List (Result Got CertFault) → Next → Type 0
+abbrev pub LeadsTo : Network → List Policy → ℕ → ℕ → Result Got CertFault →
+    List (Result Got CertFault) → Next → Type 0
 LeadsTo net policies first number told rest (Line begins) =
-    (o : Outcome) → IsOutcome net policies begins (number + 1) rest o → IsOutcome net policies first number (told ∷ rest) o
-LeadsTo net policies first number told rest (Done o) = IsOutcome net policies first number (told ∷ rest) o
+    (o : Outcome) → IsOutcome net policies begins (number + 1) rest o →
+    IsOutcome net policies first number (told ∷ rest) o
+LeadsTo net policies first number told rest (Done o) =
+    IsOutcome net policies first number (told ∷ rest) o

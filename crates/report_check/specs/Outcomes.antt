@@ -1,7 +1,8 @@
--- What the text of a report is judged to. A report is a text whose lines are those of a report of right verdicts, one for
--- each policy in order. Of any other text the first line is told that is not of the form, or the first line of the first
--- block whose verdict is not right.
-use Rattle.std.specs.Prelude.{◌≡◌, ◌↔◌, ◌⊎◌, ℕ, ◌+◌, ◌≤◌, List, [], ◌∷◌, length, All, Result, Ok, Err, IsSomeAnd, slice_get}
+-- What the text of a report is judged to. A report is a text whose lines are those of a report of
+-- right verdicts, one for each policy in order. Of any other text the first line is told that is
+-- not of the form, or the first line of the first block whose verdict is not right.
+use Rattle.std.specs.Prelude.{◌≡◌, ◌↔◌, ◌⊎◌, ℕ, ◌+◌, ◌≤◌, List, [], ◌∷◌, length, All, Result, Ok}
+use Rattle.std.specs.Prelude.{Err, IsSomeAnd, slice_get}
 use Rattle.std.specs.List.{AllZip}
 use Rattle.arc_base.specs.declared.certificate.CertKind.TheVariants.{Form, NoEnd, Witness}
 use Rattle.cnf_types.specs.Words.{lines}
@@ -23,24 +24,32 @@ use Rattle.report_check.specs.declared.outcome.Outcome.TheVariants.{Accepted, Re
 
 -- the verdict on the policy at this place is right
 abbrev pub IsRightAt : Network → List Policy → ℕ → verdicts.Verdict → Type 0
-IsRightAt net policies which v = IsSomeAnd (slice_get policies which) (λ policy. IsRight net policy v)
+IsRightAt net policies which v =
+    IsSomeAnd (slice_get policies which) (λ policy. IsRight net policy v)
 
--- The outcome by what a reader answers to the lines that are left. The next line has this number, and the block that it
--- belongs to begins at `first`. What counts is the first line that is rejected, or the first verdict that is not right, at the
--- first line of its block, or else whether the last line is the end. What belongs to a repair is no line of a report.
-abbrev pub IsOutcome : Network → List Policy → ℕ → ℕ → List (Result Got CertFault) → Outcome → Type 0
+-- The outcome by what a reader answers to the lines that are left. The next line has this number,
+-- and the block that it belongs to begins at `first`. What counts is the first line that is
+-- rejected, or the first verdict that is not right, at the first line of its block, or else whether
+-- the last line is the end. What belongs to a repair is no line of a report.
+abbrev pub IsOutcome : Network → List Policy → ℕ → ℕ →
+    List (Result Got CertFault) → Outcome → Type 0
 IsOutcome net policies first number [] o = o ≡ Rejected (record { line = number; kind = NoEnd })
 IsOutcome net policies first number (Err fault ∷ rest) o = o ≡ Rejected fault
-IsOutcome net policies first number (Ok More ∷ rest) o = IsOutcome net policies first (number + 1) rest o
-IsOutcome net policies first number (Ok (Head Report) ∷ rest) o = IsOutcome net policies (number + 1) (number + 1) rest o
+IsOutcome net policies first number (Ok More ∷ rest) o =
+    IsOutcome net policies first (number + 1) rest o
+IsOutcome net policies first number (Ok (Head Report) ∷ rest) o =
+    IsOutcome net policies (number + 1) (number + 1) rest o
 IsOutcome net policies first number (Ok (Verdict which v) ∷ rest) o =
     (IsRightAt net policies which v × IsOutcome net policies (number + 1) (number + 1) rest o) ⊎
     ((¬ IsRightAt net policies which v) × (o ≡ Rejected (record { line = first; kind = Witness })))
 IsOutcome net policies first number (Ok End ∷ []) o = o ≡ Accepted
-IsOutcome net policies first number (Ok End ∷ (told ∷ rest)) o = IsOutcome net policies first (number + 1) (told ∷ rest) o
-IsOutcome net policies first number (Ok other ∷ rest) o = o ≡ Rejected (record { line = number; kind = Form })
+IsOutcome net policies first number (Ok End ∷ (told ∷ rest)) o =
+    IsOutcome net policies first (number + 1) (told ∷ rest) o
+IsOutcome net policies first number (Ok other ∷ rest) o =
+    o ≡ Rejected (record { line = number; kind = Form })
 
--- the text is a report of right verdicts on the policies of the document, one for each: its lines are those of that report;
+-- the text is a report of right verdicts on the policies of the document, one for each: its lines
+-- are those of that report;
 -- the lines of each witness can be counted in 32 bits
 pub record IsReport (net : Network) (doc : Document) (text : List ℕ) : Type 0 where
   pub verdicts : List verdicts.Verdict
@@ -50,10 +59,15 @@ pub record IsReport (net : Network) (doc : Document) (text : List ℕ) : Type 0 
 
 -- the judgement of a text tells exactly whether it is a report
 abbrev pub ReportsAreAccepted : Type 0
-ReportsAreAccepted = (net : Network) (doc : Document) (text : List ℕ) (o : Outcome) → IsValid net → length doc.policies ≤ 4294967295 →
-    IsOutcome net doc.policies 1 1 (answers net doc [] start (lines text)) o → (o ≡ Accepted) ↔ IsReport net doc text
+ReportsAreAccepted =
+    (net : Network) (doc : Document) (text : List ℕ) (o : Outcome) → IsValid net →
+    length doc.policies ≤ 4294967295 →
+    IsOutcome net doc.policies 1 1 (answers net doc [] start (lines text)) o →
+    (o ≡ Accepted) ↔ IsReport net doc text
 
 -- a text has one outcome
 abbrev pub HasOneOutcome : Type 0
-HasOneOutcome = (net : Network) (policies : List Policy) (first number : ℕ) (told : List (Result Got CertFault)) (o p : Outcome) →
+HasOneOutcome =
+    (net : Network) (policies : List Policy) (first number : ℕ)
+    (told : List (Result Got CertFault)) (o p : Outcome) →
     IsOutcome net policies first number told o → IsOutcome net policies first number told p → o ≡ p

@@ -1,5 +1,6 @@
 //! The judgement of a report, line by line.
-ghost use Rattle.std.specs.Prelude.{◌≡◌, ◌↔◌, ◌<◌, ◌≤◌, [], List, Result, length, All, IfOk, IsTrue};
+ghost use Rattle.std.specs.Prelude.{◌≡◌, ◌↔◌, ◌<◌, ◌≤◌, [], List, Result, length, All, IfOk};
+ghost use Rattle.std.specs.Prelude.{IsTrue};
 ghost use Rattle.cnf_types.specs.Words.{lines};
 ghost use Rattle.net_model.specs.Packets.{subject};
 ghost use Rattle.net_model.specs.Forwarding.{HasEnds};
@@ -40,7 +41,8 @@ enum Next {
 
 // What comes after a line, with this number, that belongs to a repair.
 fn no_report(number: u64) -> Next
-    ensures { result ≡ Next.Done (Outcome.Rejected (record { line = number; kind = CertKind.Form })) }
+    ensures { result
+        ≡ Next.Done (Outcome.Rejected (record { line = number; kind = CertKind.Form })) }
 {
     Next::Done(Outcome::Rejected(CertFault {
         line: number,
@@ -61,9 +63,12 @@ fn judge_line(
     requires valid { IsValid net.now }
     requires ends { All (λ policy. HasEnds net.now (subject policy)) doc.now.policies }
     requires number { number < 18446744073709551615 }
-    ensures reader { IfOk result (λ next. IsLine next → standing reader.new ≡ (step net.now doc.now [] (standing reader.old) line.now).0) }
-    ensures next { IfOk result (λ next. (rest : List (Result Got CertFault)) → (IsTrue is_last ↔ (rest ≡ [])) →
-        LeadsTo net.now doc.now.policies first number (step net.now doc.now [] (standing reader.old) line.now).1 rest next) }
+    ensures reader { IfOk result (λ next. IsLine next →
+        standing reader.new ≡ (step net.now doc.now [] (standing reader.old) line.now).0) }
+    ensures next { IfOk result (λ next. (rest : List (Result Got CertFault)) →
+        (IsTrue is_last ↔ (rest ≡ [])) →
+        LeadsTo net.now doc.now.policies first number
+        (step net.now doc.now [] (standing reader.old) line.now).1 rest next) }
 {
     let next = match reader.report_line(net, doc, line) {
         Ok(Got::More) => Next::Line(first),
@@ -98,9 +103,10 @@ fn judge_line(
     Ok(next)
 }
 
-/// Judges a text as a report over the network, for the policies of the document. Reading takes time linear in the bytes, and
-/// for each `closed` or `side` line in the routers. A witness is judged by going over the network for each of its lines; the
-/// `closed` lines of a block are also compared pair by pair. It takes memory for one block at a time.
+/// Judges a text as a report over the network, for the policies of the document. Reading takes time
+/// linear in the bytes, and for each `closed` or `side` line in the routers. A witness is judged by
+/// going over the network for each of its lines; the `closed` lines of a block are also compared
+/// pair by pair. It takes memory for one block at a time.
 pub fn check_report(
     alloc: Global,
     net: &Network,
@@ -110,8 +116,10 @@ pub fn check_report(
     requires valid { IsValid net.now }
     requires ends { All (λ policy. HasEnds net.now (subject policy)) doc.now.policies }
     requires few { length doc.now.policies ≤ 4294967295 }
-    ensures outcome { IfOk result (IsOutcome net.now doc.now.policies 1 1 (answers net.now doc.now [] start (lines text.now))) }
-    ensures accepted { IfOk result (λ o. (o ≡ Outcome.Accepted) ↔ IsReport net.now doc.now text.now) }
+    ensures outcome { IfOk result (IsOutcome net.now doc.now.policies 1 1
+        (answers net.now doc.now [] start (lines text.now))) }
+    ensures accepted { IfOk result (λ o. (o ≡ Outcome.Accepted) ↔
+        IsReport net.now doc.now text.now) }
 {
     let mut reader = Reader::make(alloc);
     let mut first = 1;

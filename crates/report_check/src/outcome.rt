@@ -5,6 +5,7 @@ use policy_report::CertFault;
 pub enum Outcome {
     /// Each line is of the form, and each verdict is right.
     Accepted,
-    /// The first line that is not of the form, or the first line of the first block whose verdict is not right.
+    /// The first line that is not of the form, or the first line of the first block whose verdict
+    /// is not right.
     Rejected(CertFault),
 }

@@ -145,9 +145,9 @@ enum Asks {
     Reach,
 }
 
-/// Blocks of two lines: what the policy asks, the first line, second lines that are read, and others
-/// that are not, since a service's word is out of form or out of place, or stands for what is left
-/// out.
+/// Blocks of two lines: what the policy asks, the first line, second lines that are read, and
+/// others that are not, since a service's word is out of form or out of place, or stands for what
+/// is left out.
 const BLOCKS: &[(Asks, &[u8], &[&[u8]], &[&[u8]])] = &[
     (
         Asks::Blocked,

@@ -22,10 +22,13 @@ pub record IsLate (d : DistanceMap) (entry : Entry) : Type 0 where
   pub known : d entry.0.1 ≡ Some distance
   pub low : distance ≤ entry.0.0
 
--- the queue has an entry for each router that waits, and each entry is that of a router with its distance or one that it had before
-pub record IsQueue (distances : List (Option ℕ)) (settled : List Bool) (entries : List Entry) : Type 0 where
+-- the queue has an entry for each router that waits, and each entry is that of a router with its
+-- distance or one that it had before
+pub record IsQueue (distances : List (Option ℕ)) (settled : List Bool)
+    (entries : List Entry) : Type 0 where
   pub ordered : IsHeap entry_cmp entries
-  pub each : (u n : ℕ) → waiting distances settled u ≡ Some n → Contains entries (record { 0 = (n, u) })
+  pub each : (u n : ℕ) → waiting distances settled u ≡ Some n →
+      Contains entries (record { 0 = (n, u) })
   pub late : (entry : Entry) → Contains entries entry → IsLate (distance_map distances) entry
 
 -- whether the number is less than another, which may be missing

@@ -1,5 +1,6 @@
 -- The text of a trace: where packets from one prefix to another go, router by router.
-use Rattle.std.specs.Prelude.{◌≡◌, ℕ, ◌+◌, ◌<◌, List, [], ◌∷◌, ◌++◌, Option, Some, None, codes, decimal, length, slice_get}
+use Rattle.std.specs.Prelude.{◌≡◌, ℕ, ◌+◌, ◌<◌, List, [], ◌∷◌, ◌++◌, Option, Some, None, codes}
+use Rattle.std.specs.Prelude.{decimal, length, slice_get}
 use Rattle.std.specs.List.{flat_map, range_with_len}
 use Rattle.std.specs.Option.{option_map_or}
 use Rattle.arc_base.specs.PrefixText.{prefix_text}
@@ -21,7 +22,8 @@ end_text prefix name = codes " " ++ prefix_text prefix ++ codes " " ++ name
 
 -- the first line: the two ends
 abbrev pub trace_head : Prefix → List ℕ → Prefix → List ℕ → List ℕ
-trace_head from source to target = codes "trace" ++ end_text from source ++ end_text to target ++ codes "\n"
+trace_head from source to target =
+    codes "trace" ++ end_text from source ++ end_text to target ++ codes "\n"
 
 -- the number of a link, counted from 1
 abbrev pub link_text : Link → List ℕ
@@ -43,16 +45,22 @@ route_line name distance hops = name ++ codes " " ++ route_text distance hops ++
 
 -- the lines of the routers, in order
 abbrev pub route_lines : Network → List (Option ℕ) → (ℕ → List Link) → ℕ → List ℕ
-route_lines net distances hops routers = flat_map (λ u. route_line (router_name net u) (distance_map distances u) (hops u)) (range_with_len 0 routers)
+route_lines net distances hops routers =
+    flat_map (λ u. route_line (router_name net u) (distance_map distances u) (hops u))
+    (range_with_len 0 routers)
 
--- the text of a trace from a prefix at one interface to a prefix at another: the two ends, and then the line of each router
-abbrev pub trace_text : Network → Prefix → FaceRow → Prefix → FaceRow → List (Option ℕ) → (ℕ → List Link) → List ℕ
+-- the text of a trace from a prefix at one interface to a prefix at another: the two ends, and then
+-- the line of each router
+abbrev pub trace_text : Network → Prefix → FaceRow → Prefix → FaceRow → List (Option ℕ) →
+    (ℕ → List Link) → List ℕ
 trace_text net from source to target distances hops =
     trace_head from (router_name net source.router.0) to (router_name net target.router.0)
     ++ route_lines net distances hops (length net.routers)
 
--- the text is that of the trace: it has the stable distances to the target's host network and the next hops of each router
-pub record IsTrace (net : Network) (failed : FailureSet) (from to : Prefix) (text : List ℕ) : Type 0 where
+-- the text is that of the trace: it has the stable distances to the target's host network and the
+-- next hops of each router
+pub record IsTrace (net : Network) (failed : FailureSet) (from to : Prefix)
+    (text : List ℕ) : Type 0 where
   pub source : FaceRow
   pub target : FaceRow
   pub is_source : IsHostFace net from source
@@ -62,5 +70,6 @@ pub record IsTrace (net : Network) (failed : FailureSet) (from to : Prefix) (tex
   pub distances : List (Option ℕ)
   pub are_distances : AreDistances net host failed distances
   pub hops : ℕ → List Link
-  pub are_hops : (u : ℕ) → u < length net.routers → AreNextHops net host failed (distance_map distances) u (hops u)
+  pub are_hops : (u : ℕ) → u < length net.routers →
+      AreNextHops net host failed (distance_map distances) u (hops u)
   pub text_is : text ≡ trace_text net from source to target distances hops

@@ -1,7 +1,9 @@
-ghost use Rattle.std.specs.Prelude.{◌≡◌, ◌+◌, ◌^◌, ◌<◌, ◌⊎◌, ℕ, false, true, None, Some, length, slice_set, replicate, All, IfOk, IfSome, MatchOption, OnOk};
+ghost use Rattle.std.specs.Prelude.{◌≡◌, ◌+◌, ◌^◌, ◌<◌, ◌⊎◌, ℕ, false, true, None, Some, length};
+ghost use Rattle.std.specs.Prelude.{slice_set, replicate, All, IfOk, IfSome, MatchOption, OnOk};
 ghost use Rattle.std.specs.BinaryHeap.{heap_items};
 ghost use Rattle.route_trace.specs.Routes.{distance_map};
-ghost use Rattle.route_trace.specs.Steps.{IsFit, IsGiven, IsLeastOf, IsStableOver, IsNearest, waiting, lesser};
+ghost use Rattle.route_trace.specs.Steps.{IsFit, IsGiven, IsLeastOf, IsStableOver, IsNearest};
+ghost use Rattle.route_trace.specs.Steps.{waiting, lesser};
 ghost use Rattle.route_trace.specs.Queue.{IsQueue, is_nearer};
 
 use crate::groups::grouped;
@@ -11,9 +13,9 @@ use std::alloc::Global;
 use std::cmp::Reverse;
 use std::collections::BinaryHeap;
 
-/// How far the distances have got. A settled router has its final distance, and the others the least that settled ones
-/// offer. The queue has each distance that a router was offered and took, with the router, nearest first. An entry of a
-/// settled router is passed over.
+/// How far the distances have got. A settled router has its final distance, and the others the
+/// least that settled ones offer. The queue has each distance that a router was offered and took,
+/// with the router, nearest first. An entry of a settled router is passed over.
 #[derive(Drop)]
 struct Front {
     distances: Vec<Option<u64>>,
@@ -31,7 +33,8 @@ pub(crate) fn settle(
     requires owner { owner.0 < routers }
     requires fit { All (IsFit routers) steps.now }
     ensures whole { IfOk result (λ distances. length distances.items ≡ routers) }
-    ensures stable { IfOk result (λ distances. IsStableOver steps.now owner.0 (distance_map distances.items)) }
+    ensures stable { IfOk result (λ distances.
+        IsStableOver steps.now owner.0 (distance_map distances.items)) }
 {
     let groups = grouped(alloc, steps, End::Head, routers)?;
     let mut front = Front::start(alloc, routers, owner, steps.len() + 1)?;
@@ -42,12 +45,15 @@ pub(crate) fn settle(
 }
 
 impl Front {
-    /// Only the owner has a distance and waits, and no router is settled. The queue has room for so many entries.
+    /// Only the owner has a distance and waits, and no router is settled. The queue has room for so
+    /// many entries.
     fn start(alloc: Global, routers: u32, owner: Router, room: usize) -> Result<Front, Memory>
         requires { owner.0 < routers }
-        ensures distances { IfOk result (λ front. front.distances.items ≡ slice_set (replicate routers None) owner.0 (Some 0)) }
+        ensures distances { IfOk result (λ front.
+            front.distances.items ≡ slice_set (replicate routers None) owner.0 (Some 0)) }
         ensures settled { IfOk result (λ front. front.settled.items ≡ replicate routers false) }
-        ensures queue { IfOk result (λ front. IsQueue front.distances.items front.settled.items (heap_items front.queue)) }
+        ensures queue { IfOk result (λ front.
+            IsQueue front.distances.items front.settled.items (heap_items front.queue)) }
     {
         let mut distances = Vec::from_elem(alloc, None, routers as usize)?;
         distances[owner.0 as usize] = Some(0);
@@ -64,11 +70,16 @@ impl Front {
     /// Settles the router that waits with the least distance, and gives it and that distance.
     fn settle_nearest(&mut self) -> Option<(Router, u64)>
         requires whole { length self.old.settled.items ≡ length self.old.distances.items }
-        requires queue { IsQueue self.old.distances.items self.old.settled.items (heap_items self.old.queue) }
+        requires queue { IsQueue self.old.distances.items self.old.settled.items
+            (heap_items self.old.queue) }
         ensures distances { self.new.distances.items ≡ self.old.distances.items }
-        ensures nearest { MatchOption result ((u : ℕ) → waiting self.old.distances.items self.old.settled.items u ≡ None) (λ found. IsNearest (waiting self.old.distances.items self.old.settled.items) found.0.0 found.1) }
-        ensures settled { IfSome result (λ found. self.new.settled.items ≡ slice_set self.old.settled.items found.0.0 true) }
-        ensures queue { IfSome result (λ found. IsQueue self.new.distances.items self.new.settled.items (heap_items self.new.queue)) }
+        ensures nearest { MatchOption result
+            ((u : ℕ) → waiting self.old.distances.items self.old.settled.items u ≡ None) (λ found.
+            IsNearest (waiting self.old.distances.items self.old.settled.items) found.0.0 found.1) }
+        ensures settled { IfSome result (λ found.
+            self.new.settled.items ≡ slice_set self.old.settled.items found.0.0 true) }
+        ensures queue { IfSome result (λ found.
+            IsQueue self.new.distances.items self.new.settled.items (heap_items self.new.queue)) }
     {
         'entry: while let Some(Reverse((distance, router))) = self.queue.pop() {
             let at = router as usize;
@@ -84,11 +95,16 @@ impl Front {
     fn relax(&mut self, steps: &[Step], from: u64) -> Result<(), Memory>
         requires tails { All (λ s. s.tail.0 < length self.old.distances.items) steps.now }
         requires sums { All (λ s. from + s.cost < 2 ^ 64) steps.now }
-        requires queue { IsQueue self.old.distances.items self.old.settled.items (heap_items self.old.queue) }
-        ensures whole { OnOk result (length self.new.distances.items ≡ length self.old.distances.items) }
+        requires queue { IsQueue self.old.distances.items self.old.settled.items
+            (heap_items self.old.queue) }
+        ensures whole { OnOk result
+            (length self.new.distances.items ≡ length self.old.distances.items) }
         ensures settled { OnOk result (self.new.settled.items ≡ self.old.settled.items) }
-        ensures queue { OnOk result (IsQueue self.new.distances.items self.new.settled.items (heap_items self.new.queue)) }
-        ensures least { OnOk result ((u : ℕ) → IsLeastOf (λ n. (distance_map self.old.distances.items u ≡ Some n) ⊎ IsGiven steps.now from u n) (distance_map self.new.distances.items u)) }
+        ensures queue { OnOk result
+            (IsQueue self.new.distances.items self.new.settled.items (heap_items self.new.queue)) }
+        ensures least { OnOk result ((u : ℕ) →
+            IsLeastOf (λ n. (distance_map self.old.distances.items u ≡ Some n) ⊎
+            IsGiven steps.now from u n) (distance_map self.new.distances.items u)) }
     {
         for step in steps {
             self.offer(step.tail, from + step.cost)?;
@@ -99,10 +115,14 @@ impl Front {
     /// Offers a router a distance. It takes it where it has none or a greater one.
     fn offer(&mut self, router: Router, distance: u64) -> Result<(), Memory>
         requires within { router.0 < length self.old.distances.items }
-        requires queue { IsQueue self.old.distances.items self.old.settled.items (heap_items self.old.queue) }
-        ensures distances { OnOk result (self.new.distances.items ≡ slice_set self.old.distances.items router.0 (Some (lesser (distance_map self.old.distances.items router.0) distance))) }
+        requires queue { IsQueue self.old.distances.items self.old.settled.items
+            (heap_items self.old.queue) }
+        ensures distances { OnOk result
+            (self.new.distances.items ≡ slice_set self.old.distances.items router.0
+            (Some (lesser (distance_map self.old.distances.items router.0) distance))) }
         ensures settled { OnOk result (self.new.settled.items ≡ self.old.settled.items) }
-        ensures queue { OnOk result (IsQueue self.new.distances.items self.new.settled.items (heap_items self.new.queue)) }
+        ensures queue { OnOk result
+            (IsQueue self.new.distances.items self.new.settled.items (heap_items self.new.queue)) }
     {
         let at = router.0 as usize;
         if is_nearer(distance, self.distances[at]) {

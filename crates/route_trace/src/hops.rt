@@ -1,6 +1,7 @@
 ghost use Rattle.std.specs.Prelude.{◌≡◌, ◌<◌, [], None, length, IfOk};
 ghost use Rattle.net_model.specs.Validity.{IsValid};
-ghost use Rattle.route_trace.specs.Routes.{flagged, distance_map, IsHostNetwork, AreDistances, AreNextHops, Owns};
+ghost use Rattle.route_trace.specs.Routes.{flagged, distance_map, IsHostNetwork, AreDistances};
+ghost use Rattle.route_trace.specs.Routes.{AreNextHops, Owns};
 ghost use Rattle.route_trace.specs.Steps.{is_sum, is_hop, hops_of};
 
 use crate::steps::{Step, steps};
@@ -8,8 +9,8 @@ use arc_base::{Link, List, Memory, Prefix, Router};
 use net_model::Network;
 use std::alloc::Global;
 
-/// The links over which a router sends packets for a host network, rising. `dist` has the stable distances for the same
-/// flags and host network.
+/// The links over which a router sends packets for a host network, rising. `dist` has the stable
+/// distances for the same flags and host network.
 pub fn next_hops(
     alloc: Global,
     net: &Network,
@@ -22,7 +23,8 @@ pub fn next_hops(
     requires flags { length down.now ≡ length net.now.links }
     requires host { IsHostNetwork net.now to }
     requires stable { AreDistances net.now to (flagged down.now) dist.now }
-    ensures exact { IfOk result (AreNextHops net.now to (flagged down.now) (distance_map dist.now) at.0) }
+    ensures exact { IfOk result
+        (AreNextHops net.now to (flagged down.now) (distance_map dist.now) at.0) }
     ensures owner { Owns net.now to at.0 → IfOk result (λ links. links ≡ []) }
     ensures none { distance_map dist.now at.0 ≡ None → IfOk result (λ links. links ≡ []) }
 {

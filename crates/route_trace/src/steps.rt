@@ -1,9 +1,11 @@
-ghost use Rattle.std.specs.Prelude.{◌≡◌, ◌++◌, Bool, false, length, All, IfOk, IfSome, IfNone, IsTrue, OnOk};
+ghost use Rattle.std.specs.Prelude.{◌≡◌, ◌++◌, Bool, false, length, All, IfOk, IfSome, IfNone};
+ghost use Rattle.std.specs.Prelude.{IsTrue, OnOk};
 ghost use Rattle.std.specs.Option.{option_to_list};
 ghost use Rattle.net_model.specs.Validity.{IsValid};
 ghost use Rattle.net_model.specs.Routing.{cost_at, Arc};
 ghost use Rattle.route_trace.specs.Routes.{flagged, distance_map};
-ghost use Rattle.route_trace.specs.Steps.{IsStepAt, HasNoArc, flag_of, AreSteps, IsFit, end_router, is_hop, attains};
+ghost use Rattle.route_trace.specs.Steps.{IsStepAt, HasNoArc, flag_of, AreSteps, IsFit, end_router};
+ghost use Rattle.route_trace.specs.Steps.{is_hop, attains};
 
 use arc_base::{Link, Memory, Prefix, Router};
 use net_model::{FaceRow, Network, Protocol, RoutedLink};
@@ -46,7 +48,8 @@ pub(crate) fn steps(
 ) -> Result<Vec<Step>, Memory>
     requires valid { IsValid net.now }
     requires flags { length down.now ≡ length net.now.links }
-    ensures exact { IfOk result (λ steps. AreSteps net.now to (flagged down.now) (length net.now.links) steps.items) }
+    ensures exact { IfOk result (λ steps.
+        AreSteps net.now to (flagged down.now) (length net.now.links) steps.items) }
     ensures fit { IfOk result (λ steps. All (IsFit (length net.now.routers)) steps.items) }
 {
     let table = net.routed_links(alloc, to)?;
@@ -78,8 +81,10 @@ fn usable_step(
     link: Link,
     from_a: bool,
 ) -> Option<Step>
-    ensures found { IfSome result (λ step. (failed ≡ false) × IsTrue (flag_of flags.now from_a) × IsStepAt net.now link.0 from_a step) }
-    ensures none { IfNone result (failed ≡ false → IsTrue (flag_of flags.now from_a) → HasNoArc net.now link.0 from_a) }
+    ensures found { IfSome result (λ step. (failed ≡ false) × IsTrue (flag_of flags.now from_a) ×
+        IsStepAt net.now link.0 from_a step) }
+    ensures none { IfNone result (failed ≡ false → IsTrue (flag_of flags.now from_a) →
+        HasNoArc net.now link.0 from_a) }
 {
     let routed = if from_a { flags.from_a } else { flags.from_b };
     if failed || !routed {

@@ -3,7 +3,8 @@ ghost use Rattle.net_model.specs.Validity.{IsValid};
 ghost use Rattle.net_model.specs.Forwarding.{HasHost};
 ghost use Rattle.route_trace.specs.Routes.{flagged, distance_map};
 ghost use Rattle.route_trace.specs.Steps.{IsFit, hops_of};
-ghost use Rattle.route_trace.specs.TraceText.{router_name, end_text, trace_head, hops_text, route_text, route_line, route_lines, IsTrace};
+ghost use Rattle.route_trace.specs.TraceText.{router_name, end_text, trace_head, hops_text};
+ghost use Rattle.route_trace.specs.TraceText.{route_text, route_line, route_lines, IsTrace};
 
 use crate::front::settle;
 use crate::groups::grouped;
@@ -13,9 +14,9 @@ use arc_base::{Link, Memory, Prefix, Router, push_number, push_prefix};
 use net_model::Network;
 use std::alloc::Global;
 
-/// The text of `arcv trace`: the line `trace FROM ROUTER TO ROUTER`, and then a line for each router, in order, with its
-/// name, its distance to the host network of `to` and the links of its next hops, counted from 1. The links whose flag is
-/// up have failed.
+/// The text of `arcv trace`: the line `trace FROM ROUTER TO ROUTER`, and then a line for each
+/// router, in order, with its name, its distance to the host network of `to` and the links of its
+/// next hops, counted from 1. The links whose flag is up have failed.
 pub fn trace_text(
     alloc: Global,
     net: &Network,
@@ -61,7 +62,8 @@ fn push_head(
     to: &Prefix,
     at_target: &[u8],
 ) -> Result<(), Memory>
-    ensures { OnOk result (text.new.items ≡ text.old.items ++ trace_head from.now at_source.now to.now at_target.now) }
+    ensures { OnOk result (text.new.items ≡ text.old.items ++
+        trace_head from.now at_source.now to.now at_target.now) }
 {
     text.extend_from_slice(b"trace")?;
     push_end(alloc, text, from, at_source)?;
@@ -89,7 +91,9 @@ fn push_routes(
     distances: &[Option<u64>],
 ) -> Result<(), Memory>
     requires { All (IsFit (length net.now.routers)) steps.now }
-    ensures { OnOk result (text.new.items ≡ text.old.items ++ route_lines net.now distances.now (hops_of steps.now (distance_map distances.now)) (length net.now.routers)) }
+    ensures { OnOk result (text.new.items ≡ text.old.items ++
+        route_lines net.now distances.now (hops_of steps.now (distance_map distances.now))
+        (length net.now.routers)) }
 {
     let routers = net.routers.len();
     let groups = grouped(alloc, steps, End::Tail, routers)?;
@@ -109,7 +113,8 @@ pub(crate) fn push_line(
     distance: Option<u64>,
     hops: &[Link],
 ) -> Result<(), Memory>
-    ensures { OnOk result (text.new.items ≡ text.old.items ++ route_line name.now distance hops.now) }
+    ensures { OnOk result
+        (text.new.items ≡ text.old.items ++ route_line name.now distance hops.now) }
 {
     text.extend_from_slice(name)?;
     text.push(b' ')?;

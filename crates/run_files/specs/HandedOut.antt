@@ -6,7 +6,8 @@ use Rattle.cnf_types.specs.Words.{lines}
 -- each is the first line of what those before it leave of the text, and in the end nothing is left
 abbrev pub AreHandedOut : List ℕ → List (List ℕ) → Type 0
 AreHandedOut text [] = text ≡ []
-AreHandedOut text (line ∷ ls) = (rest : List ℕ) × (IsFirstLine text line rest × AreHandedOut rest ls)
+AreHandedOut text (line ∷ ls) =
+    (rest : List ℕ) × (IsFirstLine text line rest × AreHandedOut rest ls)
 
 -- what is handed out so is the lines of the text, and nothing else is
 abbrev pub LinesAreHandedOut : Type 0

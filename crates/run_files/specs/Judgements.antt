@@ -7,7 +7,8 @@ use Rattle.run_files.specs.declared.judgements.Judgement.TheVariants.{Accepted, 
 -- the line that tells a judgement, and its status
 abbrev pub judgement_text : Judgement → List ℕ
 judgement_text Accepted = codes "accepted\n"
-judgement_text (Rejected line kind) = codes "rejected " ++ decimal line ++ codes " " ++ certificate_word kind ++ codes "\n"
+judgement_text (Rejected line kind) =
+    codes "rejected " ++ decimal line ++ codes " " ++ certificate_word kind ++ codes "\n"
 
 abbrev pub judgement_status : Judgement → ℕ
 judgement_status Accepted = 0

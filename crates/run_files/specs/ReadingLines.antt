@@ -9,14 +9,19 @@ use Rattle.run_files.specs.declared.outcome.Stop.TheVariants.{Refused, Memory, F
 use Rattle.run_files.specs.Answers.{Gives}
 use Rattle.run_files.specs.Refusals.{read_refusal}
 
--- the next line of what is left of a file, the end of a file that is not refused, or the file's refusal
+-- the next line of what is left of a file, the end of a file that is not refused, or the file's
+-- refusal
 abbrev pub MovesOn : Files → List ℕ → Pieces → Pieces → Result Bool Stop → Type 0
-MovesOn files name before after (Ok true) = IsFirstLine (left before (files name)) after.line.items (left after (files name))
-MovesOn files name before after (Ok false) = (left before (files name) ≡ []) × (read_refusal before.limit files name ≡ None)
+MovesOn files name before after (Ok true) =
+    IsFirstLine (left before (files name)) after.line.items (left after (files name))
+MovesOn files name before after (Ok false) =
+    (left before (files name) ≡ []) × (read_refusal before.limit files name ≡ None)
 MovesOn files name before after (Err (Refused r)) = read_refusal before.limit files name ≡ Some r
 MovesOn files name before after (Err Memory) = Unit {0}
 MovesOn files name before after (Err Failed) = Unit {0}
 
 -- that a file is not refused, or its refusal
 abbrev pub IsWithinLimit : ℕ → Files → List ℕ → Result (Unit {0}) Stop → Type 0
-IsWithinLimit limit files name result = Gives (λ r. read_refusal limit files name ≡ Some r) (λ u. read_refusal limit files name ≡ None) result
+IsWithinLimit limit files name result =
+    Gives (λ r. read_refusal limit files name ≡ Some r)
+    (λ u. read_refusal limit files name ≡ None) result

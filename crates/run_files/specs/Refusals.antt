@@ -1,5 +1,6 @@
 -- Refusals: those of files that are read, and the line that tells one.
-use Rattle.std.specs.Prelude.{ℕ, ◌-◌, List, [], ◌∷◌, ◌++◌, length, min, Option, Some, None, unwrap_or, nat_lt, codes, decimal, if◌then◌else◌}
+use Rattle.std.specs.Prelude.{ℕ, ◌-◌, List, [], ◌∷◌, ◌++◌, length, min, Option, Some, None}
+use Rattle.std.specs.Prelude.{unwrap_or, nat_lt, codes, decimal, if◌then◌else◌}
 use Rattle.std.specs.Option.{option_or}
 use Rattle.arc_base.specs.declared.refusal.Kind.{Kind}
 use Rattle.arc_base.specs.declared.refusal.Kind.TheVariants as kinds
@@ -22,20 +23,24 @@ refusal_of name number kind = record { name = name; number = number; reason = re
 -- the refusal of a file: it is missing, or it has more bytes than the limit says
 abbrev pub refusal_within : ℕ → List ℕ → Option (List ℕ) → Option FileRefusal
 refusal_within limit name None = Some (refusal_of name 0 kinds.Missing)
-refusal_within limit name (Some bytes) = if nat_lt limit (length bytes) then Some (refusal_of name 0 kinds.TooLong) else None
+refusal_within limit name (Some bytes) =
+    if nat_lt limit (length bytes) then Some (refusal_of name 0 kinds.TooLong) else None
 
 abbrev pub read_refusal : ℕ → Files → List ℕ → Option FileRefusal
 read_refusal limit files name = refusal_within limit name (files name)
 
--- the first refusal of router files in order, where each may have so many bytes, and all together so many
+-- the first refusal of router files in order, where each may have so many bytes, and all together
+-- so many
 abbrev pub first_refusal : ℕ → ℕ → Files → List (List ℕ) → Option FileRefusal
 first_refusal most room files [] = None
 first_refusal most room files (name ∷ names) =
-    option_or (read_refusal (min most room) files name) (first_refusal most (room - length (bytes_at files name)) files names)
+    option_or (read_refusal (min most room) files name)
+    (first_refusal most (room - length (bytes_at files name)) files names)
 
 -- the first refusal of router files under these limits
 abbrev pub routers_refusal : Limits → Files → List (List ℕ) → Option FileRefusal
-routers_refusal limits files names = first_refusal (router_limit limits) (routers_limit limits) files names
+routers_refusal limits files names =
+    first_refusal (router_limit limits) (routers_limit limits) files names
 
 -- the words for the reason of a refusal
 abbrev pub reason_words : Reason → List ℕ
@@ -46,4 +51,6 @@ reason_words reasons.ClauseCount = codes "clause-count"
 
 -- the line that tells a refusal
 unfoldable pub refusal_line : FileRefusal → List ℕ
-refusal_line r = codes "refused " ++ r.name ++ codes " " ++ decimal r.number ++ codes " " ++ reason_words r.reason ++ codes "\n"
+refusal_line r =
+    codes "refused " ++ r.name ++ codes " " ++ decimal r.number ++ codes " " ++
+    reason_words r.reason ++ codes "\n"

@@ -1,5 +1,6 @@
 //! Files that are read line by line.
-ghost use Rattle.std.specs.Prelude.{◌≡◌, ◌+◌, ◌-◌, ◌^◌, ◌<◌, ◌≤◌, min, false, IfOk, IfSome, OnOk, IsTrue};
+ghost use Rattle.std.specs.Prelude.{◌≡◌, ◌+◌, ◌-◌, ◌^◌, ◌<◌, ◌≤◌, min, false, IfOk, IfSome, OnOk};
+ghost use Rattle.std.specs.Prelude.{IsTrue};
 ghost use Rattle.arc_outside.specs.LinesRead.{ahead};
 ghost use Rattle.run_files.specs.Answers.{OnlyReads};
 ghost use Rattle.run_files.specs.ReadingLines.{MovesOn, IsWithinLimit};
@@ -18,12 +19,15 @@ pub fn next_line<S: Store>(
     name: &Name,
 ) -> Result<bool, Stop>
     requires { pieces.old.failed ≡ false }
-    ensures told { IfSome (S.held store.old) (λ files. MovesOn files name.now pieces.old pieces.new result) }
+    ensures told { IfSome (S.held store.old) (λ files.
+        MovesOn files name.now pieces.old pieces.new result) }
     ensures ok { OnOk result (pieces.new.failed ≡ false) }
     ensures fewer { IfOk result (λ found. IsTrue found → ahead pieces.new < ahead pieces.old) }
     ensures limit { pieces.new.limit ≡ pieces.old.limit }
-    ensures reads { OnlyReads (pieces.old.limit - pieces.old.place) S.held S.faults S.absences S.taken store.old store.new result }
-    ensures took { min (S.taken store.old + (pieces.new.place - pieces.old.place)) (2 ^ 64 - 1) ≤ S.taken store.new }
+    ensures reads { OnlyReads (pieces.old.limit - pieces.old.place) S.held S.faults S.absences
+        S.taken store.old store.new result }
+    ensures took { min (S.taken store.old + (pieces.new.place - pieces.old.place)) (2 ^ 64 - 1)
+        ≤ S.taken store.new }
     ensures onward { pieces.old.place ≤ pieces.new.place }
 {
     match pieces.next(store, name) {

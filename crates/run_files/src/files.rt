@@ -21,7 +21,8 @@ pub fn read_file<S: Store>(
     ensures told { IfSome (S.held store.old) (λ files. ReadsFile limit files name.now result) }
     ensures few { IfOk result (λ bytes. length bytes.items ≤ limit) }
     ensures reads { OnlyReads limit S.held S.faults S.absences S.taken store.old store.new result }
-    ensures took { IfOk result (λ bytes. min (S.taken store.old + length bytes.items) (2 ^ 64 - 1) ≤ S.taken store.new) }
+    ensures took { IfOk result (λ bytes.
+        min (S.taken store.old + length bytes.items) (2 ^ 64 - 1) ≤ S.taken store.new) }
 {
     match read_all(alloc, store, name, limit) {
         Ok(bytes) => Ok(bytes),
@@ -40,18 +41,22 @@ fn read_router<S: Store>(
     limits: Limits,
     room: u64,
 ) -> Result<Vec<u8>, Stop>
-    ensures told { IfSome (S.held store.old) (λ files. ReadsFile (min (router_limit limits) room) files name.now result) }
+    ensures told { IfSome (S.held store.old) (λ files.
+        ReadsFile (min (router_limit limits) room) files name.now result) }
     ensures within { IfOk result (λ bytes. length bytes.items ≤ room) }
     ensures few { IfOk result (λ bytes. length bytes.items ≤ 8388608) }
     ensures bytes { IfOk result (λ bytes. length bytes.items ≤ router_limit limits) }
-    ensures reads { OnlyReads (min least_limit room) S.held S.faults S.absences S.taken store.old store.new result }
-    ensures took { IfOk result (λ bytes. min (S.taken store.old + length bytes.items) (2 ^ 64 - 1) ≤ S.taken store.new) }
+    ensures reads { OnlyReads (min least_limit room) S.held S.faults S.absences S.taken
+        store.old store.new result }
+    ensures took { IfOk result (λ bytes.
+        min (S.taken store.old + length bytes.items) (2 ^ 64 - 1) ≤ S.taken store.new) }
 {
     read_file(alloc, store, name, limits.router_bytes().min(room))
 }
 
-/// Reads the router files in order, or refuses the first that is to be refused: one that is missing, that has more
-/// bytes than a router file may have, or with which the files so far have more than all may have.
+/// Reads the router files in order, or refuses the first that is to be refused: one that is
+/// missing, that has more bytes than a router file may have, or with which the files so far have
+/// more than all may have.
 pub fn read_routers<S: Store>(
     alloc: Global,
     store: &mut S,
@@ -63,7 +68,8 @@ pub fn read_routers<S: Store>(
     ensures count { IfOk result (λ contents. length contents ≡ length names.now) }
     ensures few { IfOk result (All (λ text. length text < 2 ^ 32)) }
     ensures bytes { IfOk result (All (λ text. length text ≤ router_limit limits)) }
-    ensures reads { OnlyReads least_limit S.held S.faults S.absences S.taken store.old store.new result }
+    ensures reads { OnlyReads least_limit S.held S.faults S.absences S.taken
+        store.old store.new result }
 {
     let mut contents = List::make(alloc);
     let mut room = limits.all_bytes();

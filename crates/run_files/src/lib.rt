@@ -1,5 +1,6 @@
-//! The files that commands read, under their limits: whole or line by line, with the first refusal of what was read and the line
-//! that tells it. Beside it stand what every command answers, and the judgement of a certificate or a proof.
+//! The files that commands read, under their limits: whole or line by line, with the first refusal
+//! of what was read and the line that tells it. Beside it stand what every command answers, and the
+//! judgement of a certificate or a proof.
 #![tactic(auto)]
 
 mod by_lines;

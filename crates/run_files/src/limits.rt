@@ -13,7 +13,8 @@ pub const PROOF_LIMIT: u64 = 1_099_511_627_776;
 pub enum Limits {
     /// Those of a command that judges the files as they are.
     Judging,
-    /// The smaller ones of a command that edits the files, or judges edits of them: an edited file keeps the others.
+    /// The smaller ones of a command that edits the files, or judges edits of them: an edited file
+    /// keeps the others.
     Editing,
 }
 

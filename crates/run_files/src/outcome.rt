@@ -6,8 +6,8 @@ use std::alloc::AllocError;
 /// Why a file is refused.
 #[derive(Clone, Copy, Debug, PartialEq, Eq)]
 pub enum Reason {
-    /// A kind of refusal that a command over a document may have. `lrat` and `solve` have `Missing`,
-    /// `TooLong` and `Limit` too, and `solve` has `OutputName`.
+    /// A kind of refusal that a command over a document may have. `lrat` and `solve` have
+    /// `Missing`, `TooLong` and `Limit` too, and `solve` has `OutputName`.
     Kind(Kind),
     /// A formula's header is missing or of another form (DIMACS).
     BadHeader,
@@ -22,7 +22,8 @@ pub enum Reason {
 pub struct FileRefusal {
     /// The name of the file that it is about.
     pub name: Name,
-    /// The line of a router file or of a formula, the number of a link or policy of the document, a number given to `--down`, or 0.
+    /// The line of a router file or of a formula, the number of a link or policy of the document, a
+    /// number given to `--down`, or 0.
     pub number: u32,
     pub reason: Reason,
 }

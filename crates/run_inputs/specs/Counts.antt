@@ -29,12 +29,15 @@ pub record HasManyClasses (net : Network) (policies : List Policy) (count : ℕ)
 -- what counting the classes answers
 abbrev pub CountsClasses : List ℕ → Network → List Policy → Result (Unit {0}) Stop → Type 0
 CountsClasses document net policies (Ok done) = HasFewClasses net policies
-CountsClasses document net policies (Err (stops.Refused r)) = (count : ℕ) × HasManyClasses net policies count × (r ≡ refusal_of document 0 (Limit Classes count))
+CountsClasses document net policies (Err (stops.Refused r)) =
+    (count : ℕ) × HasManyClasses net policies count ×
+    (r ≡ refusal_of document 0 (Limit Classes count))
 CountsClasses document net policies (Err stops.Memory) = Unit {0}
 CountsClasses document net policies (Err stops.Failed) = ⊥
 
 -- the policies of the document have too many classes
-pub record RefusesClasses (limits : Limits) (document : List ℕ) (files : Files) (r : FileRefusal) : Type 0 where
+pub record RefusesClasses (limits : Limits) (document : List ℕ) (files : Files)
+    (r : FileRefusal) : Type 0 where
   pub doc : Document
   pub net : Network
   pub input : HoldsInput limits [] document files doc net
@@ -44,4 +47,5 @@ pub record RefusesClasses (limits : Limits) (document : List ℕ) (files : Files
 
 -- the first refusal of a command that judges: of its input, or that there are too many classes
 abbrev pub IsJudgingRefusal : Limits → List ℕ → Files → FileRefusal → Type 0
-IsJudgingRefusal limits document files r = IsInputRefusal limits [] document files r ⊎ RefusesClasses limits document files r
+IsJudgingRefusal limits document files r =
+    IsInputRefusal limits [] document files r ⊎ RefusesClasses limits document files r

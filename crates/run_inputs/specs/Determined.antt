@@ -8,14 +8,25 @@ use Rattle.run_files.specs.declared.outcome.FileRefusal.{FileRefusal}
 use Rattle.run_inputs.specs.Counts.{HasFewClasses, IsJudgingRefusal}
 use Rattle.run_inputs.specs.Inputs.{HoldsDocument, HoldsInput, IsInputRefusal}
 
--- files have at most one document, one network with these links, and one refusal for them, and never both
-pub record IsDetermined (limits : Limits) (down : List ℕ) (document : List ℕ) (files : Files) : Type 0 where
-  pub one_document : (doc other : Document) → HoldsDocument document files doc → HoldsDocument document files other → doc ≡ other
-  pub one_network : (doc : Document) (net other : Network) → HoldsInput limits down document files doc net → HoldsInput limits down document files doc other → net ≡ other
-  pub one_refusal : (r s : FileRefusal) → IsInputRefusal limits down document files r → IsInputRefusal limits down document files s → r ≡ s
-  pub not_both : (doc : Document) (net : Network) (r : FileRefusal) → HoldsInput limits down document files doc net → IsInputRefusal limits down document files r → ⊥
+-- files have at most one document, one network with these links, and one refusal for them, and
+-- never both
+pub record IsDetermined (limits : Limits) (down : List ℕ) (document : List ℕ)
+    (files : Files) : Type 0 where
+  pub one_document : (doc other : Document) → HoldsDocument document files doc →
+      HoldsDocument document files other → doc ≡ other
+  pub one_network : (doc : Document) (net other : Network) →
+      HoldsInput limits down document files doc net →
+      HoldsInput limits down document files doc other → net ≡ other
+  pub one_refusal : (r s : FileRefusal) → IsInputRefusal limits down document files r →
+      IsInputRefusal limits down document files s → r ≡ s
+  pub not_both : (doc : Document) (net : Network) (r : FileRefusal) →
+      HoldsInput limits down document files doc net →
+      IsInputRefusal limits down document files r → ⊥
 
 -- and a command that counts classes has one refusal, and none where the network has few
 pub record IsJudgedOnce (limits : Limits) (document : List ℕ) (files : Files) : Type 0 where
-  pub one_refusal : (r s : FileRefusal) → IsJudgingRefusal limits document files r → IsJudgingRefusal limits document files s → r ≡ s
-  pub not_both : (doc : Document) (net : Network) (r : FileRefusal) → HoldsInput limits [] document files doc net → HasFewClasses net doc.policies → IsJudgingRefusal limits document files r → ⊥
+  pub one_refusal : (r s : FileRefusal) → IsJudgingRefusal limits document files r →
+      IsJudgingRefusal limits document files s → r ≡ s
+  pub not_both : (doc : Document) (net : Network) (r : FileRefusal) →
+      HoldsInput limits [] document files doc net →
+      HasFewClasses net doc.policies → IsJudgingRefusal limits document files r → ⊥

@@ -1,5 +1,7 @@
--- What a command over a document begins with: the document, the router files that it names, and their network.
-use Rattle.std.specs.Prelude.{◌≡◌, ◌⊎◌, ℕ, zero, suc, List, map, get_or, [], Some, None, Result, Ok, Err, All}
+-- What a command over a document begins with: the document, the router files that it names, and
+-- their network.
+use Rattle.std.specs.Prelude.{◌≡◌, ◌⊎◌, ℕ, zero, suc, List, map, get_or, [], Some, None, Result, Ok}
+use Rattle.std.specs.Prelude.{Err, All}
 use Rattle.arc_outside.specs.Files.{Files}
 use Rattle.net_model.specs.declared.policies.Document.{Document}
 use Rattle.net_model.specs.declared.rows.Network.{Network}
@@ -28,7 +30,11 @@ name_of document routers (suc i) = get_or routers i []
 
 -- the refusal with the name of its file
 abbrev pub named : List ℕ → List (List ℕ) → Refusal → FileRefusal
-named document routers r = record { name = name_of document routers r.file; number = r.number; reason = reasons.Kind r.kind }
+named document routers r = record {
+  name = name_of document routers r.file;
+  number = r.number;
+  reason = reasons.Kind r.kind;
+}
 
 -- the contents of the router files
 abbrev pub contents : Files → Document → List (List ℕ)
@@ -40,12 +46,15 @@ pub record HoldsDocument (document : List ℕ) (files : Files) (doc : Document) 
   pub read : ReadsDocument (bytes_at files document) (Ok doc)
 
 -- and none of the router files that it names is missing or too long
-pub record HoldsFiles (limits : Limits) (document : List ℕ) (files : Files) (doc : Document) : Type 0 where
+pub record HoldsFiles (limits : Limits) (document : List ℕ) (files : Files)
+    (doc : Document) : Type 0 where
   pub document_is : HoldsDocument document files doc
   pub held : routers_refusal limits files doc.routers ≡ None
 
--- and this is the network of the document and the files, in which these are the numbers of links that are to be down
-pub record HoldsInput (limits : Limits) (down : List ℕ) (document : List ℕ) (files : Files) (doc : Document) (net : Network) : Type 0 where
+-- and this is the network of the document and the files, in which these are the numbers of links
+-- that are to be down
+pub record HoldsInput (limits : Limits) (down : List ℕ) (document : List ℕ) (files : Files)
+    (doc : Document) (net : Network) : Type 0 where
   pub files_are : HoldsFiles limits document files doc
   pub network : IsNetworkWithin down (entries_limit limits) doc (contents files doc) net
 
@@ -57,13 +66,15 @@ pub record RefusesDocument (document : List ℕ) (files : Files) (r : FileRefusa
   pub is_named : r ≡ named document [] refusal
 
 -- a router file is refused as a whole
-pub record RefusesFile (limits : Limits) (document : List ℕ) (files : Files) (r : FileRefusal) : Type 0 where
+pub record RefusesFile (limits : Limits) (document : List ℕ) (files : Files)
+    (r : FileRefusal) : Type 0 where
   pub doc : Document
   pub document_is : HoldsDocument document files doc
   pub refused : routers_refusal limits files doc.routers ≡ Some r
 
 -- the document and the files have no network with such links, and this is why
-pub record RefusesNetwork (limits : Limits) (down : List ℕ) (document : List ℕ) (files : Files) (r : FileRefusal) : Type 0 where
+pub record RefusesNetwork (limits : Limits) (down : List ℕ) (document : List ℕ) (files : Files)
+    (r : FileRefusal) : Type 0 where
   pub doc : Document
   pub files_are : HoldsFiles limits document files doc
   pub refusal : Refusal
@@ -72,41 +83,50 @@ pub record RefusesNetwork (limits : Limits) (down : List ℕ) (document : List �
 
 -- the document is missing, too long or of a wrong form
 abbrev pub IsDocumentRefusal : List ℕ → Files → FileRefusal → Type 0
-IsDocumentRefusal document files r = (read_refusal document_limit files document ≡ Some r) ⊎ RefusesDocument document files r
+IsDocumentRefusal document files r =
+    (read_refusal document_limit files document ≡ Some r) ⊎ RefusesDocument document files r
 
 -- its router files, or the network of the document and them, are refused
 abbrev pub IsFilesRefusal : Limits → List ℕ → List ℕ → Files → FileRefusal → Type 0
-IsFilesRefusal limits down document files r = RefusesFile limits document files r ⊎ RefusesNetwork limits down document files r
+IsFilesRefusal limits down document files r =
+    RefusesFile limits document files r ⊎ RefusesNetwork limits down document files r
 
--- The first refusal: the document is missing or too long; it has a wrong form; a router file is missing or too long; or the
--- document and the files have no network with such links.
+-- The first refusal: the document is missing or too long; it has a wrong form; a router file is
+-- missing or too long; or the document and the files have no network with such links.
 abbrev pub IsInputRefusal : Limits → List ℕ → List ℕ → Files → FileRefusal → Type 0
 IsInputRefusal limits down document files r =
-    (read_refusal document_limit files document ≡ Some r) ⊎ (RefusesDocument document files r ⊎ IsFilesRefusal limits down document files r)
+    (read_refusal document_limit files document ≡ Some r) ⊎
+    (RefusesDocument document files r ⊎ IsFilesRefusal limits down document files r)
 
 -- what reading the document answers
 abbrev pub ReadsDocumentAt : List ℕ → Files → Result Document Stop → Type 0
-ReadsDocumentAt document files result = Gives (IsDocumentRefusal document files) (HoldsDocument document files) result
+ReadsDocumentAt document files result =
+    Gives (IsDocumentRefusal document files) (HoldsDocument document files) result
 
 -- the router files of a document that is held, as they are, and what is built of them
-pub record AreSources (limits : Limits) (down : List ℕ) (document : List ℕ) (doc : Document) (files : Files) (sources : Sources) : Type 0 where
+pub record AreSources (limits : Limits) (down : List ℕ) (document : List ℕ) (doc : Document)
+    (files : Files) (sources : Sources) : Type 0 where
   pub input : HoldsInput limits down document files doc sources.built.net
   pub files_are : sources.files ≡ contents files doc
   pub built : IsBuiltWithin down (entries_limit limits) doc sources.files sources.built
 
 -- what reading the router files of a document that is held answers
 abbrev pub ReadsSources : Limits → List ℕ → List ℕ → Document → Files → Result Sources Stop → Type 0
-ReadsSources limits down document doc files result = Gives (IsFilesRefusal limits down document files) (AreSources limits down document doc files) result
+ReadsSources limits down document doc files result =
+    Gives (IsFilesRefusal limits down document files)
+    (AreSources limits down document doc files) result
 
 -- what making a network of the router files of a document that is held answers
 abbrev pub ReadsFiles : Limits → List ℕ → List ℕ → Files → Result Input Stop → Type 0
 ReadsFiles limits down document files result =
-    Gives (IsFilesRefusal limits down document files) (λ input. HoldsInput limits down document files input.doc input.net) result
+    Gives (IsFilesRefusal limits down document files)
+    (λ input. HoldsInput limits down document files input.doc input.net) result
 
 -- what reading the input answers
 abbrev pub ReadsInput : Limits → List ℕ → List ℕ → Files → Result Input Stop → Type 0
 ReadsInput limits down document files result =
-    Gives (IsInputRefusal limits down document files) (λ input. HoldsInput limits down document files input.doc input.net) result
+    Gives (IsInputRefusal limits down document files)
+    (λ input. HoldsInput limits down document files input.doc input.net) result
 
 -- the document's policies can be judged over the network
 pub record AreFit (doc : Document) (net : Network) : Type 0 where
@@ -117,7 +137,9 @@ pub record AreFit (doc : Document) (net : Network) : Type 0 where
 abbrev pub IsFit : Input → Type 0
 IsFit input = AreFit input.doc input.net
 
--- before and after, the same is held under the document's name, and under the name of each of its router files
+-- before and after, the same is held under the document's name, and under the name of each of its
+-- router files
 pub record HoldTheSame (document : List ℕ) (before after : Files) : Type 0 where
   pub document_is : after document ≡ before document
-  pub routers_are : (doc : Document) → HoldsDocument document before doc → All (λ name. after name ≡ before name) doc.routers
+  pub routers_are : (doc : Document) → HoldsDocument document before doc →
+      All (λ name. after name ≡ before name) doc.routers

@@ -7,7 +7,8 @@ use run_files::{Stop, refused};
 use std::alloc::Global;
 use traffic_classes::{ClassFault, all_classes};
 
-/// Counts the traffic classes of the policies over the network, or refuses the document for more than 4,096.
+/// Counts the traffic classes of the policies over the network, or refuses the document for more
+/// than 4,096.
 pub fn count_classes(
     alloc: Global,
     document: &Name,

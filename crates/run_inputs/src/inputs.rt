@@ -1,9 +1,11 @@
-//! What a command over a document begins with: the document, and the network of the router files that it names.
+//! What a command over a document begins with: the document, and the network of the router files
+//! that it names.
 ghost use Rattle.std.specs.Prelude.{◌≡◌, ◌⊎◌, ◌≤◌, All, None, length, IfOk, IfSome};
 ghost use Rattle.net_build.specs.Linking.{first_above};
 ghost use Rattle.net_build.specs.Networks.{IsBuiltWithin};
 ghost use Rattle.net_doc.specs.Documents.{IsWellFormed};
-ghost use Rattle.run_inputs.specs.Inputs.{name_of, named, AreFit, HoldsDocument, IsFit, ReadsDocumentAt, ReadsFiles, ReadsInput, ReadsSources};
+ghost use Rattle.run_inputs.specs.Inputs.{name_of, named, AreFit, HoldsDocument, IsFit};
+ghost use Rattle.run_inputs.specs.Inputs.{ReadsDocumentAt, ReadsFiles, ReadsInput, ReadsSources};
 ghost use Rattle.run_files.specs.Answers.{OnlyReads};
 ghost use Rattle.run_files.specs.Limits.{entries_limit, least_limit, router_limit};
 
@@ -22,8 +24,8 @@ pub struct Input {
     pub net: Network,
 }
 
-/// The router files of a document in its order, and what is built of them: their network, their lines, and where in them
-/// each thing stands.
+/// The router files of a document in its order, and what is built of them: their network, their
+/// lines, and where in them each thing stands.
 #[derive(Drop)]
 pub struct Sources {
     pub files: List<Name>,
@@ -45,7 +47,8 @@ fn name_of<'a>(document: &'a Name, routers: &'a List<Name>, file: u32) -> &'a [u
 
 // The refusal, with the name of its file.
 fn named(alloc: Global, document: &Name, routers: &List<Name>, refusal: Refusal) -> Stop
-    ensures { (result ≡ Stop.Memory) ⊎ (result ≡ Stop.Refused (named document.now routers.now refusal)) }
+    ensures { (result ≡ Stop.Memory) ⊎
+        (result ≡ Stop.Refused (named document.now routers.now refusal)) }
 {
     match Name::make(alloc, name_of(document, routers, refusal.file)) {
         Ok(name) => Stop::Refused(FileRefusal {
@@ -61,7 +64,8 @@ fn named(alloc: Global, document: &Name, routers: &List<Name>, refusal: Refusal)
 pub fn read_document<S: Store>(alloc: Global, name: &Name, store: &mut S) -> Result<Document, Stop>
     ensures told { IfSome (S.held store.old) (λ files. ReadsDocumentAt name.now files result) }
     ensures well_formed { IfOk result IsWellFormed }
-    ensures reads { OnlyReads least_limit S.held S.faults S.absences S.taken store.old store.new result }
+    ensures reads { OnlyReads least_limit S.held S.faults S.absences S.taken
+        store.old store.new result }
 {
     let bytes = read_file(alloc, store, name, DOCUMENT_LIMIT)?;
     match document(alloc, bytes.as_slice()) {
@@ -71,8 +75,8 @@ pub fn read_document<S: Store>(alloc: Global, name: &Name, store: &mut S) -> Res
     }
 }
 
-/// Reads the router files that the document names, and builds their network; or answers the first refusal. The numbers
-/// `down` are those of links that are to be down, counted from 1.
+/// Reads the router files that the document names, and builds their network; or answers the first
+/// refusal. The numbers `down` are those of links that are to be down, counted from 1.
 pub fn read_sources<S: Store>(
     alloc: Global,
     name: &Name,
@@ -85,11 +89,15 @@ pub fn read_sources<S: Store>(
     ensures told { IfSome (S.held store.old) (λ files. HoldsDocument name.now files doc.now
         → ReadsSources limits down.now name.now doc.now files result) }
     ensures fit { IfOk result (λ sources. AreFit doc.now sources.built.net) }
-    ensures built { IfOk result (λ sources. IsBuiltWithin down.now (entries_limit limits) doc.now sources.files sources.built) }
+    ensures built { IfOk result (λ sources.
+        IsBuiltWithin down.now (entries_limit limits) doc.now sources.files sources.built) }
     ensures count { IfOk result (λ sources. length sources.files ≡ length doc.now.routers) }
-    ensures bytes { IfOk result (λ sources. All (λ text. length text ≤ router_limit limits) sources.files) }
-    ensures down { IfOk result (λ sources. first_above (length sources.built.net.links) down.now ≡ None) }
-    ensures reads { OnlyReads least_limit S.held S.faults S.absences S.taken store.old store.new result }
+    ensures bytes { IfOk result (λ sources.
+        All (λ text. length text ≤ router_limit limits) sources.files) }
+    ensures down { IfOk result (λ sources.
+        first_above (length sources.built.net.links) down.now ≡ None) }
+    ensures reads { OnlyReads least_limit S.held S.faults S.absences S.taken
+        store.old store.new result }
 {
     let files = read_routers(alloc, store, doc.routers.slice(), limits)?;
     match network_within(alloc, doc, &files, down, limits.entries()) {
@@ -99,7 +107,8 @@ pub fn read_sources<S: Store>(
     }
 }
 
-/// Reads the router files that the document names, and keeps their network; or answers the first refusal.
+/// Reads the router files that the document names, and keeps their network; or answers the first
+/// refusal.
 pub fn read_files<S: Store>(
     alloc: Global,
     name: &Name,
@@ -113,7 +122,8 @@ pub fn read_files<S: Store>(
         → ReadsFiles limits down.now name.now files result) }
     ensures fit { IfOk result IsFit }
     ensures down { IfOk result (λ input. first_above (length input.net.links) down.now ≡ None) }
-    ensures reads { OnlyReads least_limit S.held S.faults S.absences S.taken store.old store.new result }
+    ensures reads { OnlyReads least_limit S.held S.faults S.absences S.taken
+        store.old store.new result }
 {
     let sources = read_sources(alloc, name, &doc, down, limits, store)?;
     let built = sources.built;
@@ -131,10 +141,12 @@ pub fn read_input<S: Store>(
     limits: Limits,
     store: &mut S,
 ) -> Result<Input, Stop>
-    ensures told { IfSome (S.held store.old) (λ files. ReadsInput limits down.now name.now files result) }
+    ensures told { IfSome (S.held store.old) (λ files.
+        ReadsInput limits down.now name.now files result) }
     ensures fit { IfOk result IsFit }
     ensures down { IfOk result (λ input. first_above (length input.net.links) down.now ≡ None) }
-    ensures reads { OnlyReads least_limit S.held S.faults S.absences S.taken store.old store.new result }
+    ensures reads { OnlyReads least_limit S.held S.faults S.absences S.taken
+        store.old store.new result }
 {
     let doc = read_document(alloc, name, store)?;
     read_files(alloc, name, doc, down, limits, store)

@@ -4,9 +4,11 @@ ghost use Rattle.arc_outside.specs.Files.{Files};
 ghost use Rattle.run_files.specs.declared.limits.Limits.{Limits};
 ghost use Rattle.run_inputs.specs.Determined.{IsDetermined, IsJudgedOnce};
 
-/// What the names hold gives a command over a document at most one document and network, and at most one first refusal, and
-/// never both.
+/// What the names hold gives a command over a document at most one document and network, and at
+/// most one first refusal, and never both.
 pub fn input_is_determined()
-    ensures input { (limits : Limits) (down document : List ℕ) (files : Files) → IsDetermined limits down document files }
-    ensures judged { (limits : Limits) (document : List ℕ) (files : Files) → IsJudgedOnce limits document files }
+    ensures input { (limits : Limits) (down document : List ℕ) (files : Files) →
+        IsDetermined limits down document files }
+    ensures judged { (limits : Limits) (document : List ℕ) (files : Files) →
+        IsJudgedOnce limits document files }
 {}

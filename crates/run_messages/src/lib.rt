@@ -1,6 +1,6 @@
-//! What the program says on the standard error of a run that did not end well, for whoever sits before it: the line that a
-//! refusal names, the word that is wrong in it, and the form of a command. It bears on no answer and no status, and no
-//! contract says what the messages are.
+//! What the program says on the standard error of a run that did not end well, for whoever sits
+//! before it: the line that a refusal names, the word that is wrong in it, and the form of a
+//! command. It bears on no answer and no status, and no contract says what the messages are.
 #![tactic(auto)]
 
 mod commands;

@@ -40,7 +40,8 @@ fn block_of(alloc: Global, text: &[u8], lines: &Lines, line: &Line) -> BlockKind
     }
 }
 
-// The place of the word that is wrong in the line of this number, from 1, with the words of the line.
+// The place of the word that is wrong in the line of this number, from 1, with the words of the
+// line.
 fn wrong_place<'a>(
     alloc: Global,
     text: &[u8],

@@ -20,7 +20,8 @@ fn number_of(word: &[u8]) -> Option<u32> {
     str::from_utf8(word).ok()?.parse().ok()
 }
 
-/// What the line says, if it tells a refusal of one word. The limits of counts name no line, so they are left out.
+/// What the line says, if it tells a refusal of one word. The limits of counts name no line, so
+/// they are left out.
 pub fn told_refusal(line: &[u8]) -> Option<Refused<'_>> {
     let text = line.strip_suffix(b"\n")?.strip_prefix(b"refused ")?;
     let (front, kind) = split_last(text)?;
@@ -33,8 +34,8 @@ pub fn told_refusal(line: &[u8]) -> Option<Refused<'_>> {
 }
 
 impl Refused<'_> {
-    /// Whether the number is that of a line of the named file. In a document it is that of a link or a policy, and a document is
-    /// one of the words, while router files are not.
+    /// Whether the number is that of a line of the named file. In a document it is that of a link
+    /// or a policy, and a document is one of the words, while router files are not.
     pub fn names_line(&self, is_word: bool) -> bool {
         let of_words: [&[u8]; 4] = [b"edit-line", b"bad-header", b"bad-number", b"clause-count"];
         self.number > 0 && (!is_word || of_words.iter().any(|kind| *kind == self.kind))

@@ -7,7 +7,8 @@ use std::alloc::Global;
 // How much is kept: the line of a refusal, of which a name has at most 1,024 bytes, fits in.
 const KEPT: usize = 4096;
 
-/// A sink that puts all into another one, and keeps the front of it for messages, as far as there is memory for it.
+/// A sink that puts all into another one, and keeps the front of it for messages, as far as there
+/// is memory for it.
 #[derive(Drop)]
 pub struct Tee<K: Drop> {
     pub out: K,

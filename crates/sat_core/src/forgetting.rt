@@ -1,12 +1,14 @@
 //! How a clause is forgotten, and how the gaps that forgotten clauses leave are closed.
-ghost use Rattle.std.specs.Prelude.{◌≡◌, ◌≢◌, ℕ, ◌-◌, ◌<◌, length, All, Contains, Some, IsNone, IfSome, IsSomeAnd, IsTrue, IsFalse, slice_index_or};
+ghost use Rattle.std.specs.Prelude.{◌≡◌, ◌≢◌, ℕ, ◌-◌, ◌<◌, length, All, Contains, Some, IsNone};
+ghost use Rattle.std.specs.Prelude.{IfSome, IsSomeAnd, IsTrue, IsFalse, slice_index_or};
 ghost use Rattle.std.specs.List.{Any};
 ghost use Rattle.cnf_types.specs.Literals.{variable};
 ghost use Rattle.sat_core.specs.Trails.{IsOf, entry_of};
 ghost use Rattle.std.specs.Option.{option_and_then};
 ghost use Rattle.cnf_types.specs.declared.literal.Lit.{Lit};
 ghost use Rattle.clause_pool.specs.declared.place.Place.{Place};
-ghost use Rattle.clause_pool.specs.Pools.{Entry, IsSound as IsSoundPool, IsFreshId, IsOf as IsOfPool, chain, clause_at as clause_in};
+ghost use Rattle.clause_pool.specs.Pools.{Entry, IsSound as IsSoundPool, IsFreshId};
+ghost use Rattle.clause_pool.specs.Pools.{IsOf as IsOfPool, chain, clause_at as clause_in};
 ghost use Rattle.sat_core.specs.Progressing.{AreInRange};
 ghost use Rattle.sat_core.specs.Watches.{IsLinked};
 ghost use Rattle.sat_core.specs.Forgotten.{IsFreed, IsMoved, IsRenumbered};
@@ -33,7 +35,8 @@ impl Core {
         implied(&self.trail, self.store.lits(held), held)
     }
 
-    /// Takes a clause out that implied no literal of the trail. The last clause takes its place. It takes no memory.
+    /// Takes a clause out that implied no literal of the trail. The last clause takes its place. It
+    /// takes no memory.
     pub fn forget(&mut self, held: Held)
         requires held { held.0 < length self.old.clauses }
         requires no_reason { IsNoReason self.old.trail held }
@@ -74,7 +77,10 @@ fn is_for(entry: Option<Assigned>, held: Held) -> bool
 fn implied(trail: &Trail, lits: &[Lit], held: Held) -> bool
     requires { All (IsOf trail.now.vars) lits.now }
     ensures yes { IsTrue result → Any (λ e. e.reason ≡ Some held) trail.now.entries }
-    ensures no { IsFalse result → (k : ℕ) (d : Lit) → k < length lits.now → option_and_then (λ e. e.reason) (entry_of trail.now.entries (variable (slice_index_or lits.now k d))) ≢ Some held }
+    ensures no { IsFalse result →
+        (k : ℕ) (d : Lit) → k < length lits.now →
+        option_and_then (λ e. e.reason)
+        (entry_of trail.now.entries (variable (slice_index_or lits.now k d))) ≢ Some held }
 {
     for lit in lits {
         if is_for(trail.entry(lit.var()), held) {
@@ -88,7 +94,9 @@ fn implied(trail: &Trail, lits: &[Lit], held: Held) -> bool
 fn find_in(pool: &Pool, lit: Lit, id: u64) -> Option<Place>
     requires { IsOfPool pool.now.vars lit }
     ensures some { IfSome result (λ p. IsSomeAnd (clause_in pool.now p) (λ e. e.id ≡ id)) }
-    ensures none { IsNone result → (p : Place) → Contains (chain pool.now lit) p → IfSome (clause_in pool.now p) (λ e. e.id ≢ id) }
+    ensures none { IsNone result →
+        (p : Place) → Contains (chain pool.now lit) p →
+        IfSome (clause_in pool.now p) (λ e. e.id ≢ id) }
 {
     let mut at = pool.first(lit);
     while let Some(place) = at {
@@ -105,7 +113,8 @@ fn find_in(pool: &Pool, lit: Lit, id: u64) -> Option<Place>
 fn find(pool: &Pool, lits: &[Lit], id: u64) -> Option<Place>
     requires range { All (IsOfPool pool.now.vars) lits.now }
     requires sound { IsSoundPool pool.now }
-    requires among { (p : Place) (e : Entry) → clause_in pool.now p ≡ Some e → e.id ≡ id → (l : Lit) → Contains e.lits l → Contains lits.now l }
+    requires among { (p : Place) (e : Entry) → clause_in pool.now p ≡ Some e → e.id ≡ id →
+        (l : Lit) → Contains e.lits l → Contains lits.now l }
     ensures some { IfSome result (λ p. IsSomeAnd (clause_in pool.now p) (λ e. e.id ≡ id)) }
     ensures none { IsNone result → IsFreshId pool.now id }
 {
@@ -121,7 +130,8 @@ fn find(pool: &Pool, lits: &[Lit], id: u64) -> Option<Place>
 fn free(pool: &mut Pool, lits: &[Lit], id: u64)
     requires range { All (IsOfPool pool.old.vars) lits.now }
     requires sound { IsSoundPool pool.old }
-    requires among { (p : Place) (e : Entry) → clause_in pool.old p ≡ Some e → e.id ≡ id → (l : Lit) → Contains e.lits l → Contains lits.now l }
+    requires among { (p : Place) (e : Entry) → clause_in pool.old p ≡ Some e → e.id ≡ id →
+        (l : Lit) → Contains e.lits l → Contains lits.now l }
     ensures { IsFreed id pool.old pool.new }
 {
     match find(pool, lits, id) {
@@ -134,7 +144,8 @@ fn free(pool: &mut Pool, lits: &[Lit], id: u64)
 fn renumber(pool: &mut Pool, lits: &[Lit], id: u64, new_id: u64)
     requires range { All (IsOfPool pool.old.vars) lits.now }
     requires sound { IsSoundPool pool.old }
-    requires among { (p : Place) (e : Entry) → clause_in pool.old p ≡ Some e → e.id ≡ id → (l : Lit) → Contains e.lits l → Contains lits.now l }
+    requires among { (p : Place) (e : Entry) → clause_in pool.old p ≡ Some e → e.id ≡ id →
+        (l : Lit) → Contains e.lits l → Contains lits.now l }
     requires fresh { IsFreshId pool.old new_id }
     ensures { IsRenumbered id new_id pool.old pool.new }
 {
@@ -144,7 +155,8 @@ fn renumber(pool: &mut Pool, lits: &[Lit], id: u64, new_id: u64)
     }
 }
 
-/// Takes the clause at a place of the list out of the pool. The last one of the list is then the one at this place.
+/// Takes the clause at a place of the list out of the pool. The last one of the list is then the
+/// one at this place.
 fn take_out(store: &Store, pool: &mut Pool, held: Held)
     requires held { held.0 < length store.now.clauses }
     requires linked { IsLinked pool.old.vars store.now.clauses pool.old }

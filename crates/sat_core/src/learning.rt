@@ -12,12 +12,14 @@ use arc_base::Memory;
 use cnf_types::Lit;
 
 impl Core {
-    ghost use Rattle.std.specs.Prelude.{◌≡◌, ◌≢◌, ◌↔◌, ◌<◌, ◌-◌, ◌^◌, length, All, IsTrue, OnOk, OnErr};
+    ghost use Rattle.std.specs.Prelude.{◌≡◌, ◌≢◌, ◌↔◌, ◌<◌, ◌-◌, ◌^◌, length, All, IsTrue, OnOk};
+    ghost use Rattle.std.specs.Prelude.{OnErr};
     ghost use Rattle.sat_core.specs.Trails.{IsOf};
     ghost use Rattle.sat_core.specs.States.{IsAsserting, with_lemma};
 
-    /// Whether a clause implies its first literal on the current level, and not before: this literal is unset, all
-    /// others are false, and the second one is since this level, which is not the lowest.
+    /// Whether a clause implies its first literal on the current level, and not before: this
+    /// literal is unset, all others are false, and the second one is since this level, which is not
+    /// the lowest.
     pub fn is_asserting(&self, lits: &[Lit]) -> bool
         requires { All (IsOf self.now.vars) lits.now }
         ensures { IsTrue result ↔ IsAsserting self.now lits.now }
@@ -32,8 +34,10 @@ impl Core {
         }
     }
 
-    /// Adds a clause that implies its first literal on the current level, and not before, and makes this literal true.
-    /// So all lower levels stay at rest. It takes all the room that later calls need for the clause.
+    /// Adds a clause that implies its first literal on the current level, and not before, and makes
+    /// this literal true.
+    /// So all lower levels stay at rest. It takes all the room that later calls need for the
+    /// clause.
     pub fn learn(&mut self, id: u64, lits: &[Lit]) -> Result<(), Memory>
         requires asserting { IsAsserting self.old lits.now }
         requires range { All (IsOf self.old.vars) lits.now }

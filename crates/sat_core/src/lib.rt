@@ -1,5 +1,6 @@
-//! The core of a solver for formulas in conjunctive normal form: the live clauses, the trail of the literals that are
-//! true, and unit propagation, which is complete. Contracts see a core as its clauses and its trail.
+//! The core of a solver for formulas in conjunctive normal form: the live clauses, the trail of the
+//! literals that are true, and unit propagation, which is complete. Contracts see a core as its
+//! clauses and its trail.
 #![tactic(auto)]
 
 mod adding;

@@ -1,5 +1,6 @@
 //! Marks on literals, by which a literal and its negation are found in one walk along a clause.
-ghost use Rattle.std.specs.Prelude.{◌≡◌, ◌<◌, ◌≤◌, ◌==◌, Bool, false, length, All, IfOk, slice_index_or, if◌then◌else◌};
+ghost use Rattle.std.specs.Prelude.{◌≡◌, ◌<◌, ◌≤◌, ◌==◌, Bool, false, length, All, IfOk};
+ghost use Rattle.std.specs.Prelude.{slice_index_or, if◌then◌else◌};
 ghost use Rattle.std.specs.List.{list_any};
 ghost use Rattle.cnf_types.specs.declared.literal.Lit.{Lit};
 ghost use Rattle.cnf_types.specs.Literals.{negated};
@@ -60,7 +61,9 @@ impl Marks {
 fn set(marks: &mut [bool], lits: &[Lit], mark: bool)
     requires { All (λ l. l.code < length marks.old) lits.now }
     ensures size { length marks.new ≡ length marks.old }
-    ensures marks { (l : Lit) → slice_index_or marks.new l.code false ≡ (if list_any (λ m. m.code == l.code) lits.now then mark else slice_index_or marks.old l.code false) }
+    ensures marks { (l : Lit) →
+        slice_index_or marks.new l.code false ≡ (if list_any (λ m. m.code == l.code) lits.now
+        then mark else slice_index_or marks.old l.code false) }
 {
     for lit in lits {
         marks[lit.code as usize] = mark;
@@ -70,7 +73,8 @@ fn set(marks: &mut [bool], lits: &[Lit], mark: bool)
 /// Whether the negation of a literal of the clause is marked, as exactly its literals are.
 fn has_marked(marks: &[bool], lits: &[Lit]) -> bool
     requires range { All (λ l. (negated l).code < length marks.now) lits.now }
-    requires marked { (l : Lit) → slice_index_or marks.now l.code false ≡ list_any (λ m. m.code == l.code) lits.now }
+    requires marked { (l : Lit) →
+        slice_index_or marks.now l.code false ≡ list_any (λ m. m.code == l.code) lits.now }
     ensures { IsBoth lits.now result }
 {
     for lit in lits {

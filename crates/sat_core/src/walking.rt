@@ -10,8 +10,8 @@ use crate::visiting::{Seen, visit};
 use clause_pool::{Place, Pool};
 use cnf_types::Lit;
 
-/// Visits the clauses that a false literal watches, and makes true what they imply. The answer is a clause whose
-/// literals are all false, where the walk came to one.
+/// Visits the clauses that a false literal watches, and makes true what they imply. The answer is a
+/// clause whose literals are all false, where the walk came to one.
 pub(crate) fn walk(
     store: &Store,
     pool: &mut Pool,

@@ -1,4 +1,5 @@
--- What drop steps leave: which lemmas a log has, which may be dropped, and what a step that drops some does.
+-- What drop steps leave: which lemmas a log has, which may be dropped, and what a step that drops
+-- some does.
 use Rattle.std.specs.Prelude.{◌≡◌, ℕ, ◌⊎◌, IsSome, List, [], ◌∷◌, ◌++◌, reverse, All}
 use Rattle.proof_log.specs.declared.steps.Step.{Step}
 use Rattle.proof_log.specs.declared.steps.Step.TheVariants.{Drop}

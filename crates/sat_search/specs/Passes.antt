@@ -1,5 +1,9 @@
--- How far the pass that learns a lemma has come. It goes through the trail from its end. Contracts of helpers cite these.
-use Rattle.std.specs.Prelude.{◌≡◌, ◌≢◌, ℕ, ◌+◌, ◌-◌, ◌*◌, ◌^◌, ◌<◌, ◌≤◌, ℤ, pos, Bool, false, if◌then◌else◌, nat_lt, ◌==◌, ◌&&◌, ◌||◌, not, ◌⊎◌, IsTrue, IsFalse, IsSome, List, All, length, count_by, slice_get, slice_index_or, Option, Some, None}
+-- How far the pass that learns a lemma has come. It goes through the trail from its end. Contracts
+-- of helpers cite these.
+use Rattle.std.specs.Prelude.{◌≡◌, ◌≢◌, ℕ, ◌+◌, ◌-◌, ◌*◌, ◌^◌, ◌<◌, ◌≤◌, ℤ, pos, Bool, false}
+use Rattle.std.specs.Prelude.{if◌then◌else◌, nat_lt, ◌==◌, ◌&&◌, ◌||◌, not, ◌⊎◌, IsTrue, IsFalse}
+use Rattle.std.specs.Prelude.{IsSome, List, All, length, count_by, slice_get, slice_index_or}
+use Rattle.std.specs.Prelude.{Option, Some, None}
 use Rattle.std.specs.Option.{option_map}
 use Rattle.cnf_types.specs.declared.literal.Lit.{Lit}
 use Rattle.cnf_types.specs.Literals.{negated}
@@ -22,7 +26,8 @@ IsCleared old new l = (m : Lit) → is_marked new m ≡ (is_marked old m && not 
 
 -- the literals of the clause that are false were marked
 abbrev pub IsJoined : List Assigned → List Bool → List Bool → List Lit → Type 0
-IsJoined trail old new lits = (m : Lit) → is_marked new m ≡ (is_marked old m || (is_among lits m && is_on trail (negated m)))
+IsJoined trail old new lits =
+    (m : Lit) → is_marked new m ≡ (is_marked old m || (is_among lits m && is_on trail (negated m)))
 
 -- the entry has the level, and the negation of its literal is marked
 abbrev pub is_open : ℕ → List Bool → Assigned → Bool
@@ -37,10 +42,12 @@ pub record HasRoom (s : State) (flags : List Bool) : Type 0 where
   pub size : length flags ≡ 2 * s.vars + 2
   pub few : length s.trail < 2 ^ 64
 
--- the reason of an entry of level 0, of one of the current level as long as others of the level are open, and of one
--- between them whose literal can be spared
+-- the reason of an entry of level 0, of one of the current level as long as others of the level are
+-- open, and of one between them whose literal can be spared
 abbrev pub resolving_reason : ℕ → ℕ → Bool → Assigned → Option Held
-resolving_reason level current spared e = if (e.level == 0) || (if e.level == level then nat_lt 1 current else spared) then e.reason else None
+resolving_reason level current spared e =
+    if (e.level == 0) || (if e.level == level then nat_lt 1 current else spared)
+    then e.reason else None
 
 -- an entry from place `low` on and before place `high` assigns the literal
 pub record IsSetWithin (trail : List Assigned) (low high : ℕ) (l : Lit) : Type 0 where
@@ -55,9 +62,12 @@ pub record IsSetWithin (trail : List Assigned) (low high : ℕ) (l : Lit) : Type
 abbrev pub so_far : List Bool → List Lit → Lit → Bool
 so_far flags lits m = is_marked flags m || is_among lits m
 
--- where the literals of the set are false, and whatever else, propagation along the hints ends in a conflict
+-- where the literals of the set are false, and whatever else, propagation along the hints ends in a
+-- conflict
 abbrev pub Refutes : (ℕ → Option (List Lit)) → (Lit → Bool) → List ℤ → Type 0
-Refutes live set hints = (falses : Lit → Bool) → ((m : Lit) → IsTrue (set m) → IsTrue (falses m)) → (place : ℕ) → chain_fault live falses place hints ≡ None
+Refutes live set hints =
+    (falses : Lit → Bool) → ((m : Lit) → IsTrue (set m) → IsTrue (falses m)) →
+    (place : ℕ) → chain_fault live falses place hints ≡ None
 
 -- the hint is the id of a live clause
 abbrev pub IsLive : (ℕ → Option (List Lit)) → ℤ → Type 0
@@ -78,17 +88,22 @@ pub record HasPoint (s : State) (lits : List Lit) : Type 0 where
   pub on_level : IsFalse (is_on (up_to s.trail (s.level - 1)) (negated literal))
   pub others : (m : Lit) → IsTrue (is_among lits m) → m ≢ literal → IsDeep s m
 
--- the clause so far has literals of the current level that are still marked, and none that stays; or one of them stays and
--- none is marked
+-- the clause so far has literals of the current level that are still marked, and none that stays;
+-- or one of them stays and none is marked
 abbrev pub HasOneOfLevel : State → List Lit → ℕ → Type 0
-HasOneOfLevel s lits current = (((m : Lit) → IsTrue (is_among lits m) → IsDeep s m) × (1 ≤ current)) ⊎ (HasPoint s lits × (current ≡ 0))
+HasOneOfLevel s lits current =
+    (((m : Lit) → IsTrue (is_among lits m) → IsDeep s m) × (1 ≤ current)) ⊎
+    (HasPoint s lits × (current ≡ 0))
 
--- the pass has gone through all entries but the first few. What is marked was made false by these; the literals in the list
--- stay, and were made false by the others; the hints show the clause so far; and so many entries of the current level are open
-pub record IsPass (s : State) (first : ℕ) (flags : List Bool) (lits : List Lit) (hints : List ℤ) (current : ℕ) : Type 0 where
+-- the pass has gone through all entries but the first few. What is marked was made false by these;
+-- the literals in the list stay, and were made false by the others; the hints show the clause so
+-- far; and so many entries of the current level are open
+pub record IsPass (s : State) (first : ℕ) (flags : List Bool) (lits : List Lit) (hints : List ℤ)
+    (current : ℕ) : Type 0 where
   pub size : length flags ≡ 2 * s.vars + 2
   pub pending : (m : Lit) → IsTrue (is_marked flags m) → IsSetWithin s.trail 0 first (negated m)
-  pub settled : (m : Lit) → IsTrue (is_among lits m) → IsSetWithin s.trail first (length s.trail) (negated m)
+  pub settled : (m : Lit) → IsTrue (is_among lits m) →
+      IsSetWithin s.trail first (length s.trail) (negated m)
   pub apart : HasDifferentVariables lits
   pub refutes : Refutes (clause_in s.clauses) (so_far flags lits) hints
   pub live : All (IsLive (clause_in s.clauses)) hints

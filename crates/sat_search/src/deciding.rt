@@ -10,15 +10,18 @@ use cnf_types::Lit;
 use sat_core::{Core, Held};
 
 impl Order {
-    /// Propagates and decides until a clause is falsified, which is then the answer, or all variables are set.
+    /// Propagates and decides until a clause is falsified, which is then the answer, or all
+    /// variables are set.
     pub fn dive(&mut self, core: &mut Core) -> Option<Held>
         requires { IsOrder core.old.vars self.old }
         ensures order { IsOrder core.old.vars self.new }
         ensures sound { IsSound core.new }
         ensures kept { KeepsClauses core.old core.new }
-        ensures conflict { IfSome result (λ held. IsSomeAnd (clause_at core.new.clauses held) (IsFalsified core.new.trail)) }
+        ensures conflict { IfSome result (λ held.
+            IsSomeAnd (clause_at core.new.clauses held) (IsFalsified core.new.trail)) }
         ensures rest { IsNone result → IsAtRest core.new.clauses (is_on core.new.trail) }
-        ensures all_set { IsNone result → (var : ℕ) → 1 ≤ var → var ≤ core.new.vars → IsTrue (is_set core.new.trail var) }
+        ensures all_set { IsNone result →
+            (var : ℕ) → 1 ≤ var → var ≤ core.new.vars → IsTrue (is_set core.new.trail var) }
     {
         if let Some(held) = core.propagate() {
             return Some(held);
@@ -37,7 +40,8 @@ impl Order {
         ensures order { IsOrder core.old.vars self.new }
         ensures sound { IsSound core.new }
         ensures kept { KeepsClauses core.old core.new }
-        ensures conflict { IfSome result (λ held. IsSomeAnd (clause_at core.new.clauses held) (IsFalsified core.new.trail)) }
+        ensures conflict { IfSome result (λ held.
+            IsSomeAnd (clause_at core.new.clauses held) (IsFalsified core.new.trail)) }
         ensures rest { IsNone result → IsAtRest core.new.clauses (is_on core.new.trail) }
     {
         let vars = core.vars();
@@ -59,9 +63,11 @@ impl Order {
         requires rest { IsAtRest core.old.clauses (is_on core.old.trail) }
         ensures sound { IsSound core.new }
         ensures kept { KeepsClauses core.old core.new }
-        ensures conflict { IfSome result (λ held. IsSomeAnd (clause_at core.new.clauses held) (IsFalsified core.new.trail)) }
+        ensures conflict { IfSome result (λ held.
+            IsSomeAnd (clause_at core.new.clauses held) (IsFalsified core.new.trail)) }
         ensures rest { IsNone result → IsAtRest core.new.clauses (is_on core.new.trail) }
-        ensures all_set { IsNone result → (var : ℕ) → 1 ≤ var → var ≤ core.new.vars → IsTrue (is_set core.new.trail var) }
+        ensures all_set { IsNone result →
+            (var : ℕ) → 1 ≤ var → var ≤ core.new.vars → IsTrue (is_set core.new.trail var) }
     {
         let vars = core.vars();
         for var in 1..vars + 1 {
@@ -82,7 +88,8 @@ impl Order {
         ensures sound { IsSound core.new }
         ensures kept { KeepsClauses core.old core.new }
         ensures stays { KeepsTrue core.old.trail core.new.trail }
-        ensures conflict { IfSome result (λ held. IsSomeAnd (clause_at core.new.clauses held) (IsFalsified core.new.trail)) }
+        ensures conflict { IfSome result (λ held.
+            IsSomeAnd (clause_at core.new.clauses held) (IsFalsified core.new.trail)) }
         ensures rest { IsNone result → IsAtRest core.new.clauses (is_on core.new.trail) }
         ensures set { IsTrue (is_set core.new.trail var) }
     {

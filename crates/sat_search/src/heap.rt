@@ -1,5 +1,5 @@
-//! A heap of variables. Nothing but speed rests on its order, so its contracts speak of no order, and each look-up allows
-//! for a place or a variable that is not there.
+//! A heap of variables. Nothing but speed rests on its order, so its contracts speak of no order,
+//! and each look-up allows for a place or a variable that is not there.
 ghost use Rattle.std.specs.Prelude.{◌≡◌, ◌+◌, ◌*◌, ◌<◌, ◌^◌, length, IsSome, IfSome};
 
 use arc_base::Memory;
@@ -13,7 +13,8 @@ pub(crate) struct Heap {
     pub places: Vec<u64>,
 }
 
-/// Whether a variable comes before another: the more active one, and of two that are as active the lower one.
+/// Whether a variable comes before another: the more active one, and of two that are as active the
+/// lower one.
 fn comes_before(activity: &[u64], one: u64, other: u64) -> bool {
     let own = activity.get(one as usize).copied().unwrap_or(0);
     let others = activity.get(other as usize).copied().unwrap_or(0);

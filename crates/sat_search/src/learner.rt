@@ -1,5 +1,6 @@
 //! What a search keeps between its conflicts, and what it does at one.
-ghost use Rattle.std.specs.Prelude.{◌≡◌, ◌≢◌, ◌+◌, ◌*◌, ◌≤◌, ◌<◌, ◌-◌, ◌^◌, All, AllPairs, length, IsSomeAnd, IfOk, OnOk, OnErr};
+ghost use Rattle.std.specs.Prelude.{◌≡◌, ◌≢◌, ◌+◌, ◌*◌, ◌≤◌, ◌<◌, ◌-◌, ◌^◌, All, AllPairs, length};
+ghost use Rattle.std.specs.Prelude.{IsSomeAnd, IfOk, OnOk, OnErr};
 ghost use Rattle.proof_log.specs.declared.steps.Log.{Log};
 ghost use Rattle.sat_core.specs.Trails.{clause_at, IsOf, IsFalsified};
 ghost use Rattle.sat_core.specs.States.{IsSound};
@@ -44,11 +45,12 @@ impl Learner {
         })
     }
 
-    /// Learns from a conflict: the lemma joins the core, at the level on which it implies a literal or at level 0, and
-    /// the log. It tells whether it is empty.
+    /// Learns from a conflict: the lemma joins the core, at the level on which it implies a literal
+    /// or at level 0, and the log. It tells whether it is empty.
     pub fn learn(&mut self, core: &mut Core, log: &mut Log, conflict: Held) -> Result<bool, Memory>
         requires ready { IsReady core.old.vars log.old.steps self.old }
-        requires conflict { IsSomeAnd (clause_at core.old.clauses conflict) (IsFalsified core.old.trail) }
+        requires conflict { IsSomeAnd (clause_at core.old.clauses conflict)
+            (IsFalsified core.old.trail) }
         requires ids { core.old.last_id + 1 < 2 ^ 63 }
         requires short { length log.old.steps < 2 ^ 32 - 1 }
         ensures ready { IfOk result (λ empty. IsReady core.new.vars log.new.steps self.new) }
@@ -102,7 +104,8 @@ fn joined_levels(core: &Core, lits: &[Lit]) -> u32
     levels
 }
 
-/// The level of the second literal of a lemma, which is the greatest but that of the first, and 0 where there is none.
+/// The level of the second literal of a lemma, which is the greatest but that of the first, and 0
+/// where there is none.
 fn second_level(core: &Core, lits: &[Lit]) -> u32
     requires sound { IsSound core.now }
     requires range { All (IsOf core.now.vars) lits.now }
@@ -114,7 +117,8 @@ fn second_level(core: &Core, lits: &[Lit]) -> u32
     level_of_false(core, lits[1]).min(core.level())
 }
 
-/// Adds a lemma to the core, on the current level where it implies its first literal there, and on level 0 otherwise.
+/// Adds a lemma to the core, on the current level where it implies its first literal there, and on
+/// level 0 otherwise.
 fn join(core: &mut Core, id: u64, lits: &[Lit]) -> Result<(), Memory>
     requires range { All (IsOf core.old.vars) lits.now }
     requires few_literals { length lits.now < 2 ^ 32 }

@@ -1,6 +1,9 @@
-//! The lemmas of a log, and when and which of them are dropped. A search with fewer lemmas looks at fewer clauses; those
-//! that join few levels, or were used lately, are worth most. Which are dropped bears on nothing but speed.
-ghost use Rattle.std.specs.Prelude.{◌≡◌, ◌≢◌, ◌+◌, ◌-◌, ◌*◌, ◌<◌, ◌≤◌, ◌⊎◌, ◌^◌, ◌∷◌, ◌++◌, [], length, take, All, AllPairs, Contains, Some, IsSome, IfSome, IsSomeAnd, IfOk, OnOk, OnErr, slice_get};
+//! The lemmas of a log, and when and which of them are dropped. A search with fewer lemmas looks at
+//! fewer clauses; those that join few levels, or were used lately, are worth most. Which are
+//! dropped bears on nothing but speed.
+ghost use Rattle.std.specs.Prelude.{◌≡◌, ◌≢◌, ◌+◌, ◌-◌, ◌*◌, ◌<◌, ◌≤◌, ◌⊎◌, ◌^◌, ◌∷◌, ◌++◌, []};
+ghost use Rattle.std.specs.Prelude.{length, take, All, AllPairs, Contains, Some, IsSome, IfSome};
+ghost use Rattle.std.specs.Prelude.{IsSomeAnd, IfOk, OnOk, OnErr, slice_get};
 ghost use Rattle.sat_core.specs.Trails.{id_at};
 ghost use Rattle.sat_core.specs.Forgotten.{IsNoReason};
 ghost use Rattle.sat_search.specs.Dropping.{AreLemmas, Drops, Forgets, ForgetsMore};
@@ -10,7 +13,8 @@ use proof_log::{Log, Step};
 use sat_core::{Core, Held};
 use std::alloc::Global;
 
-/// A drop step comes after so many times its number added clauses, counted from the drop step before it.
+/// A drop step comes after so many times its number added clauses, counted from the drop step
+/// before it.
 const ADDED: u64 = 1500;
 
 /// It leaves so many times its number of the clauses that were added last.
@@ -19,7 +23,8 @@ const KEPT: u64 = 1000;
 /// What is added to the worth of a lemma that was not used lately.
 const UNUSED: u64 = 1 << 32;
 
-/// The lemmas of a log: their ids in the order in which they were added, and the levels that each one joined.
+/// The lemmas of a log: their ids in the order in which they were added, and the levels that each
+/// one joined.
 #[derive(Debug, Drop)]
 pub(crate) struct Lemmas {
     pub alloc: Global,
@@ -97,7 +102,8 @@ impl Lemmas {
 
     /// Where a clause stands among the first lemmas, so many of them, where it does.
     fn place_of(&self, id: u64, old: usize) -> Option<usize>
-        ensures { IfSome result (λ place. (place < old) × (slice_get self.now.ids.items place ≡ Some id)) }
+        ensures { IfSome result (λ place.
+            (place < old) × (slice_get self.now.ids.items place ≡ Some id)) }
     {
         let mut low = 0;
         let mut high = old.min(self.ids.len());
@@ -141,12 +147,14 @@ impl Lemmas {
         }
     }
 
-    /// How little a clause of the core is worth, where it may be dropped: it is one of the first lemmas, has more than two
-    /// literals, and implied no literal of the trail.
+    /// How little a clause of the core is worth, where it may be dropped: it is one of the first
+    /// lemmas, has more than two literals, and implied no literal of the trail.
     fn cost(&self, core: &Core, used: &[bool], held: Held) -> Option<u64>
         requires { held.0 < length core.now.clauses }
         ensures no_reason { IsSome result → IsNoReason core.now.trail held }
-        ensures old { IsSome result → IsSomeAnd (id_at core.now.clauses held) (Contains (take (length used.now) self.now.ids.items)) }
+        ensures old { IsSome result →
+            IsSomeAnd (id_at core.now.clauses held)
+            (Contains (take (length used.now) self.now.ids.items)) }
     {
         if core.clause(held).len() <= 2 {
             return None;
@@ -204,7 +212,9 @@ impl Lemmas {
         requires few { length ids.old < 2 ^ 32 - 1 }
         ensures forgets { OnOk result (ForgetsMore core.old ids.old core.new ids.new) }
         ensures different { OnOk result (AllPairs (λ c d. c.id ≢ d.id) core.new.clauses) }
-        ensures old { OnOk result (All (Contains (take (length used.now) self.now.ids.items)) ids.old → All (Contains (take (length used.now) self.now.ids.items)) ids.new) }
+        ensures old { OnOk result
+            (All (Contains (take (length used.now) self.now.ids.items)) ids.old →
+            All (Contains (take (length used.now) self.now.ids.items)) ids.new) }
         ensures places { OnOk result (held.0 ≤ length core.new.clauses) }
     {
         match self.cost(core, used, held) {
@@ -217,7 +227,8 @@ impl Lemmas {
         }
     }
 
-    /// Drops lemmas, at level 0, by a step of the log. Where none may be dropped, it is tried again later.
+    /// Drops lemmas, at level 0, by a step of the log. Where none may be dropped, it is tried again
+    /// later.
     pub fn drop_half(&mut self, core: &mut Core, log: &mut Log) -> Result<(), Memory>
         requires lemmas { AreLemmas log.old.steps self.old }
         requires short { length log.old.steps < 2 ^ 32 - 1 }

@@ -1,11 +1,14 @@
 //! The lemma of a conflict.
-ghost use Rattle.std.specs.Prelude.{◌≡◌, ◌+◌, ◌*◌, ◌<◌, ◌≤◌, ◌^◌, ◌||◌, ◌==◌, if◌then◌else◌, ◌∷◌, ◌++◌, [], length, reverse, All, IsTrue, IsSomeAnd, IfOk, IfSome, OnOk, Some, option_to_list, false};
+ghost use Rattle.std.specs.Prelude.{◌≡◌, ◌+◌, ◌*◌, ◌<◌, ◌≤◌, ◌^◌, ◌||◌, ◌==◌, if◌then◌else◌, ◌∷◌};
+ghost use Rattle.std.specs.Prelude.{◌++◌, [], length, reverse, All, IsTrue, IsSomeAnd, IfOk};
+ghost use Rattle.std.specs.Prelude.{IfSome, OnOk, Some, option_to_list, false};
 ghost use Rattle.cnf_types.specs.Literals.{negated};
 ghost use Rattle.cnf_types.specs.declared.literal.Lit.{Lit};
 ghost use Rattle.proof_check.specs.Propagation.{same};
 ghost use Rattle.sat_core.specs.Trails.{is_on, clause_at, id_at, IsOf, IsFalsified};
 ghost use Rattle.sat_core.specs.States.{IsSound};
-ghost use Rattle.sat_search.specs.Passes.{open_in, is_marked, resolving_reason, IsCleared, IsJoined, IsPass, HasRoom, hint_at};
+ghost use Rattle.sat_search.specs.Passes.{open_in, is_marked, resolving_reason, IsCleared};
+ghost use Rattle.sat_search.specs.Passes.{IsJoined, IsPass, HasRoom, hint_at};
 ghost use Rattle.sat_search.specs.Live.{clause_in};
 ghost use Rattle.sat_search.specs.Searches.{IsLearnt};
 
@@ -15,9 +18,9 @@ use cnf_types::Lit;
 use sat_core::{Assigned, Core, Held};
 use std::alloc::Global;
 
-/// What a conflict teaches, while the pass through the trail goes on: the literals that stay, the ids of the clauses
-/// that were resolved, the conflict's first, how many marked literals are of the current level, and the literals that
-/// were met.
+/// What a conflict teaches, while the pass through the trail goes on: the literals that stay, the
+/// ids of the clauses that were resolved, the conflict's first, how many marked literals are of the
+/// current level, and the literals that were met.
 #[derive(Debug, Drop)]
 pub(crate) struct Lesson {
     pub lits: Vec<Lit>,
@@ -50,7 +53,8 @@ pub(crate) fn level_of_false(core: &Core, lit: Lit) -> u32
     }
 }
 
-/// Whether the literals that an entry's reason brings in its place are in the clause so far, or false since level 0.
+/// Whether the literals that an entry's reason brings in its place are in the clause so far, or
+/// false since level 0.
 fn is_spared(marks: &Marks, core: &Core, entry: Assigned) -> bool
     requires sound { IsSound core.now }
     requires room { HasRoom core.now marks.now }
@@ -78,8 +82,9 @@ fn hint(core: &Core, held: Held) -> i64
 }
 
 impl Lesson {
-    /// The reason with which an entry is resolved away, where it is: on level 0, on the current level as long as other
-    /// literals of this level are marked, and between them where its literal can be spared.
+    /// The reason with which an entry is resolved away, where it is: on level 0, on the current
+    /// level as long as other literals of this level are marked, and between them where its literal
+    /// can be spared.
     fn resolving_reason(&self, entry: Assigned, level: u32, spared: bool) -> Option<Held>
         ensures { result ≡ resolving_reason level self.now.current spared entry }
     {
@@ -103,7 +108,8 @@ impl Lesson {
         requires counted { self.old.current ≡ open_in core.now.level core.now.trail marks.old }
         requires met { All (IsOf core.now.vars) self.old.met.items }
         ensures joined { OnOk result (IsJoined core.now.trail marks.old marks.new (lit ∷ [])) }
-        ensures counted { OnOk result (self.new.current ≡ open_in core.now.level core.now.trail marks.new) }
+        ensures counted { OnOk result
+            (self.new.current ≡ open_in core.now.level core.now.trail marks.new) }
         ensures met { OnOk result (All (IsOf core.now.vars) self.new.met.items) }
         ensures size { length marks.new ≡ length marks.old }
         ensures lits { self.new.lits.items ≡ self.old.lits.items }
@@ -128,9 +134,12 @@ impl Lesson {
         requires ids { core.now.last_id < 2 ^ 63 }
         requires counted { self.old.current ≡ open_in core.now.level core.now.trail marks.old }
         requires met { All (IsOf core.now.vars) self.old.met.items }
-        ensures joined { OnOk result (IfSome (clause_at core.now.clauses held) (IsJoined core.now.trail marks.old marks.new)) }
-        ensures hint { OnOk result (self.new.hints.items ≡ self.old.hints.items ++ option_to_list (hint_at core.now.clauses held)) }
-        ensures counted { OnOk result (self.new.current ≡ open_in core.now.level core.now.trail marks.new) }
+        ensures joined { OnOk result (IfSome (clause_at core.now.clauses held)
+            (IsJoined core.now.trail marks.old marks.new)) }
+        ensures hint { OnOk result (self.new.hints.items ≡ self.old.hints.items ++
+            option_to_list (hint_at core.now.clauses held)) }
+        ensures counted { OnOk result
+            (self.new.current ≡ open_in core.now.level core.now.trail marks.new) }
         ensures met { OnOk result (All (IsOf core.now.vars) self.new.met.items) }
         ensures size { length marks.new ≡ length marks.old }
         ensures lits { self.new.lits.items ≡ self.old.lits.items }
@@ -149,7 +158,8 @@ impl Lesson {
         requires some { entry.level ≡ level → 1 ≤ self.old.current }
         ensures cleared { IsCleared marks.old marks.new (negated entry.lit) }
         ensures size { length marks.new ≡ length marks.old }
-        ensures less { self.old.current ≡ self.new.current + (if entry.level == level then 1 else 0) }
+        ensures less { self.old.current
+            ≡ self.new.current + (if entry.level == level then 1 else 0) }
         ensures lits { self.new.lits.items ≡ self.old.lits.items }
         ensures hints { self.new.hints.items ≡ self.old.hints.items }
         ensures met { self.new.met.items ≡ self.old.met.items }
@@ -160,16 +170,18 @@ impl Lesson {
         }
     }
 
-    /// Goes through the entry of the trail at a place. Where its negation is in the clause so far, the entry is resolved
-    /// away with its reason, or the negation stays.
+    /// Goes through the entry of the trail at a place. Where its negation is in the clause so far,
+    /// the entry is resolved away with its reason, or the negation stays.
     fn visit(&mut self, marks: &mut Marks, core: &Core, place: usize) -> Result<(), Memory>
         requires place { place < length core.now.trail }
         requires sound { IsSound core.now }
         requires room { HasRoom core.now marks.old }
         requires ids { core.now.last_id < 2 ^ 63 }
         requires met { All (IsOf core.now.vars) self.old.met.items }
-        requires pass { IsPass core.now (place + 1) marks.old self.old.lits.items (reverse self.old.hints.items) self.old.current }
-        ensures pass { OnOk result (IsPass core.now place marks.new self.new.lits.items (reverse self.new.hints.items) self.new.current) }
+        requires pass { IsPass core.now (place + 1) marks.old self.old.lits.items
+            (reverse self.old.hints.items) self.old.current }
+        ensures pass { OnOk result (IsPass core.now place marks.new self.new.lits.items
+            (reverse self.new.hints.items) self.new.current) }
         ensures met { OnOk result (All (IsOf core.now.vars) self.new.met.items) }
         ensures size { length marks.new ≡ length marks.old }
     {
@@ -190,20 +202,23 @@ impl Lesson {
         }
     }
 
-    /// What a conflict teaches. The literals are those that the pass through the trail leaves, with one alone of the
-    /// current level; the hints stand in the order of the trail, and the conflict's clause is the last one.
+    /// What a conflict teaches. The literals are those that the pass through the trail leaves, with
+    /// one alone of the current level; the hints stand in the order of the trail, and the
+    /// conflict's clause is the last one.
     pub fn of(
         alloc: Global,
         marks: &mut Marks,
         core: &Core,
         conflict: Held,
     ) -> Result<Lesson, Memory>
-        requires conflict { IsSomeAnd (clause_at core.now.clauses conflict) (IsFalsified core.now.trail) }
+        requires conflict { IsSomeAnd (clause_at core.now.clauses conflict)
+            (IsFalsified core.now.trail) }
         requires size { length marks.old ≡ 2 * core.now.vars + 2 }
         requires none { (l : Lit) → is_marked marks.old l ≡ false }
         requires ids { core.now.last_id < 2 ^ 63 }
         ensures sound { IsSound core.now }
-        ensures learnt { IfOk result (λ lesson. IsLearnt (clause_in core.now.clauses) core.now.vars lesson.lits.items lesson.hints.items) }
+        ensures learnt { IfOk result (λ lesson. IsLearnt (clause_in core.now.clauses) core.now.vars
+            lesson.lits.items lesson.hints.items) }
         ensures met { IfOk result (λ lesson. All (IsOf core.now.vars) lesson.met.items) }
         ensures none { OnOk result ((l : Lit) → is_marked marks.new l ≡ false) }
         ensures size { length marks.new ≡ length marks.old }
@@ -225,7 +240,8 @@ impl Lesson {
 
     /// The literals and the hints.
     pub fn into_parts(self) -> Result<(List<Lit>, List<i64>), Memory>
-        ensures { IfOk result (λ parts. (parts.0 ≡ self.lits.items) × (parts.1 ≡ self.hints.items)) }
+        ensures { IfOk result (λ parts.
+            (parts.0 ≡ self.lits.items) × (parts.1 ≡ self.hints.items)) }
     {
         let Lesson {
             lits,

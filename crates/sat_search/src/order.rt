@@ -1,5 +1,5 @@
-//! In which order variables are decided, and how: those that conflicts met most come first, late conflicts counting
-//! more, each with the value that it had last. Nothing but speed depends on it.
+//! In which order variables are decided, and how: those that conflicts met most come first, late
+//! conflicts counting more, each with the value that it had last. Nothing but speed depends on it.
 ghost use Rattle.std.specs.Prelude.{◌≡◌, ◌<◌, ◌≤◌, ◌^◌, All, IfOk};
 ghost use Rattle.sat_core.specs.Trails.{IsOf};
 ghost use Rattle.sat_core.specs.States.{at_level};
@@ -69,7 +69,8 @@ impl Order {
         self.heap.raise(var, self.activity.as_slice());
     }
 
-    /// Takes back the levels above this one. The variables that become unset keep their values for the next decisions.
+    /// Takes back the levels above this one. The variables that become unset keep their values for
+    /// the next decisions.
     pub fn take_back(&mut self, core: &mut Core, level: u32)
         requires order { IsOrder core.old.vars self.old }
         requires below { level ≤ core.old.level }
@@ -80,7 +81,8 @@ impl Order {
         core.back_to(level);
     }
 
-    /// Saves the values of the entries above a level, the last ones, and takes their variables for unset.
+    /// Saves the values of the entries above a level, the last ones, and takes their variables for
+    /// unset.
     fn release(&mut self, vars: u64, trail: &[Assigned], level: u32)
         requires range { All (λ e. IsOf vars e.lit) trail.now }
         requires order { IsOrder vars self.old }

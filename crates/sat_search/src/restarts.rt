@@ -1,10 +1,11 @@
-//! When a search goes back to level 0 and begins its decisions anew. Nothing but speed depends on it.
+//! When a search goes back to level 0 and begins its decisions anew. Nothing but speed depends on
+//! it.
 
 /// The conflicts before the first restart.
 const FIRST: u64 = 100;
 
-/// How many conflicts are left to the next restart, and how many there are from the last one to it. Each gap is twice the one
-/// before: on hard formulas frequent restarts cost more than they bring.
+/// How many conflicts are left to the next restart, and how many there are from the last one to it.
+/// Each gap is twice the one before: on hard formulas frequent restarts cost more than they bring.
 #[derive(Clone, Copy, Debug)]
 pub(crate) struct Restarts {
     left: u64,

@@ -1,5 +1,6 @@
 //! The values that a trail gives all variables.
-ghost use Rattle.std.specs.Prelude.{◌≡◌, ◌≤◌, ◌<◌, ◌-◌, ℕ, length, IsTrue, IfOk, slice_index_or, false, true};
+ghost use Rattle.std.specs.Prelude.{◌≡◌, ◌≤◌, ◌<◌, ◌-◌, ℕ, length, IsTrue, IfOk, slice_index_or};
+ghost use Rattle.std.specs.Prelude.{false, true};
 ghost use Rattle.cnf_types.specs.Literals.{literal};
 ghost use Rattle.sat_core.specs.Trails.{is_on, IsOf};
 ghost use Rattle.sat_core.specs.Rest.{IsAtRest};
@@ -30,7 +31,8 @@ fn is_true(core: &Core, lit: Lit) -> bool
 pub(crate) fn values(alloc: Global, core: &Core) -> Result<List<bool>, Memory>
     requires sound { IsSound core.now }
     requires rest { IsAtRest core.now.clauses (is_on core.now.trail) }
-    requires all_set { (var : ℕ) → 1 ≤ var → var ≤ core.now.vars → IsTrue (is_set core.now.trail var) }
+    requires all_set { (var : ℕ) → 1 ≤ var → var ≤ core.now.vars →
+        IsTrue (is_set core.now.trail var) }
     ensures { IfOk result (IsModelOf core.now) }
 {
     resting_trails_satisfy();

@@ -133,7 +133,8 @@ fn old_drops(step: &Step) -> Option<u32> {
     Some(ids.len())
 }
 
-/// Whether the steps add a clause that is not empty, and then drop from 1 to 250 clauses with ids from 10 to 509.
+/// Whether the steps add a clause that is not empty, and then drop from 1 to 250 clauses with ids
+/// from 10 to 509.
 fn drops_old(steps: &[Step]) -> bool {
     let adds = match steps.get(1499) {
         Some(Step::Add { lits, .. }) => !lits.is_empty(),

@@ -1,5 +1,6 @@
 -- The classes of several policies together, each of them once.
-use Rattle.std.specs.Prelude.{◌≡◌, ℕ, ◌+◌, ◌<◌, ◌≤◌, ◌&&◌, ◌++◌, nat_eq, not, Bool, List, [], ◌∷◌, fold, length, map, take, if◌then◌else◌}
+use Rattle.std.specs.Prelude.{◌≡◌, ℕ, ◌+◌, ◌<◌, ◌≤◌, ◌&&◌, ◌++◌, nat_eq, not, Bool, List, [], ◌∷◌}
+use Rattle.std.specs.Prelude.{fold, length, map, take, if◌then◌else◌}
 use Rattle.std.specs.List.{flat_map, list_any, AllZip}
 use Rattle.arc_base.specs.Addresses.{inside}
 use Rattle.net_model.specs.Services.{is_service_inside}
@@ -15,11 +16,20 @@ Key = ℕ × ℕ × ℕ × ℕ × ℕ × ℕ
 
 -- the numbers of the class
 abbrev pub key_of : Class → Key
-key_of class = (class.from.addr, class.from.len, class.to.addr, class.to.len, class.service.low, class.service.high)
+key_of class = (
+  class.from.addr,
+  class.from.len,
+  class.to.addr,
+  class.to.len,
+  class.service.low,
+  class.service.high,
+)
 
 -- whether the two have the same numbers
 abbrev pub same_key : Key → Key → Bool
-same_key k l = ((((nat_eq k.0 l.0 && nat_eq k.1 l.1) && nat_eq k.2 l.2) && nat_eq k.3 l.3) && nat_eq k.4 l.4) && nat_eq k.5 l.5
+same_key k l =
+    ((((nat_eq k.0 l.0 && nat_eq k.1 l.1) && nat_eq k.2 l.2) && nat_eq k.3 l.3) &&
+    nat_eq k.4 l.4) && nat_eq k.5 l.5
 
 -- whether the two classes are the same
 abbrev pub is_same : Class → Class → Bool
@@ -27,14 +37,17 @@ is_same c d = same_key (key_of c) (key_of d)
 
 -- the list with the class at its end, where it is not there yet
 abbrev pub with_class : List Class → Class → List Class
-with_class classes class = if list_any (is_same class) classes then classes else classes ++ class ∷ []
+with_class classes class =
+    if list_any (is_same class) classes then classes else classes ++ class ∷ []
 
 -- each of the classes once, where it stands first
 abbrev pub each_once : List Class → List Class
 each_once classes = fold with_class [] classes
 
--- the list has the classes of some of the policies: each once, in the order in which they first stand in the policies' lists, one after another
-pub record AreAllClasses (net : Network) (policies some : List Policy) (classes : List Class) : Type 0 where
+-- the list has the classes of some of the policies: each once, in the order in which they first
+-- stand in the policies' lists, one after another
+pub record AreAllClasses (net : Network) (policies some : List Policy)
+    (classes : List Class) : Type 0 where
   pub lists : List (List Class)
   pub are : AllZip (AreClasses net policies) some lists
   pub once : classes ≡ each_once (flat_map (λ l. l) lists)
@@ -56,7 +69,9 @@ pub record FirstHaveMore (net : Network) (policies : List Policy) (count : ℕ) 
 
 -- whether the class does not lie in the policy
 abbrev pub lies_off : Policy → Class → Bool
-lies_off policy class = not (inside class.from policy.from && inside class.to policy.to && is_service_inside class.service policy.service)
+lies_off policy class =
+    not (inside class.from policy.from && inside class.to policy.to &&
+    is_service_inside class.service policy.service)
 
 -- the set has the numbers of the classes found, in the same order
 abbrev pub IsIndexed : Found → Type 0

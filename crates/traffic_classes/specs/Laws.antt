@@ -12,14 +12,18 @@ use Rattle.traffic_classes.specs.Parts.{MakeUp, TellApart}
 
 -- a prefix has one list of leaves
 abbrev pub HasOneListOfLeaves : Type 0
-HasOneListOfLeaves = (marks : List Prefix) (whole : Prefix) →
-    ((leaves : List Prefix) × AreLeaves marks whole leaves) × ((xs ys : List Prefix) → AreLeaves marks whole xs → AreLeaves marks whole ys → xs ≡ ys)
+HasOneListOfLeaves =
+    (marks : List Prefix) (whole : Prefix) →
+    ((leaves : List Prefix) × AreLeaves marks whole leaves) ×
+    ((xs ys : List Prefix) → AreLeaves marks whole xs → AreLeaves marks whole ys → xs ≡ ys)
 
 -- a policy has one list of classes
 abbrev pub HasOneListOfClasses : Type 0
-HasOneListOfClasses = (net : Network) (policies : List Policy) (policy : Policy) →
+HasOneListOfClasses =
+    (net : Network) (policies : List Policy) (policy : Policy) →
     ((classes : List Class) × AreClasses net policies policy classes) ×
-    ((xs ys : List Class) → AreClasses net policies policy xs → AreClasses net policies policy ys → xs ≡ ys)
+    ((xs ys : List Class) → AreClasses net policies policy xs →
+    AreClasses net policies policy ys → xs ≡ ys)
 
 -- the classes of one of the policies make up the policy's packets
 abbrev pub ClassesMakeUp : Type 0
@@ -28,15 +32,19 @@ ClassesMakeUp = (net : Network) (policies : List Policy) (policy : Policy) (clas
 
 -- two classes of two of the policies are equal or disjoint
 abbrev pub ClassesAreEqualOrDisjoint : Type 0
-ClassesAreEqualOrDisjoint = (net : Network) (policies : List Policy) (policy other : Policy) (xs ys : List Class) →
-    Contains policies policy → Contains policies other → AreClasses net policies policy xs → AreClasses net policies other ys →
+ClassesAreEqualOrDisjoint =
+    (net : Network) (policies : List Policy) (policy other : Policy) (xs ys : List Class) →
+    Contains policies policy →
+    Contains policies other → AreClasses net policies policy xs → AreClasses net policies other ys →
     (c d : Class) → Contains xs c → Contains ys d → (c ≡ d) ⊎ ShareNoPacket c d
 
 -- policies have one list of all their classes
 abbrev pub HaveOneListOfClasses : Type 0
-HaveOneListOfClasses = (net : Network) (policies some : List Policy) →
+HaveOneListOfClasses =
+    (net : Network) (policies some : List Policy) →
     ((classes : List Class) × AreAllClasses net policies some classes) ×
-    ((xs ys : List Class) → AreAllClasses net policies some xs → AreAllClasses net policies some ys → xs ≡ ys)
+    ((xs ys : List Class) → AreAllClasses net policies some xs →
+    AreAllClasses net policies some ys → xs ≡ ys)
 
 -- the classes of all policies tell the policies' packets apart
 abbrev pub AllClassesTellApart : Type 0
@@ -45,5 +53,7 @@ AllClassesTellApart = (net : Network) (policies : List Policy) (classes : List C
 
 -- one of the policies has no more classes than all of them together
 abbrev pub EachHasNoMoreClasses : Type 0
-EachHasNoMoreClasses = (net : Network) (policies : List Policy) (policy : Policy) (xs ys : List Class) →
-    Contains policies policy → AreClasses net policies policy xs → AreAllClasses net policies policies ys → length xs ≤ length ys
+EachHasNoMoreClasses =
+    (net : Network) (policies : List Policy) (policy : Policy) (xs ys : List Class) →
+    Contains policies policy → AreClasses net policies policy xs →
+    AreAllClasses net policies policies ys → length xs ≤ length ys

@@ -1,5 +1,5 @@
--- The leaves of a prefix under marks. Marks are prefixes that traffic is told apart by; a leaf is as large as it can be
--- without holding a mark beside other addresses.
+-- The leaves of a prefix under marks. Marks are prefixes that traffic is told apart by; a leaf is
+-- as large as it can be without holding a mark beside other addresses.
 use Rattle.std.specs.Prelude.{◌<◌, ◌↔◌, ◌&&◌, nat_lt, Bool, List, filter, AllPairs, Contains}
 use Rattle.arc_base.specs.Addresses.{IsInside, inside}
 use Rattle.arc_base.specs.declared.prefix.Prefix.{Prefix}
@@ -15,7 +15,8 @@ pub record IsSplit (marks : List Prefix) (p : Prefix) : Type 0 where
   pub one : Contains marks mark
   pub inside : IsStrictlyInside mark p
 
--- the prefix is a leaf of the whole: one of the largest prefixes inside the whole that the marks do not split
+-- the prefix is a leaf of the whole: one of the largest prefixes inside the whole that the marks do
+-- not split
 pub record IsLeaf (marks : List Prefix) (whole leaf : Prefix) : Type 0 where
   pub part : IsInside leaf whole
   pub unsplit : ¬ IsSplit marks leaf

@@ -1,4 +1,5 @@
--- What the classes of a policy are good for: they make up the policy's packets, and each packet list gives all packets of a class one answer.
+-- What the classes of a policy are good for: they make up the policy's packets, and each packet
+-- list gives all packets of a class one answer.
 use Rattle.std.specs.Prelude.{◌≡◌, ◌↔◌, List, All, AllPairs, Contains, sum_by}
 use Rattle.net_model.specs.declared.lists.Packet.{Packet}
 use Rattle.net_model.specs.declared.policies.Class.{Class}
@@ -18,8 +19,9 @@ pub record HasPacket (classes : List Class) (p : Packet) : Type 0 where
   pub one : Contains classes class
   pub is_of : IsOf class p
 
--- the classes make up the whole: each is a part of it on which each packet list is uniform, no two share a packet, each packet of the whole is of one,
--- and together they have as many packets as the whole
+-- the classes make up the whole: each is a part of it on which each packet list is uniform, no two
+-- share a packet, each packet of the whole is of one, and together they have as many packets as the
+-- whole
 pub record MakeUp (net : Network) (whole : Class) (classes : List Class) : Type 0 where
   pub parts : All (λ c. LiesIn c whole) classes
   pub uniform : All (IsUniformFor net) classes
@@ -35,7 +37,8 @@ pub record IsClassOf (net : Network) (policies some : List Policy) (class : Clas
   pub are : AreClasses net policies policy classes
   pub there : Contains classes class
 
--- the classes tell the policies' packets apart: they are the classes of the policies, each packet list is uniform on each, and no two share a packet
+-- the classes tell the policies' packets apart: they are the classes of the policies, each packet
+-- list is uniform on each, and no two share a packet
 pub record TellApart (net : Network) (policies : List Policy) (classes : List Class) : Type 0 where
   pub each : (class : Class) → Contains classes class ↔ IsClassOf net policies policies class
   pub uniform : All (IsUniformFor net) classes

@@ -1,5 +1,6 @@
 -- How a range of services is divided at the numbers in a list.
-use Rattle.std.specs.Prelude.{◌≡◌, ℕ, ◌+◌, ◌<◌, ◌≤◌, ◌&&◌, ◌++◌, nat_lt, nat_le, List, [], ◌∷◌, if◌then◌else◌}
+use Rattle.std.specs.Prelude.{◌≡◌, ℕ, ◌+◌, ◌<◌, ◌≤◌, ◌&&◌, ◌++◌, nat_lt, nat_le, List, [], ◌∷◌}
+use Rattle.std.specs.Prelude.{if◌then◌else◌}
 use Rattle.net_model.specs.declared.services.Service.{Service}
 
 -- the numbers inside the whole, but for its first, at which the mark begins or has just ended
@@ -13,8 +14,10 @@ abbrev pub RiseBetween : ℕ → List ℕ → ℕ → Type 0
 RiseBetween low [] high = low ≤ high
 RiseBetween low (c ∷ cs) high = (low < c) × RiseBetween c cs high
 
--- the ranges follow one another from the one number to the other, and each but the first begins at the next number of the list
+-- the ranges follow one another from the one number to the other, and each but the first begins at
+-- the next number of the list
 abbrev pub ArePartsBetween : ℕ → List ℕ → ℕ → List Service → Type 0
 ArePartsBetween low cs high [] = ⊥
 ArePartsBetween low [] high (p ∷ ps) = (p.low ≡ low) × (p.high ≡ high) × (ps ≡ [])
-ArePartsBetween low (c ∷ cs) high (p ∷ ps) = (p.low ≡ low) × (p.high + 1 ≡ c) × ArePartsBetween c cs high ps
+ArePartsBetween low (c ∷ cs) high (p ∷ ps) =
+    (p.low ≡ low) × (p.high + 1 ≡ c) × ArePartsBetween c cs high ps

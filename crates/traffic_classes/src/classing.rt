@@ -13,8 +13,9 @@ use arc_base::List;
 use net_model::{Class, Network, Policy};
 use std::alloc::Global;
 
-/// The traffic classes of the policy at a place, counted from 0: all triples of a leaf of its source prefix, a leaf of its
-/// destination prefix and a leaf of its services, for each source in rising order of addresses, and for each destination.
+/// The traffic classes of the policy at a place, counted from 0: all triples of a leaf of its
+/// source prefix, a leaf of its destination prefix and a leaf of its services, for each source in
+/// rising order of addresses, and for each destination.
 ///
 /// The count of a fault stands still at the end of 64 bits.
 pub fn classes(
@@ -24,10 +25,13 @@ pub fn classes(
     which: u32,
 ) -> Result<List<Class>, ClassFault>
     requires { which < length policies.now }
-    ensures classes { IfOk result (λ cs. IfSome (slice_get policies.now which) (λ p. AreClasses net.now policies.now p cs)) }
-    ensures parts { IfOk result (λ cs. IfSome (slice_get policies.now which) (λ p. MakeUp net.now (subject p) cs)) }
+    ensures classes { IfOk result (λ cs.
+        IfSome (slice_get policies.now which) (λ p. AreClasses net.now policies.now p cs)) }
+    ensures parts { IfOk result (λ cs.
+        IfSome (slice_get policies.now which) (λ p. MakeUp net.now (subject p) cs)) }
     ensures few { IfOk result (λ cs. length cs ≤ 4096) }
-    ensures many { IfErr result (CountsMore (λ count. IfSome (slice_get policies.now which) (λ p. HasClasses net.now policies.now p count))) }
+    ensures many { IfErr result (CountsMore (λ count.
+        IfSome (slice_get policies.now which) (λ p. HasClasses net.now policies.now p count))) }
 {
     match policies.get(which) {
         Some(policy) => {
@@ -39,9 +43,11 @@ pub fn classes(
     }
 }
 
-/// The traffic classes of all policies, each once, in the order in which they first stand in the policies' lists.
+/// The traffic classes of all policies, each once, in the order in which they first stand in the
+/// policies' lists.
 ///
-/// The count of a fault is that up to the first policy with which there are too many, and stands still at the end of 64 bits.
+/// The count of a fault is that up to the first policy with which there are too many, and stands
+/// still at the end of 64 bits.
 pub fn all_classes(
     alloc: Global,
     net: &Network,

@@ -1,6 +1,8 @@
 //! Gathering the classes of several policies, each once.
-ghost use Rattle.std.specs.Prelude.{◌≡◌, ◌+◌, ◌*◌, ◌<◌, ◌≤◌, [], fold, length, IfOk, OnOk, IfErr, count_by};
-ghost use Rattle.traffic_classes.specs.Classes.{classes_between, classes_from, all_triples, told, CountsMore};
+ghost use Rattle.std.specs.Prelude.{◌≡◌, ◌+◌, ◌*◌, ◌<◌, ◌≤◌, [], fold, length, IfOk, OnOk, IfErr};
+ghost use Rattle.std.specs.Prelude.{count_by};
+ghost use Rattle.traffic_classes.specs.Classes.{classes_between, classes_from, all_triples, told};
+ghost use Rattle.traffic_classes.specs.Classes.{CountsMore};
 ghost use Rattle.traffic_classes.specs.AllClasses.{key_of, with_class, lies_off, IsIndexed};
 
 use crate::fault::{ClassFault, LIMIT};
@@ -10,8 +12,8 @@ use indexmap::IndexSet;
 use net_model::{Class, Policy, Service};
 use std::alloc::Global;
 
-/// The six numbers that make a class: first address and length of its sources, and of its destinations, and its first and
-/// last service.
+/// The six numbers that make a class: first address and length of its sources, and of its
+/// destinations, and its first and last service.
 pub type ClassKey = (u32, u8, u32, u8, u32, u32);
 
 /// The numbers of a class.
@@ -62,9 +64,15 @@ impl Found {
         requires indexed { IsIndexed self.old }
         requires few { length self.old.classes.items ≤ 4096 }
         ensures indexed { OnOk result (IsIndexed self.new) }
-        ensures added { OnOk result (self.new.classes.items ≡ fold with_class self.old.classes.items (all_triples leaves.now.sources leaves.now.destinations leaves.now.services)) }
-        ensures few { OnOk result (length leaves.now.sources * length leaves.now.destinations * length leaves.now.services + count_by (lies_off policy.now) self.old.classes.items ≤ 4096) }
-        ensures many { IfErr result (CountsMore (λ count. told (length leaves.now.sources * length leaves.now.destinations * length leaves.now.services + count_by (lies_off policy.now) self.old.classes.items) ≡ count)) }
+        ensures added { OnOk result (self.new.classes.items ≡ fold with_class self.old.classes.items
+            (all_triples leaves.now.sources leaves.now.destinations leaves.now.services)) }
+        ensures few { OnOk result (length leaves.now.sources * length leaves.now.destinations *
+            length leaves.now.services + count_by (lies_off policy.now) self.old.classes.items
+            ≤ 4096) }
+        ensures many { IfErr result
+            (CountsMore (λ count. told (length leaves.now.sources * length leaves.now.destinations *
+            length leaves.now.services + count_by (lies_off policy.now) self.old.classes.items)
+            ≡ count)) }
     {
         let count = leaves.count().saturating_add(self.count_off(policy));
         if count > LIMIT {
@@ -93,7 +101,8 @@ impl Found {
     fn add_from(&mut self, source: Prefix, leaves: &Leaves) -> Result<(), Memory>
         requires { IsIndexed self.old }
         ensures indexed { OnOk result (IsIndexed self.new) }
-        ensures added { OnOk result (self.new.classes.items ≡ fold with_class self.old.classes.items (classes_from leaves.now.destinations leaves.now.services source)) }
+        ensures added { OnOk result (self.new.classes.items ≡ fold with_class self.old.classes.items
+            (classes_from leaves.now.destinations leaves.now.services source)) }
     {
         for destination in leaves.destinations.slice() {
             self.add_between(source, *destination, leaves.services.slice())?;
@@ -110,7 +119,8 @@ impl Found {
     ) -> Result<(), Memory>
         requires { IsIndexed self.old }
         ensures indexed { OnOk result (IsIndexed self.new) }
-        ensures added { OnOk result (self.new.classes.items ≡ fold with_class self.old.classes.items (classes_between services.now source destination)) }
+        ensures added { OnOk result (self.new.classes.items ≡ fold with_class self.old.classes.items
+            (classes_between services.now source destination)) }
     {
         for service in services {
             self.add_class(Class {
@@ -126,7 +136,8 @@ impl Found {
     fn add_class(&mut self, class: Class) -> Result<(), Memory>
         requires { IsIndexed self.old }
         ensures indexed { OnOk result (IsIndexed self.new) }
-        ensures added { OnOk result (self.new.classes.items ≡ with_class self.old.classes.items class) }
+        ensures added { OnOk result
+            (self.new.classes.items ≡ with_class self.old.classes.items class) }
     {
         let (_place, new) = self.keys.insert_full(key_of(&class))?;
         if new {

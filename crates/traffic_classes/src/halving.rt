@@ -58,7 +58,8 @@ fn upper_half(whole: &Prefix) -> Prefix
 
 /// Adds the leaves of a prefix under marks.
 ///
-/// Only the marks inside a prefix go on to its halves, so each is looked at twice for each bit of its length.
+/// Only the marks inside a prefix go on to its halves, so each is looked at twice for each bit of
+/// its length.
 fn add_leaves(
     alloc: Global,
     leaves: &mut Vec<Prefix>,

@@ -1,7 +1,8 @@
 //! Collecting the marks of a network and its policies.
 ghost use Rattle.std.specs.Prelude.{◌≡◌, ◌++◌, ◌<◌, ◌^◌, List as Items, map, IfOk, OnOk};
 ghost use Rattle.std.specs.List.{flat_map};
-ghost use Rattle.traffic_classes.specs.Classes.{source_marks, destination_marks, service_marks, marks_of, protocol, whole_protocol};
+ghost use Rattle.traffic_classes.specs.Classes.{source_marks, destination_marks, service_marks};
+ghost use Rattle.traffic_classes.specs.Classes.{marks_of, protocol, whole_protocol};
 ghost use Rattle.net_model.specs.declared.lists.PacketEntry.{PacketEntry};
 ghost use Rattle.net_model.specs.declared.policies.Policy.{Policy};
 
@@ -38,8 +39,9 @@ fn add_service(marks: &mut Vec<Service>, service: &Service) -> Result<(), Memory
     Ok(())
 }
 
-/// The prefixes and services that traffic is told apart by: those of the entries of bound packet lists, those of policies,
-/// and the whole range of each protocol of which one of these services has a part but not all.
+/// The prefixes and services that traffic is told apart by: those of the entries of bound packet
+/// lists, those of policies, and the whole range of each protocol of which one of these services
+/// has a part but not all.
 #[derive(Debug, Drop)]
 pub struct Marks {
     pub sources: Vec<Prefix>,
@@ -50,9 +52,12 @@ pub struct Marks {
 impl Marks {
     /// The marks of a network with its policies.
     pub fn of(alloc: Global, net: &Network, policies: &List<Policy>) -> Result<Marks, Memory>
-        ensures sources { IfOk result (λ marks. marks.sources.items ≡ source_marks net.now policies.now) }
-        ensures destinations { IfOk result (λ marks. marks.destinations.items ≡ destination_marks net.now policies.now) }
-        ensures services { IfOk result (λ marks. marks.services.items ≡ service_marks net.now policies.now) }
+        ensures sources { IfOk result (λ marks.
+            marks.sources.items ≡ source_marks net.now policies.now) }
+        ensures destinations { IfOk result (λ marks.
+            marks.destinations.items ≡ destination_marks net.now policies.now) }
+        ensures services { IfOk result (λ marks.
+            marks.services.items ≡ service_marks net.now policies.now) }
     {
         let mut marks = Marks {
             sources: Vec::new(alloc),
@@ -68,9 +73,12 @@ impl Marks {
 
     /// Adds the marks of entries.
     fn add_entries(&mut self, entries: &[PacketEntry]) -> Result<(), Memory>
-        ensures sources { OnOk result (self.new.sources.items ≡ self.old.sources.items ++ map (λ e. e.from) entries.now) }
-        ensures destinations { OnOk result (self.new.destinations.items ≡ self.old.destinations.items ++ map (λ e. e.to) entries.now) }
-        ensures services { OnOk result (self.new.services.items ≡ self.old.services.items ++ flat_map (λ e. marks_of e.service) entries.now) }
+        ensures sources { OnOk result
+            (self.new.sources.items ≡ self.old.sources.items ++ map (λ e. e.from) entries.now) }
+        ensures destinations { OnOk result (self.new.destinations.items
+            ≡ self.old.destinations.items ++ map (λ e. e.to) entries.now) }
+        ensures services { OnOk result (self.new.services.items ≡ self.old.services.items ++
+            flat_map (λ e. marks_of e.service) entries.now) }
     {
         for entry in entries {
             self.sources.push(entry.from)?;
@@ -82,9 +90,12 @@ impl Marks {
 
     /// Adds the marks of policies.
     fn add_policies(&mut self, policies: &[Policy]) -> Result<(), Memory>
-        ensures sources { OnOk result (self.new.sources.items ≡ self.old.sources.items ++ map (λ p. p.from) policies.now) }
-        ensures destinations { OnOk result (self.new.destinations.items ≡ self.old.destinations.items ++ map (λ p. p.to) policies.now) }
-        ensures services { OnOk result (self.new.services.items ≡ self.old.services.items ++ flat_map (λ p. marks_of p.service) policies.now) }
+        ensures sources { OnOk result
+            (self.new.sources.items ≡ self.old.sources.items ++ map (λ p. p.from) policies.now) }
+        ensures destinations { OnOk result (self.new.destinations.items
+            ≡ self.old.destinations.items ++ map (λ p. p.to) policies.now) }
+        ensures services { OnOk result (self.new.services.items ≡ self.old.services.items ++
+            flat_map (λ p. marks_of p.service) policies.now) }
     {
         for policy in policies {
             self.sources.push(policy.from)?;

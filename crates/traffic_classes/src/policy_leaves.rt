@@ -2,7 +2,8 @@
 ghost use Rattle.std.specs.Prelude.{◌≡◌, ◌+◌, ◌*◌, ◌^◌, ◌≤◌, ◌++◌, length, IfOk, OnOk, IfErr};
 ghost use Rattle.traffic_classes.specs.Leaves.{AreLeaves};
 ghost use Rattle.traffic_classes.specs.ServiceLeaves.{AreServiceLeaves};
-ghost use Rattle.traffic_classes.specs.Classes.{classes_between, classes_from, all_triples, told, CountsMore};
+ghost use Rattle.traffic_classes.specs.Classes.{classes_between, classes_from, all_triples, told};
+ghost use Rattle.traffic_classes.specs.Classes.{CountsMore};
 
 use crate::fault::{ClassFault, LIMIT};
 use crate::halving::leaves_of;
@@ -23,9 +24,12 @@ pub struct Leaves {
 impl Leaves {
     /// The leaves of a policy under marks.
     pub fn of(alloc: Global, marks: &Marks, policy: &Policy) -> Result<Leaves, Memory>
-        ensures sources { IfOk result (λ l. AreLeaves marks.now.sources.items policy.now.from l.sources) }
-        ensures destinations { IfOk result (λ l. AreLeaves marks.now.destinations.items policy.now.to l.destinations) }
-        ensures services { IfOk result (λ l. AreServiceLeaves marks.now.services.items policy.now.service l.services) }
+        ensures sources { IfOk result (λ l.
+            AreLeaves marks.now.sources.items policy.now.from l.sources) }
+        ensures destinations { IfOk result (λ l.
+            AreLeaves marks.now.destinations.items policy.now.to l.destinations) }
+        ensures services { IfOk result (λ l.
+            AreServiceLeaves marks.now.services.items policy.now.service l.services) }
     {
         let sources = leaves_of(alloc, policy.from, &marks.sources)?;
         let destinations = leaves_of(alloc, policy.to, &marks.destinations)?;
@@ -37,9 +41,11 @@ impl Leaves {
         })
     }
 
-    /// The number of triples of a source, a destination and a service. It stands still at the end of 64 bits.
+    /// The number of triples of a source, a destination and a service. It stands still at the end
+    /// of 64 bits.
     pub fn count(&self) -> u64
-        ensures { result ≡ told (length self.now.sources * length self.now.destinations * length self.now.services) }
+        ensures { result ≡ told
+            (length self.now.sources * length self.now.destinations * length self.now.services) }
     {
         let pairs = u64::from(self.sources.len()) * u64::from(self.destinations.len());
         pairs.saturating_mul(u64::from(self.services.len()))
@@ -47,7 +53,8 @@ impl Leaves {
 
     /// All triples of a source, a destination and a service, for each source in order.
     fn triples(&self, alloc: Global) -> Result<Vec<Class>, Memory>
-        ensures { IfOk result (λ classes. classes.items ≡ all_triples self.now.sources self.now.destinations self.now.services) }
+        ensures { IfOk result (λ classes.
+            classes.items ≡ all_triples self.now.sources self.now.destinations self.now.services) }
     {
         let mut classes = Vec::new(alloc);
         for source in self.sources.slice() {
@@ -58,9 +65,12 @@ impl Leaves {
 
     /// All triples of a source, a destination and a service, unless there are too many.
     pub fn few_triples(&self, alloc: Global) -> Result<List<Class>, ClassFault>
-        ensures triples { IfOk result (λ classes. classes ≡ all_triples self.now.sources self.now.destinations self.now.services) }
+        ensures triples { IfOk result (λ classes.
+            classes ≡ all_triples self.now.sources self.now.destinations self.now.services) }
         ensures few { IfOk result (λ classes. length classes ≤ 4096) }
-        ensures many { IfErr result (CountsMore (λ count. told (length (all_triples self.now.sources self.now.destinations self.now.services)) ≡ count)) }
+        ensures many { IfErr result (CountsMore (λ count.
+            told (length (all_triples self.now.sources self.now.destinations self.now.services))
+            ≡ count)) }
     {
         let count = self.count();
         if count > LIMIT {
@@ -71,7 +81,8 @@ impl Leaves {
 
     /// Adds the triples of one source.
     fn add_from(&self, classes: &mut Vec<Class>, source: Prefix) -> Result<(), Memory>
-        ensures { OnOk result (classes.new.items ≡ classes.old.items ++ classes_from self.now.destinations self.now.services source) }
+        ensures { OnOk result (classes.new.items ≡ classes.old.items ++
+            classes_from self.now.destinations self.now.services source) }
     {
         for destination in self.destinations.slice() {
             self.add_between(classes, source, *destination)?;
@@ -86,7 +97,8 @@ impl Leaves {
         source: Prefix,
         destination: Prefix,
     ) -> Result<(), Memory>
-        ensures { OnOk result (classes.new.items ≡ classes.old.items ++ classes_between self.now.services source destination) }
+        ensures { OnOk result (classes.new.items ≡ classes.old.items ++
+            classes_between self.now.services source destination) }
     {
         for service in self.services.slice() {
             classes.push(Class {

@@ -21,10 +21,12 @@ fn add_ends(cuts: &mut Vec<u32>, mark: &Service, whole: &Service) -> Result<(), 
     Ok(())
 }
 
-/// The numbers at which the leaves of a range begin under marks, but for the first, each once and in rising order.
+/// The numbers at which the leaves of a range begin under marks, but for the first, each once and
+/// in rising order.
 fn cuts_inside(alloc: Global, marks: &[Service], whole: &Service) -> Result<Vec<u32>, Memory>
     ensures rising { IfOk result (λ cuts. IsStrictlyIncreasing cuts.items) }
-    ensures each { IfOk result (λ cuts. (c : ℕ) → Contains cuts.items c ↔ IsCutAt marks.now whole.now c) }
+    ensures each { IfOk result (λ cuts. (c : ℕ) →
+        Contains cuts.items c ↔ IsCutAt marks.now whole.now c) }
 {
     let mut cuts = Vec::new(alloc);
     for mark in marks {
@@ -38,7 +40,8 @@ fn cuts_inside(alloc: Global, marks: &[Service], whole: &Service) -> Result<Vec<
 /// The parts of a range, divided at rising numbers.
 fn parts_between(alloc: Global, whole: &Service, cuts: &[u32]) -> Result<Vec<Service>, Memory>
     requires { RiseBetween whole.now.low cuts.now whole.now.high }
-    ensures { IfOk result (λ parts. ArePartsBetween whole.now.low cuts.now whole.now.high parts.items) }
+    ensures { IfOk result (λ parts.
+        ArePartsBetween whole.now.low cuts.now whole.now.high parts.items) }
 {
     let mut parts = Vec::new(alloc);
     let mut low = whole.low;

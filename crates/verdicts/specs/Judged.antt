@@ -15,7 +15,8 @@ use Rattle.verdicts.specs.declared.fault.JudgeFault.{JudgeFault}
 use Rattle.verdicts.specs.declared.fault.JudgeFault.TheVariants.{TooMany, Memory}
 use Rattle.verdicts.specs.declared.blocking.ClassAnswer.{ClassAnswer}
 use Rattle.verdicts.specs.declared.blocking.ClassAnswer.TheVariants as answers
-use Rattle.verdicts.specs.Fixed.{IsFirstAfter, HasClosedSide, IsLeastClosed, IsFixedBlocking, IsFixedReach, IsFixedFor}
+use Rattle.verdicts.specs.Fixed.{IsFirstAfter, HasClosedSide, IsLeastClosed, IsFixedBlocking}
+use Rattle.verdicts.specs.Fixed.{IsFixedReach, IsFixedFor}
 
 -- a fault of too many classes names a number that the fact holds of, and that is above 4,096
 abbrev pub CountsMore : (ℕ → Type 0) → JudgeFault → Type 0
@@ -32,9 +33,12 @@ abbrev pub IsClassAnswer : Network → Ends → PolicyKind → Class → ClassAn
 IsClassAnswer net ends kind class (answers.Closed side) = IsLeastClosed net ends kind class side
 IsClassAnswer net ends kind class (answers.Walk path) = IsRightWalk net ends kind class class path
 
--- the answer for all classes: the least closed side of each, or a right walk of the first class that has no closed side
+-- the answer for all classes: the least closed side of each, or a right walk of the first class
+-- that has no closed side
 abbrev pub IsBlockingAnswer : Network → Ends → PolicyKind → List Class → Verdict → Type 0
-IsBlockingAnswer net ends kind classes (Walk class path) = IsFirstAfter (HasClosedSide net ends kind) classes class × IsRightWalk net ends kind class class path
+IsBlockingAnswer net ends kind classes (Walk class path) =
+    IsFirstAfter (HasClosedSide net ends kind) classes class ×
+    IsRightWalk net ends kind class class path
 IsBlockingAnswer net ends kind classes v = IsFixedBlocking net ends kind classes v
 
 -- each packet list of the network is uniform on each of the classes
@@ -42,11 +46,13 @@ abbrev pub AreAllUniform : Network → List Class → Type 0
 AreAllUniform net classes = All (AreUniform net) classes
 
 -- the verdict on a reach policy is right, and the one that is given
-pub record IsReachVerdict (net : Network) (ends : Ends) (k : ℕ) (whole : Class) (classes : List Class) (v : Verdict) : Type 0 where
+pub record IsReachVerdict (net : Network) (ends : Ends) (k : ℕ) (whole : Class)
+    (classes : List Class) (v : Verdict) : Type 0 where
   pub right : IsRightReach net ends k whole v
   pub fixed : IsFixedReach net ends whole classes v
 
 -- the verdict is right, and the one that is given
-pub record IsVerdict (net : Network) (ends : Ends) (kind : PolicyKind) (whole : Class) (classes : List Class) (v : Verdict) : Type 0 where
+pub record IsVerdict (net : Network) (ends : Ends) (kind : PolicyKind) (whole : Class)
+    (classes : List Class) (v : Verdict) : Type 0 where
   pub right : IsRightFor net ends kind whole v
   pub fixed : IsFixedFor net ends kind whole classes v

@@ -1,5 +1,6 @@
 -- What is found on the way to the verdict on a reach policy.
-use Rattle.std.specs.Prelude.{◌≡◌, ◌≢◌, ℕ, ◌+◌, ◌<◌, ◌≤◌, nat_le, Bool, if◌then◌else◌, Option, Some, None, MatchOption, List, length, map, slice_get, All, AllPairs}
+use Rattle.std.specs.Prelude.{◌≡◌, ◌≢◌, ℕ, ◌+◌, ◌<◌, ◌≤◌, nat_le, Bool, if◌then◌else◌, Option, Some}
+use Rattle.std.specs.Prelude.{None, MatchOption, List, length, map, slice_get, All, AllPairs}
 use Rattle.std.specs.List.{flat_map}
 use Rattle.arc_base.specs.declared.place.Link.{Link}
 use Rattle.arc_base.specs.declared.prefix.Prefix.{Prefix}
@@ -9,7 +10,8 @@ use Rattle.net_model.specs.declared.policies.Class.{Class}
 use Rattle.net_model.specs.declared.rows.Network.{Network}
 use Rattle.net_model.specs.declared.verdicts.LinkPath.{LinkPath}
 use Rattle.net_model.specs.declared.verdicts.Verdict.{Verdict}
-use Rattle.net_model.specs.declared.verdicts.Verdict.TheVariants.{Closed, Paths, Walk, Denied, Cut, Refused}
+use Rattle.net_model.specs.declared.verdicts.Verdict.TheVariants.{Closed, Paths, Walk, Denied, Cut}
+use Rattle.net_model.specs.declared.verdicts.Verdict.TheVariants.{Refused}
 use Rattle.net_model.specs.Forwarding.{Ends}
 use Rattle.net_model.specs.Witnesses.{IsPath, IsOn}
 use Rattle.class_graph.specs.Denials.{IsDeniedOn, IsDeniedNowhere}
@@ -18,48 +20,62 @@ use Rattle.verdicts.specs.Fixed.{IsFirstAfter, Passes, IsSeparator}
 
 -- the first classes, so many, are denied over no link
 abbrev pub HasNoDenial : Network → Prefix → List Class → ℕ → Type 0
-HasNoDenial net to classes n = (k : ℕ) (c : Class) → k < n → slice_get classes k ≡ Some c → IsDeniedNowhere net to c
+HasNoDenial net to classes n =
+    (k : ℕ) (c : Class) → k < n → slice_get classes k ≡ Some c → IsDeniedNowhere net to c
 
--- of the first classes, so many, the denial's is the first that its link denies, and no lower link denies any
-pub record IsDenial (net : Network) (to : Prefix) (classes : List Class) (n : ℕ) (d : Denial) : Type 0 where
+-- of the first classes, so many, the denial's is the first that its link denies, and no lower link
+-- denies any
+pub record IsDenial (net : Network) (to : Prefix) (classes : List Class) (n : ℕ)
+    (d : Denial) : Type 0 where
   pub is_first : IsFirstAfter (λ c. ¬ IsDeniedOn net to c d.link.0) classes d.class
   pub early : is_first.place < n
   pub denied : IsDeniedOn net to d.class d.link.0
-  pub lower : (k : ℕ) (c : Class) → k < n → slice_get classes k ≡ Some c → (link : ℕ) → link < d.link.0 → ¬ IsDeniedOn net to c link
+  pub lower : (k : ℕ) (c : Class) → k < n → slice_get classes k ≡ Some c →
+      (link : ℕ) → link < d.link.0 → ¬ IsDeniedOn net to c link
 
 -- it is this denial, or there is none
 abbrev pub IsFirstDenial : Network → Prefix → List Class → ℕ → Option Denial → Type 0
-IsFirstDenial net to classes n found = MatchOption found (HasNoDenial net to classes n) (IsDenial net to classes n)
+IsFirstDenial net to classes n found =
+    MatchOption found (HasNoDenial net to classes n) (IsDenial net to classes n)
 
--- of a denial and a link that denies the class the one at the lower link, and the denial where both are at one link
+-- of a denial and a link that denies the class the one at the lower link, and the denial where both
+-- are at one link
 abbrev pub lower_of : Option Denial → Option Link → Class → Option Denial
 lower_of best None class = best
 lower_of None (Some link) class = Some (record { link = link; class = class })
-lower_of (Some d) (Some link) class = if nat_le d.link.0 link.0 then Some d else Some (record { link = link; class = class })
+lower_of (Some d) (Some link) class =
+    if nat_le d.link.0 link.0 then Some d else Some (record { link = link; class = class })
 
 -- each packet of the first classes, so many, enters and leaves
 abbrev pub AllPass : Network → Ends → List Class → ℕ → Type 0
-AllPass net ends classes n = (k : ℕ) (c : Class) → k < n → slice_get classes k ≡ Some c → Passes net ends c
+AllPass net ends classes n =
+    (k : ℕ) (c : Class) → k < n → slice_get classes k ≡ Some c → Passes net ends c
 
 -- the class is the first of which not each packet enters and leaves
-pub record IsFirstKeptOut (net : Network) (ends : Ends) (classes : List Class) (class : Class) : Type 0 where
+pub record IsFirstKeptOut (net : Network) (ends : Ends) (classes : List Class)
+    (class : Class) : Type 0 where
   pub is_first : IsFirstAfter (Passes net ends) classes class
   pub kept_out : ¬ Passes net ends class
 
 -- so many paths, no link stands in them twice, and they are in rising order of their first links
-pub record AreGoodPaths (net : Network) (ends : Ends) (many : ℕ) (paths : List LinkPath) : Type 0 where
+pub record AreGoodPaths (net : Network) (ends : Ends) (many : ℕ)
+    (paths : List LinkPath) : Type 0 where
   pub count : length paths ≡ many
   pub are_paths : All (IsPath net ends) paths
   pub once : AllPairs (λ l m. l ≢ m) (flat_map (λ path. path.links) paths)
   pub in_order : AreInOrder (map (λ path. path.links) paths)
 
--- the links separate the ends, are at most so many, no fewer links do, and their side lies in every side that no more links leave
-pub record IsGoodCut (net : Network) (ends : Ends) (most : ℕ) (links : List Link) (side : List Bool) : Type 0 where
+-- the links separate the ends, are at most so many, no fewer links do, and their side lies in every
+-- side that no more links leave
+pub record IsGoodCut (net : Network) (ends : Ends) (most : ℕ) (links : List Link)
+    (side : List Bool) : Type 0 where
   pub flags : length side ≡ length net.routers
   pub separates : IsSeparator net ends links side
   pub few : length links ≤ most
-  pub fewest : (others : List Link) (other : List Bool) → IsSeparator net ends others other → length links ≤ length others
-  pub least : (others : List Link) (other : List Bool) → IsSeparator net ends others other → length others ≤ length links →
+  pub fewest : (others : List Link) (other : List Bool) → IsSeparator net ends others other →
+      length links ≤ length others
+  pub least : (others : List Link) (other : List Bool) → IsSeparator net ends others other →
+      length others ≤ length links →
       (router : ℕ) → IsOn side router → IsOn other router
 
 -- the verdict shows one path more than links may fail, or a cut of no more links

@@ -1,4 +1,5 @@
-ghost use Rattle.std.specs.Prelude.{◌≡◌, ◌<◌, ◌↔◌, length, IsTrue, IfOk, IsSome, None, slice_index_or};
+ghost use Rattle.std.specs.Prelude.{◌≡◌, ◌<◌, ◌↔◌, length, IsTrue, IfOk, IsSome, None};
+ghost use Rattle.std.specs.Prelude.{slice_index_or};
 ghost use Rattle.net_model.specs.Validity.{IsValid};
 ghost use Rattle.net_model.specs.Forwarding.{Ends};
 ghost use Rattle.net_model.specs.Tables.{AreRoutedLinks};
@@ -33,7 +34,8 @@ pub(crate) fn judge_blocking(
     requires valid { IsValid net.now }
     requires pair { HasHostPair net.now pair.now }
     requires uniform { AreAllUniform net.now classes.now }
-    ensures { IfOk result (λ v. (ends : Ends) → IsHostPair net.now ends pair.now → IsBlockingAnswer net.now ends kind classes.now v) }
+    ensures { IfOk result (λ v. (ends : Ends) → IsHostPair net.now ends pair.now →
+        IsBlockingAnswer net.now ends kind classes.now v) }
 {
     let mut sides = List::make(alloc);
     for class in classes.slice() {
@@ -70,7 +72,8 @@ fn judge_class(
     requires valid { IsValid net.now }
     requires pair { HasHostPair net.now pair.now }
     requires uniform { AreUniform net.now class }
-    ensures { IfOk result (λ a. (ends : Ends) → IsHostPair net.now ends pair.now → IsClassAnswer net.now ends kind class a) }
+    ensures { IfOk result (λ a. (ends : Ends) → IsHostPair net.now ends pair.now →
+        IsClassAnswer net.now ends kind class a) }
 {
     let graph = build_between(alloc, net, pair, class, mode_of(kind))?;
     let closure = reached_from_source(alloc, &graph)?;
@@ -85,7 +88,8 @@ fn judge_class(
 /// Whether the packets get to where they leave, and do.
 fn is_delivered(graph: &ClassGraph, closure: &Closure) -> bool
     requires { graph.now.target.0 < length closure.now }
-    ensures { IsTrue result ↔ (IsTrue graph.now.leaves × IsSome (slice_index_or closure.now graph.now.target.0 None)) }
+    ensures { IsTrue result ↔
+        (IsTrue graph.now.leaves × IsSome (slice_index_or closure.now graph.now.target.0 None)) }
 {
     graph.leaves && closure.reached(graph.target.0)
 }

@@ -49,8 +49,10 @@ fn lower(best: Option<Denial>, found: Option<Link>, class: Class) -> Option<Deni
 /// The first class of which not each packet enters and leaves.
 pub(crate) fn first_kept_out(net: &Network, pair: &HostPair, classes: &List<Class>) -> Option<Class>
     requires { AreAllUniform net.now classes.now }
-    ensures found { IfSome result (λ class. (ends : Ends) → IsHostPair net.now ends pair.now → IsFirstKeptOut net.now ends classes.now class) }
-    ensures none { IfNone result ((ends : Ends) → IsHostPair net.now ends pair.now → AllPass net.now ends classes.now (length classes.now)) }
+    ensures found { IfSome result (λ class. (ends : Ends) → IsHostPair net.now ends pair.now →
+        IsFirstKeptOut net.now ends classes.now class) }
+    ensures none { IfNone result ((ends : Ends) → IsHostPair net.now ends pair.now →
+        AllPass net.now ends classes.now (length classes.now)) }
 {
     for class in classes.slice() {
         if !pair.lets_through(net, *class) {

@@ -34,9 +34,12 @@ pub fn judge(
     requires place { which < length policies.now }
     requires ends { ForSome (slice_get policies.now which) (λ p. HasEnds net.now (subject p)) }
     requires failures { ForSome (slice_get policies.now which) (λ p. HasFewFailures p.kind) }
-    ensures right { IfOk result (λ v. IfSome (slice_get policies.now which) (λ p. IsRight net.now p v)) }
-    ensures fixed { IfOk result (λ v. IfSome (slice_get policies.now which) (λ p. IsFixed net.now policies.now p v)) }
-    ensures many { IfErr result (CountsMore (λ count. IfSome (slice_get policies.now which) (λ p. HasClasses net.now policies.now p count))) }
+    ensures right { IfOk result (λ v.
+        IfSome (slice_get policies.now which) (λ p. IsRight net.now p v)) }
+    ensures fixed { IfOk result (λ v.
+        IfSome (slice_get policies.now which) (λ p. IsFixed net.now policies.now p v)) }
+    ensures many { IfErr result (CountsMore (λ count.
+        IfSome (slice_get policies.now which) (λ p. HasClasses net.now policies.now p count))) }
 {
     match policies.get(which) {
         Some(policy) => judge_policy(alloc, net, policies, which, policy),
@@ -59,7 +62,8 @@ fn judge_policy(
     requires failures { HasFewFailures policy.now.kind }
     ensures right { IfOk result (IsRight net.now policy.now) }
     ensures fixed { IfOk result (IsFixed net.now policies.now policy.now) }
-    ensures many { IfErr result (CountsMore (λ count. IfSome (slice_get policies.now which) (λ p. HasClasses net.now policies.now p count))) }
+    ensures many { IfErr result (CountsMore (λ count.
+        IfSome (slice_get policies.now which) (λ p. HasClasses net.now policies.now p count))) }
 {
     let parts = classes_of(alloc, net, policies, which)?;
     let pair = host_pair(alloc, net, class_of(policy))?;
@@ -86,10 +90,13 @@ fn classes_of(
     which: u32,
 ) -> Result<List<Class>, JudgeFault>
     requires { which < length policies.now }
-    ensures classes { IfOk result (λ cs. IfSome (slice_get policies.now which) (λ p. AreClasses net.now policies.now p cs)) }
-    ensures parts { IfOk result (λ cs. IfSome (slice_get policies.now which) (λ p. MakeUp net.now (subject p) cs)) }
+    ensures classes { IfOk result (λ cs.
+        IfSome (slice_get policies.now which) (λ p. AreClasses net.now policies.now p cs)) }
+    ensures parts { IfOk result (λ cs.
+        IfSome (slice_get policies.now which) (λ p. MakeUp net.now (subject p) cs)) }
     ensures few { IfOk result (λ cs. length cs ≤ 4096) }
-    ensures many { IfErr result (CountsMore (λ count. IfSome (slice_get policies.now which) (λ p. HasClasses net.now policies.now p count))) }
+    ensures many { IfErr result (CountsMore (λ count.
+        IfSome (slice_get policies.now which) (λ p. HasClasses net.now policies.now p count))) }
 {
     match classes(alloc, net, policies, which) {
         Ok(parts) => Ok(parts),
@@ -110,7 +117,9 @@ fn judge_classes(
     requires pair { HasHostPair net.now pair.now }
     requires uniform { AreAllUniform net.now parts.now }
     requires failures { HasFewFailures kind }
-    ensures { IfOk result (λ v. (ends : Ends) (whole : AnyClass) → IsHostPair net.now ends pair.now → MakeUp net.now whole parts.now → IsVerdict net.now ends kind whole parts.now v) }
+    ensures { IfOk result (λ v. (ends : Ends) (whole : AnyClass) →
+        IsHostPair net.now ends pair.now →
+        MakeUp net.now whole parts.now → IsVerdict net.now ends kind whole parts.now v) }
 {
     match kind {
         PolicyKind::Blocked => judge_blocking(alloc, net, pair, parts, kind),

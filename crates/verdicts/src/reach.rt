@@ -26,7 +26,9 @@ pub(crate) fn judge_reach(
     requires pair { HasHostPair net.now pair.now }
     requires uniform { AreAllUniform net.now classes.now }
     requires few { failures ≤ 16 }
-    ensures { IfOk result (λ v. (ends : Ends) (whole : AnyClass) → IsHostPair net.now ends pair.now → MakeUp net.now whole classes.now → IsReachVerdict net.now ends failures whole classes.now v) }
+    ensures { IfOk result (λ v. (ends : Ends) (whole : AnyClass) →
+        IsHostPair net.now ends pair.now → MakeUp net.now whole classes.now →
+        IsReachVerdict net.now ends failures whole classes.now v) }
 {
     if pair.source.router.0 == pair.target.router.0 {
         Ok(judge_together(alloc, net, pair, classes))
@@ -39,7 +41,8 @@ pub(crate) fn judge_reach(
 fn judge_together(alloc: Global, net: &Network, pair: &HostPair, classes: &List<Class>) -> Verdict
     requires uniform { AreAllUniform net.now classes.now }
     requires together { pair.now.source.router.0 ≡ pair.now.target.router.0 }
-    ensures { (ends : Ends) (whole : AnyClass) (k : ℕ) → IsHostPair net.now ends pair.now → MakeUp net.now whole classes.now → IsReachVerdict net.now ends k whole classes.now result }
+    ensures { (ends : Ends) (whole : AnyClass) (k : ℕ) → IsHostPair net.now ends pair.now →
+        MakeUp net.now whole classes.now → IsReachVerdict net.now ends k whole classes.now result }
 {
     match first_kept_out(net, pair, classes) {
         Some(class) => Verdict::Denied(class),
@@ -60,7 +63,9 @@ fn judge_apart(
     requires uniform { AreAllUniform net.now classes.now }
     requires few { failures ≤ 16 }
     requires apart { pair.now.source.router.0 ≢ pair.now.target.router.0 }
-    ensures { IfOk result (λ v. (ends : Ends) (whole : AnyClass) → IsHostPair net.now ends pair.now → MakeUp net.now whole classes.now → IsReachVerdict net.now ends failures whole classes.now v) }
+    ensures { IfOk result (λ v. (ends : Ends) (whole : AnyClass) →
+        IsHostPair net.now ends pair.now → MakeUp net.now whole classes.now →
+        IsReachVerdict net.now ends failures whole classes.now v) }
 {
     let found = first_denial(alloc, net, pair, classes)?;
     match found {
@@ -83,7 +88,9 @@ fn judge_clear(
     requires few { failures ≤ 16 }
     requires apart { pair.now.source.router.0 ≢ pair.now.target.router.0 }
     requires clear { HasNoDenial net.now pair.now.to classes.now (length classes.now) }
-    ensures { IfOk result (λ v. (ends : Ends) (whole : AnyClass) → IsHostPair net.now ends pair.now → MakeUp net.now whole classes.now → IsReachVerdict net.now ends failures whole classes.now v) }
+    ensures { IfOk result (λ v. (ends : Ends) (whole : AnyClass) →
+        IsHostPair net.now ends pair.now → MakeUp net.now whole classes.now →
+        IsReachVerdict net.now ends failures whole classes.now v) }
 {
     match first_kept_out(net, pair, classes) {
         Some(class) => Ok(Verdict::Denied(class)),
@@ -91,7 +98,8 @@ fn judge_clear(
     }
 }
 
-/// Paths of which no two share a link, one more than links may fail, or the links that leave the least side.
+/// Paths of which no two share a link, one more than links may fail, or the links that leave the
+/// least side.
 fn paths_or_cut(
     alloc: Global,
     net: &Network,
@@ -102,7 +110,8 @@ fn paths_or_cut(
     requires pair { HasHostPair net.now pair.now }
     requires few { failures ≤ 16 }
     requires apart { pair.now.source.router.0 ≢ pair.now.target.router.0 }
-    ensures { IfOk result (λ v. (ends : Ends) → IsHostPair net.now ends pair.now → IsPathsOrCut net.now ends failures v) }
+    ensures { IfOk result (λ v. (ends : Ends) → IsHostPair net.now ends pair.now →
+        IsPathsOrCut net.now ends failures v) }
 {
     let graph = routed_graph(alloc, net, pair)?;
     let source = pair.source.router.0;

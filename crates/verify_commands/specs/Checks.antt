@@ -17,41 +17,47 @@ use Rattle.run_files.specs.declared.limits.Limits.TheVariants.{Judging}
 use Rattle.run_files.specs.declared.outcome.Done.{Done}
 use Rattle.run_files.specs.declared.outcome.FileRefusal.{FileRefusal}
 use Rattle.run_inputs.specs.Counts.{HasFewClasses, RefusesClasses}
-use Rattle.run_inputs.specs.Inputs.{HoldsDocument, HoldsInput, HoldTheSame, RefusesDocument, IsFilesRefusal}
+use Rattle.run_inputs.specs.Inputs.{HoldsDocument, HoldsInput, HoldTheSame, RefusesDocument}
+use Rattle.run_inputs.specs.Inputs.{IsFilesRefusal}
 use Rattle.verify_commands.specs.Verifies.{IsTrueOf, IsVerified}
 use Rattle.run_files.specs.Judgements.{judgement_status, judgement_text}
 use Rattle.run_files.specs.Limits.{document_limit, proof_limit}
 use Rattle.run_files.specs.Refusals.{bytes_at, read_refusal}
 
 -- the document is held, and the certificate is missing or too long
-pub record RefusesCertificate (document certificate : List ℕ) (files : Files) (r : FileRefusal) : Type 0 where
+pub record RefusesCertificate (document certificate : List ℕ) (files : Files)
+    (r : FileRefusal) : Type 0 where
   pub doc : Document
   pub document_is : HoldsDocument document files doc
   pub refused : read_refusal proof_limit files certificate ≡ Some r
 
 -- the router files, their network or its classes are refused
 abbrev pub RefusesInput : List ℕ → Files → FileRefusal → Type 0
-RefusesInput document files r = IsFilesRefusal Judging [] document files r ⊎ RefusesClasses Judging document files r
+RefusesInput document files r =
+    IsFilesRefusal Judging [] document files r ⊎ RefusesClasses Judging document files r
 
 -- and the certificate is held
-pub record RefusesBehind (document certificate : List ℕ) (files : Files) (r : FileRefusal) : Type 0 where
+pub record RefusesBehind (document certificate : List ℕ) (files : Files)
+    (r : FileRefusal) : Type 0 where
   pub held : read_refusal proof_limit files certificate ≡ None
   pub refused : RefusesInput document files r
 
--- The first refusal: of the document; of the certificate's file; of the router files and their network; or that there are
--- too many classes.
+-- The first refusal: of the document; of the certificate's file; of the router files and their
+-- network; or that there are too many classes.
 abbrev pub IsCheckRefusal : List ℕ → List ℕ → Files → FileRefusal → Type 0
 IsCheckRefusal document certificate files r =
     (read_refusal document_limit files document ≡ Some r) ⊎
-    (RefusesDocument document files r ⊎ (RefusesCertificate document certificate files r ⊎ RefusesBehind document certificate files r))
+    (RefusesDocument document files r ⊎
+    (RefusesCertificate document certificate files r ⊎ RefusesBehind document certificate files r))
 
 -- the judgement that an outcome is
 abbrev pub judgement_of : Outcome → Judgement
 judgement_of Accepted = judgements.Accepted
 judgement_of (Rejected fault) = judgements.Rejected fault.line fault.kind
 
--- The judgement of a text over the network of the document and its files: that it is accepted, or the first line that is rejected. It is
--- accepted exactly where it is a report of right verdicts on the document's policies.
+-- The judgement of a text over the network of the document and its files: that it is accepted, or
+-- the first line that is rejected. It is accepted exactly where it is a report of right verdicts on
+-- the document's policies.
 pub record IsTextChecked (document text : List ℕ) (files : Files) (done : Done) : Type 0 where
   pub doc : Document
   pub net : Network
@@ -65,8 +71,9 @@ pub record IsTextChecked (document text : List ℕ) (files : Files) (done : Done
   pub writes : done.writes ≡ []
   pub status : done.status ≡ judgement_status (judgement_of outcome)
 
--- The judgement of the certificate over the network of the document and its files: that it is accepted, or the first line
--- that is rejected. It is accepted exactly where it is a report of right verdicts on the document's policies.
+-- The judgement of the certificate over the network of the document and its files: that it is
+-- accepted, or the first line that is rejected. It is accepted exactly where it is a report of
+-- right verdicts on the document's policies.
 pub record IsChecked (document certificate : List ℕ) (files : Files) (done : Done) : Type 0 where
   pub doc : Document
   pub net : Network
@@ -75,14 +82,16 @@ pub record IsChecked (document certificate : List ℕ) (files : Files) (done : D
   pub held : read_refusal proof_limit files certificate ≡ None
   pub classes : HasFewClasses net doc.policies
   pub outcome : Outcome
-  pub outcome_is : IsOutcome net doc.policies 1 1 (answers net doc [] start (lines (bytes_at files certificate))) outcome
+  pub outcome_is : IsOutcome net doc.policies 1 1
+      (answers net doc [] start (lines (bytes_at files certificate))) outcome
   pub accepted : (outcome ≡ Accepted) ↔ IsReport net doc (bytes_at files certificate)
   pub text : done.text ≡ judgement_text (judgement_of outcome)
   pub writes : done.writes ≡ []
   pub status : done.status ≡ judgement_status (judgement_of outcome)
 
--- the document and its files have a network and not too many classes, and the certificate is held, not too long, and a report whose verdicts
--- are right, one for each policy in order; so each of them is true
+-- the document and its files have a network and not too many classes, and the certificate is held,
+-- not too long, and a report whose verdicts are right, one for each policy in order; so each of
+-- them is true
 pub record IsAccepted (document certificate : List ℕ) (files : Files) : Type 0 where
   pub doc : Document
   pub net : Network
@@ -92,7 +101,8 @@ pub record IsAccepted (document certificate : List ℕ) (files : Files) : Type 0
   pub report : IsReport net doc (bytes_at files certificate)
   pub are_true : AllZip (IsTrueOf net) doc.policies report.verdicts
 
--- they have a network and not too many classes, and the certificate is held, not too long, and no such report
+-- they have a network and not too many classes, and the certificate is held, not too long, and no
+-- such report
 pub record IsRejected (document certificate : List ℕ) (files : Files) : Type 0 where
   pub doc : Document
   pub net : Network
@@ -101,20 +111,24 @@ pub record IsRejected (document certificate : List ℕ) (files : Files) : Type 0
   pub classes : HasFewClasses net doc.policies
   pub no_report : ¬ IsReport net doc (bytes_at files certificate)
 
--- they have no network, or their policies too many classes, or the certificate is missing or too long, and there is a first reason for it
+-- they have no network, or their policies too many classes, or the certificate is missing or too
+-- long, and there is a first reason for it
 pub record IsUnchecked (document certificate : List ℕ) (files : Files) : Type 0 where
   pub refusal : FileRefusal
   pub refused : IsCheckRefusal document certificate files refusal
 
 -- Which of the three it is, the status tells: 0 for accepted, 1 for rejected, and 5 for refused.
-pub record TellsReportCheck (document certificate : List ℕ) (status : ℕ) (files : Files) : Type 0 where
+pub record TellsReportCheck (document certificate : List ℕ) (status : ℕ)
+    (files : Files) : Type 0 where
   pub accepted_exactly : (status ≡ 0) ↔ IsAccepted document certificate files
   pub rejected_exactly : (status ≡ 1) ↔ IsRejected document certificate files
   pub refused_exactly : (status ≡ 5) ↔ IsUnchecked document certificate files
   pub nothing_else : (status ≡ 0) ⊎ ((status ≡ 1) ⊎ (status ≡ 5))
 
--- the text that `verify` put is an accepted certificate once it is saved under a name, where the document and its router files are
--- still the same
+-- the text that `verify` put is an accepted certificate once it is saved under a name, where the
+-- document and its router files are still the same
 abbrev pub VerifiedIsAccepted : Type 0
-VerifiedIsAccepted = (document certificate : List ℕ) (before after : Files) (done : Done) → IsVerified document before done
-    → HoldTheSame document before after → after certificate ≡ Some done.text → IsAccepted document certificate after
+VerifiedIsAccepted =
+    (document certificate : List ℕ) (before after : Files) (done : Done) →
+    IsVerified document before done → HoldTheSame document before after
+    → after certificate ≡ Some done.text → IsAccepted document certificate after

@@ -18,7 +18,8 @@ use Rattle.run_files.specs.Refusals.{refusal_of}
 
 -- for each of so many links whether it is down: whether its number, counted from 1, is among these
 abbrev pub down_flags : ℕ → List ℕ → List Bool
-down_flags links numbers = map (λ place. list_any (λ n. n == place + 1) numbers) (range_with_len 0 links)
+down_flags links numbers =
+    map (λ place. list_any (λ n. n == place + 1) numbers) (range_with_len 0 links)
 
 -- the document and its files have a network with the links that are to be down
 abbrev pub HasLinks : TraceWords → Files → Document → Network → Type 0
@@ -32,10 +33,11 @@ pub record RefusesEnds (words : TraceWords) (files : Files) (r : FileRefusal) : 
   pub ends : ¬ HasEndpoints net words.from words.to
   pub told : r ≡ refusal_of words.document 0 kinds.Endpoint
 
--- The first refusal: of the document, its router files or their network with these links; or that the prefixes do not lie in two
--- different host networks.
+-- The first refusal: of the document, its router files or their network with these links; or that
+-- the prefixes do not lie in two different host networks.
 abbrev pub IsTraceRefusal : TraceWords → Files → FileRefusal → Type 0
-IsTraceRefusal words files r = IsInputRefusal Judging words.down words.document files r ⊎ RefusesEnds words files r
+IsTraceRefusal words files r =
+    IsInputRefusal Judging words.down words.document files r ⊎ RefusesEnds words files r
 
 -- the trace from the one prefix to the other, with these links down
 pub record IsTraced (words : TraceWords) (files : Files) (done : Done) : Type 0 where
@@ -44,11 +46,13 @@ pub record IsTraced (words : TraceWords) (files : Files) (done : Done) : Type 0 
   pub input : HasLinks words files doc net
   pub valid : IsValid net
   pub ends : HasEndpoints net words.from words.to
-  pub text : IsTrace net (flagged (down_flags (length net.links) words.down)) words.from words.to done.text
+  pub text :
+      IsTrace net (flagged (down_flags (length net.links) words.down)) words.from words.to done.text
   pub writes : done.writes ≡ []
   pub status : done.status ≡ 0
 
--- the document and its files have a network with these links, and the prefixes lie in two different host networks of it
+-- the document and its files have a network with these links, and the prefixes lie in two different
+-- host networks of it
 pub record HasTrace (words : TraceWords) (files : Files) : Type 0 where
   pub doc : Document
   pub net : Network

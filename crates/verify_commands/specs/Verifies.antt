@@ -21,7 +21,8 @@ use Rattle.run_inputs.specs.Counts.{HasFewClasses, IsJudgingRefusal}
 use Rattle.run_inputs.specs.Inputs.{HoldsInput}
 
 -- the verdict on one of the policies is right, and it is the one with the witness that is fixed
-pub record IsVerdictOn (net : Network) (policies : List Policy) (policy : Policy) (verdict : Verdict) : Type 0 where
+pub record IsVerdictOn (net : Network) (policies : List Policy) (policy : Policy)
+    (verdict : Verdict) : Type 0 where
   pub right : IsRight net policy verdict
   pub fixed : IsFixed net policies policy verdict
 
@@ -29,8 +30,8 @@ pub record IsVerdictOn (net : Network) (policies : List Policy) (policy : Policy
 abbrev pub verdicts_status : List Verdict → ℕ
 verdicts_status verdicts = if list_all is_yes verdicts then 0 else 1
 
--- what a verdict says of its policy is true: a yes that the network meets it, a no that what it asks does not hold, a refusal
--- that it is not clear
+-- what a verdict says of its policy is true: a yes that the network meets it, a no that what it
+-- asks does not hold, a refusal that it is not clear
 pub record IsTrueOf (net : Network) (policy : Policy) (v : Verdict) : Type 0 where
   pub ends : Ends
   pub are_ends : AreEnds net (subject policy) ends
@@ -50,8 +51,8 @@ pub record IsVerified (document : List ℕ) (files : Files) (done : Done) : Type
   pub writes : done.writes ≡ []
   pub status : done.status ≡ verdicts_status verdicts
 
--- the document and its files have a network, its policies do not have too many classes, and it meets every policy under every
--- set of failed links
+-- the document and its files have a network, its policies do not have too many classes, and it
+-- meets every policy under every set of failed links
 pub record SaysYes (document : List ℕ) (files : Files) : Type 0 where
   pub doc : Document
   pub net : Network
@@ -59,8 +60,8 @@ pub record SaysYes (document : List ℕ) (files : Files) : Type 0 where
   pub classes : HasFewClasses net doc.policies
   pub meets : MeetsDocument net doc
 
--- they have a network and not too many classes, and it does not meet each policy: it breaks one under some set of failed
--- links, or a reach policy is not clear
+-- they have a network and not too many classes, and it does not meet each policy: it breaks one
+-- under some set of failed links, or a reach policy is not clear
 pub record SaysNo (document : List ℕ) (files : Files) : Type 0 where
   pub doc : Document
   pub net : Network

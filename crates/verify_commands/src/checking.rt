@@ -24,7 +24,8 @@ pub fn judgement_of(outcome: Outcome) -> Judgement
     }
 }
 
-/// Judges the text of a certificate as a report, from its document, the router files and the text alone.
+/// Judges the text of a certificate as a report, from its document, the router files and the text
+/// alone.
 pub fn check_text<S: Store>(
     alloc: Global,
     document: &Name,
@@ -34,9 +35,11 @@ pub fn check_text<S: Store>(
 ) -> Result<Done, Stop>
     requires { IsWellFormed doc }
     ensures told { IfSome (S.held store.old) (λ files. HoldsDocument document.now files doc
-        → Gives (RefusesInput document.now files) (IsTextChecked document.now text.now files) result) }
+        → Gives (RefusesInput document.now files)
+        (IsTextChecked document.now text.now files) result) }
     ensures own { IfOk result IsJudging }
-    ensures reads { OnlyReads least_limit S.held S.faults S.absences S.taken store.old store.new result }
+    ensures reads { OnlyReads least_limit S.held S.faults S.absences S.taken
+        store.old store.new result }
 {
     let input = read_files(alloc, document, doc, &[], Limits::Judging, store)?;
     count_classes(alloc, document, &input.net, &input.doc.policies)?;

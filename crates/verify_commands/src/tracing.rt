@@ -30,8 +30,10 @@ fn down_flags(alloc: Global, links: u32, numbers: &[u32]) -> Result<Vec<bool>, A
 
 /// Traces packets from the one prefix to the other, with these links down.
 pub fn trace<S: Store>(alloc: Global, words: &TraceWords, store: &mut S) -> Result<Done, Stop>
-    ensures answer { Answers IsJudging (IsTraceRefusal words.now) (IsTraced words.now) (S.held store.old) result }
-    ensures reads { OnlyReads least_limit S.held S.faults S.absences S.taken store.old store.new result }
+    ensures answer { Answers IsJudging (IsTraceRefusal words.now) (IsTraced words.now)
+        (S.held store.old) result }
+    ensures reads { OnlyReads least_limit S.held S.faults S.absences S.taken
+        store.old store.new result }
 {
     let input = read_input(
         alloc,

@@ -17,11 +17,13 @@ use run_inputs::{Input, count_classes, read_input};
 use std::alloc::Global;
 use verdicts::{JudgeFault, judge};
 
-// The verdict on each policy of the document, in order. All classes are few, and no policy has more than all of them.
+// The verdict on each policy of the document, in order. All classes are few, and no policy has more
+// than all of them.
 fn judge_all(alloc: Global, input: &Input) -> Result<List<Verdict>, Memory>
     requires fit { IsFit input.now }
     requires few { HasFewClasses input.now.net input.now.doc.policies }
-    ensures { IfOk result (AllZip (IsVerdictOn input.now.net input.now.doc.policies) input.now.doc.policies) }
+    ensures { IfOk result
+        (AllZip (IsVerdictOn input.now.net input.now.doc.policies) input.now.doc.policies) }
 {
     let mut verdicts = List::make(alloc);
     for which in 0..input.doc.policies.len() {
@@ -58,8 +60,10 @@ fn status_of(verdicts: &[Verdict]) -> u8
 
 /// Judges each policy of the document, and reports the verdicts.
 pub fn verify<S: Store>(alloc: Global, document: &Name, store: &mut S) -> Result<Done, Stop>
-    ensures answer { Answers IsJudging (IsJudgingRefusal Limits.Judging document.now) (IsVerified document.now) (S.held store.old) result }
-    ensures reads { OnlyReads least_limit S.held S.faults S.absences S.taken store.old store.new result }
+    ensures answer { Answers IsJudging (IsJudgingRefusal Limits.Judging document.now)
+        (IsVerified document.now) (S.held store.old) result }
+    ensures reads { OnlyReads least_limit S.held S.faults S.absences S.taken
+        store.old store.new result }
 {
     let input = read_input(alloc, document, &[], Limits::Judging, store)?;
     count_classes(alloc, document, &input.net, &input.doc.policies)?;

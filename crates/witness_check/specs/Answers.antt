@@ -19,9 +19,11 @@ NoneGets entries answer class = (p : Packet) → IsOf class p → permits entrie
 
 -- no packet of the class gets this answer from the one list and that answer from the other
 abbrev pub NoneGetsBoth : List PacketEntry → Bool → List PacketEntry → Bool → Class → Type 0
-NoneGetsBoth one this other that class = (p : Packet) → IsOf class p → permits one p ≡ this → permits other p ≡ that → ⊥
+NoneGetsBoth one this other that class =
+    (p : Packet) → IsOf class p → permits one p ≡ this → permits other p ≡ that → ⊥
 
--- the entries before this place count for no packet of the class, and the entry at it splits the class
+-- the entries before this place count for no packet of the class, and the entry at it splits the
+-- class
 pub record IsOpenAt (entries : List PacketEntry) (class : Class) (place : ℕ) : Type 0 where
   pub entry : PacketEntry
   pub at_place : slice_get entries place ≡ Some entry

@@ -1,4 +1,5 @@
--- What a witness is judged against, and how the packets of a class fare at the lists of the network.
+-- What a witness is judged against, and how the packets of a class fare at the lists of the
+-- network.
 use Rattle.std.specs.Prelude.{◌≡◌, ◌↔◌, ℕ, Bool, IsTrue, Option, Any}
 use Rattle.arc_base.specs.declared.place.ListId.{ListId}
 use Rattle.arc_base.specs.declared.prefix.Prefix.{Prefix}
@@ -23,7 +24,8 @@ IsTold case = IsTrue case.told ↔ Any (Tells case.to) case.net.now.faces
 
 -- the packets that are asked for are those that the list with this place permits
 abbrev pub AsksPermitted : Network → Option ListId → Asked → Type 0
-AsksPermitted net list asked = (p : Packet) → ListPermits net list p ↔ (permits asked.entries.now p ≡ asked.answer)
+AsksPermitted net list asked =
+    (p : Packet) → ListPermits net list p ↔ (permits asked.entries.now p ≡ asked.answer)
 
 -- the list with this place permits each packet of the class
 abbrev pub EachPermitted : Network → Option ListId → Class → Type 0
@@ -35,7 +37,13 @@ ArcPermitsEach net class arc = (p : Packet) → IsOf class p → ArcPermits net 
 
 -- the arc whose rows these are
 abbrev pub arc_of : RoutedArc → Arc
-arc_of shown = record { link = shown.link.0; from_a = shown.from_a; row = shown.row; tail = shown.tail.now; head = shown.head.now }
+arc_of shown = record {
+  link = shown.link.0;
+  from_a = shown.from_a;
+  row = shown.row;
+  tail = shown.tail.now;
+  head = shown.head.now;
+}
 
 -- the arc is one of the network and routed
 abbrev pub IsRoutedArc : Network → Prefix → Arc → Type 0
@@ -47,7 +55,8 @@ IsOver link from_a arc = (arc.link ≡ link) × (arc.from_a ≡ from_a)
 
 -- what is asked holds of the routed arc of this link in this direction, if there is one
 abbrev pub EachOver : Network → Prefix → ℕ → Bool → (Arc → Type 0) → Type 0
-EachOver net to link from_a P = (arc : Arc) → IsRoutedArc net to arc → IsOver link from_a arc → P arc
+EachOver net to link from_a P =
+    (arc : Arc) → IsRoutedArc net to arc → IsOver link from_a arc → P arc
 
 -- what is asked holds of each routed arc
 abbrev pub EachRouted : Network → Prefix → (Arc → Type 0) → Type 0
@@ -55,4 +64,6 @@ EachRouted net to P = (arc : Arc) → IsRoutedArc net to arc → P arc
 
 -- each packet of the class enters, and leaves once it is at the target router
 abbrev pub EachPasses : Network → Ends → Class → Type 0
-EachPasses net ends class = ((p : Packet) → IsOf class p → Enters net ends p) × ((p : Packet) → IsOf class p → Leaves net ends p)
+EachPasses net ends class =
+    ((p : Packet) → IsOf class p → Enters net ends p) ×
+    ((p : Packet) → IsOf class p → Leaves net ends p)

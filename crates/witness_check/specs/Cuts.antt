@@ -10,7 +10,8 @@ use Rattle.net_model.specs.Witnesses.{IsOn, LeavesSide}
 use Rattle.witness_check.specs.Cases.{IsRoutedArc, IsOver}
 
 -- an arc of the link in this direction leaves the side
-pub record LeavesOverIn (net : Network) (to : Prefix) (side : List Bool) (link : ℕ) (from_a : Bool) : Type 0 where
+pub record LeavesOverIn (net : Network) (to : Prefix) (side : List Bool) (link : ℕ)
+    (from_a : Bool) : Type 0 where
   pub arc : Arc
   pub over : IsOver link from_a arc
   pub leaving : LeavesSide net to side arc
@@ -31,7 +32,8 @@ CutsAll net to side links = (l : Link) → CutsOver net to side links l
 
 -- the links are exactly those over which arcs leave the side
 abbrev pub IsCut : Network → Prefix → List Bool → List Link → Type 0
-IsCut net to side links = (l : Link) → Contains links l ↔ ((arc : Arc) × (arc.link ≡ l.0) × LeavesSide net to side arc)
+IsCut net to side links =
+    (l : Link) → Contains links l ↔ ((arc : Arc) × (arc.link ≡ l.0) × LeavesSide net to side arc)
 
 -- the side has a flag for each router, holds the source, and does not hold the target
 pub record PartsEnds (net : Network) (ends : Ends) (side : List Bool) : Type 0 where
@@ -40,7 +42,8 @@ pub record PartsEnds (net : Network) (ends : Ends) (side : List Bool) : Type 0 w
   pub target : ¬ IsOn side (target_router ends)
 
 -- the routed arc of the link in this direction denies the packet
-pub record DeniesOverIn (net : Network) (to : Prefix) (p : Packet) (link : ℕ) (from_a : Bool) : Type 0 where
+pub record DeniesOverIn (net : Network) (to : Prefix) (p : Packet) (link : ℕ)
+    (from_a : Bool) : Type 0 where
   pub arc : Arc
   pub over : IsOver link from_a arc
   pub routed : IsRoutedArc net to arc

@@ -6,18 +6,22 @@ use Rattle.net_model.specs.declared.rows.Network.{Network}
 use Rattle.net_model.specs.declared.verdicts.ClassSide.{ClassSide}
 use Rattle.net_model.specs.Packets.{LiesIn, first_packet}
 use Rattle.net_model.specs.Routing.{Arc, tail_router, head_router}
-use Rattle.net_model.specs.Forwarding.{Ends, source_router, target_router, ArcPermits, Enters, Leaves}
+use Rattle.net_model.specs.Forwarding.{Ends, source_router, target_router, ArcPermits, Enters}
+use Rattle.net_model.specs.Forwarding.{Leaves}
 use Rattle.net_model.specs.Witnesses.{IsUniform, IsOn, MayBreak}
 
 -- the side holds the source if the class's packet of first addresses enters
 abbrev pub HoldsSource : Network → Ends → ClassSide → Type 0
-HoldsSource net ends shown = Enters net ends (first_packet shown.class) → IsOn shown.side (source_router ends)
+HoldsSource net ends shown =
+    Enters net ends (first_packet shown.class) → IsOn shown.side (source_router ends)
 
 -- the side holds the target only if that packet does not leave
 abbrev pub SparesTarget : Network → Ends → ClassSide → Type 0
-SparesTarget net ends shown = IsOn shown.side (target_router ends) → ¬ Leaves net ends (first_packet shown.class)
+SparesTarget net ends shown =
+    IsOn shown.side (target_router ends) → ¬ Leaves net ends (first_packet shown.class)
 
--- the class is a part of the whole on which each list is uniform, and the side has a flag for each router and stands so to source and target
+-- the class is a part of the whole on which each list is uniform, and the side has a flag for each
+-- router and stands so to source and target
 pub record Stands (net : Network) (ends : Ends) (whole : Class) (shown : ClassSide) : Type 0 where
   pub part : LiesIn shown.class whole
   pub flags : length shown.side ≡ length net.routers
@@ -27,7 +31,9 @@ pub record Stands (net : Network) (ends : Ends) (whole : Class) (shown : ClassSi
 
 -- the arc does not lead the class's packet of first addresses off the side
 abbrev pub Keeps : Network → Arc → ClassSide → Type 0
-Keeps net arc shown = IsOn shown.side (tail_router arc) → ArcPermits net arc (first_packet shown.class) → IsOn shown.side (head_router arc)
+Keeps net arc shown =
+    IsOn shown.side (tail_router arc) → ArcPermits net arc (first_packet shown.class) →
+    IsOn shown.side (head_router arc)
 
 -- nor off any of the sides, if it may break the policy
 abbrev pub KeepsEach : Network → PolicyKind → List ClassSide → Arc → Type 0

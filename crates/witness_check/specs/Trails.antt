@@ -16,15 +16,19 @@ pub record IsStep (net : Network) (to : Prefix) (router link : ℕ) (arc : Arc) 
   pub over : arc.link ≡ link
   pub tail : tail_router arc ≡ router
 
--- the links are those of arcs that lead from the one router to the other, and what is asked holds of each arc
-pub record IsTrail (net : Network) (to : Prefix) (P : Arc → Type 0) (u : ℕ) (links : List Link) (v : ℕ) : Type 0 where
+-- the links are those of arcs that lead from the one router to the other, and what is asked holds
+-- of each arc
+pub record IsTrail (net : Network) (to : Prefix) (P : Arc → Type 0) (u : ℕ) (links : List Link)
+    (v : ℕ) : Type 0 where
   pub arcs : List Arc
   pub over : links_of arcs ≡ links
   pub leads : Path net to u arcs v
   pub each : AllByRecursion P arcs
 
--- the links are those of arcs that lead from the one router to the other, and no router stands twice on the way
-pub record IsTrailOnce (net : Network) (to : Prefix) (u : ℕ) (links : List Link) (v : ℕ) : Type 0 where
+-- the links are those of arcs that lead from the one router to the other, and no router stands
+-- twice on the way
+pub record IsTrailOnce (net : Network) (to : Prefix) (u : ℕ) (links : List Link)
+    (v : ℕ) : Type 0 where
   pub arcs : List Arc
   pub over : links_of arcs ≡ links
   pub leads : Path net to u arcs v
@@ -42,8 +46,10 @@ Avoids router arc = head_router arc ≢ router
 abbrev pub AnyArc : Arc → Type 0
 AnyArc arc = Unit {0}
 
--- the links are a walk: those of arcs that lead from the one router to the other, each of which may carry the class, and no router stands twice on the way
-pub record IsWalk (net : Network) (to : Prefix) (kind : PolicyKind) (class : Class) (u : ℕ) (links : List Link) (v : ℕ) : Type 0 where
+-- the links are a walk: those of arcs that lead from the one router to the other, each of which may
+-- carry the class, and no router stands twice on the way
+pub record IsWalk (net : Network) (to : Prefix) (kind : PolicyKind) (class : Class) (u : ℕ)
+    (links : List Link) (v : ℕ) : Type 0 where
   pub arcs : List Arc
   pub over : links_of arcs ≡ links
   pub leads : Path net to u arcs v

@@ -13,7 +13,8 @@ impl Case<'_> {
     fn is_right_blocking(&self, kind: PolicyKind, v: &Verdict) -> bool
         requires told { IsTold self.now }
         requires valid { IsValid self.now.net.now }
-        ensures { IsTrue result ↔ IsRightBlocking self.now.net.now (ends_of self.now) kind self.now.whole v.now }
+        ensures { IsTrue result ↔
+            IsRightBlocking self.now.net.now (ends_of self.now) kind self.now.whole v.now }
     {
         match v {
             Verdict::Closed(sides) => self.are_right_sides(kind, sides.slice()),
@@ -26,7 +27,8 @@ impl Case<'_> {
     fn is_right_reach(&self, k: u32, v: &Verdict) -> bool
         requires told { IsTold self.now }
         requires valid { IsValid self.now.net.now }
-        ensures { IsTrue result ↔ IsRightReach self.now.net.now (ends_of self.now) k self.now.whole v.now }
+        ensures { IsTrue result ↔
+            IsRightReach self.now.net.now (ends_of self.now) k self.now.whole v.now }
     {
         match v {
             Verdict::Paths(paths) => self.are_right_paths(k, paths.slice()),
@@ -41,7 +43,8 @@ impl Case<'_> {
     fn is_right(&self, kind: PolicyKind, v: &Verdict) -> bool
         requires told { IsTold self.now }
         requires valid { IsValid self.now.net.now }
-        ensures { IsTrue result ↔ IsRightFor self.now.net.now (ends_of self.now) kind self.now.whole v.now }
+        ensures { IsTrue result ↔
+            IsRightFor self.now.net.now (ends_of self.now) kind self.now.whole v.now }
     {
         match kind {
             PolicyKind::Reach(k) => self.is_right_reach(k, v),
@@ -50,7 +53,8 @@ impl Case<'_> {
     }
 }
 
-/// Whether the witness shows that the verdict on the policy is right. By the laws of the model the verdict is then true.
+/// Whether the witness shows that the verdict on the policy is right. By the laws of the model the
+/// verdict is then true.
 pub fn accepts(net: &Network, policy: &Policy, v: &Verdict) -> bool
     requires valid { IsValid net.now }
     requires ends { HasEnds net.now (subject policy.now) }

@@ -15,7 +15,8 @@ pub enum Share {
     Never,
     /// Each of them.
     Always,
-    /// It is not clear yet: the entry at this place splits the class, and those before it match none of its packets.
+    /// It is not clear yet: the entry at this place splits the class, and those before it match
+    /// none of its packets.
     Open(usize),
 }
 
@@ -35,7 +36,8 @@ fn first_met(entries: &[PacketEntry], class: Class) -> Option<usize>
         .position(|e| classes_meet(class, entry_class(e)))
 }
 
-/// Whether the entries show that no packet of the class gets the answer: none that counts for the class gives it.
+/// Whether the entries show that no packet of the class gets the answer: none that counts for the
+/// class gives it.
 fn shows_none(entries: &[PacketEntry], answer: bool, class: Class) -> bool
     ensures { IsTrue result → NoneGets entries.now answer class }
 {
@@ -93,7 +95,8 @@ impl Asked<'_> {
     }
 }
 
-/// Whether no packet of the class gets the answer. Only as much of the class is halved as an entry splits.
+/// Whether no packet of the class gets the answer. Only as much of the class is halved as an entry
+/// splits.
 pub fn none_gets(asked: &Asked<'_>, class: Class) -> bool
     ensures { IsTrue result ↔ NoneGets asked.now.entries.now asked.now.answer class }
 {
@@ -108,9 +111,11 @@ pub fn none_gets(asked: &Asked<'_>, class: Class) -> bool
     }
 }
 
-/// Whether no packet of the class gets both answers, the one from the one list and the other from the other.
+/// Whether no packet of the class gets both answers, the one from the one list and the other from
+/// the other.
 pub fn none_gets_both(one: &Asked<'_>, other: &Asked<'_>, class: Class) -> bool
-    ensures { IsTrue result ↔ NoneGetsBoth one.now.entries.now one.now.answer other.now.entries.now other.now.answer class }
+    ensures { IsTrue result ↔ NoneGetsBoth one.now.entries.now one.now.answer other.now.entries.now
+        other.now.answer class }
 {
     match one.share(class) {
         Share::Never => true,
@@ -126,11 +131,12 @@ pub fn none_gets_both(one: &Asked<'_>, other: &Asked<'_>, class: Class) -> bool
     }
 }
 
-/// The answer that the list gives to each packet of the class, or `None` where it does not give them all the same.
+/// The answer that the list gives to each packet of the class, or `None` where it does not give
+/// them all the same.
 ///
-/// Entries that decide the whole class, or all give one answer, settle it at once. Else the class is
-/// halved along an entry that splits it, so the work is polynomial in the number of entries, whatever
-/// the sizes of the prefixes and of the ranges of services.
+/// Entries that decide the whole class, or all give one answer, settle it at once. Else the class
+/// is halved along an entry that splits it, so the work is polynomial in the number of entries,
+/// whatever the sizes of the prefixes and of the ranges of services.
 pub fn answer(list: &PacketList, class: Class) -> Option<bool>
     ensures answer { IfSome result (λ a. EachGets list.now.entries a class) }
     ensures none { IsNone result ↔ (¬ IsUniform list.now.entries class) }

@@ -23,9 +23,11 @@ impl<'a> Case<'a> {
     /// The arc of the link in one direction, if it is one of the network and routed.
     pub fn routed_arc(&self, link: Link, from_a: bool) -> Option<RoutedArc<'a>>
         requires { IsTold self.now }
-        ensures found { IfSome result (λ arc. IsRoutedArc self.now.net.now self.now.to (arc_of arc)) }
+        ensures found { IfSome result (λ arc.
+            IsRoutedArc self.now.net.now self.now.to (arc_of arc)) }
         ensures over { IfSome result (λ arc. IsOver link.0 from_a (arc_of arc)) }
-        ensures none { IfNone result (EachOver self.now.net.now self.now.to link.0 from_a (λ _. ⊥)) }
+        ensures none { IfNone result
+            (EachOver self.now.net.now self.now.to link.0 from_a (λ _. ⊥)) }
     {
         let net = self.net;
         if !net.routed_if_told(self.told, link, from_a, self.to) {

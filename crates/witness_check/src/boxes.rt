@@ -1,6 +1,8 @@
 ghost use Rattle.std.specs.Prelude.{◌≡◌, ◌↔◌, ◌<◌, ◌+◌, IsTrue};
 ghost use Rattle.net_model.specs.Packets.{ShareNoPacket};
-ghost use Rattle.witness_check.specs.Boxes.{prefixes_meet, classes_meet, entry_class, splits_services, splits, AreHalves, AreServiceHalves, MakeUp, service_bits, open_bits};
+ghost use Rattle.witness_check.specs.Boxes.{prefixes_meet, classes_meet, entry_class};
+ghost use Rattle.witness_check.specs.Boxes.{splits_services, splits, AreHalves, AreServiceHalves};
+ghost use Rattle.witness_check.specs.Boxes.{MakeUp, service_bits, open_bits};
 
 use arc_base::Prefix;
 use net_model::{Class, PacketEntry, Service};
@@ -91,7 +93,8 @@ fn halves_towards(whole: Prefix, address: u32) -> (Prefix, Prefix)
     }
 }
 
-/// The lower and the upper half of the range of services. Where their number is odd the lower one has one more.
+/// The lower and the upper half of the range of services. Where their number is odd the lower one
+/// has one more.
 fn service_halves(whole: Service) -> (Service, Service)
     requires { whole.low < whole.high }
     ensures halves { AreServiceHalves whole result.0 result.1 }
@@ -110,7 +113,8 @@ fn service_halves(whole: Service) -> (Service, Service)
     (low, high)
 }
 
-/// The two halves of the range of services. Where it has the service, the half that has it comes first.
+/// The two halves of the range of services. Where it has the service, the half that has it comes
+/// first.
 fn service_halves_towards(whole: Service, service: u32) -> (Service, Service)
     requires { whole.low < whole.high }
     ensures halves { AreServiceHalves whole result.0 result.1 }
@@ -128,8 +132,8 @@ fn service_halves_towards(whole: Service, service: u32) -> (Service, Service)
 /// The two halves of the class, cut where the other class splits it. The first packet of the other
 /// class comes first.
 ///
-/// A range of services is cut in the middle, as prefixes are, and not at an end of the other range: so
-/// no class is halved more than 88 times over, and calls that halve stand no deeper than that.
+/// A range of services is cut in the middle, as prefixes are, and not at an end of the other range:
+/// so no class is halved more than 88 times over, and calls that halve stand no deeper than that.
 pub fn halve_towards(class: Class, other: Class) -> (Class, Class)
     requires { IsTrue (splits class other) }
     ensures whole { MakeUp class result.0 result.1 }

@@ -7,7 +7,8 @@ ghost use Rattle.witness_check.specs.Cases.{ends_of, IsTold};
 use arc_base::Prefix;
 use net_model::{Class, FaceRow, Network, Policy};
 
-/// What a witness is judged against: the network, and where the policy's packets would enter and leave it.
+/// What a witness is judged against: the network, and where the policy's packets would enter and
+/// leave it.
 #[derive(Clone, Copy)]
 pub struct Case<'a> {
     pub net: &'a Network,

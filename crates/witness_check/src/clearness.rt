@@ -3,7 +3,8 @@ ghost use Rattle.net_model.specs.Packets.{subject};
 ghost use Rattle.net_model.specs.Forwarding.{Ends, AreEnds, HasEnds};
 ghost use Rattle.net_model.specs.Policies.{IsClear};
 ghost use Rattle.net_model.specs.Validity.{IsValid};
-ghost use Rattle.witness_check.specs.Cases.{ends_of, IsTold, AsksPermitted, EachPermitted, ArcPermitsEach, EachOver, EachRouted, arc_of};
+ghost use Rattle.witness_check.specs.Cases.{ends_of, IsTold, AsksPermitted, EachPermitted};
+ghost use Rattle.witness_check.specs.Cases.{ArcPermitsEach, EachOver, EachRouted, arc_of};
 
 use crate::answers::{Asked, none_gets};
 use crate::arcs::RoutedArc;
@@ -11,8 +12,8 @@ use crate::cases::Case;
 use arc_base::{Link, ListId};
 use net_model::{Class, Network, Policy};
 
-/// The packets that the list with this place permits. An interface without a defined list permits every packet, as the empty
-/// list gives every packet the answer no.
+/// The packets that the list with this place permits. An interface without a defined list permits
+/// every packet, as the empty list gives every packet the answer no.
 pub fn permitted(net: &Network, list: Option<ListId>) -> Asked<'_>
     ensures { AsksPermitted net.now list result }
 {
@@ -54,10 +55,12 @@ pub fn arc_permits_each(net: &Network, arc: &RoutedArc<'_>, class: Class) -> boo
 }
 
 impl Case<'_> {
-    /// Whether the arc of the link in one direction, if it is routed, permits each packet of the policy.
+    /// Whether the arc of the link in one direction, if it is routed, permits each packet of the
+    /// policy.
     fn permits_over(&self, link: Link, from_a: bool) -> bool
         requires { IsTold self.now }
-        ensures { IsTrue result ↔ EachOver self.now.net.now self.now.to link.0 from_a (ArcPermitsEach self.now.net.now self.now.whole) }
+        ensures { IsTrue result ↔ EachOver self.now.net.now self.now.to link.0 from_a
+            (ArcPermitsEach self.now.net.now self.now.whole) }
     {
         match self.routed_arc(link, from_a) {
             Some(arc) => arc_permits_each(self.net, &arc, self.whole),
@@ -68,7 +71,8 @@ impl Case<'_> {
     /// Whether each routed arc permits each packet of the policy.
     fn each_permits(&self) -> bool
         requires { IsTold self.now }
-        ensures { IsTrue result ↔ EachRouted self.now.net.now self.now.to (ArcPermitsEach self.now.net.now self.now.whole) }
+        ensures { IsTrue result ↔ EachRouted self.now.net.now self.now.to
+            (ArcPermitsEach self.now.net.now self.now.whole) }
     {
         for place in 0..self.net.links.len() {
             if !self.permits_over(Link(place), true) || !self.permits_over(Link(place), false) {
@@ -78,7 +82,8 @@ impl Case<'_> {
         true
     }
 
-    /// Whether the policy is clear: no routed arc denies a packet of it, or both its ends are at one router.
+    /// Whether the policy is clear: no routed arc denies a packet of it, or both its ends are at
+    /// one router.
     pub fn is_clear(&self) -> bool
         requires { IsTold self.now }
         ensures { IsTrue result ↔ IsClear self.now.net.now (ends_of self.now) self.now.whole }
@@ -87,12 +92,13 @@ impl Case<'_> {
     }
 }
 
-/// Whether a reach policy with these prefixes is clear: no list at either end of a routed arc denies a packet of it, or the
-/// packets enter and leave at one router.
+/// Whether a reach policy with these prefixes is clear: no list at either end of a routed arc
+/// denies a packet of it, or the packets enter and leave at one router.
 pub fn clear(net: &Network, policy: &Policy) -> bool
     requires valid { IsValid net.now }
     requires ends { HasEnds net.now (subject policy.now) }
-    ensures { (ends : Ends) → AreEnds net.now (subject policy.now) ends → IsTrue result ↔ IsClear net.now ends (subject policy.now) }
+    ensures { (ends : Ends) → AreEnds net.now (subject policy.now) ends →
+        IsTrue result ↔ IsClear net.now ends (subject policy.now) }
 {
     Case::of(net, policy).is_clear()
 }

@@ -4,7 +4,8 @@ ghost use Rattle.net_model.specs.Routing.{Arc, IsArc, IsRouted};
 ghost use Rattle.net_model.specs.Forwarding.{ArcPermits};
 ghost use Rattle.net_model.specs.Witnesses.{IsOn, IsRightCut, IsRightRefused, IsRightDenied};
 ghost use Rattle.witness_check.specs.Cases.{IsTold, ends_of, arc_of};
-ghost use Rattle.witness_check.specs.Cuts.{LeavesOver, LeavesOverIn, CutsOver, CutsAll, IsCut, PartsEnds, DeniesOverIn, DeniesOver};
+ghost use Rattle.witness_check.specs.Cuts.{LeavesOver, LeavesOverIn, CutsOver, CutsAll, IsCut};
+ghost use Rattle.witness_check.specs.Cuts.{PartsEnds, DeniesOverIn, DeniesOver};
 
 use crate::cases::Case;
 use crate::packets::{is_of, lies_in};
@@ -57,7 +58,8 @@ impl Case<'_> {
     /// Whether a routed arc of each of these links leaves the side.
     fn each_leaves_side(&self, side: &List<bool>, links: &[Link]) -> bool
         requires { IsTold self.now }
-        ensures { IsTrue result ↔ All (λ l. LeavesOver self.now.net.now self.now.to side.now l.0) links.now }
+        ensures { IsTrue result ↔
+            All (λ l. LeavesOver self.now.net.now self.now.to side.now l.0) links.now }
     {
         for link in links {
             if !self.leaves_side(side, *link) {
@@ -105,10 +107,12 @@ impl Case<'_> {
             && !is_on(side, self.target.router)
     }
 
-    /// Whether the cut is right: no more links than may fail, exactly those over which routed arcs leave the side.
+    /// Whether the cut is right: no more links than may fail, exactly those over which routed arcs
+    /// leave the side.
     pub(crate) fn is_right_cut(&self, k: u32, links: &[Link], side: &List<bool>) -> bool
         requires { IsTold self.now }
-        ensures { IsTrue result ↔ IsRightCut self.now.net.now (ends_of self.now) k self.now.whole links.now side.now }
+        ensures { IsTrue result ↔
+            IsRightCut self.now.net.now (ends_of self.now) k self.now.whole links.now side.now }
     {
         if self.is_local() {
             return false;
@@ -144,18 +148,22 @@ impl Case<'_> {
         self.denies_over(p, link, true) || self.denies_over(p, link, false)
     }
 
-    /// Whether the refusal is right: the packet is the policy's, and a routed arc of the link denies it.
+    /// Whether the refusal is right: the packet is the policy's, and a routed arc of the link
+    /// denies it.
     pub(crate) fn is_right_refusal(&self, p: Packet, link: Link) -> bool
         requires { IsTold self.now }
-        ensures { IsTrue result ↔ IsRightRefused self.now.net.now (ends_of self.now) self.now.whole p link }
+        ensures { IsTrue result ↔
+            IsRightRefused self.now.net.now (ends_of self.now) self.now.whole p link }
     {
         !self.is_local() && is_of(self.whole, p) && self.denies(p, link)
     }
 
-    /// Whether the denial is right: the policy is clear, and no packet of a part of it both enters and leaves.
+    /// Whether the denial is right: the policy is clear, and no packet of a part of it both enters
+    /// and leaves.
     pub(crate) fn is_right_denial(&self, class: Class) -> bool
         requires { IsTold self.now }
-        ensures { IsTrue result ↔ IsRightDenied self.now.net.now (ends_of self.now) self.now.whole class }
+        ensures { IsTrue result ↔
+            IsRightDenied self.now.net.now (ends_of self.now) self.now.whole class }
     {
         lies_in(class, self.whole) && self.none_passes(class) && self.is_clear()
     }

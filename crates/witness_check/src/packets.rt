@@ -42,14 +42,16 @@ impl Case<'_> {
 
     /// Whether each packet of the class enters.
     pub fn each_enters(&self, class: Class) -> bool
-        ensures { IsTrue result ↔ ((p : Packet) → IsOf class p → Enters self.now.net.now (ends_of self.now) p) }
+        ensures { IsTrue result ↔
+            ((p : Packet) → IsOf class p → Enters self.now.net.now (ends_of self.now) p) }
     {
         self.source.up && permits_each(self.net, self.source.list_in, class)
     }
 
     /// Whether each packet of the class leaves once it is at the target router.
     pub fn each_leaves(&self, class: Class) -> bool
-        ensures { IsTrue result ↔ ((p : Packet) → IsOf class p → Leaves self.now.net.now (ends_of self.now) p) }
+        ensures { IsTrue result ↔
+            ((p : Packet) → IsOf class p → Leaves self.now.net.now (ends_of self.now) p) }
     {
         self.target.up && permits_each(self.net, self.target.list_out, class)
     }
@@ -63,7 +65,9 @@ impl Case<'_> {
 
     /// Whether no packet of the class both enters and leaves.
     pub fn none_passes(&self, class: Class) -> bool
-        ensures { IsTrue result ↔ ((p : Packet) → IsOf class p → Enters self.now.net.now (ends_of self.now) p → ¬ Leaves self.now.net.now (ends_of self.now) p) }
+        ensures { IsTrue result ↔
+            ((p : Packet) → IsOf class p → Enters self.now.net.now (ends_of self.now) p →
+            ¬ Leaves self.now.net.now (ends_of self.now) p) }
     {
         if !self.source.up || !self.target.up {
             return true;

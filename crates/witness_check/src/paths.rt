@@ -1,4 +1,5 @@
-ghost use Rattle.std.specs.Prelude.{◌≡◌, ◌≢◌, ◌↔◌, ◌+◌, ◌⊎◌, IsTrue, Contains, AllPairs, All, length};
+ghost use Rattle.std.specs.Prelude.{◌≡◌, ◌≢◌, ◌↔◌, ◌+◌, ◌⊎◌, IsTrue, Contains, AllPairs, All};
+ghost use Rattle.std.specs.Prelude.{length};
 ghost use Rattle.std.specs.List.{flat_map};
 ghost use Rattle.net_model.specs.Validity.{IsValid};
 ghost use Rattle.net_model.specs.Witnesses.{IsPath, IsRightPaths};
@@ -30,7 +31,8 @@ fn is_used(paths: &[LinkPath], link: Link) -> bool
 
 /// Whether the link is one of these, or stands in one of the later paths.
 fn stands_again(link: Link, links: &[Link], later: &[LinkPath]) -> bool
-    ensures { IsTrue result ↔ (Contains links.now link ⊎ Contains (flat_map (λ path. path.links) later.now) link) }
+    ensures { IsTrue result ↔
+        (Contains links.now link ⊎ Contains (flat_map (λ path. path.links) later.now) link) }
 {
     contains(links, link) || is_used(later, link)
 }
@@ -60,8 +62,8 @@ fn are_disjoint(paths: &[LinkPath]) -> bool
 }
 
 impl Case<'_> {
-    /// Whether there are as many paths as are asked: one more than links may fail, or none where the packets enter and leave at
-    /// one router.
+    /// Whether there are as many paths as are asked: one more than links may fail, or none where
+    /// the packets enter and leave at one router.
     fn is_full_count(&self, k: u32, paths: &[LinkPath]) -> bool
         ensures { IsTrue result ↔ IsFullCount (ends_of self.now) k (length paths.now) }
     {
@@ -85,11 +87,13 @@ impl Case<'_> {
         true
     }
 
-    /// Whether the paths are right: the policy is clear, its packets enter and leave, and some path is left whichever links fail.
+    /// Whether the paths are right: the policy is clear, its packets enter and leave, and some path
+    /// is left whichever links fail.
     pub(crate) fn are_right_paths(&self, k: u32, paths: &[LinkPath]) -> bool
         requires told { IsTold self.now }
         requires valid { IsValid self.now.net.now }
-        ensures { IsTrue result ↔ IsRightPaths self.now.net.now (ends_of self.now) k self.now.whole paths.now }
+        ensures { IsTrue result ↔
+            IsRightPaths self.now.net.now (ends_of self.now) k self.now.whole paths.now }
     {
         if !self.is_full_count(k, paths) {
             return false;

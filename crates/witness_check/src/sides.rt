@@ -50,8 +50,8 @@ fn is_apart(class: Class, others: &[ClassSide]) -> bool
     others.iter().all(|other| share_none(class, other.class))
 }
 
-/// Whether no two of the classes share a packet. It compares each pair of them: they may come in any order, and there is no
-/// memory to sort them in.
+/// Whether no two of the classes share a packet. It compares each pair of them: they may come in
+/// any order, and there is no memory to sort them in.
 fn are_apart(sides: &[ClassSide]) -> bool
     ensures { IsTrue result ↔ AllPairs (λ c d. ShareNoPacket c.class d.class) sides.now }
 {
@@ -88,17 +88,20 @@ impl Case<'_> {
         is_on(&shown.side, self.source.router) || !self.enters(shown.class.first_packet())
     }
 
-    /// Whether the side does not hold the target, or the class's packet of first addresses does not leave.
+    /// Whether the side does not hold the target, or the class's packet of first addresses does not
+    /// leave.
     fn spares_target(&self, shown: &ClassSide) -> bool
         ensures { IsTrue result ↔ SparesTarget self.now.net.now (ends_of self.now) shown.now }
     {
         !is_on(&shown.side, self.target.router) || !self.leaves(shown.class.first_packet())
     }
 
-    /// Whether the class is a part of the policy on which the lists are uniform, and the side has a flag for each router, holds
-    /// the source if its packets enter, and the target only if none leaves.
+    /// Whether the class is a part of the policy on which the lists are uniform, and the side has a
+    /// flag for each router, holds the source if its packets enter, and the target only if none
+    /// leaves.
     fn stands(&self, shown: &ClassSide) -> bool
-        ensures { IsTrue result ↔ Stands self.now.net.now (ends_of self.now) self.now.whole shown.now }
+        ensures { IsTrue result ↔
+            Stands self.now.net.now (ends_of self.now) self.now.whole shown.now }
     {
         lies_in(shown.class, self.whole)
             && shown.side.len() == self.net.routers.len()
@@ -109,12 +112,14 @@ impl Case<'_> {
 
     /// Whether each of the sides stands so.
     fn each_stands(&self, sides: &[ClassSide]) -> bool
-        ensures { IsTrue result ↔ All (Stands self.now.net.now (ends_of self.now) self.now.whole) sides.now }
+        ensures { IsTrue result ↔
+            All (Stands self.now.net.now (ends_of self.now) self.now.whole) sides.now }
     {
         sides.iter().all(|shown| self.stands(shown))
     }
 
-    /// Whether the arc does not leave the side, or does not permit the class's packet of first addresses.
+    /// Whether the arc does not leave the side, or does not permit the class's packet of first
+    /// addresses.
     fn keeps(&self, arc: &RoutedArc<'_>, shown: &ClassSide) -> bool
         ensures { IsTrue result ↔ Keeps self.now.net.now (arc_of arc.now) shown.now }
     {
@@ -132,10 +137,12 @@ impl Case<'_> {
         !may_break(kind, arc) || self.keeps_each(arc, sides)
     }
 
-    /// Whether the arc of the link in one direction, if it is routed and may break the policy, keeps to each of the sides.
+    /// Whether the arc of the link in one direction, if it is routed and may break the policy,
+    /// keeps to each of the sides.
     fn keeps_over(&self, kind: PolicyKind, sides: &[ClassSide], link: Link, from_a: bool) -> bool
         requires { IsTold self.now }
-        ensures { IsTrue result ↔ EachOver self.now.net.now self.now.to link.0 from_a (KeepsEach self.now.net.now kind sides.now) }
+        ensures { IsTrue result ↔ EachOver self.now.net.now self.now.to link.0 from_a
+            (KeepsEach self.now.net.now kind sides.now) }
     {
         match self.routed_arc(link, from_a) {
             Some(arc) => self.keeps_or_spares(kind, sides, &arc),
@@ -153,7 +160,8 @@ impl Case<'_> {
     /// Whether each routed arc that may break the policy keeps to each of the sides.
     fn each_keeps(&self, kind: PolicyKind, sides: &[ClassSide]) -> bool
         requires { IsTold self.now }
-        ensures { IsTrue result ↔ EachRouted self.now.net.now self.now.to (KeepsEach self.now.net.now kind sides.now) }
+        ensures { IsTrue result ↔
+            EachRouted self.now.net.now self.now.to (KeepsEach self.now.net.now kind sides.now) }
     {
         for place in 0..self.net.links.len() {
             if !self.keeps_over(kind, sides, Link(place), true)
@@ -165,11 +173,13 @@ impl Case<'_> {
         true
     }
 
-    /// Whether the closed sides are right: their classes make up the policy, and no packet of a class gets off its side.
+    /// Whether the closed sides are right: their classes make up the policy, and no packet of a
+    /// class gets off its side.
     pub(crate) fn are_right_sides(&self, kind: PolicyKind, sides: &[ClassSide]) -> bool
         requires told { IsTold self.now }
         requires few { length sides.now < 2 ^ 32 }
-        ensures { IsTrue result ↔ IsRightClosed self.now.net.now (ends_of self.now) kind self.now.whole sides.now }
+        ensures { IsTrue result ↔
+            IsRightClosed self.now.net.now (ends_of self.now) kind self.now.whole sides.now }
     {
         if packets_of_all(sides) != packets(self.whole) {
             return false;

@@ -3,7 +3,8 @@ ghost use Rattle.net_model.specs.Routing.{Arc};
 ghost use Rattle.net_model.specs.Validity.{IsValid};
 ghost use Rattle.net_model.specs.Witnesses.{IsPath, MayBreak};
 ghost use Rattle.witness_check.specs.Cases.{IsTold, arc_of, ends_of};
-ghost use Rattle.witness_check.specs.Trails.{IsStep, IsTrail, IsTrailOnce, MayCarry, Avoids, AnyArc};
+ghost use Rattle.witness_check.specs.Trails.{IsStep, IsTrail, IsTrailOnce, MayCarry, Avoids};
+ghost use Rattle.witness_check.specs.Trails.{AnyArc};
 
 use crate::arcs::RoutedArc;
 use crate::cases::Case;
@@ -11,7 +12,8 @@ use crate::clearness::arc_permits_each;
 use arc_base::{Link, Router};
 use net_model::{Class, LinkPath, PolicyKind};
 
-/// Whether a walk that breaks the policy may use the arc: any for blocked, one over a link that is no waypoint for through.
+/// Whether a walk that breaks the policy may use the arc: any for blocked, one over a link that is
+/// no waypoint for through.
 pub(crate) fn may_break(kind: PolicyKind, arc: &RoutedArc<'_>) -> bool
     ensures { IsTrue result ↔ MayBreak kind (arc_of arc.now) }
 {
@@ -25,8 +27,10 @@ impl<'a> Case<'a> {
     /// The routed arc of the link in one direction, if it leads on from the router.
     fn step_over(&self, router: Router, link: Link, from_a: bool) -> Option<RoutedArc<'a>>
         requires { IsTold self.now }
-        ensures found { IfSome result (λ arc. IsStep self.now.net.now self.now.to router.0 link.0 (arc_of arc)) }
-        ensures none { IfNone result ((arc : Arc) → arc.from_a ≡ from_a → ¬ IsStep self.now.net.now self.now.to router.0 link.0 arc) }
+        ensures found { IfSome result (λ arc.
+            IsStep self.now.net.now self.now.to router.0 link.0 (arc_of arc)) }
+        ensures none { IfNone result ((arc : Arc) → arc.from_a ≡ from_a →
+            ¬ IsStep self.now.net.now self.now.to router.0 link.0 arc) }
     {
         match self.routed_arc(link, from_a) {
             Some(arc) => {
@@ -40,11 +44,14 @@ impl<'a> Case<'a> {
         }
     }
 
-    /// The routed arc that leads on from the router over the link. A link joins two routers, so there is one at most.
+    /// The routed arc that leads on from the router over the link. A link joins two routers, so
+    /// there is one at most.
     pub fn step(&self, router: Router, link: Link) -> Option<RoutedArc<'a>>
         requires { IsTold self.now }
-        ensures found { IfSome result (λ arc. IsStep self.now.net.now self.now.to router.0 link.0 (arc_of arc)) }
-        ensures none { IfNone result ((arc : Arc) → ¬ IsStep self.now.net.now self.now.to router.0 link.0 arc) }
+        ensures found { IfSome result (λ arc.
+            IsStep self.now.net.now self.now.to router.0 link.0 (arc_of arc)) }
+        ensures none { IfNone result ((arc : Arc) →
+            ¬ IsStep self.now.net.now self.now.to router.0 link.0 arc) }
     {
         match self.step_over(router, link, true) {
             Some(arc) => Some(arc),
@@ -56,7 +63,8 @@ impl<'a> Case<'a> {
     fn leads(&self, links: &[Link]) -> bool
         requires told { IsTold self.now }
         requires valid { IsValid self.now.net.now }
-        ensures { IsTrue result ↔ IsTrail self.now.net.now self.now.to AnyArc self.now.source.now.router.0 links.now self.now.target.now.router.0 }
+        ensures { IsTrue result ↔ IsTrail self.now.net.now self.now.to AnyArc
+            self.now.source.now.router.0 links.now self.now.target.now.router.0 }
     {
         let mut router = self.source.router;
         for link in links {
@@ -77,18 +85,22 @@ impl<'a> Case<'a> {
         self.leads(path.links.slice())
     }
 
-    /// Whether the arc permits each packet of the class, and a walk that breaks the policy may use it.
+    /// Whether the arc permits each packet of the class, and a walk that breaks the policy may use
+    /// it.
     fn may_carry(&self, kind: PolicyKind, class: Class, arc: &RoutedArc<'_>) -> bool
         ensures { IsTrue result ↔ MayCarry self.now.net.now kind class (arc_of arc.now) }
     {
         may_break(kind, arc) && arc_permits_each(self.net, arc, class)
     }
 
-    /// Whether the links lead from the source to the target over arcs that may carry each packet of the class.
+    /// Whether the links lead from the source to the target over arcs that may carry each packet of
+    /// the class.
     pub(crate) fn carries(&self, kind: PolicyKind, class: Class, links: &[Link]) -> bool
         requires told { IsTold self.now }
         requires valid { IsValid self.now.net.now }
-        ensures { IsTrue result ↔ IsTrail self.now.net.now self.now.to (MayCarry self.now.net.now kind class) self.now.source.now.router.0 links.now self.now.target.now.router.0 }
+        ensures { IsTrue result ↔
+            IsTrail self.now.net.now self.now.to (MayCarry self.now.net.now kind class)
+            self.now.source.now.router.0 links.now self.now.target.now.router.0 }
     {
         let mut router = self.source.router;
         for link in links {
@@ -103,11 +115,13 @@ impl<'a> Case<'a> {
         router.0 == self.target.router.0
     }
 
-    /// Whether the links lead from the one router to the target, and no arc leads to the other router.
+    /// Whether the links lead from the one router to the target, and no arc leads to the other
+    /// router.
     fn avoids(&self, from: Router, links: &[Link], other: Router) -> bool
         requires told { IsTold self.now }
         requires valid { IsValid self.now.net.now }
-        ensures { IsTrue result ↔ IsTrail self.now.net.now self.now.to (Avoids other.0) from.0 links.now self.now.target.now.router.0 }
+        ensures { IsTrue result ↔ IsTrail self.now.net.now self.now.to (Avoids other.0) from.0
+            links.now self.now.target.now.router.0 }
     {
         let mut router = from;
         for link in links {
@@ -122,12 +136,13 @@ impl<'a> Case<'a> {
         router.0 == self.target.router.0
     }
 
-    /// Whether the links lead from the source to the target, and no router stands twice on the way. Each router is looked for
-    /// among those that follow it.
+    /// Whether the links lead from the source to the target, and no router stands twice on the way.
+    /// Each router is looked for among those that follow it.
     pub(crate) fn goes_once(&self, links: &[Link]) -> bool
         requires told { IsTold self.now }
         requires valid { IsValid self.now.net.now }
-        ensures { IsTrue result ↔ IsTrailOnce self.now.net.now self.now.to self.now.source.now.router.0 links.now self.now.target.now.router.0 }
+        ensures { IsTrue result ↔ IsTrailOnce self.now.net.now self.now.to
+            self.now.source.now.router.0 links.now self.now.target.now.router.0 }
     {
         let mut router = self.source.router;
         for (place, link) in links.iter().enumerate() {

@@ -10,21 +10,24 @@ use arc_base::Link;
 use net_model::{Class, LinkPath, PolicyKind};
 
 impl Case<'_> {
-    /// Whether the links are a walk that may carry each packet of the class and breaks the policy: they lead from the source to the
-    /// target, and no router stands twice on the way.
+    /// Whether the links are a walk that may carry each packet of the class and breaks the policy:
+    /// they lead from the source to the target, and no router stands twice on the way.
     fn walks(&self, kind: PolicyKind, class: Class, links: &[Link]) -> bool
         requires told { IsTold self.now }
         requires valid { IsValid self.now.net.now }
-        ensures { IsTrue result ↔ IsWalk self.now.net.now self.now.to kind class self.now.source.now.router.0 links.now self.now.target.now.router.0 }
+        ensures { IsTrue result ↔ IsWalk self.now.net.now self.now.to kind class
+            self.now.source.now.router.0 links.now self.now.target.now.router.0 }
     {
         self.goes_once(links) && self.carries(kind, class, links)
     }
 
-    /// Whether the walk is right: each packet of a part of the policy may take it, and it breaks the policy.
+    /// Whether the walk is right: each packet of a part of the policy may take it, and it breaks
+    /// the policy.
     pub(crate) fn is_right_walk(&self, kind: PolicyKind, class: Class, path: &LinkPath) -> bool
         requires told { IsTold self.now }
         requires valid { IsValid self.now.net.now }
-        ensures { IsTrue result ↔ IsRightWalk self.now.net.now (ends_of self.now) kind self.now.whole class path.now }
+        ensures { IsTrue result ↔
+            IsRightWalk self.now.net.now (ends_of self.now) kind self.now.whole class path.now }
     {
         if !lies_in(class, self.whole) {
             return false;

@@ -1,5 +1,6 @@
-//! Commands over small files: what each puts, and how many calls of the store it needs. A file is read by two calls, of which the
-//! second finds its end, and written by one; the proof of `lrat` is gone through twice.
+//! Commands over small files: what each puts, and how many calls of the store it needs. A file is
+//! read by two calls, of which the second finds its end, and written by one; the proof of `lrat` is
+//! gone through twice.
 
 use super::Case;
 

@@ -10,7 +10,8 @@ use net_model::{Class, Network, Service};
 use std::alloc::Global;
 use std::test::Fail;
 
-/// What each call says of the class: that it enters and leaves, over two nodes, and that no list denies it.
+/// What each call says of the class: that it enters and leaves, over two nodes, and that no list
+/// denies it.
 fn facts_of(alloc: Global, net: &Network, class: Class) -> Result<[bool; 4], Memory>
     requires valid { IsValid net.now }
     requires ends { HasEnds net.now class }

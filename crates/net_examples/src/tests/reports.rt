@@ -33,7 +33,9 @@ fn asking(alloc: Global, policies: List<Policy>) -> Document
 
 /// That no packet passes; that packets pass while no link fails; and that they do while one does.
 fn document(alloc: Global) -> Result<Document, Memory>
-    ensures { IfOk result (λ doc. doc.policies ≡ between_users PolicyKind.Blocked whole_service ∷ between_users (PolicyKind.Reach 0) whole_service ∷ between_users (PolicyKind.Reach 1) whole_service ∷ []) }
+    ensures { IfOk result (λ doc. doc.policies ≡ between_users PolicyKind.Blocked whole_service ∷
+        between_users (PolicyKind.Reach 0) whole_service ∷
+        between_users (PolicyKind.Reach 1) whole_service ∷ []) }
 {
     let all = Service::whole();
     let mut policies = List::make(alloc);
@@ -43,13 +45,15 @@ fn document(alloc: Global) -> Result<Document, Memory>
     Ok(asking(alloc, policies))
 }
 
-/// That packets of the one range of services pass while no link fails, and that none of the other does.
+/// That packets of the one range of services pass while no link fails, and that none of the other
+/// does.
 fn document_of_services(
     alloc: Global,
     allowed: Service,
     blocked: Service,
 ) -> Result<Document, Memory>
-    ensures { IfOk result (λ doc. doc.policies ≡ between_users (PolicyKind.Reach 0) allowed ∷ between_users PolicyKind.Blocked blocked ∷ []) }
+    ensures { IfOk result (λ doc. doc.policies ≡ between_users (PolicyKind.Reach 0) allowed ∷
+        between_users PolicyKind.Blocked blocked ∷ []) }
 {
     let mut policies = List::make(alloc);
     policies.push(between_users(PolicyKind::Reach(0), allowed))?;
@@ -80,7 +84,8 @@ const CHANGED: [Changed; 13] = [
     // of another form
     (b"", 1, CertKind::NoEnd),
     (b"arc-report 2\n", 1, CertKind::Form),
-    // a walk that comes back, a closed side that is open, a path that leads nowhere, and the side of the target
+    // a walk that comes back, a closed side that is open, a path that leads nowhere, and the side
+    // of the target
     (
         b"arc-report 1\n1 blocked no 1\nwalk 10.1.0.0/24 10.2.0.0/24 1 1 1\n2 reach yes 1\npath 1\n3 reach no 2\ncut 1\n\
 side r1\nend\n",
@@ -179,8 +184,8 @@ const BEFORE_WALK: &[u8] = b"arc-report 1\n1 reach yes 1\npath 1\n2 blocked no 1
 /// A walk, and what is wrong with a report that has it.
 type Walk = (&'static [u8], Option<(u64, CertKind)>);
 
-/// The walk of such a report, and what is wrong with it: the class is no part of the policy, or it is
-/// written in another form.
+/// The walk of such a report, and what is wrong with it: the class is no part of the policy, or it
+/// is written in another form.
 const WALKS: [Walk; 6] = [
     (
         b"walk 10.1.0.0/24 10.2.0.0/24 service:17.0-17.65535 1\n",

@@ -22,7 +22,8 @@ fn accepts_on(
     Ok(clear(&net, &policy) && accepts(&net, &policy, v))
 }
 
-/// Whether the verdict on a policy between the two host networks, whose link is routed, is accepted.
+/// Whether the verdict on a policy between the two host networks, whose link is routed, is
+/// accepted.
 fn is_accepted(alloc: Global, kind: PolicyKind, v: &Verdict) -> Result<bool, Memory> {
     accepts_on(alloc, true, kind, Service::whole(), v)
 }

@@ -90,7 +90,8 @@ pub const CERTIFICATES: [Certificate; 20] = [
         1,
     ),
     (b"arc-report 1", b"rejected 2 no-end\n", 1),
-    // a repair without edits where a policy is not met, one that names a price for them, and claims that nothing shows
+    // a repair without edits where a policy is not met, one that names a price for them, and claims
+    // that nothing shows
     (
         b"arc-repair 1\nanswer repaired 0 32\n1 reach yes 2\npath 1\npath 2\n2 reach no 2\ncut 1 2\nside r1\nlog\nend\n",
         b"rejected 6 not-yes\n",

@@ -1,4 +1,5 @@
-//! Documents. Each is given by its parts: the links of a network, its policies, and what stands between them.
+//! Documents. Each is given by its parts: the links of a network, its policies, and what stands
+//! between them.
 
 use super::Text;
 
@@ -40,7 +41,8 @@ pub const SQUARE: &[u8] = br#"{"version": 1, "routers": ["r1.cfg", "r2.cfg", "r3
  {"a": "r3:GigabitEthernet0/2", "b": "r4:GigabitEthernet0/2"}],
  "policies": ["#;
 
-// A way from r1 to r6 by links 1, 2 and 3 leaves no second one beside it, and yet there are two that share no link.
+// A way from r1 to r6 by links 1, 2 and 3 leaves no second one beside it, and yet there are two
+// that share no link.
 pub const TRAP: &[u8] = br#"{"version": 1,
  "routers": ["r1.cfg", "r2.cfg", "r3.cfg", "r4.cfg", "r5.cfg", "r6.cfg"],
  "links": [{"a": "r1:GigabitEthernet0/1", "b": "r2:GigabitEthernet0/1"},

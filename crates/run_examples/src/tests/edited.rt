@@ -38,7 +38,8 @@ pub const EDITED: [Edited; 2] = [
             END,
         ],
     },
-    // a new list where the packets enter is the one cheapest repair, since r2 binds a list that does not stand
+    // a new list where the packets enter is the one cheapest repair, since r2 binds a list that
+    // does not stand
     Edited {
         files: &[
             (

@@ -1,4 +1,5 @@
-//! A packet list of many entries, each for one host at either side: two networks fall into thousands of classes.
+//! A packet list of many entries, each for one host at either side: two networks fall into
+//! thousands of classes.
 
 use super::documents::PAIR_BLOCKED;
 use super::routers::{END, FACE_1, LIST_IN, MARK, NEAR_1, OSPF, R2, USERS_1};

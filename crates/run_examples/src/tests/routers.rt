@@ -169,7 +169,8 @@ pub const SQUARE_FILES: [File; 5] = [
     (b"r4.cfg", SQUARE_4),
 ];
 
-// The same where the way over r3 is the dear one, and r4 denies the packets of r1 that come from r2.
+// The same where the way over r3 is the dear one, and r4 denies the packets of r1 that come from
+// r2.
 pub const DEAR_1: Text = &[
     USERS_1, MARK, FACE_1, NEAR_1, MARK, FACE_2, NEAR_3, DEAR, MARK, OSPF, END,
 ];
@@ -220,7 +221,8 @@ pub const TRAP_6: Text = &[
     USERS_6, MARK, FACE_1, FAR_3, MARK, FACE_2, FAR_7, MARK, OSPF, END,
 ];
 
-// The triangle with BGP, where the host network of r3 is a half. A route list of r1 stands between the two parts.
+// The triangle with BGP, where the host network of r3 is a half. A route list of r1 stands between
+// the two parts.
 pub const BGP_TRIANGLE_1_HEAD: &[u8] = b"hostname r1\n!\n\
 interface GigabitEthernet0/0\n ip address 10.1.0.1 255.255.255.0\n!\n\
 interface GigabitEthernet0/1\n ip address 10.0.1.1 255.255.255.252\n!\n\
@@ -259,7 +261,8 @@ pub const BGP_TRIANGLE_3: Text = &[
     END,
 ];
 
-// The parts of a file as a router keeps it. Between them stand its name, its router id and its addresses.
+// The parts of a file as a router keeps it. Between them stand its name, its router id and its
+// addresses.
 pub const KEPT_TOP: &[u8] = b"!\nversion 15.7\nservice timestamps log datetime msec\n!\nhostname ";
 
 pub const KEPT_BOOT: &[u8] =
