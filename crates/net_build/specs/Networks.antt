@@ -70,6 +70,12 @@ ReadsFiles files (Ok read) = AllZip AreLinesOf files read.lines × AllZip Says f
 ReadsFiles files (Err (Refused r)) = IsFirstFaulty files r
 ReadsFiles files (Err Memory) = Unit {0}
 
+-- the answer on the settings of all files, or the first refusal
+abbrev pub ReadsConfigs : List (List ℕ) → Result (List Config) NetFault → Type 0
+ReadsConfigs files (Ok configs) = AllZip Says files configs
+ReadsConfigs files (Err (Refused r)) = IsFirstFaulty files r
+ReadsConfigs files (Err Memory) = Unit {0}
+
 -- the answer on the settings of all files: their network, or the first refusal of the tries
 abbrev pub Assembles : List ℕ → ℕ → Document → List Config → Result Network NetFault → Type 0
 Assembles down most_entries doc configs result =
@@ -113,6 +119,13 @@ BuildsWithin down most_entries doc files (Ok built) =
 BuildsWithin down most_entries doc files (Err (Refused r)) =
     IsFirstRefusalWithin down most_entries doc files r
 BuildsWithin down most_entries doc files (Err Memory) = Unit {0}
+
+-- the answer is the network alone, or the first reason why there is none
+abbrev pub FindsWithin : List ℕ → ℕ → Document → List (List ℕ) → Result Network NetFault → Type 0
+FindsWithin down most_entries doc files (Ok net) = IsNetworkWithin down most_entries doc files net
+FindsWithin down most_entries doc files (Err (Refused r)) =
+    IsFirstRefusalWithin down most_entries doc files r
+FindsWithin down most_entries doc files (Err Memory) = Unit {0}
 
 -- Where nothing else is asked for, no link is to be down, and a list has at most 16,384 entries:
 -- the network,

@@ -1,6 +1,6 @@
 //! Each router file by itself: its lines and its settings.
 ghost use Rattle.std.specs.Prelude.{◌≡◌, ◌≤◌, ◌+◌, ◌<◌, ◌^◌, length, All};
-ghost use Rattle.net_build.specs.Networks.{ReadsFile, ReadsFiles};
+ghost use Rattle.net_build.specs.Networks.{ReadsConfigs, ReadsFile, ReadsFiles};
 
 use crate::reasons::in_file;
 use arc_base::{Kind, List, Name};
@@ -56,4 +56,19 @@ pub fn read_files(alloc: Global, files: &List<Name>) -> Result<ReadFiles, NetFau
         configs.push(read.config)?;
     }
     Ok(ReadFiles { lines, configs })
+}
+
+/// Reads the settings of all router files, or tells the first that is none. Each file's lines are
+/// given back before the next file is read.
+pub fn read_configs(alloc: Global, files: &List<Name>) -> Result<List<Config>, NetFault>
+    requires few { All (λ text. length text < 2 ^ 32) files.now }
+    requires count { length files.now ≤ 256 }
+    ensures { ReadsConfigs files.now result }
+{
+    let mut configs = List::make(alloc);
+    for (place, text) in files.slice().iter().enumerate() {
+        let read = read_file(alloc, place, text.bytes())?;
+        configs.push(read.config)?;
+    }
+    Ok(configs)
 }

@@ -38,4 +38,4 @@ mod subnets;
 
 pub use built::{Built, FacePlace, ListPlace, Places};
 pub use endpoints::has_endpoints;
-pub use networks::{network, network_within};
+pub use networks::{network, network_alone, network_within};

@@ -4,15 +4,15 @@ ghost use Rattle.net_model.specs.Validity.{IsValid};
 ghost use Rattle.net_model.specs.Packets.{subject};
 ghost use Rattle.net_model.specs.Forwarding.{HasEnds};
 ghost use Rattle.net_build.specs.Linking.{first_above};
-ghost use Rattle.net_build.specs.Networks.{Builds, BuildsWithin};
+ghost use Rattle.net_build.specs.Networks.{Builds, BuildsWithin, FindsWithin};
 
 use crate::assembly::assemble;
 use crate::built::Built;
-use crate::files::read_files;
+use crate::files::{read_configs, read_files};
 use crate::places::all_places;
 use arc_base::{List, Name};
 use net_doc::NetFault;
-use net_model::Document;
+use net_model::{Document, Network};
 use std::alloc::Global;
 
 /// How many entries a list may have, where files are only read.
@@ -67,4 +67,29 @@ pub fn network_within(
         lines: read.lines,
         places,
     })
+}
+
+/// The network of `network_within` alone. Of the router files' lines only those of one file are
+/// held at a time, so that the memory is that of the largest file and of the settings of all.
+pub fn network_alone(
+    alloc: Global,
+    doc: &Document,
+    files: &List<Name>,
+    down: &[u32],
+    most_entries: u32,
+) -> Result<Network, NetFault>
+    requires count { length files.now ≡ length doc.now.routers }
+    requires few { All (λ text. length text < 2 ^ 32) files.now }
+    requires routers { length doc.now.routers ≤ 256 }
+    requires links { length doc.now.links ≤ 1024 }
+    requires policies { length doc.now.policies ≤ 256 }
+    ensures answer { FindsWithin down.now most_entries doc.now files.now result }
+    ensures down { IfOk result (λ net. first_above (length net.links) down.now ≡ None) }
+    ensures valid { IfOk result IsValid }
+    ensures ends { IfOk result (λ net.
+        All (λ policy. HasEnds net (subject policy)) doc.now.policies) }
+{
+    let configs = read_configs(alloc, files)?;
+    let net = assemble(alloc, doc, &configs, down, most_entries)?;
+    Ok(net)
 }

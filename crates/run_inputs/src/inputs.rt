@@ -11,7 +11,7 @@ ghost use Rattle.run_files.specs.Limits.{entries_limit, least_limit, router_limi
 
 use arc_base::{List, Memory, Name};
 use arc_outside::Store;
-use net_build::{Built, network_within};
+use net_build::{Built, network_alone, network_within};
 use net_doc::{NetFault, Refusal, document};
 use net_model::{Document, Network};
 use run_files::{DOCUMENT_LIMIT, FileRefusal, Limits, Reason, Stop, read_file, read_routers};
@@ -107,8 +107,8 @@ pub fn read_sources<S: Store>(
     }
 }
 
-/// Reads the router files that the document names, and keeps their network; or answers the first
-/// refusal.
+/// Reads the router files that the document names, and builds their network alone, which holds the
+/// lines of no more than one of them at a time; or answers the first refusal.
 pub fn read_files<S: Store>(
     alloc: Global,
     name: &Name,
@@ -125,12 +125,12 @@ pub fn read_files<S: Store>(
     ensures reads { OnlyReads least_limit S.held S.faults S.absences S.taken
         store.old store.new result }
 {
-    let sources = read_sources(alloc, name, &doc, down, limits, store)?;
-    let built = sources.built;
-    Ok(Input {
-        doc,
-        net: built.net,
-    })
+    let files = read_routers(alloc, store, doc.routers.slice(), limits)?;
+    match network_alone(alloc, &doc, &files, down, limits.entries()) {
+        Ok(net) => Ok(Input { doc, net }),
+        Err(NetFault::Refused(refusal)) => Err(named(alloc, name, &doc.routers, refusal)),
+        Err(NetFault::Memory) => Err(Stop::Memory),
+    }
 }
 
 /// Reads the document and the router files, and builds their network; or answers the first refusal.
