@@ -1,15 +1,31 @@
 -- What the calls that go over all links keep: the place of each interface's session, and which arcs
 -- are routed.
-use Rattle.std.specs.Prelude.{◌≡◌, ℕ, ◌<◌, ◌↔◌, Bool, true, false, IsTrue, Option, Some, None, List}
-use Rattle.std.specs.Prelude.{length, slice_get, slice_index_or}
-use Rattle.std.specs.Option.{option_and_then}
+use Rattle.std.specs.Prelude.{◌≡◌, ℕ, ◌<◌, ◌↔◌, Bool, true, false, IsTrue, Option, Some, None, Any}
+use Rattle.std.specs.Prelude.{List, length, slice_get, slice_index_or}
+use Rattle.std.specs.List.Sorted.{IsNonDecreasingBy}
+use Rattle.std.specs.Option.{option_and_then, option_map_or}
 use Rattle.arc_base.specs.declared.place.Face.{Face}
 use Rattle.arc_base.specs.declared.prefix.Prefix.{Prefix}
 use Rattle.net_model.specs.declared.rows.FaceRow.{FaceRow}
 use Rattle.net_model.specs.declared.rows.LinkRow.{LinkRow}
 use Rattle.net_model.specs.declared.rows.Network.{Network}
+use Rattle.net_model.specs.declared.routing.Told.{Told}
 use Rattle.net_model.specs.declared.tables.RoutedLink.{RoutedLink}
-use Rattle.net_model.specs.Routing.{tail_end, head_end, session_at, Leads, IsRoutedLink}
+use Rattle.net_model.specs.Routing.{tail_end, head_end, session_at, Leads, IsRoutedLink, Tells}
+
+-- the router of the interface, and 0 where there is no such interface
+abbrev pub router_at : Network → Face → ℕ
+router_at net face = option_map_or (λ row. row.router.0) (slice_get net.faces face.0) 0
+
+-- the sessions stand by router: none stands before one of an earlier router
+pub record StandByRouter (net : Network) : Type 0 where
+  pub rising : IsNonDecreasingBy (λ s. router_at net s.face) net.sessions
+
+-- what is told of the network for the host network is so: some interface tells it, or none does,
+-- and the sessions stand by router where that is told
+pub record IsToldOf (net : Network) (to : Prefix) (told : Told) : Type 0 where
+  pub host : IsTrue told.host ↔ Any (Tells to) net.faces
+  pub by_router : IsTrue told.by_router → StandByRouter net
 
 -- the list has, for each interface within it, the place of its session, or none where it has no
 -- session

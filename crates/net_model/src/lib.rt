@@ -10,11 +10,13 @@ mod policies;
 mod routing;
 mod rows;
 mod services;
+mod sessions;
 mod tables;
 mod verdicts;
 
 pub use lists::{Packet, PacketEntry, PacketList, RouteEntry, RouteList};
 pub use policies::{Class, Document, LinkText, Policy, PolicyKind, Weights};
+pub use routing::Told;
 pub use rows::{FaceRow, LinkRow, Network, Protocol, RouterRow, SessionRow};
 pub use services::Service;
 pub use tables::RoutedLink;

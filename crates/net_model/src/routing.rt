@@ -4,11 +4,20 @@ ghost use Rattle.std.specs.Option.{option_copied};
 ghost use Rattle.net_model.specs.Routing.{tail_end, head_end, session_at, Names, TakesPart};
 ghost use Rattle.net_model.specs.Routing.{IsAbleEnd, IsOpen, RouteListPermits, FilterPermits};
 ghost use Rattle.net_model.specs.Routing.{Tells, Carries, IsRoutedLink};
-ghost use Rattle.net_model.specs.Tables.{IsRoutedOver};
+ghost use Rattle.net_model.specs.Tables.{IsRoutedOver, IsToldOf};
 ghost use Rattle.net_model.specs.Forwarding.{LiesInHostOf, IsHostOf, IsHostFace, HasHost};
 
 use crate::rows::{FaceRow, LinkRow, Network, Protocol, SessionRow};
 use arc_base::{Face, Link, ListId, Prefix};
+
+/// What is asked of a network once for a host network, so that it is not asked again for each link.
+#[derive(Clone, Copy, Debug)]
+pub struct Told {
+    /// Whether some interface that is up tells the host network.
+    pub host: bool,
+    /// Whether the sessions stand by router, so that those of a router are found by halves.
+    pub by_router: bool,
+}
 
 impl FaceRow {
     /// Whether the prefix lies in the host network of this interface.
@@ -201,6 +210,17 @@ impl Network {
         told && self.carries(tail_session, tail_row, head_session, head_row, to)
     }
 
+    /// What is asked once for the host network. It goes over the interfaces and the sessions once
+    /// each.
+    pub fn told(&self, to: Prefix) -> Told
+        ensures { IsToldOf self.now to result }
+    {
+        Told {
+            host: self.is_told(to),
+            by_router: self.has_sessions_by_router(),
+        }
+    }
+
     /// Whether the link's arc, from end a to end b where `from_a` is true and else from b to a, is
     /// routed for the host network.
     /// It looks through all interfaces and sessions; for many links see `routed_if_told` and
@@ -208,20 +228,21 @@ impl Network {
     pub fn routed(&self, link: Link, from_a: bool, to: Prefix) -> bool
         ensures { IsTrue result ↔ IsRoutedLink self.now link.0 from_a to }
     {
-        self.routed_if_told(self.is_told(to), link, from_a, to)
+        self.routed_if_told(self.told(to), link, from_a, to)
     }
 
-    /// The answer of `routed`, where `told` is that of `is_told`. It looks through all sessions, of
-    /// which OSPF has none.
-    pub fn routed_if_told(&self, told: bool, link: Link, from_a: bool, to: Prefix) -> bool
-        requires { IsTrue told ↔ Any (Tells to) self.now.faces }
+    /// The answer of `routed`, where `told` is that of the call of this name. It looks through the
+    /// sessions of the two routers at the link's ends, which it finds by halves. Only where the
+    /// sessions do not stand by router it looks through them all.
+    pub fn routed_if_told(&self, told: Told, link: Link, from_a: bool, to: Prefix) -> bool
+        requires { IsToldOf self.now to told }
         ensures { IsTrue result ↔ IsRoutedLink self.now link.0 from_a to }
     {
         let Some(row) = self.links.get(link.0) else {
             return false;
         };
-        let tail_session = self.session_at(row.tail(from_a));
-        let head_session = self.session_at(row.head(from_a));
-        self.routed_over(told, row, from_a, tail_session, head_session, to)
+        let tail_session = self.session_found(told.by_router, row.tail(from_a));
+        let head_session = self.session_found(told.by_router, row.head(from_a));
+        self.routed_over(told.host, row, from_a, tail_session, head_session, to)
     }
 }

@@ -1,6 +1,6 @@
 -- What a witness is judged against, and how the packets of a class fare at the lists of the
 -- network.
-use Rattle.std.specs.Prelude.{◌≡◌, ◌↔◌, ℕ, Bool, IsTrue, Option, Any}
+use Rattle.std.specs.Prelude.{◌≡◌, ◌↔◌, ℕ, Bool, Option}
 use Rattle.arc_base.specs.declared.place.ListId.{ListId}
 use Rattle.arc_base.specs.declared.prefix.Prefix.{Prefix}
 use Rattle.net_model.specs.declared.lists.Packet.{Packet}
@@ -8,7 +8,8 @@ use Rattle.net_model.specs.declared.policies.Class.{Class}
 use Rattle.net_model.specs.declared.rows.Network.{Network}
 use Rattle.net_model.specs.Lists.{permits}
 use Rattle.net_model.specs.Packets.{IsOf}
-use Rattle.net_model.specs.Routing.{Arc, IsArc, IsRouted, Tells}
+use Rattle.net_model.specs.Routing.{Arc, IsArc, IsRouted}
+use Rattle.net_model.specs.Tables.{IsToldOf}
 use Rattle.net_model.specs.Forwarding.{Ends, ListPermits, ArcPermits, Enters, Leaves}
 use Rattle.witness_check.specs.declared.answers.Asked.{Asked}
 use Rattle.witness_check.specs.declared.arcs.RoutedArc.{RoutedArc}
@@ -18,9 +19,9 @@ use Rattle.witness_check.specs.declared.cases.Case.{Case}
 abbrev pub ends_of : Case → Ends
 ends_of case = record { source = case.source.now; target = case.target.now; to = case.to }
 
--- the flag of the case is right: some interface tells the host network
+-- what the case was told of its network is so
 abbrev pub IsTold : Case → Type 0
-IsTold case = IsTrue case.told ↔ Any (Tells case.to) case.net.now.faces
+IsTold case = IsToldOf case.net.now case.to case.told
 
 -- the packets that are asked for are those that the list with this place permits
 abbrev pub AsksPermitted : Network → Option ListId → Asked → Type 0

@@ -20,7 +20,8 @@ pub struct RoutedArc<'a> {
 }
 
 impl<'a> Case<'a> {
-    /// The arc of the link in one direction, if it is one of the network and routed.
+    /// The arc of the link in one direction, if it is one of the network and routed. It looks
+    /// through the sessions of the link's two routers, which it finds by halves.
     pub fn routed_arc(&self, link: Link, from_a: bool) -> Option<RoutedArc<'a>>
         requires { IsTold self.now }
         ensures found { IfSome result (λ arc.

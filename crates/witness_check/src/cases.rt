@@ -1,11 +1,10 @@
-ghost use Rattle.std.specs.Prelude.{◌≡◌, ◌↔◌, IsTrue, Any};
+ghost use Rattle.std.specs.Prelude.{◌≡◌, ◌↔◌, IsTrue};
 ghost use Rattle.net_model.specs.Packets.{subject};
-ghost use Rattle.net_model.specs.Routing.{Tells};
 ghost use Rattle.net_model.specs.Forwarding.{AreEnds, HasEnds};
 ghost use Rattle.witness_check.specs.Cases.{ends_of, IsTold};
 
 use arc_base::Prefix;
-use net_model::{Class, FaceRow, Network, Policy};
+use net_model::{Class, FaceRow, Network, Policy, Told};
 
 /// What a witness is judged against: the network, and where the policy's packets would enter and
 /// leave it.
@@ -18,8 +17,8 @@ pub struct Case<'a> {
     pub target: &'a FaceRow,
     /// The host network that they are routed to.
     pub to: Prefix,
-    /// Whether that host network is told, so that this is asked once and not for each link.
-    pub told: bool,
+    /// What is asked of the network once for that host network, and not for each link.
+    pub told: Told,
     /// All packets of the policy.
     pub whole: Class,
 }
@@ -43,7 +42,7 @@ impl Case<'_> {
             source,
             target,
             to,
-            told: net.is_told(to),
+            told: net.told(to),
             whole: Class {
                 from: policy.from,
                 to: policy.to,
