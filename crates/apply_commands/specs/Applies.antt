@@ -2,6 +2,7 @@
 use Rattle.std.specs.Prelude.{◌≡◌, ◌↔◌, ◌⊎◌, ◌||◌, ◌≤◌, ℕ, Bool, true, false, List, [], ◌∷◌, length}
 use Rattle.std.specs.Prelude.{Some, None, All, Contains, bytes_eq}
 use Rattle.std.specs.List.{list_any}
+use Rattle.arc_base.specs.declared.limits.TheConstants.{EDIT_LIMIT, EDIT_FILE_LIMIT}
 use Rattle.arc_base.specs.declared.refusal.Kind.TheVariants.{EditLine, Limit, OutputName}
 use Rattle.arc_base.specs.declared.refusal.LimitKind.{LimitKind}
 use Rattle.arc_outside.specs.Files.{Files}
@@ -28,7 +29,7 @@ use Rattle.run_inputs.specs.Inputs.{contents}
 
 -- how many bytes an edit file may have
 abbrev pub edit_file_limit : ℕ
-edit_file_limit = 1048576
+edit_file_limit = EDIT_FILE_LIMIT
 
 -- whether a copy of a router file has the name of a file that is read, or of another copy
 abbrev pub has_clash : ApplyWords → Document → Bool
@@ -79,7 +80,7 @@ pub record HasNetwork (words : ApplyWords) (files : Files) (doc : Document)
 -- these are the edits of a network, which does not have too many classes or edits
 pub record AreFewEdits (net : Network) (doc : Document) (list : List Edit) : Type 0 where
   pub are : AreEdits net doc list
-  pub few : length list ≤ 8192
+  pub few : length list ≤ EDIT_LIMIT
   pub few_classes : HasFewClasses net doc
 
 -- the network has too many classes or edits

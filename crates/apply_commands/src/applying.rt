@@ -12,6 +12,9 @@ ghost use Rattle.run_files.specs.Limits.{least_limit};
 ghost use Rattle.apply_commands.specs.Applies.{has_clash, IsApplied, IsApplyRefusal, WritesCopies};
 ghost use Rattle.apply_commands.specs.Steps.{Chooses, IsWritten, ReadsReady};
 
+use arc_base::limits::{
+    EDIT_FILE_LIMIT, EDIT_LIMIT, EDITED_ENTRY_LIMIT, EDITED_FILE_LIMIT, POLICY_LIMIT,
+};
 use arc_base::{Kind, List, Memory, Name};
 use arc_outside::Store;
 use changed_files::changes;
@@ -23,9 +26,6 @@ use output_files::{clashes, copy_names, holds, push_wrote};
 use run_files::{Done, Limits, Stop, read_file, refused};
 use run_inputs::{Sources, read_document, read_sources};
 use std::alloc::Global;
-
-/// How many bytes an edit file may have.
-const EDIT_FILE_LIMIT: u64 = 1_048_576;
 
 // The document, and the text of the edit file.
 #[derive(Drop)]
@@ -54,7 +54,7 @@ fn has_clash(alloc: Global, words: &ApplyWords, doc: &Document) -> Result<bool, 
 fn read_ready<S: Store>(alloc: Global, words: &ApplyWords, store: &mut S) -> Result<Ready, Stop>
     ensures told { IfSome (S.held store.old) (λ files. ReadsReady words.now files result) }
     ensures well_formed { IfOk result (λ ready. IsWellFormed ready.doc) }
-    ensures few { IfOk result (λ ready. length ready.text.items ≤ 1048576) }
+    ensures few { IfOk result (λ ready. length ready.text.items ≤ EDIT_FILE_LIMIT) }
     ensures reads { OnlyReads least_limit S.held S.faults S.absences S.taken
         store.old store.new result }
 {
@@ -76,9 +76,9 @@ fn choose(
     text: &[u8],
 ) -> Result<Chosen, Stop>
     requires valid { IsValid net.now }
-    requires policies { length doc.now.policies ≤ 256 }
+    requires policies { length doc.now.policies ≤ POLICY_LIMIT }
     requires ends { All (λ policy. HasEnds net.now (subject policy)) doc.now.policies }
-    requires few { length text.now ≤ 1048576 }
+    requires few { length text.now ≤ EDIT_FILE_LIMIT }
     ensures chooses { Chooses words.now net.now doc.now text.now result }
     ensures flags { IfOk result (λ chosen. length chosen.flags ≡ length chosen.list) }
 {
@@ -103,11 +103,12 @@ fn written(
     sources: &Sources,
     chosen: &Chosen,
 ) -> Result<Done, Memory>
-    requires built { IsBuiltWithin [] 2048 doc.now sources.now.files sources.now.built }
+    requires built { IsBuiltWithin [] EDITED_ENTRY_LIMIT doc.now
+        sources.now.files sources.now.built }
     requires count { length sources.now.files ≡ length doc.now.routers }
-    requires bytes { All (λ text. length text ≤ 1048576) sources.now.files }
+    requires bytes { All (λ text. length text ≤ EDITED_FILE_LIMIT) sources.now.files }
     requires edits { AreEdits sources.now.built.net doc.now chosen.now.list }
-    requires few { length chosen.now.list ≤ 8192 }
+    requires few { length chosen.now.list ≤ EDIT_LIMIT }
     requires flags { length chosen.now.flags ≡ length chosen.now.list }
     ensures { IfOk result (IsWritten suffix.now doc.now sources.now.built sources.now.files
         (chosen_of chosen.now.list chosen.now.flags)) }

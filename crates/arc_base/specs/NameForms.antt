@@ -6,6 +6,7 @@ use Rattle.std.specs.List.{list_all, AllByRecursion}
 use Rattle.std.specs.Cmp.Lexicographic.{slice_cmp}
 use Rattle.std.specs.Ordering.{nat_cmp}
 use Rattle.std.specs.declared.cmp.Ordering.TheVariants.{Less}
+use Rattle.arc_base.specs.declared.limits.TheConstants.{NAME_LIMIT}
 use denote.Ref.{Bor}
 
 -- whether a byte may stand in a name: a letter, a digit or one of - _ .
@@ -14,14 +15,17 @@ is_name_byte b =
     is_ascii_digit b || (nat_le 65 b && nat_le b 90) || (nat_le 97 b && nat_le b 122) || (b == 45)
     || (b == 95) || (b == 46)
 
--- whether a word is a name: 1 to 64 letters, digits and marks
+-- whether a word is a name: at least one and at most NAME_LIMIT letters, digits and
+-- marks
 abbrev pub is_name : List ℕ → Bool
-is_name word = nat_le 1 (length word) && nat_le (length word) 64 && list_all is_name_byte word
+is_name word =
+    nat_le 1 (length word) && nat_le (length word) NAME_LIMIT && list_all is_name_byte word
 
--- the bytes are a name: 1 to 64 letters, digits and marks
+-- the bytes are a name: at least one and at most NAME_LIMIT letters, digits and
+-- marks
 pub record IsName (name : List ℕ) : Type 0 where
   pub some : 1 ≤ length name
-  pub few : length name ≤ 64
+  pub few : length name ≤ NAME_LIMIT
   pub bytes : AllByRecursion (λ b. IsTrue (is_name_byte b)) name
 
 -- the bytes number an interface: decimal numbers joined by slashes
@@ -36,15 +40,15 @@ face_kinds =
     codes "Ethernet" ∷ codes "FastEthernet" ∷ codes "GigabitEthernet" ∷ codes "TenGigabitEthernet"
     ∷ codes "Serial" ∷ codes "Loopback" ∷ []
 
--- the bytes are the name of an interface: one of these kinds and its number, at most 64 bytes in
--- all
+-- the bytes are the name of an interface: one of these kinds and its number, at most NAME_LIMIT
+-- bytes in all
 pub record IsFaceName (name : List ℕ) : Type 0 where
   pub kind : List ℕ
   pub unit : List ℕ
   pub known : Contains face_kinds kind
   pub numbers : IsUnit unit
   pub joined : name ≡ kind ++ unit
-  pub few : length name ≤ 64
+  pub few : length name ≤ NAME_LIMIT
 
 -- the name comes before the other in byte order
 abbrev pub IsNameBefore : List ℕ → List ℕ → Type 0

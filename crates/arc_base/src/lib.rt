@@ -6,6 +6,7 @@
 mod certificate;
 mod cut;
 pub mod laws;
+pub mod limits;
 mod list;
 mod memory;
 mod name;

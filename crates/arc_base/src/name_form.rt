@@ -3,17 +3,17 @@ ghost use Rattle.std.specs.Prelude.{◌≡◌};
 ghost use Rattle.std.specs.List.{list_all};
 ghost use Rattle.arc_base.specs.NameForms.{is_name, is_name_byte};
 
-/// The most bytes that a name has.
-const MOST_BYTES: usize = 64;
+use crate::limits::NAME_LIMIT;
 
-/// Whether a word has the form of a name: 1 to 64 letters, digits, `-`, `_` and `.`.
+/// Whether a word has the form of a name: at least one and at most `NAME_LIMIT` letters, digits,
+/// `-`, `_` and `.`.
 pub fn is_name(word: &[u8]) -> bool
     ensures { result ≡ is_name word.now }
 {
     if word.is_empty() {
         return false;
     }
-    if word.len() > MOST_BYTES {
+    if word.len() > NAME_LIMIT {
         return false;
     }
     are_name_bytes(word)

@@ -58,24 +58,25 @@ pub enum Kind {
 /// What is counted against a limit.
 #[derive(Clone, Copy, Debug, PartialEq, Eq)]
 pub enum LimitKind {
-    /// The routers of a document: at most 256.
+    /// The routers of a document: at most `ROUTER_LIMIT`.
     Routers,
-    /// The interfaces of a router: at most 256.
+    /// The interfaces of a router: at most `INTERFACE_LIMIT`.
     Interfaces,
-    /// The links of a document: at most 1,024.
+    /// The links of a document: at most `LINK_LIMIT`.
     Links,
-    /// The policies of a document: at most 256.
+    /// The policies of a document: at most `POLICY_LIMIT`.
     Policies,
-    /// The failed links that a reach policy speaks of: at most 16.
+    /// The failed links that a reach policy speaks of: at most `FAILURE_LIMIT`.
     Failures,
-    /// The entries of a list: at most 16,384, or 2,048 where files are to be changed.
+    /// The entries of a list: at most `ENTRY_LIMIT`, or `EDITED_ENTRY_LIMIT` where files are to be
+    /// changed.
     Entries,
-    /// The traffic classes of a document: at most 4,096.
+    /// The traffic classes of a document: at most `CLASS_LIMIT`.
     Classes,
-    /// The modelled edits of a network: at most 8,192.
+    /// The modelled edits of a network: at most `EDIT_LIMIT`.
     Edits,
-    /// The literals of a formula: at most 32,000,000.
+    /// The literals of a formula: at most `LITERAL_LIMIT`.
     Literals,
-    /// The variables of a formula: at most 16,777,216.
+    /// The variables of a formula: at most `VARIABLE_LIMIT`.
     Variables,
 }

@@ -8,8 +8,8 @@ use crate::{Fault, Store};
 use arc_base::{Memory, Name};
 use std::alloc::Global;
 
-/// A reader of one file line by line, in pieces of 65,536 bytes. It holds no more of the file than
-/// a piece and a line.
+/// A reader of one file line by line, in pieces of `PIECE_LENGTH` bytes. It holds no more of the
+/// file than a piece and a line.
 #[derive(Drop)]
 pub struct Pieces {
     limit: u64,

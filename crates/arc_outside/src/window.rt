@@ -2,12 +2,10 @@
 ghost use Rattle.std.specs.Prelude.{◌≡◌, ◌<◌, ◌≤◌, length, OnOk, OnErr};
 
 use crate::{Fault, Store};
+use arc_base::limits::PIECE_LENGTH;
 use arc_base::{Memory, Name};
 use std::alloc::Global;
 use std::marker::Model;
-
-/// How many bytes one read asks for.
-const PIECE: usize = 65536;
 
 // Takes the room for a read, where there is none yet.
 fn take_room(alloc: Global, bytes: &mut Vec<u8>) -> Result<(), Memory>
@@ -16,7 +14,7 @@ fn take_room(alloc: Global, bytes: &mut Vec<u8>) -> Result<(), Memory>
     ensures more { length bytes.old.items ≤ length bytes.new.items }
 {
     if bytes.is_empty() {
-        *bytes = Vec::from_elem(alloc, 0u8, PIECE)?;
+        *bytes = Vec::from_elem(alloc, 0u8, PIECE_LENGTH)?;
     }
     Ok(())
 }

@@ -2,6 +2,7 @@
 use Rattle.std.specs.Prelude.{◌≡◌, ◌<◌, ◌≤◌, ◌↔◌, ℕ, Bool, true, false, Option, MatchOption, List}
 use Rattle.std.specs.Prelude.{length, map, Contains}
 use Rattle.std.specs.List.Sorted.{IsStrictlyIncreasing}
+use Rattle.arc_base.specs.declared.limits.TheConstants.{CLASS_LIMIT}
 use Rattle.arc_base.specs.declared.place.Link.{Link}
 use Rattle.net_model.specs.declared.policies.Policy.{Policy}
 use Rattle.net_model.specs.declared.policies.PolicyKind.{PolicyKind}
@@ -52,11 +53,11 @@ HoldsNot net policy = (ends : Ends) → ¬ HoldsAllUp net policy ends
 abbrev pub IsAloneAnswer : Network → Policy → Option (List Link) → Type 0
 IsAloneAnswer net policy found = MatchOption found (HoldsNot net policy) (HoldsBut net policy)
 
--- the policy has at most 4,096 classes
+-- the policy has at most CLASS_LIMIT classes
 pub record HasFewClasses (net : Network) (policies : List Policy) (policy : Policy) : Type 0 where
   pub count : ℕ
   pub classes : HasClasses net policies policy count
-  pub few : count ≤ 4096
+  pub few : count ≤ CLASS_LIMIT
 
 -- whether the kind is reach
 abbrev pub is_reach : PolicyKind → Bool

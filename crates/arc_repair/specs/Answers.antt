@@ -1,5 +1,6 @@
 -- What a repair answers.
 use Rattle.std.specs.Prelude.{◌≡◌, ℕ, ◌+◌, ◌≤◌, ◌⊎◌, Bool, Some, List, [], length, All}
+use Rattle.arc_base.specs.declared.limits.TheConstants.{CLASS_LIMIT, EDIT_LIMIT}
 use Rattle.cnf_types.specs.declared.literal.Lit.{Lit}
 use Rattle.cnf_types.specs.declared.clauses.Formula.{Formula}
 use Rattle.clean_logs.specs.CleanLogs.{IsSpent}
@@ -69,10 +70,10 @@ IsUntouched list (Done (Repaired price bound flags verdicts) log) =
 IsUntouched list (Done (NoRepair bound) log) = ⊥
 IsUntouched list (Budget log) = ⊥
 
--- a verdict shows at most 4,096 closed sides or paths
+-- a verdict shows at most CLASS_LIMIT closed sides or paths
 abbrev pub ShowsFew : Verdict → Type 0
-ShowsFew (Closed sides) = length sides ≤ 4096
-ShowsFew (Paths paths) = length paths ≤ 4096
+ShowsFew (Closed sides) = length sides ≤ CLASS_LIMIT
+ShowsFew (Paths paths) = length paths ≤ CLASS_LIMIT
 ShowsFew other = Unit {0}
 
 -- each verdict of the claim does
@@ -89,7 +90,7 @@ AnswersFew (Budget log) = Unit {0}
 pub record KeepsLimits (net : Network) (doc : Document) (list : List Edit)
     (bound : ℕ) : Type 0 where
   pub classes : HasFewClasses net doc
-  pub edits : length list ≤ 8192
+  pub edits : length list ≤ EDIT_LIMIT
   pub formula : IsWithin net doc list bound
 
 -- with few classes and few edits, the formula passes the limit that the fault names
@@ -98,7 +99,7 @@ pub record PassesFormula (net : Network) (doc : Document) (bound : ℕ)
   pub list : List Edit
   pub are : AreEdits net doc list
   pub classes : HasFewClasses net doc
-  pub edits : length list ≤ 8192
+  pub edits : length list ≤ EDIT_LIMIT
   pub formula : IsFaultOf net doc list bound fault
 
 -- the fault names the first limit that is passed: of classes, of edits, of the formula's variables,

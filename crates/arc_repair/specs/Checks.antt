@@ -1,5 +1,6 @@
 -- The check of a claim with its log: what is wrong with a claim, and what a check knows.
 use Rattle.std.specs.Prelude.{◌≡◌, ◌≢◌, ℕ, ◌<◌, ◌⊎◌, Bool, IsFalse, List, [], ◌∷◌, length}
+use Rattle.arc_base.specs.declared.limits.TheConstants.{PRICE_LIMIT}
 use Rattle.arc_base.specs.declared.certificate.CertKind.{CertKind}
 use Rattle.arc_base.specs.declared.certificate.CertKind.TheVariants as kinds
 use Rattle.cnf_types.specs.declared.literal.Lit.{Lit}
@@ -36,10 +37,10 @@ abbrev pub HasFlagsOf : List Edit → Claim → Type 0
 HasFlagsOf list (Repaired price bound flags verdicts) = length flags ≡ length list
 HasFlagsOf list (NoRepair bound) = Unit {0}
 
--- the price is not that of the edits, or passes the bound, or the bound passes 512
+-- the price is not that of the edits, or passes the bound, or the bound passes PRICE_LIMIT
 abbrev pub IsMispriced : Document → List Edit → ℕ → ℕ → List Bool → Type 0
 IsMispriced doc list price bound flags =
-    (cost doc list flags ≢ price) ⊎ (bound < price) ⊎ (512 < bound)
+    (cost doc list flags ≢ price) ⊎ (bound < price) ⊎ (PRICE_LIMIT < bound)
 
 -- the first thing that is wrong with the verdicts on these policies: one is missing or too many,
 -- one is no yes, or one is not right
@@ -66,7 +67,7 @@ abbrev pub IsDefect : Network → Document → List Edit → Claim → CertKind 
 IsDefect net doc list (Repaired price bound flags verdicts) kind =
     (IsMispriced doc list price bound flags × (kind ≡ kinds.Price)) ⊎
     IsMisjudged net doc list price bound flags verdicts kind
-IsDefect net doc list (NoRepair bound) kind = (512 < bound) × (kind ≡ kinds.Price)
+IsDefect net doc list (NoRepair bound) kind = (PRICE_LIMIT < bound) × (kind ≡ kinds.Price)
 
 -- what the check knows of the log: the live clauses of the formula and the steps so far, and
 -- whether an empty clause was added

@@ -3,6 +3,7 @@
 use Rattle.std.specs.Prelude.{◌≡◌, ℕ, suc, zero, ◌<◌, ◌≤◌, Bool, true, false, IsTrue, Option, Some}
 use Rattle.std.specs.Prelude.{List, length}
 use Rattle.std.specs.List.{AllZip}
+use Rattle.arc_base.specs.declared.limits.TheConstants.{PRICE_LIMIT}
 use Rattle.cnf_types.specs.declared.literal.Lit.{Lit}
 use Rattle.cnf_types.specs.declared.clauses.Formula.{Formula}
 use Rattle.net_model.specs.declared.policies.Document.{Document}
@@ -28,14 +29,14 @@ pub record IsRightYes (net : Network) (policy : Policy) (v : Verdict) : Type 0 w
   pub right : IsRight net policy v
 
 -- what is claimed of edits is right: there is a flag for each, the chosen ones cost the price,
--- which is within the bound, the bound is at most 512, and in the network after them the verdicts
--- are right yeses, one on each policy in order
+-- which is within the bound, the bound is at most PRICE_LIMIT, and in the network after them the
+-- verdicts are right yeses, one on each policy in order
 pub record IsRightRepair (net : Network) (doc : Document) (list : List Edit) (price bound : ℕ)
     (flags : List Bool) (verdicts : List Verdict) : Type 0 where
   pub one_each : length flags ≡ length list
   pub costs : cost doc list flags ≡ price
   pub affordable : price ≤ bound
-  pub few : bound ≤ 512
+  pub few : bound ≤ PRICE_LIMIT
   pub after : Network
   pub is_after : IsAfter net (chosen_of list flags) after
   pub judged : AllZip (IsRightYes after) doc.policies verdicts
@@ -44,7 +45,7 @@ pub record IsRightRepair (net : Network) (doc : Document) (list : List Edit) (pr
 abbrev pub IsRightClaim : Network → Document → List Edit → Claim → Type 0
 IsRightClaim net doc list (Repaired price bound flags verdicts) =
     IsRightRepair net doc list price bound flags verdicts
-IsRightClaim net doc list (NoRepair bound) = bound ≤ 512
+IsRightClaim net doc list (NoRepair bound) = bound ≤ PRICE_LIMIT
 
 -- the edits mend the network at this price, and none do for less
 pub record IsCheapestRepair (net : Network) (doc : Document) (list : List Edit) (price bound : ℕ)

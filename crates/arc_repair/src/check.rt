@@ -1,6 +1,7 @@
 //! The check of a claim.
 use crate::defects::{bound_of, defect, least_bound, needs_refutation};
 use arc_base::CertKind;
+use arc_base::limits::{POLICY_LIMIT, PRICE_LIMIT};
 use edit_space::laws::edit_lists_are_one;
 use edit_space::{Claim, EditFault, edits};
 use net_model::{Document, Network};
@@ -43,8 +44,8 @@ impl Check {
     /// Judges the claim as far as it goes without its log: its price, and then each of its verdicts
     /// in the network after the edits.
     ///
-    /// The classes, the edits and, for a bound up to 512, the formula are counted against their
-    /// limits first.
+    /// The classes, the edits and, for a bound up to `PRICE_LIMIT`, the formula are counted against
+    /// their limits first.
     pub fn make(
         alloc: Global,
         net: &Network,
@@ -52,7 +53,7 @@ impl Check {
         claim: &Claim,
     ) -> Result<Made, EditFault>
         requires valid { IsValid net.now }
-        requires few { length doc.now.policies ≤ 256 }
+        requires few { length doc.now.policies ≤ POLICY_LIMIT }
         requires ends { All (λ policy. HasEnds net.now (subject policy)) doc.now.policies }
         requires failures { All (λ policy. HasFewFailures policy.kind) doc.now.policies }
         requires flags { HasFlags net.now doc.now claim.now }
@@ -63,7 +64,7 @@ impl Check {
         edit_lists_are_one();
         let list = edits(alloc, net, doc)?;
         let bound = bound_of(claim);
-        if bound > 512 {
+        if bound > PRICE_LIMIT {
             return Ok(Made::Bad(CertKind::Price));
         }
         let encoded = encode(alloc, net, doc, &list, bound)?;

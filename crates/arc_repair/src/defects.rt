@@ -10,6 +10,7 @@ ghost use Rattle.arc_repair.specs.Claims.{IsRightYes, IsRightClaim, claim_bound,
 ghost use Rattle.arc_repair.specs.Claims.{needs_refutation};
 
 use crate::judging::is_yes;
+use arc_base::limits::PRICE_LIMIT;
 use arc_base::{CertKind, List, Memory};
 use edit_space::{Claim, Edit, after, price};
 use net_model::{Document, Network, Policy, Verdict};
@@ -85,7 +86,7 @@ fn repair_defect(
     requires valid { IsValid net.now }
     requires ends { All (λ policy. HasEnds net.now (subject policy)) doc.now.policies }
     requires flags { length chosen.now ≡ length list.now }
-    requires bound { bound ≤ 512 }
+    requires bound { bound ≤ PRICE_LIMIT }
     ensures { IfOk result (λ kind. MatchOption kind
         (IsRightClaim net.now doc.now list.now (Repaired claimed bound chosen.now verdicts.now))
         (IsDefect net.now doc.now list.now (Repaired claimed bound chosen.now verdicts.now))) }
@@ -101,7 +102,7 @@ fn repair_defect(
     Ok(verdict_defect(&after, doc.policies.slice(), verdicts.slice()))
 }
 
-/// The first thing that is wrong with the claim, whose bound is at most 512.
+/// The first thing that is wrong with the claim, whose bound is at most `PRICE_LIMIT`.
 pub(crate) fn defect(
     alloc: Global,
     net: &Network,
@@ -112,7 +113,7 @@ pub(crate) fn defect(
     requires valid { IsValid net.now }
     requires ends { All (λ policy. HasEnds net.now (subject policy)) doc.now.policies }
     requires flags { HasFlagsOf list.now claim.now }
-    requires bound { claim_bound claim.now ≤ 512 }
+    requires bound { claim_bound claim.now ≤ PRICE_LIMIT }
     ensures { IfOk result (λ kind.
         MatchOption kind (IsRightClaim net.now doc.now list.now claim.now)
         (IsDefect net.now doc.now list.now claim.now)) }

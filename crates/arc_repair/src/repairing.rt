@@ -20,6 +20,7 @@ ghost use Rattle.arc_repair.specs.Search.{IsSearched};
 use crate::answer::Answer;
 use crate::judging::yeses_after;
 use crate::searching::cheapest;
+use arc_base::limits::{CONFLICT_LIMIT, POLICY_LIMIT, PRICE_LIMIT};
 use arc_base::{List, Memory};
 use edit_space::laws::edit_lists_are_one;
 use edit_space::{Claim, Edit, EditFault, edits};
@@ -78,7 +79,7 @@ fn answer_of(
     requires failures { All (λ policy. HasFewFailures policy.kind) doc.now.policies }
     requires classes { HasFewClasses net.now doc.now }
     requires edits { AreEdits net.now doc.now list.now }
-    requires bound { bound ≤ 512 }
+    requires bound { bound ≤ PRICE_LIMIT }
     requires searched { IsSearched net.now doc.now list.now bound limit found }
     ensures answer { IfOk result (IsAnswer net.now doc.now list.now bound limit) }
     ensures lines { IfOk result (λ answer. answer_steps answer ≡ found_steps found) }
@@ -120,11 +121,11 @@ pub fn repair(
     limit: u64,
 ) -> Result<Answer, EditFault>
     requires valid { IsValid net.now }
-    requires few { length doc.now.policies ≤ 256 }
+    requires few { length doc.now.policies ≤ POLICY_LIMIT }
     requires ends { All (λ policy. HasEnds net.now (subject policy)) doc.now.policies }
     requires failures { All (λ policy. HasFewFailures policy.kind) doc.now.policies }
-    requires bound { bound ≤ 512 }
-    requires limit { limit ≤ 200000 }
+    requires bound { bound ≤ PRICE_LIMIT }
+    requires limit { limit ≤ CONFLICT_LIMIT }
     ensures answer { IfOk result (λ answer. (list : Items AnyEdit) → AreEdits net.now doc.now list →
         IsAnswer net.now doc.now list bound limit answer) }
     ensures met { IfOk result (λ answer. (list : Items AnyEdit) → AreEdits net.now doc.now list →

@@ -10,6 +10,7 @@ ghost use Rattle.proof_log.specs.Texts.{HasLine};
 ghost use Rattle.arc_repair.specs.Search.{IsSearched};
 
 use crate::costs::Costs;
+use arc_base::limits::{CONFLICT_LIMIT, PRICE_LIMIT, VARIABLE_LIMIT};
 use arc_base::{List, Memory};
 use edit_space::Edit;
 use edit_space::laws::networks_after_edits_are_valid;
@@ -34,9 +35,9 @@ pub(crate) fn cheapest(
     requires edits { AreEdits net.now doc.now list.now }
     requires formula { IsRepairFormula net.now doc.now list.now bound
         encoded.now.formula encoded.now.tops }
-    requires variables { encoded.now.formula.vars ≤ 16777216 }
-    requires bound { bound ≤ 512 }
-    requires limit { limit ≤ 200000 }
+    requires variables { encoded.now.formula.vars ≤ VARIABLE_LIMIT }
+    requires bound { bound ≤ PRICE_LIMIT }
+    requires limit { limit ≤ CONFLICT_LIMIT }
     ensures searched { IfOk result (IsSearched net.now doc.now list.now bound limit) }
     ensures lines { IfOk result (λ found. All HasLine (found_steps found)) }
     ensures within { IfOk result (λ found. additions (found_steps found) ≤ limit) }

@@ -1,13 +1,11 @@
 //! What is said on the standard error of a run that did not end well.
 
 use arc_base::Name;
+use arc_base::limits::ROUTER_FILE_LIMIT;
 use arc_outside::{DiskStore, Operation, StdSink, read_all};
 use run_messages::{Tee, WrongWord, form_of, line_at, told_refusal, visible, wrong_word};
 use std::io::Write;
 use std::{env, fs, io, str};
-
-// A file that is read again for a message has at most as many bytes as a router file.
-const FILE_LIMIT: u64 = 8_388_608;
 
 // Writes these pieces as one line. Control characters in them are shown as question marks.
 fn say(rt: &HostRuntime, pieces: &[&[u8]]) -> io::Result<()> {
@@ -62,7 +60,7 @@ fn explain_refusal(
     let Ok(name) = Name::make(alloc, told.name) else {
         return Ok(());
     };
-    let Ok(text) = read_all(alloc, store, &name, FILE_LIMIT) else {
+    let Ok(text) = read_all(alloc, store, &name, ROUTER_FILE_LIMIT) else {
         return Ok(());
     };
     let Some(line) = line_at(&text, told.number) else {

@@ -2,6 +2,8 @@
 -- when they are read again.
 use Rattle.std.specs.Prelude.{◌≡◌, ℕ, ◌≤◌, Bool, false, List, [], ◌∷◌, length, map, All}
 use Rattle.std.specs.List.{AllZip}
+use Rattle.arc_base.specs.declared.limits.TheConstants.{EDITED_ENTRY_LIMIT, EDIT_LIMIT}
+use Rattle.arc_base.specs.declared.limits.TheConstants.{EDITED_FILE_LIMIT}
 use Rattle.arc_outside.specs.Files.{Files, with_files}
 use Rattle.net_model.specs.declared.policies.Document.{Document}
 use Rattle.net_model.specs.declared.rows.Network.{Network}
@@ -30,9 +32,9 @@ pub record IsEditable (doc : Document) (built : Built) (files : List (List ℕ))
   pub well_formed : IsWellFormed doc
   pub fit : AreFit doc built.net
   pub countable : IsCountable built.net
-  pub is_built : IsBuiltWithin [] 2048 doc files built
+  pub is_built : IsBuiltWithin [] EDITED_ENTRY_LIMIT doc files built
   pub count : length files ≡ length doc.routers
-  pub bytes : All (λ text. length text ≤ 1048576) files
+  pub bytes : All (λ text. length text ≤ EDITED_FILE_LIMIT) files
 
 -- the names of the copies of the files that are changed, where these are the new files
 abbrev pub changed_names : List ℕ → Document → Files → List (List ℕ) → List (List ℕ)
@@ -64,7 +66,7 @@ abbrev pub PatchesHaveTheNetwork : Type 0
 PatchesHaveTheNetwork =
     (doc : Document) (built : Built) (olds new : List (List ℕ)) (list : List Edit)
     (flags : List Bool) (after : Network) →
-    IsEditable doc built olds → AreEdits built.net doc list → length list ≤ 8192 →
+    IsEditable doc built olds → AreEdits built.net doc list → length list ≤ EDIT_LIMIT →
     ArePatched built (chosen_of list flags) olds new →
     IsAfter built.net (chosen_of list flags) after → IsNetworkOf doc new after
 
@@ -81,6 +83,7 @@ abbrev pub LeftPatchedIsReadAgain : Type 0
 LeftPatchedIsReadAgain =
     (suffix : List ℕ) (doc : Document) (built : Built) (before after : Files) (list : List Edit)
     (flags : List Bool) (now : Network) →
-    IsEditable doc built (contents before doc) → AreEdits built.net doc list → length list ≤ 8192 →
+    IsEditable doc built (contents before doc) →
+    AreEdits built.net doc list → length list ≤ EDIT_LIMIT →
     AreLeftPatched suffix doc built before after (chosen_of list flags) →
     IsAfter built.net (chosen_of list flags) now → AreReadAgain suffix doc before after now

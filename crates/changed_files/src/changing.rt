@@ -5,6 +5,7 @@ ghost use Rattle.edit_space.specs.EditLists.{AreEdits};
 ghost use Rattle.edit_space.specs.Prices.{chosen_of};
 ghost use Rattle.changed_files.specs.Changes.{Changes};
 
+use arc_base::limits::{EDIT_LIMIT, EDITED_ENTRY_LIMIT, EDITED_FILE_LIMIT};
 use arc_base::{List, Memory, Name};
 use edit_space::Edit;
 use line_patcher::patch;
@@ -23,11 +24,12 @@ pub fn changes(
     edits: &List<Edit>,
     chosen: &[bool],
 ) -> Result<List<(Name, Name)>, Memory>
-    requires built { IsBuiltWithin [] 2048 doc.now sources.now.files sources.now.built }
+    requires built { IsBuiltWithin [] EDITED_ENTRY_LIMIT doc.now
+        sources.now.files sources.now.built }
     requires count { length sources.now.files ≡ length doc.now.routers }
-    requires bytes { All (λ text. length text ≤ 1048576) sources.now.files }
+    requires bytes { All (λ text. length text ≤ EDITED_FILE_LIMIT) sources.now.files }
     requires edits { AreEdits sources.now.built.net doc.now edits.now }
-    requires few { length edits.now ≤ 8192 }
+    requires few { length edits.now ≤ EDIT_LIMIT }
     requires flags { length chosen.now ≡ length edits.now }
     ensures { IfOk result (Changes suffix.now doc.now sources.now.built sources.now.files
         (chosen_of edits.now chosen.now)) }

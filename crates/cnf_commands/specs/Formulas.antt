@@ -12,10 +12,11 @@ use Rattle.run_files.specs.declared.outcome.Stop.{Stop}
 use Rattle.run_files.specs.Answers.{Gives}
 use Rattle.run_files.specs.Refusals.{bytes_at, refusal_of, read_refusal}
 use Rattle.std.specs.Option.{option_or}
+use Rattle.arc_base.specs.declared.limits.TheConstants.{FORMULA_FILE_LIMIT}
 
 -- how many bytes a formula may have
 abbrev pub cnf_limit : ℕ
-cnf_limit = 268435456
+cnf_limit = FORMULA_FILE_LIMIT
 
 -- the refusal of a text that has this fault; want of memory is no fault of the text
 abbrev pub faulty : List ℕ → CnfFault → Option FileRefusal

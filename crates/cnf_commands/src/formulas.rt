@@ -5,14 +5,12 @@ ghost use Rattle.cnf_commands.specs.Formulas.{faulty, ReadsFormula};
 ghost use Rattle.run_files.specs.Answers.{OnlyReads};
 ghost use Rattle.run_files.specs.Limits.{least_limit};
 
+use arc_base::limits::{FORMULA_FILE_LIMIT, VARIABLE_LIMIT};
 use arc_base::{Kind, Memory, Name};
 use arc_outside::Store;
 use cnf_types::{CnfFault, Formula, formula};
 use run_files::{FileRefusal, Reason, Stop, read_file, refused};
 use std::alloc::Global;
-
-// How many bytes a formula may have.
-const CNF_LIMIT: u64 = 268_435_456;
 
 // The refusal of the formula at a line.
 fn refused_at(alloc: Global, cnf: &Name, line: u32, reason: Reason) -> Stop
@@ -47,11 +45,11 @@ fn faulty(alloc: Global, cnf: &Name, fault: CnfFault) -> Stop
 pub fn read_formula<S: Store>(alloc: Global, cnf: &Name, store: &mut S) -> Result<Formula, Stop>
     ensures told { IfSome (S.held store.old) (λ files. ReadsFormula cnf.now files result) }
     ensures variables { IfOk result HasItsVariables }
-    ensures few { IfOk result (λ f. f.vars ≤ 16777216) }
+    ensures few { IfOk result (λ f. f.vars ≤ VARIABLE_LIMIT) }
     ensures reads { OnlyReads least_limit S.held S.faults S.absences S.taken
         store.old store.new result }
 {
-    let bytes = read_file(alloc, store, cnf, CNF_LIMIT)?;
+    let bytes = read_file(alloc, store, cnf, FORMULA_FILE_LIMIT)?;
     match formula(alloc, bytes.as_slice()) {
         Ok(formula) => Ok(formula),
         Err(fault) => Err(faulty(alloc, cnf, fault)),

@@ -6,10 +6,11 @@ ghost use Rattle.run_files.specs.Limits.{least_limit};
 
 use crate::formulas::read_formula;
 use crate::proof_lines::judge_proof;
+use arc_base::limits::PROOF_LIMIT;
 use arc_base::{CertKind, Name};
 use arc_outside::Store;
 use proof_check::{Outcome, Rejection, fault_kind};
-use run_files::{Done, Judgement, PROOF_LIMIT, Stop, told, try_file};
+use run_files::{Done, Judgement, Stop, told, try_file};
 use std::alloc::Global;
 
 // The kind of reason for which a line is rejected.

@@ -12,12 +12,13 @@ ghost use Rattle.cnf_commands.specs.Solves.{IsFound, IsLogFor, IsSolved, IsSolve
 ghost use Rattle.cnf_commands.specs.Solves.{WritesProof};
 
 use crate::formulas::read_formula;
+use arc_base::limits::{CONFLICT_LIMIT, PROOF_LIMIT, VARIABLE_LIMIT};
 use arc_base::{Kind, List, Memory, Name};
 use arc_outside::Store;
 use cnf_types::Formula;
 use command_words::SolveWords;
 use proof_log::{Log, text};
-use run_files::{Done, PROOF_LIMIT, Stop, refused};
+use run_files::{Done, Stop, refused};
 use sat_core::Core;
 use sat_search::{Found, search};
 use std::alloc::Global;
@@ -26,7 +27,7 @@ use std::fmt::Write;
 // A core with the clauses of the formula, under the ids from 1 on.
 fn core_of(alloc: Global, formula: &Formula) -> Result<Core, Memory>
     requires variables { HasItsVariables formula.now }
-    requires few { formula.now.vars ≤ 16777216 }
+    requires few { formula.now.vars ≤ VARIABLE_LIMIT }
     ensures core { IfOk result (λ core. core ≡ core_of formula.now) }
     ensures few { IfOk result (λ core. length formula.now.clauses < 2 ^ 32) }
 {
@@ -40,9 +41,9 @@ fn core_of(alloc: Global, formula: &Formula) -> Result<Core, Memory>
 // What a search over the formula finds, and the log of its clauses.
 fn search_formula(alloc: Global, formula: &Formula, limit: u64) -> Result<(Found, Log), Memory>
     requires variables { HasItsVariables formula.now }
-    requires few { formula.now.vars ≤ 16777216 }
+    requires few { formula.now.vars ≤ VARIABLE_LIMIT }
     requires least { 1 ≤ limit }
-    requires most { limit ≤ 200000 }
+    requires most { limit ≤ CONFLICT_LIMIT }
     ensures found { IfOk result (λ r. IsFound formula.now limit r.1 r.0) }
     ensures log { IfOk result (λ r. IsLogFor formula.now r.1) }
     ensures few { IfOk result (λ r. additions r.1.steps ≤ limit) }
@@ -143,7 +144,7 @@ fn answer(alloc: Global, proof: &Name, found: &Found, log: &Log) -> Result<Done,
 /// Searches for an assignment that satisfies the formula, and writes the log of the search.
 pub fn solve<S: Store>(alloc: Global, words: &SolveWords, store: &mut S) -> Result<Done, Stop>
     requires least { 1 ≤ words.now.conflicts }
-    requires most { words.now.conflicts ≤ 200000 }
+    requires most { words.now.conflicts ≤ CONFLICT_LIMIT }
     ensures answer { Answers (WritesProof words.now) (IsSolveRefusal words.now) (IsSolved words.now)
         (S.held store.old) result }
     ensures reads { OnlyReads least_limit S.held S.faults S.absences S.taken

@@ -6,6 +6,7 @@ use Rattle.std.specs.Prelude.{Result, Ok, Err, find, filter_map, flat_map, sum_b
 use Rattle.std.specs.Option.{option_map, option_map_or}
 use Rattle.std.specs.List.{list_any, slice_split, enumerate_from}
 use Rattle.std.specs.Str.{bytes_eq}
+use Rattle.arc_base.specs.declared.limits.TheConstants.{VARIABLE_LIMIT, LITERAL_LIMIT}
 use Rattle.arc_base.specs.declared.refusal.LimitKind.TheVariants.{Literals, Variables}
 use Rattle.cnf_types.specs.declared.literal.Lit.{Lit}
 use Rattle.cnf_types.specs.declared.clauses.Clause.{Clause}
@@ -86,10 +87,10 @@ ends_closed ([] ∷ []) = true
 ends_closed ((l ∷ ls) ∷ []) = false
 ends_closed (p ∷ q ∷ ps) = ends_closed (q ∷ ps)
 
--- the formula, if it has no more than 32,000,000 literals
+-- the formula, if it has no more than LITERAL_LIMIT literals
 abbrev pub sized : ℕ → List (List Lit) → Result Formula CnfFault
 sized vars ps =
-    if nat_le (sum_by length ps) 32000000 then Ok (record { vars = vars; clauses = closed ps })
+    if nat_le (sum_by length ps) LITERAL_LIMIT then Ok (record { vars = vars; clauses = closed ps })
     else Err (TooLarge Literals (sum_by length ps))
 
 -- the same, if there are as many clauses as the header says, each of them closed
@@ -106,7 +107,7 @@ judged h last (Some line) ps = Err (BadNumber line.0)
 -- what stands after the header, in a text of `last` lines
 abbrev pub after_header : ℕ → List (ℕ × List ℕ) → Header → Result Formula CnfFault
 after_header last ls h =
-    if nat_lt 16777216 h.vars then Err (TooLarge Variables h.vars)
+    if nat_lt VARIABLE_LIMIT h.vars then Err (TooLarge Variables h.vars)
     else judged h last (first_bad h.vars ls) (pieces (numbers h.vars ls))
 
 -- the first line that is no comment is the header

@@ -12,13 +12,8 @@ use crate::faults::CnfFault;
 use crate::header::{Header, header_of, is_comment};
 use crate::words::{first_line, without_return};
 use arc_base::LimitKind;
+use arc_base::limits::{LITERAL_LIMIT, VARIABLE_LIMIT};
 use std::alloc::Global;
-
-/// The most variables that a formula may have.
-const MOST_VARIABLES: u64 = 16_777_216;
-
-/// The most literals that a formula may have, each counted as often as it stands there.
-const MOST_LITERALS: u64 = 32_000_000;
 
 /// The header of a text, the number of its line, and what follows that.
 fn read_header(text: &[u8]) -> Result<(Header, u32, &[u8]), CnfFault>
@@ -76,7 +71,7 @@ fn finish(body: Body, header: Header, last: u32) -> Result<Formula, CnfFault>
         return Err(CnfFault::Count(last));
     }
     let literals = literal_count(body.clauses.slice());
-    if literals > MOST_LITERALS {
+    if literals > LITERAL_LIMIT {
         return Err(CnfFault::TooLarge(LimitKind::Literals, literals));
     }
     Ok(Formula {
@@ -94,7 +89,7 @@ pub fn formula(alloc: Global, bytes: &[u8]) -> Result<Formula, CnfFault>
     ensures fault { IfErr result (IsFaultOf bytes.now) }
 {
     let (header, line, rest) = read_header(bytes)?;
-    if header.vars > MOST_VARIABLES {
+    if header.vars > VARIABLE_LIMIT {
         return Err(CnfFault::TooLarge(LimitKind::Variables, header.vars));
     }
     let (body, last) = read_lines(alloc, header.vars, line, rest)?;

@@ -3,6 +3,9 @@ use Rattle.std.specs.Prelude.{ℕ, ◌≤◌, List, [], ◌∷◌, ◌++◌, Opt
 use Rattle.std.specs.Prelude.{option_and_then, bytes_eq, codes, if◌then◌else◌}
 use Rattle.std.specs.List.{list_all}
 use Rattle.std.specs.Str.{is_utf8}
+use Rattle.arc_base.specs.declared.limits.TheConstants.{FAILURE_LIMIT, PRICE_LIMIT, DEFAULT_PRICE}
+use Rattle.arc_base.specs.declared.limits.TheConstants.{CONFLICT_LIMIT, DEFAULT_CONFLICTS}
+use Rattle.arc_base.specs.declared.limits.TheConstants.{FEWEST_GENERATED, MOST_GENERATED}
 use Rattle.command_words.specs.Values.{conflict_limit, generate_of, link_numbers, nodes_of}
 use Rattle.command_words.specs.Values.{prefers_of, price_bound, repair_of, solve_of, trace_of}
 use Rattle.command_words.specs.Words.{Given, arguments_of, positionals, value_of}
@@ -31,9 +34,9 @@ abbrev pub check_by : List (List ℕ) → Option Command
 check_by (document ∷ certificate ∷ []) = Some (Check document certificate)
 check_by _ = None
 
--- how many conflicts `--conflicts` allows, and 50,000 where it does not stand
+-- how many conflicts `--conflicts` allows, and DEFAULT_CONFLICTS where it does not stand
 abbrev pub conflicts_by : Option (List ℕ) → Option ℕ
-conflicts_by None = Some 50000
+conflicts_by None = Some DEFAULT_CONFLICTS
 conflicts_by (Some text) = conflict_limit text
 
 -- `solve CNF --proof NAME [--conflicts N]`
@@ -46,9 +49,9 @@ abbrev pub lrat_by : List (List ℕ) → Option Command
 lrat_by (formula ∷ proof ∷ []) = Some (Lrat formula proof)
 lrat_by _ = None
 
--- the highest price that `--max-price` allows, and 32 where it does not stand
+-- the highest price that `--max-price` allows, and DEFAULT_PRICE where it does not stand
 abbrev pub bound_by : Option (List ℕ) → Option ℕ
-bound_by None = Some 32
+bound_by None = Some DEFAULT_PRICE
 bound_by (Some text) = price_bound text
 
 -- `repair DOC --out SUFFIX --proof NAME [--max-price N] [--conflicts N]`
@@ -199,17 +202,18 @@ command_in (name ∷ words) = command_among forms name words
 abbrev pub command_of : List (List ℕ) → Option Command
 command_of words = if list_all is_utf8 words then command_in words else None
 
--- the numbers of a command are in their ranges: a search may learn from 1 to 200,000 conflicts, a
--- repair cost at most 512, a network that is made has 6 to 40 routers, and at most 16 routers fail
+-- the numbers of a command are in their ranges: what a repair may cost, how many conflicts a search
+-- may learn from, how many routers a network has that is made, and how many routers may fail
 abbrev pub HasLimit : Command → Type 0
 HasLimit (Verify document) = Unit {0}
 HasLimit (Trace words) = Unit {0}
-HasLimit (Repair words) = (words.bound ≤ 512) × ((1 ≤ words.conflicts) × (words.conflicts ≤ 200000))
+HasLimit (Repair words) =
+    (words.bound ≤ PRICE_LIMIT) × ((1 ≤ words.conflicts) × (words.conflicts ≤ CONFLICT_LIMIT))
 HasLimit (Check document certificate) = Unit {0}
 HasLimit (Apply words) = Unit {0}
-HasLimit (Solve words) = (1 ≤ words.conflicts) × (words.conflicts ≤ 200000)
+HasLimit (Solve words) = (1 ≤ words.conflicts) × (words.conflicts ≤ CONFLICT_LIMIT)
 HasLimit (Lrat formula proof) = Unit {0}
-HasLimit (Generate words) = (6 ≤ words.number) × (words.number ≤ 40)
-HasLimit (Nodes words) = words.failures ≤ 16
+HasLimit (Generate words) = (FEWEST_GENERATED ≤ words.number) × (words.number ≤ MOST_GENERATED)
+HasLimit (Nodes words) = words.failures ≤ FAILURE_LIMIT
 HasLimit (Prefers words) = Unit {0}
 HasLimit (Recheck words) = Unit {0}

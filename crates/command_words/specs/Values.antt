@@ -2,6 +2,9 @@
 use Rattle.std.specs.Prelude.{ℕ, ◌==◌, ◌&&◌, nat_le, List, [], ◌∷◌, length, Option, Some, None}
 use Rattle.std.specs.Prelude.{if◌then◌else◌}
 use Rattle.std.specs.List.{list_all, slice_split}
+use Rattle.arc_base.specs.declared.limits.TheConstants.{ROUTER_LIMIT, FAILURE_LIMIT, PRICE_LIMIT}
+use Rattle.arc_base.specs.declared.limits.TheConstants.{CONFLICT_LIMIT, FEWEST_GENERATED}
+use Rattle.arc_base.specs.declared.limits.TheConstants.{MOST_GENERATED}
 use Rattle.arc_base.specs.PrefixText.{prefix_of}
 use Rattle.arc_base.specs.Options.{◌>>=◌}
 use Rattle.arc_base.specs.NameForms.{is_name}
@@ -22,7 +25,7 @@ link_number word = number_within 1 4294967295 word
 
 -- how many conflicts a search may learn from
 abbrev pub conflict_limit : List ℕ → Option ℕ
-conflict_limit word = number_within 1 200000 word
+conflict_limit word = number_within 1 CONFLICT_LIMIT word
 
 -- the numbers of all these words, where each has one
 abbrev pub all_numbers : List (List ℕ) → Option (List ℕ)
@@ -52,20 +55,20 @@ solve_of formula proof limit = do
 
 -- the highest price of a repair
 abbrev pub price_bound : List ℕ → Option ℕ
-price_bound word = number_within 0 512 word
+price_bound word = number_within 0 PRICE_LIMIT word
 
 -- how many routers may fail
 abbrev pub failed_routers : List ℕ → Option ℕ
-failed_routers word = number_within 0 16 word
+failed_routers word = number_within 0 FAILURE_LIMIT word
 
 -- the words that commas join
 abbrev pub comma_words : List ℕ → List (List ℕ)
 comma_words text = slice_split (λ b. b == 44) text
 
--- the names of routers that commas join, at most 256
+-- the names of routers that commas join, at most ROUTER_LIMIT
 abbrev pub router_names : List ℕ → Option (List (List ℕ))
 router_names text =
-    if nat_le (length (comma_words text)) 256 && list_all is_name (comma_words text)
+    if nat_le (length (comma_words text)) ROUTER_LIMIT && list_all is_name (comma_words text)
     then Some (comma_words text) else None
 
 -- a repair: the document, the suffix of changed files, the name of the certificate, the highest
@@ -85,7 +88,7 @@ repair_of document suffix proof highest limit = do
 
 -- how many routers a network that is made has
 abbrev pub router_count : List ℕ → Option ℕ
-router_count word = number_within 6 40 word
+router_count word = number_within FEWEST_GENERATED MOST_GENERATED word
 
 -- a network to make: how many routers it has, and the name of the certificate of its repair
 abbrev pub generate_of : List ℕ → List ℕ → Option Command

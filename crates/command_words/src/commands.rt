@@ -56,9 +56,9 @@ pub struct RepairWords {
     pub suffix: Name,
     /// The name that the certificate is written under.
     pub proof: Name,
-    /// The highest price of a repair, at most 512.
+    /// The highest price of a repair, at most `PRICE_LIMIT`.
     pub bound: u32,
-    /// How many conflicts the search may learn from, from 1 to 200,000.
+    /// How many conflicts the search may learn from, from 1 to `CONFLICT_LIMIT`.
     pub conflicts: u64,
 }
 
@@ -75,7 +75,7 @@ pub struct ApplyWords {
 /// The words of a network to make.
 #[derive(Drop)]
 pub struct GenerateWords {
-    /// How many routers it has, from 6 to 40.
+    /// How many routers it has, from `FEWEST_GENERATED` to `MOST_GENERATED`.
     pub number: u32,
     /// The name that the certificate of its repair is written under.
     pub proof: Name,
@@ -87,7 +87,7 @@ pub struct NodesWords {
     pub document: Name,
     pub from: Prefix,
     pub to: Prefix,
-    /// How many routers may fail, at most 16.
+    /// How many routers may fail, at most `FAILURE_LIMIT`.
     pub failures: u32,
 }
 

@@ -24,15 +24,10 @@ use crate::router_lists::prefers_of;
 use crate::values::{
     conflict_limit, generate_of, link_numbers, nodes_of, price_bound, repair_of, trace_of,
 };
+use arc_base::limits::{DEFAULT_CONFLICTS, DEFAULT_PRICE};
 use arc_base::{List, Memory, Name};
 use clap::ArgMatches;
 use std::alloc::Global;
-
-// How many conflicts a search may learn from where the words do not say it.
-const CONFLICTS: u64 = 50_000;
-
-// The highest price of a repair where the words do not say it.
-const BOUND: u32 = 32;
 
 // The value of an argument.
 fn value<'a>(found: &ArgMatches<'a>, id: &str) -> Option<&'a str>
@@ -48,7 +43,7 @@ fn conflicts_of(found: &ArgMatches<'_>) -> Option<u64>
 {
     match value(found, "conflicts") {
         Some(text) => conflict_limit(text.as_bytes()),
-        None => Some(CONFLICTS),
+        None => Some(DEFAULT_CONFLICTS),
     }
 }
 
@@ -150,7 +145,7 @@ fn repair(alloc: Global, found: &ArgMatches<'_>) -> Result<Option<Command>, Memo
     };
     let bound = match value(found, "max-price") {
         Some(text) => price_bound(text.as_bytes()),
-        None => Some(BOUND),
+        None => Some(DEFAULT_PRICE),
     };
     let conflicts = conflicts_of(found);
     repair_of(

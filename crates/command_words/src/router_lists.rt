@@ -5,6 +5,7 @@ ghost use Rattle.arc_base.specs.NameForms.{is_name};
 ghost use Rattle.command_words.specs.Values.{comma_words, prefers_of, router_names};
 
 use crate::commands::{Command, PrefersWords};
+use arc_base::limits::ROUTER_LIMIT;
 use arc_base::{List, Memory, Name, cut_at, is_name, read_prefix};
 use std::alloc::Global;
 
@@ -28,12 +29,12 @@ fn are_router_names(words: &[Name]) -> bool
     words.iter().all(|word| is_name(word.bytes()))
 }
 
-// The names of routers that commas join, at most 256.
+// The names of routers that commas join, at most `ROUTER_LIMIT`.
 fn router_names(alloc: Global, text: &[u8]) -> Result<Option<List<Name>>, Memory>
     ensures { IfOk result (λ names. names ≡ router_names text.now) }
 {
     let words = comma_words(alloc, text)?;
-    if words.len() > 256 {
+    if u64::from(words.len()) > ROUTER_LIMIT {
         return Ok(None);
     }
     if are_router_names(words.slice()) {

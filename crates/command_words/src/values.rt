@@ -15,6 +15,9 @@ ghost use Rattle.command_words.specs.Values.{
 };
 
 use crate::commands::{Command, GenerateWords, NodesWords, RepairWords, TraceWords};
+use arc_base::limits::{
+    CONFLICT_LIMIT, FAILURE_LIMIT, FEWEST_GENERATED, MOST_GENERATED, PRICE_LIMIT,
+};
 use arc_base::{List, Memory, Name, cut_at, read_prefix};
 use cnf_types::natural;
 use std::alloc::Global;
@@ -72,7 +75,7 @@ fn link_number(word: &[u8]) -> Option<u32>
 pub fn conflict_limit(word: &[u8]) -> Option<u64>
     ensures { result ≡ conflict_limit word.now }
 {
-    number_within(word, 1, 200_000)
+    number_within(word, 1, CONFLICT_LIMIT)
 }
 
 /// The numbers of links that commas join.
@@ -99,7 +102,7 @@ pub fn link_numbers(alloc: Global, text: &[u8]) -> Result<Option<List<u32>>, Mem
 pub fn price_bound(word: &[u8]) -> Option<u32>
     ensures { result ≡ price_bound word.now }
 {
-    let number = number_within(word, 0, 512)?;
+    let number = number_within(word, 0, u64::from(PRICE_LIMIT))?;
     Some(number as u32)
 }
 
@@ -107,7 +110,7 @@ pub fn price_bound(word: &[u8]) -> Option<u32>
 fn failed_routers(word: &[u8]) -> Option<u32>
     ensures { result ≡ failed_routers word.now }
 {
-    let number = number_within(word, 0, 16)?;
+    let number = number_within(word, 0, FAILURE_LIMIT)?;
     Some(number as u32)
 }
 
@@ -142,7 +145,7 @@ pub fn repair_of(
 fn router_count(word: &[u8]) -> Option<u32>
     ensures { result ≡ router_count word.now }
 {
-    let number = number_within(word, 6, 40)?;
+    let number = number_within(word, FEWEST_GENERATED, MOST_GENERATED)?;
     Some(number as u32)
 }
 

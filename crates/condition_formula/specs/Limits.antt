@@ -1,5 +1,7 @@
 -- How large a network of conditions may be, and when there is no formula of it.
 use Rattle.std.specs.Prelude.{◌≡◌, ℕ, ◌-◌, ◌<◌, ◌≤◌, ◌^◌, min, length, All}
+use Rattle.arc_base.specs.declared.limits.TheConstants.{VARIABLE_LIMIT, LITERAL_LIMIT, NODE_LIMIT}
+use Rattle.arc_base.specs.declared.limits.TheConstants.{ARC_LIMIT, QUESTION_LIMIT}
 use Rattle.arc_base.specs.declared.refusal.LimitKind.TheVariants.{Routers, Interfaces, Links}
 use Rattle.arc_base.specs.declared.refusal.LimitKind.TheVariants.{Policies, Failures, Entries}
 use Rattle.arc_base.specs.declared.refusal.LimitKind.TheVariants.{Classes, Edits, Literals}
@@ -12,24 +14,24 @@ use Rattle.condition_formula.specs.Clauses.{literal_count}
 
 -- the network is so small that its variables can be counted
 pub record IsSmallNet (net : ConditionNet) : Type 0 where
-  pub nodes : net.nodes ≤ 65536
-  pub arcs : All (λ q. length q.arcs ≤ 65536) net.questions
-  pub questions : length net.questions ≤ 4096
+  pub nodes : net.nodes ≤ NODE_LIMIT
+  pub arcs : All (λ q. length q.arcs ≤ ARC_LIMIT) net.questions
+  pub questions : length net.questions ≤ QUESTION_LIMIT
 
 -- the formula has at most so many variables and literals
 pub record IsWithinLimits (net : ConditionNet) (bound : ℕ) : Type 0 where
-  pub variables : variable_count net bound ≤ 16777216
-  pub literals : literal_count (all_parts net bound) ≤ 32000000
+  pub variables : variable_count net bound ≤ VARIABLE_LIMIT
+  pub literals : literal_count (all_parts net bound) ≤ LITERAL_LIMIT
 
 -- there are too many variables, and so many
 pub record HasTooManyVariables (net : ConditionNet) (bound count : ℕ) : Type 0 where
-  pub many : 16777216 < count
+  pub many : VARIABLE_LIMIT < count
   pub exact : count ≡ variable_count net bound
 
 -- there are not, but there are too many literals, and so many, or the most that can be counted
 pub record HasTooManyLiterals (net : ConditionNet) (bound count : ℕ) : Type 0 where
-  pub variables : variable_count net bound ≤ 16777216
-  pub many : 32000000 < literal_count (all_parts net bound)
+  pub variables : variable_count net bound ≤ VARIABLE_LIMIT
+  pub many : LITERAL_LIMIT < literal_count (all_parts net bound)
   pub exact : count ≡ min (literal_count (all_parts net bound)) (2 ^ 64 - 1)
 
 -- the fault is that of the network, or want of memory

@@ -2,6 +2,7 @@
 -- cite these.
 use Rattle.std.specs.Prelude.{◌≡◌, ℕ, ◌+◌, ◌-◌, ◌<◌, ◌≤◌, ◌^◌, min, ◌==◌, Bool, List, [], ◌∷◌, ◌++◌}
 use Rattle.std.specs.Prelude.{length, map, filter, slice_index_or, All}
+use Rattle.arc_base.specs.declared.limits.TheConstants.{LITERAL_LIMIT}
 use Rattle.condition_formula.specs.declared.part.Part.{Part}
 use Rattle.condition_formula.specs.declared.part.Part.TheVariants.{Fixed, Literal}
 use Rattle.condition_formula.specs.declared.pick.Pick.{Pick}
@@ -24,7 +25,7 @@ IsSmall (Literal variable positive) = variable < 2 ^ 62
 -- counted
 pub record Adds (old new : Writer) (clauses : List (List Part)) : Type 0 where
   pub counted : new.literals ≡ min (old.literals + literal_count clauses) (2 ^ 64 - 1)
-  pub kept : new.literals ≤ 32000000 → new.clauses ≡ old.clauses ++ written_clauses clauses
+  pub kept : new.literals ≤ LITERAL_LIMIT → new.clauses ≡ old.clauses ++ written_clauses clauses
 
 -- whether the arc is one of those that are meant
 abbrev pub picks : Pick → ℕ → ConditionArc → Bool

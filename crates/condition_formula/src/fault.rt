@@ -3,9 +3,6 @@
 use arc_base::{LimitKind, Memory};
 use thiserror::Error;
 
-/// The most variables that a repair formula may have.
-pub const MOST_VARIABLES: u64 = 16_777_216;
-
 /// Why there is no formula.
 #[derive(Clone, Copy, Debug, PartialEq, Eq, Error)]
 pub enum EncodeFault {

@@ -8,12 +8,12 @@ ghost use Rattle.condition_formula.specs.Limits.{IsSmallNet, IsWithinLimits, IsF
 
 use crate::counter::prices;
 use crate::draft::{literal, push};
-use crate::fault::{EncodeFault, MOST_VARIABLES};
+use crate::fault::EncodeFault;
 use crate::network::ConditionNet;
 use crate::questions::{questions, variable_count};
 use crate::table::Table;
 use crate::writer::Writer;
-use crate::writing::MOST_LITERALS;
+use arc_base::limits::{LITERAL_LIMIT, PRICE_LIMIT, VARIABLE_LIMIT};
 use arc_base::{LimitKind, List, Memory};
 use cnf_types::{Formula, Lit};
 use std::alloc::Global;
@@ -28,7 +28,7 @@ pub struct Encoded {
 
 /// For each number up to the bound the literal that the price of all edits is above it.
 fn tops(alloc: Global, edits: u32, bound: u32, above: Table) -> Result<List<Lit>, Memory>
-    requires { bound ≤ 512 }
+    requires { bound ≤ PRICE_LIMIT }
     ensures { IfOk result (λ tops. tops ≡ (if edits == 0 then []
         else map (λ number. literal (cell above.first above.columns (edits - 1) number) true)
         (upto (bound + 1)))) }
@@ -46,14 +46,14 @@ fn tops(alloc: Global, edits: u32, bound: u32, above: Table) -> Result<List<Lit>
 /// The repair formula for prices up to the bound.
 pub fn encode(alloc: Global, net: &ConditionNet, bound: u32) -> Result<Encoded, EncodeFault>
     requires net { IsSmallNet net.now }
-    requires bound { bound ≤ 512 }
+    requires bound { bound ≤ PRICE_LIMIT }
     ensures formula { IfOk result (λ encoded. encoded.formula ≡ repair_formula net.now bound) }
     ensures tops { IfOk result (λ encoded. encoded.tops ≡ tops_of net.now bound) }
     ensures limits { OnOk result (IsWithinLimits net.now bound) }
     ensures fault { IfErr result (IsFaultOf net.now bound) }
 {
     let variables = variable_count(net, bound);
-    if variables > MOST_VARIABLES {
+    if variables > VARIABLE_LIMIT {
         return Err(EncodeFault::Limit(LimitKind::Variables, variables));
     }
     let edits = net.weights.len();
@@ -71,7 +71,7 @@ pub fn encode(alloc: Global, net: &ConditionNet, bound: u32) -> Result<Encoded, 
         columns: bound + 1,
     };
     prices(alloc, &mut out, net.weights.slice(), bound, above)?;
-    if out.literals > MOST_LITERALS {
+    if out.literals > LITERAL_LIMIT {
         return Err(EncodeFault::Limit(LimitKind::Literals, out.literals));
     }
     let tops = tops(alloc, edits, bound, above)?;

@@ -12,12 +12,13 @@ use crate::sides::kept_off;
 use crate::table::Table;
 use crate::writer::Writer;
 use arc_base::Memory;
+use arc_base::limits::{ARC_LIMIT, NODE_LIMIT, PRICE_LIMIT, QUESTION_LIMIT};
 use std::alloc::Global;
 
 /// How many variables a question has.
 fn question_size(q: &Question, nodes: u32) -> u64
-    requires nodes { nodes ≤ 65536 }
-    requires arcs { length q.now.arcs ≤ 65536 }
+    requires nodes { nodes ≤ NODE_LIMIT }
+    requires arcs { length q.now.arcs ≤ ARC_LIMIT }
     ensures size { result ≡ question_size nodes q.now }
     ensures small { result < 2 ^ 48 }
 {
@@ -35,9 +36,9 @@ fn question_size(q: &Question, nodes: u32) -> u64
 
 /// How many variables the questions have.
 fn questions_size(questions: &[Question], nodes: u32) -> u64
-    requires nodes { nodes ≤ 65536 }
-    requires arcs { All (λ q. length q.arcs ≤ 65536) questions.now }
-    requires few { length questions.now ≤ 4096 }
+    requires nodes { nodes ≤ NODE_LIMIT }
+    requires arcs { All (λ q. length q.arcs ≤ ARC_LIMIT) questions.now }
+    requires few { length questions.now ≤ QUESTION_LIMIT }
     ensures size { result ≡ sum_by (question_size nodes) questions.now }
     ensures small { result ≤ 2 ^ 60 }
 {
@@ -51,7 +52,7 @@ fn questions_size(questions: &[Question], nodes: u32) -> u64
 /// How many variables the formula has.
 pub(crate) fn variable_count(net: &ConditionNet, bound: u32) -> u64
     requires net { IsSmallNet net.now }
-    requires bound { bound ≤ 512 }
+    requires bound { bound ≤ PRICE_LIMIT }
     ensures { result ≡ variable_count net.now bound }
 {
     let edits = u64::from(net.weights.len());
@@ -67,8 +68,8 @@ fn question(
     links: u32,
     first: u64,
 ) -> Result<(), Memory>
-    requires nodes { nodes ≤ 65536 }
-    requires arcs { length q.now.arcs ≤ 65536 }
+    requires nodes { nodes ≤ NODE_LIMIT }
+    requires arcs { length q.now.arcs ≤ ARC_LIMIT }
     requires first { first < 2 ^ 60 }
     ensures { OnOk result
         (Adds out.old out.new (demand_parts q.now nodes links first q.now.demand)) }
@@ -95,8 +96,8 @@ pub(crate) fn questions(
     links: u32,
     first: u64,
 ) -> Result<u64, Memory>
-    requires nodes { nodes ≤ 65536 }
-    requires arcs { All (λ q. length q.arcs ≤ 65536) questions.now }
+    requires nodes { nodes ≤ NODE_LIMIT }
+    requires arcs { All (λ q. length q.arcs ≤ ARC_LIMIT) questions.now }
     requires first { first + sum_by (question_size nodes) questions.now < 2 ^ 60 }
     ensures clauses { OnOk result
         (Adds out.old out.new (questions_parts nodes links first questions.now)) }

@@ -3,13 +3,14 @@ ghost use Rattle.std.specs.Prelude.{◌≡◌, ◌≤◌, ◌↔◌, IsTrue, len
 ghost use Rattle.condition_formula.specs.Limits.{IsSmallNet};
 
 use crate::network::{ConditionNet, Question};
+use arc_base::limits::{ARC_LIMIT, NODE_LIMIT, QUESTION_LIMIT};
 
-/// Whether each question has at most 65,536 arcs.
+/// Whether each question has at most `ARC_LIMIT` arcs.
 fn are_small(questions: &[Question]) -> bool
-    ensures { IsTrue result ↔ All (λ q. length q.arcs ≤ 65536) questions.now }
+    ensures { IsTrue result ↔ All (λ q. length q.arcs ≤ ARC_LIMIT) questions.now }
 {
     for q in questions {
-        if q.arcs.len() > 65536 {
+        if q.arcs.len() > ARC_LIMIT {
             return false;
         }
     }
@@ -17,10 +18,13 @@ fn are_small(questions: &[Question]) -> bool
 }
 
 impl ConditionNet {
-    /// Whether there are at most 65,536 nodes, 4,096 questions, and 65,536 arcs of each.
+    /// Whether there are at most `NODE_LIMIT` nodes, `QUESTION_LIMIT` questions, and `ARC_LIMIT`
+    /// arcs of each.
     pub fn is_small(&self) -> bool
         ensures { IsTrue result ↔ IsSmallNet self.now }
     {
-        self.nodes <= 65536 && self.questions.len() <= 4096 && are_small(self.questions.slice())
+        self.nodes <= NODE_LIMIT
+            && self.questions.len() <= QUESTION_LIMIT
+            && are_small(self.questions.slice())
     }
 }

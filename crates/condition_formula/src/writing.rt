@@ -4,12 +4,10 @@ ghost use Rattle.condition_formula.specs.Writing.{Adds};
 
 use crate::draft::{Draft, push};
 use crate::writer::Writer;
+use arc_base::limits::LITERAL_LIMIT;
 use arc_base::{List, Memory};
 use cnf_types::Clause;
 use std::alloc::Global;
-
-/// The most literals that a formula may have.
-pub(crate) const MOST_LITERALS: u64 = 32_000_000;
 
 impl Writer {
     /// No clause.
@@ -32,7 +30,7 @@ impl Writer {
         }
         let lits = draft.literals(alloc)?;
         self.literals = self.literals.saturating_add(u64::from(lits.len()));
-        if self.literals <= MOST_LITERALS {
+        if self.literals <= LITERAL_LIMIT {
             push(&mut self.clauses, Clause { lits })?;
         }
         Ok(())

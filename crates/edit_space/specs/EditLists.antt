@@ -4,6 +4,7 @@ use Rattle.std.specs.Prelude.{◌≡◌, ℕ, ◌<◌, ◌≤◌, ◌&&◌, nat_
 use Rattle.std.specs.Prelude.{◌∷◌, ◌++◌, map, filter, fold, length, slice_get, Any, if◌then◌else◌}
 use Rattle.std.specs.List.{flat_map, list_any, AllZip}
 use Rattle.std.specs.Option.{option_map_or}
+use Rattle.arc_base.specs.declared.limits.TheConstants.{CLASS_LIMIT, EDIT_LIMIT}
 use Rattle.arc_base.specs.Addresses.{IsInside}
 use Rattle.arc_base.specs.declared.place.Face.{Face}
 use Rattle.arc_base.specs.declared.prefix.Prefix.{Prefix}
@@ -99,21 +100,22 @@ pub record HasEdits (net : Network) (doc : Document) (count : ℕ) : Type 0 wher
   pub are : AreEdits net doc list
   pub counted : length list ≡ count
 
--- the document has at most 4,096 classes in the network
+-- the document has at most CLASS_LIMIT classes in the network
 abbrev pub HasFewClasses : Network → Document → Type 0
 HasFewClasses net doc =
     (classes : List Class) → AreAllClasses net doc.policies doc.policies classes →
-    length classes ≤ 4096
+    length classes ≤ CLASS_LIMIT
 
 -- the fault of a list of edits that comes of a fault of its classes
 abbrev pub fault_of : ClassFault → EditFault
 fault_of (classes.TooMany count) = Limit limits.Classes count
 fault_of classes.Memory = Memory
 
--- the fault names the limit that is passed: more than 4,096 classes, or more than 8,192 edits
+-- the fault names the limit that is passed: more than CLASS_LIMIT classes, or more than
+-- EDIT_LIMIT edits
 abbrev pub NamesLimit : Network → Document → EditFault → Type 0
 NamesLimit net doc (Limit limits.Classes count) =
-    FirstHaveMore net doc.policies count × (4096 < count)
-NamesLimit net doc (Limit limits.Edits count) = HasEdits net doc count × (8192 < count)
+    FirstHaveMore net doc.policies count × (CLASS_LIMIT < count)
+NamesLimit net doc (Limit limits.Edits count) = HasEdits net doc count × (EDIT_LIMIT < count)
 NamesLimit net doc (Limit other count) = ⊥
 NamesLimit net doc Memory = Unit {0}

@@ -5,9 +5,6 @@ use net_model::Class;
 use thiserror::Error;
 use traffic_classes::ClassFault;
 
-/// The greatest number of edits.
-pub const LIMIT: u64 = 8192;
-
 /// A modelled edit of router files.
 #[derive(Clone, Copy, Debug, PartialEq, Eq)]
 pub enum Edit {
@@ -27,7 +24,8 @@ pub enum Edit {
 /// Why there is no list of edits.
 #[derive(Clone, Copy, Debug, PartialEq, Eq, Error)]
 pub enum EditFault {
-    /// There are so many classes, more than 4,096, or so many edits, more than 8,192.
+    /// There are so many classes, more than `CLASS_LIMIT`, or so many edits, more than
+    /// `EDIT_LIMIT`.
     #[error("{1} pass the limit of {0:?}")]
     Limit(LimitKind, u64),
     /// Want of memory.

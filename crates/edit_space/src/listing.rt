@@ -12,10 +12,11 @@ ghost use Rattle.edit_space.specs.Listing.{KnowsSessions};
 
 use crate::countable::count_rows;
 use crate::destinations::destinations;
-use crate::edit_kinds::{Edit, EditFault, LIMIT};
+use crate::edit_kinds::{Edit, EditFault};
 use crate::numbered::{append, marked};
 use crate::sites::{Site, packet_sites, route_sites};
 use crate::writable::writable_classes;
+use arc_base::limits::{EDIT_LIMIT, POLICY_LIMIT};
 use arc_base::{Face, LimitKind, List, Memory, Prefix};
 use net_model::{Class, Document, Network, Protocol};
 use std::alloc::Global;
@@ -164,10 +165,10 @@ fn add_packet_edits(
 /// for those classes of all policies for which one entry can speak, by router, list and interface.
 pub fn edits(alloc: Global, net: &Network, doc: &Document) -> Result<List<Edit>, EditFault>
     requires valid { IsValid net.now }
-    requires few { length doc.now.policies ≤ 256 }
+    requires few { length doc.now.policies ≤ POLICY_LIMIT }
     requires ends { All (λ policy. HasEnds net.now (subject policy)) doc.now.policies }
     ensures edits { IfOk result (AreEdits net.now doc.now) }
-    ensures few { IfOk result (λ list. length list ≤ 8192) }
+    ensures few { IfOk result (λ list. length list ≤ EDIT_LIMIT) }
     ensures few_classes { IfOk result (λ list. HasFewClasses net.now doc.now) }
     ensures limit { IfErr result (NamesLimit net.now doc.now) }
     ensures countable { IfOk result (λ list. IsCountable net.now) }
@@ -182,7 +183,7 @@ pub fn edits(alloc: Global, net: &Network, doc: &Document) -> Result<List<Edit>,
     let count = list.len() as u64
         + routes.len() as u64 * destinations.len() as u64
         + packets.len() as u64 * writable.len() as u64;
-    if count > LIMIT {
+    if count > EDIT_LIMIT {
         return Err(EditFault::Limit(LimitKind::Edits, count));
     }
     add_route_edits(alloc, &mut list, &routes, &destinations)?;

@@ -1,6 +1,7 @@
 -- How a formula is written in DIMACS form.
 use Rattle.std.specs.Prelude.{◌≡◌, ℕ, ◌≤◌, List, ◌++◌, All, codes, decimal, flat_map, length, map}
 use Rattle.std.specs.Prelude.{sum_by, Ok}
+use Rattle.arc_base.specs.declared.limits.TheConstants.{VARIABLE_LIMIT, LITERAL_LIMIT}
 use Rattle.cnf_types.specs.declared.clauses.Clause.{Clause}
 use Rattle.cnf_types.specs.declared.clauses.Formula.{Formula}
 use Rattle.cnf_types.specs.declared.literal.Lit.{Lit}
@@ -26,12 +27,12 @@ abbrev pub IsOfVariables : ℕ → Lit → Type 0
 IsOfVariables vars l = (1 ≤ variable l) × (variable l ≤ vars)
 
 -- the formula is within the limits of the reader: each literal is of one of its variables, it has
--- at most 2^24 variables and 32,000,000 literals, and the number of its clauses has at most 18
--- digits
+-- at most VARIABLE_LIMIT variables and LITERAL_LIMIT literals, and the number of its clauses has at
+-- most 18 digits
 pub record IsWithinLimits (f : Formula) : Type 0 where
   pub literals : All (λ c. All (IsOfVariables f.vars) c.lits) f.clauses
-  pub few_variables : f.vars ≤ 16777216
-  pub few_literals : sum_by (λ c. length c.lits) f.clauses ≤ 32000000
+  pub few_variables : f.vars ≤ VARIABLE_LIMIT
+  pub few_literals : sum_by (λ c. length c.lits) f.clauses ≤ LITERAL_LIMIT
   pub few_clauses : length f.clauses ≤ 999999999999999999
 
 -- the plain text of a formula within the limits is read as the formula

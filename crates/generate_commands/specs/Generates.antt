@@ -1,5 +1,7 @@
 -- The command `generate N --proof NAME`: what it answers, and what it would be refused for.
 use Rattle.std.specs.Prelude.{◌≡◌, ◌⊎◌, ℕ, ◌≤◌, Bool, List, [], ◌∷◌, ◌++◌, length, codes}
+use Rattle.arc_base.specs.declared.limits.TheConstants.{EDITED_ENTRY_LIMIT, DEFAULT_PRICE}
+use Rattle.arc_base.specs.declared.limits.TheConstants.{DEFAULT_CONFLICTS}
 use Rattle.arc_base.specs.declared.refusal.Kind.TheVariants.{Limit}
 use Rattle.arc_base.specs.declared.refusal.LimitKind.{LimitKind}
 use Rattle.net_model.specs.declared.policies.Document.{Document}
@@ -34,10 +36,10 @@ use Rattle.generate_commands.specs.Tallies.{IsTally}
 -- the highest price of a repair whose words name none, and how many conflicts its search may learn
 -- from
 abbrev pub default_bound : ℕ
-default_bound = 32
+default_bound = DEFAULT_PRICE
 
 abbrev pub default_conflicts : ℕ
-default_conflicts = 50000
+default_conflicts = DEFAULT_CONFLICTS
 
 -- what a refusal calls the document, which is no file
 abbrev pub document_name : List ℕ
@@ -46,7 +48,7 @@ document_name = codes "net.json"
 -- the document and the router files of a network of so many routers, and what is built of them
 pub record IsMade (words : GenerateWords) (made : Generated) (built : Built) : Type 0 where
   pub generated : IsGenerated words.number made
-  pub is_built : IsBuiltWithin [] 2048 made.doc made.files built
+  pub is_built : IsBuiltWithin [] EDITED_ENTRY_LIMIT made.doc made.files built
 
 -- the certificate of an answer of its repair, and its status
 abbrev pub certificate_of : Network → Document → List Edit → Answer → List ℕ

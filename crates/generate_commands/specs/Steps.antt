@@ -1,5 +1,6 @@
 -- What the steps of the command answer.
 use Rattle.std.specs.Prelude.{ℕ, ◌≤◌, List, length}
+use Rattle.arc_base.specs.declared.limits.TheConstants.{EDIT_LIMIT}
 use Rattle.net_model.specs.declared.policies.Document.{Document}
 use Rattle.net_model.specs.declared.rows.Network.{Network}
 use Rattle.net_gen.specs.declared.generating.Generated.{Generated}
@@ -18,5 +19,5 @@ IsSomeGenerated made = (n : ℕ) × IsGeneratedWithin n made
 pub record IsFound (net : Network) (doc : Document) (list : List Edit)
     (answer : Answer) : Type 0 where
   pub answered : IsAnswered default_bound default_conflicts net doc list answer
-  pub few : length list ≤ 8192
+  pub few : length list ≤ EDIT_LIMIT
   pub countable : IsCountable net

@@ -10,6 +10,7 @@ ghost use Rattle.generate_commands.specs.Tallies.{tally_of};
 
 use crate::lines::{push_answer, push_made, push_tally};
 use crate::tallies::{Tally, counted};
+use arc_base::limits::{DEFAULT_CONFLICTS, DEFAULT_PRICE, MOST_GENERATED, PROOF_LIMIT};
 use arc_base::{List, Memory, Name};
 use arc_repair::Answer;
 use command_words::GenerateWords;
@@ -17,14 +18,8 @@ use edit_space::{Claim, Edit};
 use net_model::{Document, Network, Verdict};
 use output_files::push_wrote;
 use policy_report::{budget, certificate};
-use run_files::{Done, PROOF_LIMIT};
+use run_files::Done;
 use std::alloc::Global;
-
-/// The highest price of a repair.
-pub const BOUND: u32 = 32;
-
-/// How many conflicts the search for it may learn from.
-pub const CONFLICTS: u64 = 50_000;
 
 // The certificate of an answer: the one that `repair` writes.
 fn certificate_of(
@@ -40,7 +35,7 @@ fn certificate_of(
 {
     match answer {
         Answer::Done(claim, log) => certificate(alloc, net, doc, list, claim, log),
-        Answer::Budget(log) => budget(alloc, CONFLICTS, BOUND, log),
+        Answer::Budget(log) => budget(alloc, DEFAULT_CONFLICTS, DEFAULT_PRICE, log),
     }
 }
 
@@ -62,7 +57,7 @@ fn summary(
     tally: Tally,
     answer: &Answer,
 ) -> Result<Vec<u8>, Memory>
-    requires { words.now.number ≤ 40 }
+    requires { words.now.number ≤ MOST_GENERATED }
     ensures { IfOk result (λ text. text.items ≡ made_line words.now.number ++
         (tally_line (codes "verdicts") tally ++ answer_lines answer.now)) }
 {
@@ -84,7 +79,7 @@ pub fn answer_done(
     list: &List<Edit>,
     answer: &Answer,
 ) -> Result<Done, Memory>
-    requires number { words.now.number ≤ 40 }
+    requires number { words.now.number ≤ MOST_GENERATED }
     requires whole { IsWholeAnswer doc.now list.now answer.now }
     ensures writes { IfOk result (λ done.
         done.writes ≡ (words.now.proof, certificate_of net.now doc.now list.now answer.now) ∷ []) }

@@ -12,8 +12,12 @@ ghost use Rattle.generate_commands.specs.Generates.{default_bound, document_name
 ghost use Rattle.generate_commands.specs.Generates.{IsGenerateRefusal, IsSummary};
 ghost use Rattle.generate_commands.specs.Steps.{IsFound, IsSomeGenerated};
 
-use crate::answers::{BOUND, CONFLICTS, answer_done};
+use crate::answers::{DEFAULT_CONFLICTS, DEFAULT_PRICE, answer_done};
 use crate::tallies::judge_all;
+use arc_base::limits::{
+    DEFAULT_CONFLICTS, DEFAULT_PRICE, EDITED_ENTRY_LIMIT, FEWEST_GENERATED, LINK_LIMIT,
+    MOST_GENERATED, POLICY_LIMIT, ROUTER_LIMIT,
+};
 use arc_base::{Kind, List, Memory, Name};
 use arc_repair::Answer;
 use command_words::GenerateWords;
@@ -36,10 +40,10 @@ fn build(alloc: Global, made: &Generated) -> Result<Built, Memory>
     requires generated { IsSomeGenerated made.now }
     requires count { length made.now.files ≡ length made.now.doc.routers }
     requires bytes { All (λ text. length text < 2 ^ 32) made.now.files }
-    requires routers { length made.now.doc.routers ≤ 256 }
-    requires links { length made.now.doc.links ≤ 1024 }
-    requires policies { length made.now.doc.policies ≤ 256 }
-    ensures built { IfOk result (IsBuiltWithin [] 2048 made.now.doc made.now.files) }
+    requires routers { length made.now.doc.routers ≤ ROUTER_LIMIT }
+    requires links { length made.now.doc.links ≤ LINK_LIMIT }
+    requires policies { length made.now.doc.policies ≤ POLICY_LIMIT }
+    ensures built { IfOk result (IsBuiltWithin [] EDITED_ENTRY_LIMIT made.now.doc made.now.files) }
     ensures valid { IfOk result (λ built. IsValid built.net) }
     ensures ends { IfOk result (λ built.
         All (λ policy. HasEnds built.net (subject policy)) made.now.doc.policies) }
@@ -60,14 +64,14 @@ fn find_repair(
     doc: &Document,
 ) -> Result<(List<Edit>, Answer), EditFault>
     requires valid { IsValid net.now }
-    requires policies { length doc.now.policies ≤ 256 }
+    requires policies { length doc.now.policies ≤ POLICY_LIMIT }
     requires ends { All (λ policy. HasEnds net.now (subject policy)) doc.now.policies }
     requires failures { All (λ policy. HasFewFailures policy.kind) doc.now.policies }
     ensures found { IfOk result (λ found. IsFound net.now doc.now found.0 found.1) }
     ensures fault { IfErr result (IsRepairFault net.now doc.now default_bound) }
 {
     let list = edits(alloc, net, doc)?;
-    let answer = arc_repair::repair(alloc, net, doc, BOUND, CONFLICTS)?;
+    let answer = arc_repair::repair(alloc, net, doc, DEFAULT_PRICE, DEFAULT_CONFLICTS)?;
     Ok((list, answer))
 }
 
@@ -88,8 +92,8 @@ fn fault_stop(alloc: Global, fault: EditFault) -> Stop
 /// and the most conflicts that `repair` has where none are named. It reads nothing, and the
 /// certificate is all that is to be written. The time is that of the search.
 pub fn generate(alloc: Global, words: &GenerateWords) -> Result<Done, Stop>
-    requires some { 6 ≤ words.now.number }
-    requires few { words.now.number ≤ 40 }
+    requires some { FEWEST_GENERATED ≤ words.now.number }
+    requires few { words.now.number ≤ MOST_GENERATED }
     ensures answer { Gives (IsGenerateRefusal words.now) (IsSummary words.now) result }
     ensures cause { IfErr result (HasStopCause ⊥ ⊥ ⊥) }
 {

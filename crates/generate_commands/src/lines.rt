@@ -7,6 +7,7 @@ ghost use Rattle.generate_commands.specs.Tallies.{tally_of};
 
 use crate::tallies::{Tally, counted};
 use arc_base::Memory;
+use arc_base::limits::MOST_GENERATED;
 use arc_repair::Answer;
 use edit_space::Claim;
 use net_model::Verdict;
@@ -24,7 +25,7 @@ fn push_field(alloc: Global, text: &mut Vec<u8>, word: &[u8], count: u64) -> Res
 
 /// The line of what was made of so many routers.
 pub fn push_made(alloc: Global, text: &mut Vec<u8>, number: u32) -> Result<(), Memory>
-    requires { number ≤ 40 }
+    requires { number ≤ MOST_GENERATED }
     ensures { OnOk result (text.new.items ≡ text.old.items ++ made_line number) }
 {
     text.extend_from_slice(b"generated")?;

@@ -1,5 +1,6 @@
 -- Laws of generated networks: what their files are read as.
 use Rattle.std.specs.Prelude.{◌≡◌, ℕ, ◌+◌, ◌≤◌, [], length}
+use Rattle.arc_base.specs.declared.limits.TheConstants.{FEWEST_GENERATED, MOST_GENERATED}
 use Rattle.net_doc.specs.declared.fault.Refusal.{Refusal}
 use Rattle.net_model.specs.declared.rows.Network.{Network}
 use Rattle.net_build.specs.Networks.{IsFirstRefusalWithin, IsNetworkWithin}
@@ -7,10 +8,10 @@ use Rattle.net_gen.specs.declared.generating.Generated.{Generated}
 use Rattle.net_gen.specs.Generated.{IsGenerated}
 use Rattle.generated_networks.specs.Plans.{HasPlan}
 
--- the document and the files of a generated network of 6 to 40 routers
+-- the document and the files of a generated network that has so many routers
 pub record IsGeneratedWithin (n : ℕ) (generated : Generated) : Type 0 where
-  pub some : 6 ≤ n
-  pub few : n ≤ 40
+  pub some : FEWEST_GENERATED ≤ n
+  pub few : n ≤ MOST_GENERATED
   pub is : IsGenerated n generated
 
 -- its files are refused for no reason, however many entries a list may have

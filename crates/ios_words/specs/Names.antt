@@ -4,6 +4,7 @@ use Rattle.std.specs.Prelude.{drop, take, IsTrue}
 use Rattle.std.specs.Char.{is_ascii_digit}
 use Rattle.std.specs.List.{list_all, list_any, slice_split}
 use Rattle.std.specs.Str.{bytes_eq}
+use Rattle.arc_base.specs.declared.limits.TheConstants.{NAME_LIMIT}
 use Rattle.arc_base.specs.NameForms.{is_name, IsName, IsFaceName, face_kinds}
 
 -- whether a text is a number of any length: digits, with no zero before another digit
@@ -20,9 +21,10 @@ is_unit text = list_all is_numeral (slice_split (λ b. b == 47) text)
 abbrev pub is_of_kind : List ℕ → List ℕ → Bool
 is_of_kind word kind = bytes_eq (take (length kind) word) kind && is_unit (drop (length kind) word)
 
--- whether a word is the name of an interface: a kind and its numbers, at most 64 bytes in all
+-- whether a word is the name of an interface: a kind and its numbers, at most NAME_LIMIT bytes in
+-- all
 abbrev pub is_face_name : List ℕ → Bool
-is_face_name word = nat_le (length word) 64 && list_any (is_of_kind word) face_kinds
+is_face_name word = nat_le (length word) NAME_LIMIT && list_any (is_of_kind word) face_kinds
 
 -- a word that passes the test of a name is one
 abbrev pub NamesHaveTheirForm : Type 0

@@ -6,15 +6,14 @@ ghost use Rattle.ios_words.specs.Names.{is_unit, is_of_kind, is_face_name};
 ghost use Rattle.arc_base.specs.NameForms.{face_kinds};
 ghost use Rattle.ios_words.specs.Units.{next, ends};
 
-/// The most bytes that a name has.
-const MOST_BYTES: usize = 64;
+use arc_base::limits::NAME_LIMIT;
 
-/// Whether a word is the name of an interface: a known kind and its numbers, at most 64 bytes in
-/// all.
+/// Whether a word is the name of an interface: a known kind and its numbers, at most `NAME_LIMIT`
+/// bytes in all.
 pub(crate) fn is_face_name(word: &[u8]) -> bool
     ensures { result ≡ is_face_name word.now }
 {
-    if word.len() > MOST_BYTES {
+    if word.len() > NAME_LIMIT {
         return false;
     }
     is_of_some_kind(word)

@@ -10,6 +10,7 @@ use crate::new_lists::{
 };
 use crate::plans::Plan;
 use crate::sessions::push_session_lines;
+use arc_base::limits::EDIT_LIMIT;
 use arc_base::{Memory, Name};
 use edit_space::things_at;
 use net_build::{Built, Places};
@@ -55,7 +56,7 @@ fn lines_before(
     named: &[NamedList],
 ) -> Result<Vec<(u32, Name)>, Memory>
     requires plan { IsPlan built.now plan.now }
-    requires few { length plan.now.changes.edits.items ≤ 8192 }
+    requires few { length plan.now.changes.edits.items ≤ EDIT_LIMIT }
     requires router { router < length built.now.net.routers }
     requires named { named.now ≡ named_lists built.now.net plan.now.changes.edits.items router }
     ensures { IfOk result (λ lines.
@@ -105,7 +106,7 @@ impl Additions {
         own: &Places,
     ) -> Result<Additions, Memory>
         requires plan { IsPlan built.now plan.now }
-        requires few { length plan.now.changes.edits.items ≤ 8192 }
+        requires few { length plan.now.changes.edits.items ≤ EDIT_LIMIT }
         requires router { router < length built.now.net.routers }
         ensures before { IfOk result (λ all. all.before.items
             ≡ lines_before built.now.net own.now plan.now.changes.edits.items router) }

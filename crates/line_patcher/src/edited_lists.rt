@@ -8,6 +8,7 @@ use crate::additions::NewNumber;
 use crate::entries::{
     packet_place, push_class_lines, push_numbers, push_prefix_lines, route_place,
 };
+use arc_base::limits::EDIT_LIMIT;
 use arc_base::{Memory, Name};
 use edit_space::{Changes, things_at};
 use net_build::Places;
@@ -24,7 +25,7 @@ fn push_packet_list(
     id: u32,
 ) -> Result<(), Memory>
     requires changes { AreChanges net.now changes.now }
-    requires few { length changes.now.edits.items ≤ 8192 }
+    requires few { length changes.now.edits.items ≤ EDIT_LIMIT }
     ensures { OnOk result (lines.new.items ≡ lines.old.items ++
         packet_list_entries net.now own.now changes.now.edits.items id) }
 {
@@ -48,7 +49,7 @@ fn push_route_list(
     id: u32,
 ) -> Result<(), Memory>
     requires changes { AreChanges net.now changes.now }
-    requires few { length changes.now.edits.items ≤ 8192 }
+    requires few { length changes.now.edits.items ≤ EDIT_LIMIT }
     ensures { OnOk result (lines.new.items ≡ lines.old.items ++
         route_list_entries net.now own.now changes.now.edits.items id) }
 {
@@ -71,7 +72,7 @@ fn push_packet_numbers(
     id: u32,
 ) -> Result<(), Memory>
     requires changes { AreChanges net.now changes.now }
-    requires few { length changes.now.edits.items ≤ 8192 }
+    requires few { length changes.now.edits.items ≤ EDIT_LIMIT }
     ensures { OnOk result (numbers.new.items ≡ numbers.old.items ++
         packet_list_numbers net.now own.now changes.now.edits.items id) }
 {
@@ -94,7 +95,7 @@ fn push_route_numbers(
     id: u32,
 ) -> Result<(), Memory>
     requires changes { AreChanges net.now changes.now }
-    requires few { length changes.now.edits.items ≤ 8192 }
+    requires few { length changes.now.edits.items ≤ EDIT_LIMIT }
     ensures { OnOk result (numbers.new.items ≡ numbers.old.items ++
         route_list_numbers net.now own.now changes.now.edits.items id) }
 {
@@ -118,7 +119,7 @@ pub fn push_packet_entries(
     ids: &[u32],
 ) -> Result<(), Memory>
     requires changes { AreChanges net.now changes.now }
-    requires few { length changes.now.edits.items ≤ 8192 }
+    requires few { length changes.now.edits.items ≤ EDIT_LIMIT }
     ensures { OnOk result (lines.new.items ≡ lines.old.items ++
         flat_map (packet_list_entries net.now own.now changes.now.edits.items) ids.now) }
 {
@@ -138,7 +139,7 @@ pub fn push_route_entries(
     ids: &[u32],
 ) -> Result<(), Memory>
     requires changes { AreChanges net.now changes.now }
-    requires few { length changes.now.edits.items ≤ 8192 }
+    requires few { length changes.now.edits.items ≤ EDIT_LIMIT }
     ensures { OnOk result (lines.new.items ≡ lines.old.items ++
         flat_map (route_list_entries net.now own.now changes.now.edits.items) ids.now) }
 {
@@ -158,7 +159,7 @@ pub fn new_numbers(
     routes: &[u32],
 ) -> Result<Vec<(u32, NewNumber)>, Memory>
     requires changes { AreChanges net.now changes.now }
-    requires few { length changes.now.edits.items ≤ 8192 }
+    requires few { length changes.now.edits.items ≤ EDIT_LIMIT }
     ensures { IfOk result (λ numbers. numbers.items ≡
         flat_map (packet_list_numbers net.now own.now changes.now.edits.items) packets.now ++
         flat_map (route_list_numbers net.now own.now changes.now.edits.items) routes.now) }

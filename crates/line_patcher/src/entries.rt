@@ -8,6 +8,7 @@ ghost use Rattle.line_patcher.specs.EntryLines.{packet_place, route_place, first
 ghost use Rattle.line_patcher.specs.EntryLines.{new_numbers};
 
 use crate::additions::NewNumber;
+use arc_base::limits::EDIT_LIMIT;
 use arc_base::{Memory, Name, Prefix};
 use edit_space::{Changes, opposite_packet_entry, opposite_route_entry, things_at};
 use ios_config::ListForm;
@@ -112,7 +113,7 @@ pub fn push_class_lines(
     list: &PacketList,
     classes: &[Class],
 ) -> Result<(), Memory>
-    requires { length classes.now ≤ 8192 }
+    requires { length classes.now ≤ EDIT_LIMIT }
     ensures { OnOk result (lines.new.items ≡ lines.old.items ++
         at_front place.now (class_lines place.now list.now classes.now)) }
 {
@@ -132,7 +133,7 @@ pub fn push_prefix_lines(
     list: &RouteList,
     prefixes: &[Prefix],
 ) -> Result<(), Memory>
-    requires { length prefixes.now ≤ 8192 }
+    requires { length prefixes.now ≤ EDIT_LIMIT }
     ensures { OnOk result (lines.new.items ≡ lines.old.items ++
         at_front place.now (prefix_lines place.now list.now prefixes.now)) }
 {
@@ -153,7 +154,7 @@ pub fn push_numbers(
     count: usize,
 ) -> Result<(), Memory>
     requires step { step ≤ 10 }
-    requires count { count ≤ 8192 }
+    requires count { count ≤ EDIT_LIMIT }
     ensures { OnOk result
         (numbers.new.items ≡ numbers.old.items ++ new_numbers place.now word step count) }
 {

@@ -14,6 +14,7 @@ ghost use Rattle.line_patcher.specs.NewListLines.{group_line_among};
 ghost use Rattle.line_patcher.specs.Working.{face_of};
 
 use crate::entries::packet_text;
+use arc_base::limits::EDIT_LIMIT;
 use arc_base::{Face, Memory, Name, Prefix};
 use edit_space::{Changes, NewList, any, things_at};
 use ios_words::printing::{
@@ -49,7 +50,7 @@ fn push_deny_lines(
     name: &[u8],
     prefixes: &[Prefix],
 ) -> Result<(), Memory>
-    requires { length prefixes.now ≤ 8192 }
+    requires { length prefixes.now ≤ EDIT_LIMIT }
     ensures { OnOk result (lines.new.items ≡ lines.old.items ++
         map (deny_line name.now) (enumerate_from 1 prefixes.now)) }
 {
@@ -66,7 +67,7 @@ fn push_route_list(
     name: &[u8],
     prefixes: &[Prefix],
 ) -> Result<(), Memory>
-    requires { length prefixes.now ≤ 8192 }
+    requires { length prefixes.now ≤ EDIT_LIMIT }
     ensures { OnOk result
         (lines.new.items ≡ lines.old.items ++ new_route_lines name.now prefixes.now) }
 {
@@ -159,7 +160,7 @@ fn push_new_list(
 ) -> Result<(), Memory>
     requires changes { AreChanges net.now changes.now }
     requires within { (face_of list).0 < length net.now.faces }
-    requires few { length changes.now.edits.items ≤ 8192 }
+    requires few { length changes.now.edits.items ≤ EDIT_LIMIT }
     ensures { OnOk result (lines.new.items ≡ lines.old.items ++
         new_list_lines changes.now.edits.items list name.now) }
 {
@@ -201,7 +202,7 @@ pub fn lines_of_new_lists(
 ) -> Result<Vec<Name>, Memory>
     requires changes { AreChanges net.now changes.now }
     requires within { All (λ n. (face_of n.0).0 < length net.now.faces) named.now }
-    requires few { length changes.now.edits.items ≤ 8192 }
+    requires few { length changes.now.edits.items ≤ EDIT_LIMIT }
     ensures { IfOk result (λ lines.
         lines.items ≡ flat_map (λ n. new_list_lines changes.now.edits.items n.0 n.1) named.now) }
 {

@@ -11,6 +11,7 @@ ghost use Rattle.line_patcher.specs.Working.{IsPlan};
 use crate::additions::Additions;
 use crate::plans::Plan;
 use crate::texts::patched_text;
+use arc_base::limits::{EDIT_LIMIT, EDITED_FILE_LIMIT};
 use arc_base::{List, Memory, Name};
 use edit_space::{Edit, chosen_edits};
 use net_build::Built;
@@ -26,13 +27,13 @@ fn patched_file(
     text: &[u8],
 ) -> Result<Name, Memory>
     requires plan { IsPlan built.now plan.now }
-    requires few { length plan.now.changes.edits.items ≤ 8192 }
+    requires few { length plan.now.changes.edits.items ≤ EDIT_LIMIT }
     requires router { router < length built.now.net.routers }
     requires places { router < length built.now.places }
     requires rows { router < length built.now.lines }
     requires lines { (lines : Lines) → slice_get built.now.lines router ≡ Some lines →
         AreLinesOf text.now lines }
-    requires bytes { length text.now ≤ 1048576 }
+    requires bytes { length text.now ≤ EDITED_FILE_LIMIT }
     ensures { IfOk result (IsPatched built.now plan.now.changes.edits.items router text.now) }
 {
     let lines = &built.lines.slice()[router];
@@ -53,9 +54,9 @@ pub fn patch(
     chosen: &[bool],
 ) -> Result<List<Name>, Memory>
     requires built { IsBuilt doc.now files.now built.now }
-    requires bytes { All (λ text. length text ≤ 1048576) files.now }
+    requires bytes { All (λ text. length text ≤ EDITED_FILE_LIMIT) files.now }
     requires edits { AreEdits built.now.net doc.now edits.now }
-    requires few { length edits.now ≤ 8192 }
+    requires few { length edits.now ≤ EDIT_LIMIT }
     requires flags { length chosen.now ≡ length edits.now }
     ensures { IfOk result (ArePatched built.now (chosen_of edits.now chosen.now) files.now) }
 {

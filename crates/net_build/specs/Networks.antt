@@ -2,6 +2,7 @@
 use Rattle.std.specs.Prelude.{◌≡◌, ℕ, ◌+◌, ◌⊎◌, List, [], map, take, slice_get, Result, Ok, Err}
 use Rattle.std.specs.Prelude.{Some}
 use Rattle.std.specs.List.{AllZip}
+use Rattle.arc_base.specs.declared.limits.TheConstants.{ENTRY_LIMIT}
 use Rattle.arc_base.specs.declared.refusal.Kind.{Kind}
 use Rattle.arc_base.specs.declared.refusal.Kind.TheVariants as kinds
 use Rattle.net_doc.specs.declared.fault.Refusal.{Refusal}
@@ -127,19 +128,20 @@ FindsWithin down most_entries doc files (Err (Refused r)) =
     IsFirstRefusalWithin down most_entries doc files r
 FindsWithin down most_entries doc files (Err Memory) = Unit {0}
 
--- Where nothing else is asked for, no link is to be down, and a list has at most 16,384 entries:
+-- Where nothing else is asked for, no link is to be down, and a list has at most ENTRY_LIMIT
+-- entries:
 -- the network,
 abbrev pub IsNetworkOf : Document → List (List ℕ) → Network → Type 0
-IsNetworkOf doc files net = IsNetworkWithin [] 16384 doc files net
+IsNetworkOf doc files net = IsNetworkWithin [] ENTRY_LIMIT doc files net
 
 -- the network with its lines and places,
 abbrev pub IsBuilt : Document → List (List ℕ) → Built → Type 0
-IsBuilt doc files built = IsBuiltWithin [] 16384 doc files built
+IsBuilt doc files built = IsBuiltWithin [] ENTRY_LIMIT doc files built
 
 -- the first refusal,
 abbrev pub IsFirstRefusal : Document → List (List ℕ) → Refusal → Type 0
-IsFirstRefusal doc files r = IsFirstRefusalWithin [] 16384 doc files r
+IsFirstRefusal doc files r = IsFirstRefusalWithin [] ENTRY_LIMIT doc files r
 
 -- and the answer
 abbrev pub Builds : Document → List (List ℕ) → Result Built NetFault → Type 0
-Builds doc files result = BuildsWithin [] 16384 doc files result
+Builds doc files result = BuildsWithin [] ENTRY_LIMIT doc files result

@@ -1,5 +1,6 @@
 -- The order in which the reasons to refuse a network are tried.
 use Rattle.std.specs.Prelude.{ℕ, List, [], ◌∷◌, ◌++◌, ◌⊎◌, Result, Ok, Err}
+use Rattle.arc_base.specs.declared.limits.TheConstants.{ENTRY_LIMIT}
 use Rattle.net_doc.specs.declared.fault.Refusal.{Refusal}
 use Rattle.net_doc.specs.declared.fault.NetFault.{NetFault}
 use Rattle.net_doc.specs.declared.fault.NetFault.TheVariants.{Refused, Memory}
@@ -70,9 +71,10 @@ RefusesWithin down most_entries doc configs Interfaces = RefusesInterfaces confi
 RefusesWithin down most_entries doc configs Entries = RefusesEntries most_entries configs
 RefusesWithin down most_entries doc configs Endpoint = RefusesEndpoint doc configs
 
--- where nothing else is asked for, no link is to be down, and a list has at most 16,384 entries
+-- where nothing else is asked for, no link is to be down, and a list has at most ENTRY_LIMIT
+-- entries
 abbrev pub Refuses : Document → List Config → Try → Refusal → Type 0
-Refuses doc configs = RefusesWithin [] 16384 doc configs
+Refuses doc configs = RefusesWithin [] ENTRY_LIMIT doc configs
 
 -- the first refusal of some tries: the first one that the first of them makes that makes any
 abbrev pub IsFirstOf : (Try → Refusal → Type 0) → List Try → Refusal → Type 0

@@ -18,6 +18,7 @@ use crate::processes::lines_of;
 use crate::reasons::{in_document, in_file};
 use crate::repeats::add_given;
 use crate::spots::spot_at;
+use arc_base::limits::{LINK_LIMIT, ROUTER_LIMIT};
 use arc_base::{Face, Kind, List};
 use indexmap::IndexSet;
 use ios_config::{Config, Given};
@@ -89,7 +90,7 @@ fn router_id_of(config: &Config) -> Option<Given<u32>>
 }
 
 fn try_types(net: &Network, configs: &List<Config>) -> Result<(), NetFault>
-    requires { length net.now.links ≤ 1024 }
+    requires { length net.now.links ≤ LINK_LIMIT }
     ensures { TriedAlone
         (InDocument kinds.AdjacencyForm (λ place link. TypesDiffer configs.now link) net.now.links)
         result }
@@ -103,7 +104,7 @@ fn try_types(net: &Network, configs: &List<Config>) -> Result<(), NetFault>
 }
 
 fn try_router_ids(alloc: Global, configs: &List<Config>) -> Result<(), NetFault>
-    requires { length configs.now ≤ 256 }
+    requires { length configs.now ≤ ROUTER_LIMIT }
     ensures { TriedAlone
         (InFiles kinds.AdjacencyForm (Repeats router_id_of configs.now) configs.now) result }
 {
@@ -120,8 +121,8 @@ fn try_router_ids(alloc: Global, configs: &List<Config>) -> Result<(), NetFault>
 /// Tries whether the ends of each link have one network type, and each router a router id of its
 /// own.
 pub fn try_adjacency(alloc: Global, net: &Network, configs: &List<Config>) -> Result<(), NetFault>
-    requires links { length net.now.links ≤ 1024 }
-    requires routers { length configs.now ≤ 256 }
+    requires links { length net.now.links ≤ LINK_LIMIT }
+    requires routers { length configs.now ≤ ROUTER_LIMIT }
     requires named { AreDistinct (full_names configs.now) }
     ensures { (doc : Document) → AreRows doc configs.now net.now →
         TriedAlone (RefusesAdjacencyForm doc configs.now) result }

@@ -10,6 +10,7 @@ ghost use Rattle.net_build.specs.Routers.{areas_of, IsFirstArea, IsOther};
 
 use crate::processes::lines_of;
 use crate::reasons::in_file;
+use arc_base::limits::ROUTER_LIMIT;
 use arc_base::{Kind, List, Memory};
 use ios_config::{Config, FaceText, Given, lesser};
 use ios_words::Command;
@@ -165,7 +166,7 @@ fn other_area_in(alloc: Global, area: u32, config: &Config) -> Result<Option<u32
 
 /// Tries whether all OSPF areas are the same.
 pub fn try_areas(alloc: Global, configs: &List<Config>) -> Result<(), NetFault>
-    requires { length configs.now ≤ 256 }
+    requires { length configs.now ≤ ROUTER_LIMIT }
     ensures { TriedAlone (RefusesTwoAreas configs.now) result }
 {
     let Some(area) = first_area(alloc, configs)? else {

@@ -35,6 +35,7 @@ use crate::routers::{try_as_numbers, try_hostnames};
 use crate::sessions::session_rows;
 use crate::stops::try_lists;
 use crate::subnets::try_subnets;
+use arc_base::limits::{LINK_LIMIT, POLICY_LIMIT, ROUTER_LIMIT};
 use arc_base::{List, Memory};
 use indexmap::IndexSet;
 use ios_config::Config;
@@ -44,7 +45,7 @@ use std::alloc::Global;
 
 /// Tries what is asked of routers by themselves.
 fn try_routers(alloc: Global, configs: &List<Config>) -> Result<(), NetFault>
-    requires { length configs.now ≤ 256 }
+    requires { length configs.now ≤ ROUTER_LIMIT }
     ensures { (down : List ℕ) (most : ℕ) (doc : Document) →
         Answers (RefusesWithin down most doc configs.now) router_tries (λ done. Unit {0}) result }
 {
@@ -61,7 +62,7 @@ fn faces_of(
     lists: &List<PacketList>,
     configs: &List<Config>,
 ) -> Result<List<FaceRow>, Memory>
-    requires few { length configs.now ≤ 256 }
+    requires few { length configs.now ≤ ROUTER_LIMIT }
     requires well_formed { All IsWellFormed configs.now }
     requires lists { ArePacketLists configs.now lists.now }
     ensures { IfOk result
@@ -82,7 +83,7 @@ fn sessions_of(
     net: &Network,
     configs: &List<Config>,
 ) -> Result<List<SessionRow>, Memory>
-    requires few { length configs.now ≤ 256 }
+    requires few { length configs.now ≤ ROUTER_LIMIT }
     requires lists { AreRouteLists configs.now net.now.route_lists }
     ensures { IfOk result (λ sessions. (doc : Document) →
         IsClear (RefusesLinkFace doc configs.now) → AreBaseRows doc configs.now net.now →
@@ -100,7 +101,7 @@ fn rows(
     ends: &IndexSet<FullName<'_>>,
     links: List<LinkRow>,
 ) -> Result<Network, Memory>
-    requires few { length configs.now ≤ 256 }
+    requires few { length configs.now ≤ ROUTER_LIMIT }
     requires well_formed { All IsWellFormed configs.now }
     ensures { IfOk result (λ net. (doc : Document) → names_at ends.now.keys ≡ ends_of doc.links →
         AllZip (IsLinkRow (full_names configs.now)) doc.links links →
@@ -130,8 +131,8 @@ fn joined(
     configs: &List<Config>,
     down: &[u32],
 ) -> Result<Network, NetFault>
-    requires few { length configs.now ≤ 256 }
-    requires links { length doc.now.links ≤ 1024 }
+    requires few { length configs.now ≤ ROUTER_LIMIT }
+    requires links { length doc.now.links ≤ LINK_LIMIT }
     requires well_formed { All IsWellFormed configs.now }
     requires named { AreDistinct (full_names configs.now) }
     ensures { (most : ℕ) →
@@ -157,9 +158,9 @@ fn try_network(
     net: &Network,
     most_entries: u32,
 ) -> Result<(), NetFault>
-    requires few { length configs.now ≤ 256 }
-    requires links { length doc.now.links ≤ 1024 }
-    requires policies { length doc.now.policies ≤ 256 }
+    requires few { length configs.now ≤ ROUTER_LIMIT }
+    requires links { length doc.now.links ≤ LINK_LIMIT }
+    requires policies { length doc.now.policies ≤ POLICY_LIMIT }
     requires well_formed { All IsWellFormed configs.now }
     requires named { IsClear (RefusesHostname configs.now) }
     requires joined { IsClear (RefusesLinkFace doc.now configs.now) }
@@ -189,9 +190,9 @@ pub fn assemble(
     down: &[u32],
     most_entries: u32,
 ) -> Result<Network, NetFault>
-    requires few { length configs.now ≤ 256 }
-    requires links { length doc.now.links ≤ 1024 }
-    requires policies { length doc.now.policies ≤ 256 }
+    requires few { length configs.now ≤ ROUTER_LIMIT }
+    requires links { length doc.now.links ≤ LINK_LIMIT }
+    requires policies { length doc.now.policies ≤ POLICY_LIMIT }
     requires well_formed { All IsWellFormed configs.now }
     ensures answer { Assembles down.now most_entries doc.now configs.now result }
     ensures valid { IfOk result IsValid }

@@ -6,6 +6,7 @@ ghost use Rattle.net_build.specs.Reasons.{TriedAlone, InDocument};
 ghost use Rattle.net_build.specs.Addressing.{HasEndpoints};
 
 use crate::reasons::in_document;
+use arc_base::limits::POLICY_LIMIT;
 use arc_base::{Kind, Prefix};
 use net_doc::NetFault;
 use net_model::{Document, Network};
@@ -26,7 +27,7 @@ pub fn has_endpoints(net: &Network, from: Prefix, to: Prefix) -> bool
 
 /// Tries whether each policy goes from one host network to another.
 pub fn try_endpoints(net: &Network, doc: &Document) -> Result<(), NetFault>
-    requires few { length doc.now.policies ≤ 256 }
+    requires few { length doc.now.policies ≤ POLICY_LIMIT }
     requires valid { IsValid net.now }
     ensures tried { TriedAlone (InDocument kinds.Endpoint
         (λ place policy. ¬ HasEndpoints net.now policy.from policy.to) doc.now.policies) result }

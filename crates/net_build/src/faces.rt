@@ -19,6 +19,7 @@ use crate::places_of_lists::{ListKey, bound_name, place_of_list};
 use crate::prefixes::prefix_at;
 use crate::process_index::{ProcessIndex, index_process};
 use crate::processes::process_of;
+use arc_base::limits::ROUTER_LIMIT;
 use arc_base::{List, Memory, Name, Prefix, Router};
 use indexmap::IndexSet;
 use ios_config::{Config, FaceText, Given};
@@ -54,7 +55,7 @@ pub fn router_rows(
     protocol: Protocol,
     configs: &List<Config>,
 ) -> Result<List<RouterRow>, Memory>
-    requires { length configs.now ≤ 256 }
+    requires { length configs.now ≤ ROUTER_LIMIT }
     ensures { IfOk result (AllZip (IsRouterRow protocol) configs.now) }
 {
     let mut rows = List::make(alloc);
@@ -296,7 +297,7 @@ pub fn face_rows(
 ) -> Result<List<FaceRow>, Memory>
     requires well_formed { All IsWellFormed configs.now }
     requires few { length around.now.lists.now.keys < 2 ^ 32 }
-    requires routers { length configs.now ≤ 256 }
+    requires routers { length configs.now ≤ ROUTER_LIMIT }
     ensures { IfOk result (AllZip (IsFaceRow around.now.protocol (names_at around.now.ends.now.keys)
         (keys_at around.now.lists.now.keys)) (sites configs.now)) }
 {

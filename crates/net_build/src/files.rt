@@ -3,6 +3,7 @@ ghost use Rattle.std.specs.Prelude.{◌≡◌, ◌≤◌, ◌+◌, ◌<◌, ◌^
 ghost use Rattle.net_build.specs.Networks.{ReadsConfigs, ReadsFile, ReadsFiles};
 
 use crate::reasons::in_file;
+use arc_base::limits::ROUTER_LIMIT;
 use arc_base::{Kind, List, Name};
 use ios_config::{Config, ConfigFault, config};
 use ios_lines::{LineFault, Lines, cut};
@@ -45,7 +46,7 @@ fn read_file(alloc: Global, place: usize, text: &[u8]) -> Result<ReadFile, NetFa
 /// Reads all router files, or tells the first that is none.
 pub fn read_files(alloc: Global, files: &List<Name>) -> Result<ReadFiles, NetFault>
     requires few { All (λ text. length text < 2 ^ 32) files.now }
-    requires count { length files.now ≤ 256 }
+    requires count { length files.now ≤ ROUTER_LIMIT }
     ensures { ReadsFiles files.now result }
 {
     let mut lines = List::make(alloc);

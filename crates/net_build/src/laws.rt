@@ -10,6 +10,8 @@ ghost use Rattle.net_build.specs.Networks.{IsNetworkOf, IsNetworkWithin, IsBuilt
 ghost use Rattle.net_build.specs.Networks.{IsFirstRefusalWithin};
 ghost use Rattle.net_build.specs.declared.built.Built.{Built};
 
+use arc_base::limits::ENTRY_LIMIT;
+
 /// A document and its files have one network at most, or one first refusal, and never both:
 /// whatever links are to be down, and however many entries a list may have.
 pub fn files_have_one_answer()
@@ -38,10 +40,10 @@ pub fn refusals_are_of_what_files_say()
 /// links are to be down, and nothing is refused, the network is that of the document and its files.
 pub fn asking_more_changes_no_network()
     ensures network { (down : List ℕ) (most : ℕ) (doc : Document) (files : List (List ℕ))
-        (net : Network) → most ≤ 16384 →
+        (net : Network) → most ≤ ENTRY_LIMIT →
         IsNetworkWithin down most doc files net → IsNetworkOf doc files net }
     ensures built { (down : List ℕ) (most : ℕ) (doc : Document) (files : List (List ℕ))
-        (built : Built) → most ≤ 16384 →
+        (built : Built) → most ≤ ENTRY_LIMIT →
         IsBuiltWithin down most doc files built → IsBuilt doc files built }
 {}
 

@@ -5,20 +5,19 @@ ghost use Rattle.net_build.specs.Reasons.{TriedAlone};
 ghost use Rattle.net_build.specs.Limits.{RefusesInterfaces, RefusesEntries, long_list};
 
 use crate::reasons::in_file;
+use arc_base::limits::{INTERFACE_LIMIT, ROUTER_LIMIT};
 use arc_base::{Kind, LimitKind, List};
 use ios_config::{Config, ListText};
 use net_doc::NetFault;
 
-const MAX_INTERFACES: u32 = 256;
-
 /// Tries whether no router has too many interfaces.
 pub fn try_interfaces(configs: &List<Config>) -> Result<(), NetFault>
-    requires { length configs.now ≤ 256 }
+    requires { length configs.now ≤ ROUTER_LIMIT }
     ensures { TriedAlone (RefusesInterfaces configs.now) result }
 {
     for (place, config) in configs.slice().iter().enumerate() {
         let count = config.faces.len();
-        if count > MAX_INTERFACES {
+        if count > INTERFACE_LIMIT {
             let kind = Kind::Limit(LimitKind::Interfaces, u64::from(count));
             return Err(in_file(place, 0, kind));
         }
@@ -39,7 +38,7 @@ fn long_list(config: &Config, most_entries: u32) -> Option<&ListText>
 
 /// Tries whether no list has more than so many entries.
 pub fn try_entries(configs: &List<Config>, most_entries: u32) -> Result<(), NetFault>
-    requires { length configs.now ≤ 256 }
+    requires { length configs.now ≤ ROUTER_LIMIT }
     ensures { TriedAlone (RefusesEntries most_entries configs.now) result }
 {
     for (place, config) in configs.slice().iter().enumerate() {

@@ -11,6 +11,7 @@ ghost use Rattle.net_build.specs.Linking.{JoinsNamed, RefusesLinkFace};
 use crate::kinds::FaceKind;
 use crate::names::{FullName, add_name, place_of};
 use crate::reasons::in_document;
+use arc_base::limits::LINK_LIMIT;
 use arc_base::{Face, Kind, List, Memory};
 use indexmap::IndexSet;
 use ios_config::Config;
@@ -87,7 +88,7 @@ pub fn try_links<'a>(
 ) -> Result<List<LinkRow>, NetFault>
     requires names { names_at names.now.keys ≡ full_names configs.now }
     requires empty { ends.old.keys ≡ [] }
-    requires few { length doc.now.links ≤ 1024 }
+    requires few { length doc.now.links ≤ LINK_LIMIT }
     ensures tried { Tried (RefusesLinkFace doc.now configs.now)
         (AllZip (IsLinkRow (full_names configs.now)) doc.now.links) result }
     ensures ends { OnOk result (names_at ends.new.keys ≡ ends_of doc.now.links) }

@@ -10,6 +10,7 @@ ghost use Rattle.arc_base.specs.NameForms.{IsNameBefore, texts_at};
 ghost use Rattle.net_build.specs.ListTables.{Adds, list_at, list_if, AddsPacketRows, AddsRouteRows};
 
 use crate::bound_lists::{Names, add_bound_packet, add_bound_route};
+use arc_base::limits::ROUTER_LIMIT;
 use arc_base::{List, Memory, Name, Router};
 use ios_config::{Config, ListKind, ListText};
 use ios_words::{Command, PacketText};
@@ -309,7 +310,7 @@ fn add_route_lists(
 
 /// The rows of the packet lists of all files.
 pub fn packet_lists(alloc: Global, configs: &List<Config>) -> Result<List<PacketList>, Memory>
-    requires { length configs.now ≤ 256 }
+    requires { length configs.now ≤ ROUTER_LIMIT }
     ensures { IfOk result (ArePacketLists configs.now) }
 {
     let mut rows = Vec::new(alloc);
@@ -321,7 +322,7 @@ pub fn packet_lists(alloc: Global, configs: &List<Config>) -> Result<List<Packet
 
 /// The rows of the route lists of all files.
 pub fn route_lists(alloc: Global, configs: &List<Config>) -> Result<List<RouteList>, Memory>
-    requires { length configs.now ≤ 256 }
+    requires { length configs.now ≤ ROUTER_LIMIT }
     ensures { IfOk result (AreRouteLists configs.now) }
 {
     let mut rows = Vec::new(alloc);

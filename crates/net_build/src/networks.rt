@@ -10,29 +10,27 @@ use crate::assembly::assemble;
 use crate::built::Built;
 use crate::files::{read_configs, read_files};
 use crate::places::all_places;
+use arc_base::limits::{ENTRY_LIMIT, LINK_LIMIT, POLICY_LIMIT, ROUTER_LIMIT};
 use arc_base::{List, Name};
 use net_doc::NetFault;
 use net_model::{Document, Network};
 use std::alloc::Global;
 
-/// How many entries a list may have, where files are only read.
-const MOST_ENTRIES: u32 = 16_384;
-
 /// The network of the document and of the texts of its router files, which stand in the document's
-/// order, or the first refusal: `network_within` with no link down, and at most 16,384 entries in a
-/// list.
+/// order, or the first refusal: `network_within` with no link down, and at most `ENTRY_LIMIT`
+/// entries in a list.
 pub fn network(alloc: Global, doc: &Document, files: &List<Name>) -> Result<Built, NetFault>
     requires count { length files.now ≡ length doc.now.routers }
     requires few { All (λ text. length text < 2 ^ 32) files.now }
-    requires routers { length doc.now.routers ≤ 256 }
-    requires links { length doc.now.links ≤ 1024 }
-    requires policies { length doc.now.policies ≤ 256 }
+    requires routers { length doc.now.routers ≤ ROUTER_LIMIT }
+    requires links { length doc.now.links ≤ LINK_LIMIT }
+    requires policies { length doc.now.policies ≤ POLICY_LIMIT }
     ensures answer { Builds doc.now files.now result }
     ensures valid { IfOk result (λ built. IsValid built.net) }
     ensures ends { IfOk result (λ built.
         All (λ policy. HasEnds built.net (subject policy)) doc.now.policies) }
 {
-    network_within(alloc, doc, files, &[], MOST_ENTRIES)
+    network_within(alloc, doc, files, &[], ENTRY_LIMIT)
 }
 
 /// The network of the document and of the texts of its router files, which stand in the document's
@@ -50,9 +48,9 @@ pub fn network_within(
 ) -> Result<Built, NetFault>
     requires count { length files.now ≡ length doc.now.routers }
     requires few { All (λ text. length text < 2 ^ 32) files.now }
-    requires routers { length doc.now.routers ≤ 256 }
-    requires links { length doc.now.links ≤ 1024 }
-    requires policies { length doc.now.policies ≤ 256 }
+    requires routers { length doc.now.routers ≤ ROUTER_LIMIT }
+    requires links { length doc.now.links ≤ LINK_LIMIT }
+    requires policies { length doc.now.policies ≤ POLICY_LIMIT }
     ensures answer { BuildsWithin down.now most_entries doc.now files.now result }
     ensures down { IfOk result (λ built. first_above (length built.net.links) down.now ≡ None) }
     ensures valid { IfOk result (λ built. IsValid built.net) }

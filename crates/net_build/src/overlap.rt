@@ -17,6 +17,7 @@ ghost use Rattle.net_build.specs.Addressing.{RefusesOverlap, OverlapsEarlier};
 use crate::claims::Claim;
 use crate::reasons::in_file;
 use crate::spots::spot_at;
+use arc_base::limits::ROUTER_LIMIT;
 use arc_base::{Kind, List, Memory};
 use ios_config::{Config, FaceText};
 use net_doc::NetFault;
@@ -155,7 +156,7 @@ fn address_line(face: &FaceText) -> u32
 /// Tries whether no two interfaces overlap, but for the two ends of a link.
 pub fn try_overlap(alloc: Global, net: &Network, configs: &List<Config>) -> Result<(), NetFault>
     requires apart { AllPairs AreLinksApart net.now.links }
-    requires routers { length configs.now ≤ 256 }
+    requires routers { length configs.now ≤ ROUTER_LIMIT }
     requires named { AreDistinct (full_names configs.now) }
     requires sites { length (sites configs.now) ≡ length net.now.faces }
     requires a_within { All (λ link. link.a.0 < length net.now.faces) net.now.links }

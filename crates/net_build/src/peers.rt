@@ -27,6 +27,7 @@ use crate::prefixes::{Prefixes, add_prefix, has_prefix};
 use crate::processes::lines_of;
 use crate::reasons::in_file;
 use crate::sessions::address_at;
+use arc_base::limits::ROUTER_LIMIT;
 use arc_base::{Face, Kind, List, Memory};
 use indexmap::IndexSet;
 use ios_config::{Config, FaceText, Given, lesser};
@@ -175,7 +176,7 @@ fn unknown_peer(
 
 // Tries whether each neighbour is among these far ends and has an AS.
 fn try_known(alloc: Global, ends: &IndexSet<FarEnd>, configs: &List<Config>) -> Result<(), NetFault>
-    requires few { length configs.now ≤ 256 }
+    requires few { length configs.now ≤ ROUTER_LIMIT }
     ensures { TriedAlone (InFiles kinds.NeighborUnknown (λ place config line.
         Any (NamesOther (IsReached ends.now.keys place config) line) (lines_of config)) configs.now)
         result }
@@ -192,7 +193,7 @@ fn try_known(alloc: Global, ends: &IndexSet<FarEnd>, configs: &List<Config>) -> 
 /// Tries whether each neighbour is the far end of a link and has an AS. The network has its
 /// interfaces and links.
 pub fn try_neighbors(alloc: Global, net: &Network, configs: &List<Config>) -> Result<(), NetFault>
-    requires few { length configs.now ≤ 256 }
+    requires few { length configs.now ≤ ROUTER_LIMIT }
     requires named { AreDistinct (full_names configs.now) }
     ensures { (doc : Document) → AreBaseRows doc configs.now net.now →
         TriedAlone (RefusesNeighbor doc configs.now) result }
@@ -261,7 +262,7 @@ fn unconnected(alloc: Global, config: &Config) -> Result<Option<u32>, Memory>
 
 /// Tries whether each network statement of BGP is for a connected network.
 pub fn try_networks(alloc: Global, configs: &List<Config>) -> Result<(), NetFault>
-    requires few { length configs.now ≤ 256 }
+    requires few { length configs.now ≤ ROUTER_LIMIT }
     requires well_formed { All IsWellFormed configs.now }
     ensures { TriedAlone (RefusesNetwork configs.now) result }
 {

@@ -8,6 +8,7 @@ ghost use Rattle.net_build.specs.Routers.{RefusesProtocol, protocol_of, protocol
 ghost use Rattle.net_build.specs.Routers.{NamesOtherProcess, RunsOther, MixesProcesses};
 
 use crate::reasons::in_file;
+use arc_base::limits::ROUTER_LIMIT;
 use arc_base::{Kind, List};
 use ios_config::{Config, FaceText, Given, ProcessKind, ProcessText, lesser};
 use ios_words::Command;
@@ -131,7 +132,7 @@ fn has_no_own_process(protocol: Protocol, config: &Config) -> Option<u32>
 
 /// Tries whether each router has one process, and all of one protocol.
 pub fn try_processes(configs: &List<Config>) -> Result<(), NetFault>
-    requires { length configs.now ≤ 256 }
+    requires { length configs.now ≤ ROUTER_LIMIT }
     ensures { TriedAlone (RefusesProtocol configs.now) result }
 {
     let protocol = protocol_of(configs);

@@ -7,6 +7,7 @@ ghost use Rattle.net_build.specs.Routers.{RefusesHostname, RefusesSameAs, as_of_
 use crate::processes::process_of;
 use crate::reasons::in_file;
 use crate::repeats::add_given;
+use arc_base::limits::ROUTER_LIMIT;
 use arc_base::{Kind, List, Memory};
 use indexmap::IndexSet;
 use ios_config::{Config, Given, ProcessKind, ProcessText};
@@ -38,7 +39,7 @@ fn add_hostname<'a>(
 
 /// Tries whether each router has a name of its own.
 pub fn try_hostnames(alloc: Global, configs: &List<Config>) -> Result<(), NetFault>
-    requires { length configs.now ≤ 256 }
+    requires { length configs.now ≤ ROUTER_LIMIT }
     ensures { TriedAlone (RefusesHostname configs.now) result }
 {
     let mut names = IndexSet::new(alloc);
@@ -76,7 +77,7 @@ fn as_of(config: &Config) -> Option<Given<u32>>
 
 /// Tries whether each router has an AS of its own.
 pub fn try_as_numbers(alloc: Global, configs: &List<Config>) -> Result<(), NetFault>
-    requires { length configs.now ≤ 256 }
+    requires { length configs.now ≤ ROUTER_LIMIT }
     ensures { TriedAlone (RefusesSameAs configs.now) result }
 {
     let mut numbers = IndexSet::new(alloc);

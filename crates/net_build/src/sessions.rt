@@ -17,6 +17,7 @@ ghost use Rattle.net_build.specs.Sessions.{IsSessionOver, AddsOne, AddsSessions}
 use crate::commands::{filter_of, is_down, remote_of};
 use crate::places_of_lists::{ListKey, place_of_list};
 use crate::processes::lines_of;
+use arc_base::limits::ROUTER_LIMIT;
 use arc_base::{Face, List, Memory};
 use indexmap::IndexSet;
 use ios_config::Config;
@@ -144,7 +145,7 @@ fn bgp_rows(
     lists: &IndexSet<ListKey<'_>>,
 ) -> Result<List<SessionRow>, Memory>
     requires few { length lists.now.keys < 2 ^ 32 }
-    requires routers { length configs.now ≤ 256 }
+    requires routers { length configs.now ≤ ROUTER_LIMIT }
     requires lists { keys_at lists.now.keys ≡ map route_list_key net.now.route_lists }
     requires distinct { AreDistinct (map route_list_key net.now.route_lists) }
     ensures { IfOk result (λ sessions. (doc : Document) →
@@ -168,7 +169,7 @@ pub fn session_rows(
     lists: &IndexSet<ListKey<'_>>,
 ) -> Result<List<SessionRow>, Memory>
     requires few { length lists.now.keys < 2 ^ 32 }
-    requires routers { length configs.now ≤ 256 }
+    requires routers { length configs.now ≤ ROUTER_LIMIT }
     requires lists { keys_at lists.now.keys ≡ map route_list_key net.now.route_lists }
     requires distinct { AreDistinct (map route_list_key net.now.route_lists) }
     ensures { IfOk result (λ sessions. (doc : Document) →

@@ -13,6 +13,7 @@ ghost use Rattle.net_build.specs.Stops.{RefusesListStopsSession, StopsPackets};
 
 use crate::session_packets::denies;
 use crate::spots::spot_at;
+use arc_base::limits::ROUTER_LIMIT;
 use arc_base::{Kind, List};
 use ios_config::{Config, FaceText};
 use net_doc::{NetFault, Refusal};
@@ -62,7 +63,7 @@ fn stops_between(
 
 /// The refusal at the interface at this place of all files.
 fn refusal_at(configs: &List<Config>, place: u32) -> Option<Refusal>
-    requires { length configs.now ≤ 256 }
+    requires { length configs.now ≤ ROUTER_LIMIT }
     ensures { FindsOnly (IsRefusalAt configs.now place) result }
 {
     match spot_at(configs, place) {
@@ -77,7 +78,7 @@ fn refusal_at(configs: &List<Config>, place: u32) -> Option<Refusal>
 
 /// The refusal of the end of the link at which a list stops the session, if one does there.
 fn stopped(net: &Network, configs: &List<Config>, link: &LinkRow, from_a: bool) -> Option<Refusal>
-    requires { length configs.now ≤ 256 }
+    requires { length configs.now ≤ ROUTER_LIMIT }
     ensures { FindsOnly (StopsAt net.now configs.now link.now from_a) result }
 {
     match net.faces.get(link.tail(from_a).0) {
@@ -120,7 +121,7 @@ fn earlier(a: Option<Refusal>, b: Option<Refusal>) -> Option<Refusal>
 
 /// The first refusal at an end of a link.
 fn first_stop(net: &Network, configs: &List<Config>) -> Option<Refusal>
-    requires { length configs.now ≤ 256 }
+    requires { length configs.now ≤ ROUTER_LIMIT }
     ensures { FindsFirst (StopsAtSome net.now configs.now net.now.links) result }
 {
     let mut first = None;
@@ -134,7 +135,7 @@ fn first_stop(net: &Network, configs: &List<Config>) -> Option<Refusal>
 
 /// Tries whether no list stops a session on a link that is able.
 pub fn try_lists(net: &Network, configs: &List<Config>) -> Result<(), NetFault>
-    requires few { length configs.now ≤ 256 }
+    requires few { length configs.now ≤ ROUTER_LIMIT }
     requires named { AreDistinct (full_names configs.now) }
     ensures { (doc : Document) → AreRows doc configs.now net.now →
         TriedAlone (RefusesListStopsSession doc configs.now) result }

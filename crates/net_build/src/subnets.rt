@@ -5,6 +5,7 @@ ghost use Rattle.net_build.specs.Linking.{HaveOneSubnet, FitsSubnets};
 ghost use Rattle.arc_base.specs.declared.refusal.Kind.TheVariants as kinds;
 
 use crate::reasons::in_document;
+use arc_base::limits::LINK_LIMIT;
 use arc_base::{Kind, Prefix};
 use net_doc::NetFault;
 use net_model::{FaceRow, LinkRow, Network};
@@ -45,7 +46,7 @@ fn fits_subnets(net: &Network, link: &LinkRow) -> bool
 
 /// Tries whether it holds of each link.
 pub fn try_subnets(net: &Network) -> Result<(), NetFault>
-    requires { length net.now.links ≤ 1024 }
+    requires { length net.now.links ≤ LINK_LIMIT }
     ensures { TriedAlone
         (InDocument kinds.LinkSubnets (λ place link. ¬ FitsSubnets net.now link) net.now.links)
         result }

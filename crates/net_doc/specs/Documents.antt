@@ -6,6 +6,9 @@ use Rattle.std.specs.Prelude.{Err, All, AllPairs}
 use Rattle.std.specs.List.{list_any}
 use Rattle.std.specs.Option.{option_or}
 use Rattle.std.specs.Str.{is_utf8}
+use Rattle.arc_base.specs.declared.limits.TheConstants.{ROUTER_LIMIT, LINK_LIMIT, POLICY_LIMIT}
+use Rattle.arc_base.specs.declared.limits.TheConstants.{FAILURE_LIMIT, WEIGHT_LIMIT}
+use Rattle.arc_base.specs.declared.limits.TheConstants.{FILE_NAME_LIMIT}
 use Rattle.serde_json.specs.Data.{Data}
 use Rattle.serde_json.specs.Find.{get, as_bool, as_number, as_u64, as_str}
 use Rattle.serde_json.specs.Read.{read}
@@ -58,11 +61,11 @@ weight_members = codes "list" ∷ codes "filter" ∷ codes "session" ∷ []
 abbrev pub where_true : {T : Type 0} → Bool → T → Option T
 where_true test value = if test then Some value else None
 
--- a router's file: a text of 1 to 1,024 bytes
+-- a router's file: a text of 1 to FILE_NAME_LIMIT bytes
 abbrev pub router_of : Data → Option (List ℕ)
 router_of d = do
   name ← as_str d
-  where_true (nat_le 1 (length name) && nat_le (length name) 1024) name
+  where_true (nat_le 1 (length name) && nat_le (length name) FILE_NAME_LIMIT) name
 
 -- no text stands twice
 abbrev pub are_different : List (List ℕ) → Bool
@@ -126,11 +129,11 @@ abbrev pub policies_of : ℕ → Data → Option (List Policy)
 policies_of version d =
     option_and_then (all_of (policy_of version)) (list_under (codes "policies") d)
 
--- a weight is from 1 to 16
+-- a weight is from 1 to WEIGHT_LIMIT
 abbrev pub weight_from : Data → Option ℕ
 weight_from d = do
   weight ← option_and_then as_u64 (as_number d)
-  where_true (nat_le 1 weight && nat_le weight 16) weight
+  where_true (nat_le 1 weight && nat_le weight WEIGHT_LIMIT) weight
 
 -- the weight under the name, which is 1 where nothing is said
 abbrev pub weight_under : List ℕ → Data → Option ℕ
@@ -184,11 +187,11 @@ over what limit number count =
     if nat_lt limit count
     then Some (record { file = 0; number = number; kind = Limit what count }) else None
 
--- a policy speaks of at most 16 failures
+-- a policy speaks of at most FAILURE_LIMIT failures
 abbrev pub failures_refusal : ℕ → PolicyKind → Option Refusal
 failures_refusal number Blocked = None
 failures_refusal number Through = None
-failures_refusal number (Reach failures) = over Failures 16 number failures
+failures_refusal number (Reach failures) = over Failures FAILURE_LIMIT number failures
 
 -- the first of the policies, counted from this number on, that speaks of more
 abbrev pub policies_refusal : ℕ → List Policy → Option Refusal
@@ -196,13 +199,13 @@ policies_refusal number [] = None
 policies_refusal number (policy ∷ policies) =
     option_or (failures_refusal number policy.kind) (policies_refusal (number + 1) policies)
 
--- the first count of the document that passes its limit: 256 routers, 1,024 links, 256 policies, 16
--- failures
+-- the first count of the document that passes its limit: routers, links, policies, or the failures
+-- of a policy
 unfoldable pub limit_refusal : Document → Option Refusal
 limit_refusal doc =
-    option_or (over Routers 256 0 (length doc.routers))
-    (option_or (over Links 1024 0 (length doc.links))
-    (option_or (over Policies 256 0 (length doc.policies))
+    option_or (over Routers ROUTER_LIMIT 0 (length doc.routers))
+    (option_or (over Links LINK_LIMIT 0 (length doc.links))
+    (option_or (over Policies POLICY_LIMIT 0 (length doc.policies))
     (policies_refusal 1 doc.policies)))
 
 -- what reading gives: the document that the bytes are, within the limits, or the first refusal
@@ -223,24 +226,24 @@ ReadsDocument bytes (Ok doc) = reading bytes ≡ Ok doc
 ReadsDocument bytes (Err (Refused refusal)) = reading bytes ≡ Err refusal
 ReadsDocument bytes (Err Memory) = Unit {0}
 
--- a name of a file has 1 to 1,024 bytes
+-- a name of a file has 1 to FILE_NAME_LIMIT bytes
 pub record IsFileName (name : List ℕ) : Type 0 where
   pub some : 1 ≤ length name
-  pub few : length name ≤ 1024
+  pub few : length name ≤ FILE_NAME_LIMIT
 
--- a weight is from 1 to 16
+-- a weight is from 1 to WEIGHT_LIMIT
 pub record IsWeight (weight : ℕ) : Type 0 where
   pub low : 1 ≤ weight
-  pub high : weight ≤ 16
+  pub high : weight ≤ WEIGHT_LIMIT
 
 -- what holds of every document that is read
 pub record IsWellFormed (doc : Document) : Type 0 where
   pub some_router : 1 ≤ length doc.routers
   pub names : All IsFileName doc.routers
   pub routers_differ : AllPairs (λ r s. r ≢ s) doc.routers
-  pub few_routers : length doc.routers ≤ 256
-  pub few_links : length doc.links ≤ 1024
-  pub few_policies : length doc.policies ≤ 256
+  pub few_routers : length doc.routers ≤ ROUTER_LIMIT
+  pub few_links : length doc.links ≤ LINK_LIMIT
+  pub few_policies : length doc.policies ≤ POLICY_LIMIT
   pub few_failures : All (λ policy. HasFewFailures policy.kind) doc.policies
   pub list : IsWeight doc.weights.list
   pub filter : IsWeight doc.weights.filter

@@ -10,6 +10,7 @@ ghost use Rattle.net_doc.specs.Drafts.{kind_meant, policy_meant};
 use crate::drafts::{KindText, PolicyText};
 use crate::members::{has_only, list_under, number_under, text_under};
 use crate::services::read_services;
+use arc_base::limits::FILE_NAME_LIMIT;
 use arc_base::{List, Memory, Name, cut_at, read_prefix};
 use indexmap::IndexSet;
 use net_model::LinkText;
@@ -50,7 +51,7 @@ fn read_router(value: &Value) -> Option<&str>
     ensures { option_map (λ name. name.now) result ≡ router_of (view value.now) }
 {
     let name = value.as_str()?;
-    if name.is_empty() || name.len() > 1024 {
+    if name.is_empty() || name.len() > FILE_NAME_LIMIT {
         return None;
     }
     Some(name)

@@ -5,19 +5,8 @@ ghost use Rattle.net_doc.specs.Drafts.{kind_meant, policy_meant, document_meant}
 
 use crate::drafts::{Draft, KindText, PolicyText};
 use crate::fault::Refusal;
+use arc_base::limits::{FAILURE_LIMIT, LINK_LIMIT, POLICY_LIMIT, ROUTER_LIMIT};
 use arc_base::{Kind, LimitKind};
-
-/// How many routers a document may have.
-const ROUTERS: u64 = 256;
-
-/// How many links a document may have.
-const LINKS: u64 = 1024;
-
-/// How many policies a document may have.
-const POLICIES: u64 = 256;
-
-/// How many failures a policy may speak of.
-const FAILURES: u64 = 16;
 
 /// The first count that passes its limit.
 #[tactic(auto, unfolding(crate::specs::Documents::limit_refusal))]
@@ -26,21 +15,26 @@ pub(crate) fn limit_refusal(draft: &Draft) -> Option<Refusal>
 {
     let routers = over(
         LimitKind::Routers,
-        ROUTERS,
+        ROUTER_LIMIT,
         0,
         u64::from(draft.routers.len()),
     );
     if routers.is_some() {
         return routers;
     }
-    let links = over(LimitKind::Links, LINKS, 0, u64::from(draft.links.len()));
+    let links = over(
+        LimitKind::Links,
+        LINK_LIMIT,
+        0,
+        u64::from(draft.links.len()),
+    );
     if links.is_some() {
         return links;
     }
-    if draft.policies.len() as u64 > POLICIES {
+    if draft.policies.len() as u64 > POLICY_LIMIT {
         return over(
             LimitKind::Policies,
-            POLICIES,
+            POLICY_LIMIT,
             0,
             draft.policies.len() as u64,
         );
@@ -64,7 +58,7 @@ fn over(what: LimitKind, limit: u64, number: u32, count: u64) -> Option<Refusal>
 
 /// The first policy that speaks of too many failures.
 fn policies_refusal(policies: &[PolicyText]) -> Option<Refusal>
-    requires { length policies.now ≤ 256 }
+    requires { length policies.now ≤ POLICY_LIMIT }
     ensures { result ≡ policies_refusal 1 (map policy_meant policies.now) }
 {
     for place in 0..policies.len() {
@@ -81,6 +75,6 @@ fn failures_refusal(number: u32, kind: KindText) -> Option<Refusal>
 {
     match kind {
         KindText::Blocked | KindText::Through => None,
-        KindText::Reach(failures) => over(LimitKind::Failures, FAILURES, number, failures),
+        KindText::Reach(failures) => over(LimitKind::Failures, FAILURE_LIMIT, number, failures),
     }
 }

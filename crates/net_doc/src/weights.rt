@@ -4,6 +4,7 @@ ghost use Rattle.serde_json.specs.View.{view};
 ghost use Rattle.net_doc.specs.Documents.{weight_from, weight_under, weights_from, weights_of};
 
 use crate::members::has_only;
+use arc_base::limits::WEIGHT_LIMIT;
 use net_model::Weights;
 use serde_json::Value;
 
@@ -50,7 +51,7 @@ fn weight_from(value: &Value) -> Option<u32>
     ensures { result ≡ weight_from (view value.now) }
 {
     let weight = value.as_u64()?;
-    if weight >= 1 && weight <= 16 {
+    if weight >= 1 && weight <= WEIGHT_LIMIT {
         Some(weight as u32)
     } else {
         None

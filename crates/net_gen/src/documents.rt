@@ -8,6 +8,7 @@ ghost use Rattle.net_gen.specs.Generated.{IsDocument};
 
 use crate::plans::{a_router, b_router, link_count, next, port};
 use crate::router_files::{face_name, file_name, host_name};
+use arc_base::limits::MOST_GENERATED;
 use arc_base::{List, Memory, Name, Prefix};
 use net_model::{Document, LinkText, Policy, PolicyKind, Service, Weights};
 use std::alloc::Global;
@@ -15,7 +16,7 @@ use std::alloc::Global;
 /// The link of this number.
 fn link_text(alloc: Global, routers: u32, link: u32) -> Result<LinkText, Memory>
     requires some { 1 ≤ routers }
-    requires few { routers ≤ 40 }
+    requires few { routers ≤ MOST_GENERATED }
     requires link { link ≤ 60 }
     ensures { IfOk result (λ text. text ≡ link_text routers link) }
 {
@@ -32,7 +33,7 @@ fn link_text(alloc: Global, routers: u32, link: u32) -> Result<LinkText, Memory>
 
 fn links(alloc: Global, routers: u32) -> Result<List<LinkText>, Memory>
     requires some { 1 ≤ routers }
-    requires few { routers ≤ 40 }
+    requires few { routers ≤ MOST_GENERATED }
     ensures { IfOk result (λ links.
         links ≡ map (link_text routers) (numbers (link_count routers))) }
 {
@@ -44,7 +45,7 @@ fn links(alloc: Global, routers: u32) -> Result<List<LinkText>, Memory>
 }
 
 fn file_names(alloc: Global, routers: u32) -> Result<List<Name>, Memory>
-    requires few { routers ≤ 40 }
+    requires few { routers ≤ MOST_GENERATED }
     ensures { IfOk result (λ names. names ≡ map file_name (numbers routers)) }
 {
     let mut names = List::make(alloc);
@@ -56,7 +57,7 @@ fn file_names(alloc: Global, routers: u32) -> Result<List<Name>, Memory>
 
 /// The host network of a router.
 fn host_network(router: u32) -> Prefix
-    requires { router ≤ 40 }
+    requires { router ≤ MOST_GENERATED }
     ensures { IsHostNetwork router result }
 {
     Prefix {
@@ -67,8 +68,8 @@ fn host_network(router: u32) -> Prefix
 
 /// The policy from the host network of a router to that of another, on all services.
 fn policy(kind: PolicyKind, source: u32, target: u32) -> Policy
-    requires source { source ≤ 40 }
-    requires target { target ≤ 40 }
+    requires source { source ≤ MOST_GENERATED }
+    requires target { target ≤ MOST_GENERATED }
     ensures { Asks (record { kind = kind; source = source; target = target }) result }
 {
     Policy {
@@ -81,7 +82,7 @@ fn policy(kind: PolicyKind, source: u32, target: u32) -> Policy
 
 fn policies(alloc: Global, routers: u32) -> Result<List<Policy>, Memory>
     requires some { 1 ≤ routers }
-    requires few { routers ≤ 40 }
+    requires few { routers ≤ MOST_GENERATED }
     ensures { IfOk result (AllZip Asks (asked routers)) }
 {
     let mut policies = List::make(alloc);
@@ -97,7 +98,7 @@ fn policies(alloc: Global, routers: u32) -> Result<List<Policy>, Memory>
 /// The document of a network of so many routers.
 pub fn document(alloc: Global, routers: u32) -> Result<Document, Memory>
     requires some { 1 ≤ routers }
-    requires few { routers ≤ 40 }
+    requires few { routers ≤ MOST_GENERATED }
     ensures { IfOk result (IsDocument routers) }
 {
     Ok(Document {

@@ -5,6 +5,7 @@ ghost use Rattle.net_gen.specs.Generated.{router_texts, IsGenerated};
 
 use crate::documents::document;
 use crate::router_files::router_text;
+use arc_base::limits::{FEWEST_GENERATED, MOST_GENERATED};
 use arc_base::{List, Memory, Name};
 use net_model::Document;
 use std::alloc::Global;
@@ -18,7 +19,7 @@ pub struct Generated {
 
 fn router_texts(alloc: Global, routers: u32) -> Result<List<Name>, Memory>
     requires some { 1 ≤ routers }
-    requires few { routers ≤ 40 }
+    requires few { routers ≤ MOST_GENERATED }
     ensures { IfOk result (λ texts. texts ≡ router_texts routers) }
 {
     let mut texts = List::make(alloc);
@@ -30,8 +31,8 @@ fn router_texts(alloc: Global, routers: u32) -> Result<List<Name>, Memory>
 
 /// The network of so many routers. Its cost is that of its text.
 pub fn generate(alloc: Global, number: u32) -> Result<Generated, Memory>
-    requires some { 6 ≤ number }
-    requires few { number ≤ 40 }
+    requires some { FEWEST_GENERATED ≤ number }
+    requires few { number ≤ MOST_GENERATED }
     ensures generated { IfOk result (IsGenerated number) }
     ensures files { IfOk result (λ made. length made.files ≡ length made.doc.routers) }
     ensures bytes { IfOk result (λ made. All (λ text. length text < 2 ^ 32) made.files) }

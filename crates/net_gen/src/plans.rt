@@ -3,9 +3,11 @@
 ghost use Rattle.std.specs.Prelude.{◌≡◌, ◌≤◌, ◌+◌};
 ghost use Rattle.net_gen.specs.Plans.{link_count, next, a_router, b_router, has_end, port};
 
+use arc_base::limits::MOST_GENERATED;
+
 /// How many links join so many routers.
 pub fn link_count(routers: u32) -> u32
-    requires { routers ≤ 40 }
+    requires { routers ≤ MOST_GENERATED }
     ensures { result ≡ link_count routers }
 {
     routers + routers / 2
@@ -14,7 +16,7 @@ pub fn link_count(routers: u32) -> u32
 /// The router after this one around the ring.
 pub fn next(routers: u32, router: u32) -> u32
     requires some { 1 ≤ routers }
-    requires few { routers ≤ 40 }
+    requires few { routers ≤ MOST_GENERATED }
     ensures { result ≡ next routers router }
 {
     router % routers + 1
@@ -34,7 +36,7 @@ pub fn a_router(routers: u32, link: u32) -> u32
 /// The router at the link's end b.
 pub fn b_router(routers: u32, link: u32) -> u32
     requires some { 1 ≤ routers }
-    requires few { routers ≤ 40 }
+    requires few { routers ≤ MOST_GENERATED }
     requires link { link ≤ 60 }
     ensures { result ≡ b_router routers link }
 {
@@ -48,7 +50,7 @@ pub fn b_router(routers: u32, link: u32) -> u32
 /// Whether the link has an end at the router.
 pub fn has_end(routers: u32, router: u32, link: u32) -> bool
     requires some { 1 ≤ routers }
-    requires few { routers ≤ 40 }
+    requires few { routers ≤ MOST_GENERATED }
     requires link { link ≤ 60 }
     ensures { result ≡ has_end routers router link }
 {
@@ -58,7 +60,7 @@ pub fn has_end(routers: u32, router: u32, link: u32) -> bool
 /// The number of the router's interface over the link.
 pub fn port(routers: u32, router: u32, link: u32) -> u32
     requires some { 1 ≤ routers }
-    requires few { routers ≤ 40 }
+    requires few { routers ≤ MOST_GENERATED }
     requires link { link ≤ 60 }
     ensures { result ≡ port routers router link }
 {

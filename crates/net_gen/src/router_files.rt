@@ -7,6 +7,7 @@ ghost use Rattle.net_gen.specs.RouterFiles.{host_lines, link_lines, links_lines,
 ghost use Rattle.net_gen.specs.RouterFiles.{router_lines, text_of};
 
 use crate::plans::{a_router, has_end, link_count, port};
+use arc_base::limits::MOST_GENERATED;
 use arc_base::{Memory, Name, push_number};
 use std::alloc::Global;
 
@@ -122,7 +123,7 @@ fn push_link(
     link: u32,
 ) -> Result<(), Memory>
     requires some { 1 ≤ routers }
-    requires few { routers ≤ 40 }
+    requires few { routers ≤ MOST_GENERATED }
     requires link { link ≤ 60 }
     ensures { OnOk result
         (text.new.items ≡ text.old.items ++ text_of (link_lines routers router link)) }
@@ -135,7 +136,7 @@ fn push_link(
 /// Puts the lines of all interfaces over the router's links at the end.
 fn push_links(alloc: Global, text: &mut Vec<u8>, routers: u32, router: u32) -> Result<(), Memory>
     requires some { 1 ≤ routers }
-    requires few { routers ≤ 40 }
+    requires few { routers ≤ MOST_GENERATED }
     ensures { OnOk result (text.new.items
         ≡ text.old.items ++ text_of (links_lines routers router (numbers (link_count routers)))) }
 {
@@ -150,7 +151,7 @@ fn push_links(alloc: Global, text: &mut Vec<u8>, routers: u32, router: u32) -> R
 /// The text of a router's file.
 pub fn router_text(alloc: Global, routers: u32, router: u32) -> Result<Name, Memory>
     requires some { 1 ≤ routers }
-    requires few { routers ≤ 40 }
+    requires few { routers ≤ MOST_GENERATED }
     ensures { IfOk result (λ text. text ≡ text_of (router_lines routers router)) }
 {
     let mut text = Vec::new(alloc);

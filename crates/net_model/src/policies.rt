@@ -49,7 +49,7 @@ pub struct Policy {
     pub service: Service,
 }
 
-/// What an edit of each kind costs, from 1 to 16.
+/// What an edit of each kind costs, from 1 to `limits::WEIGHT_LIMIT`.
 #[derive(Clone, Copy, Debug, PartialEq, Eq)]
 pub struct Weights {
     /// An entry of a packet list.

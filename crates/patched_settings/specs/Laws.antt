@@ -2,6 +2,7 @@
 -- after the edits.
 use Rattle.std.specs.Prelude.{ℕ, ◌≤◌, Bool, List, All, length}
 use Rattle.std.specs.List.{AllZip}
+use Rattle.arc_base.specs.declared.limits.TheConstants.{EDITED_ENTRY_LIMIT, EDIT_LIMIT}
 use Rattle.net_model.specs.declared.policies.Document.{Document}
 use Rattle.net_model.specs.declared.rows.Network.{Network}
 use Rattle.net_model.specs.Forwarding.{HasEnds}
@@ -37,13 +38,13 @@ EditsAreFitting =
     All (λ policy. HasEnds net (subject policy)) doc.policies → AreEdits net doc list →
     AreFitting net (chosen_of list flags)
 
--- files in which no list has more than 2,048 entries have room for all edits, of which there are
--- 8,192 at most
+-- files in which no list has more than EDITED_ENTRY_LIMIT entries have room for all edits, of which
+-- there are EDIT_LIMIT at most
 abbrev pub ShortListsHaveRoom : Type 0
 ShortListsHaveRoom =
     (configs : List Config) (list : List Edit) (flags : List Bool) →
-    IsClear (RefusesEntries 2048 configs) →
-    length list ≤ 8192 → HasRoom (chosen_of list flags) configs
+    IsClear (RefusesEntries EDITED_ENTRY_LIMIT configs) →
+    length list ≤ EDIT_LIMIT → HasRoom (chosen_of list flags) configs
 
 -- a file to which the edits add nothing has its own settings after them
 abbrev pub UntouchedFilesStay : Type 0

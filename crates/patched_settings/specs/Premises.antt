@@ -3,6 +3,7 @@
 use Rattle.std.specs.Prelude.{◌≡◌, ℕ, ◌+◌, ◌^◌, ◌<◌, ◌≤◌, IsFalse, IsTrue, Some, List, [], Contains}
 use Rattle.std.specs.Prelude.{length, slice_get}
 use Rattle.std.specs.List.{filter_map}
+use Rattle.arc_base.specs.declared.limits.TheConstants.{ENTRY_LIMIT}
 use Rattle.net_model.specs.declared.rows.FaceRow.{FaceRow}
 use Rattle.net_model.specs.declared.rows.Network.{Network}
 use Rattle.net_model.specs.declared.rows.SessionRow.{SessionRow}
@@ -35,8 +36,9 @@ AreFitting net chosen = (edit : Edit) → Contains chosen edit → IsFitting net
 -- each list of the files has room for all the edits, and so has a new one
 pub record HasRoom (chosen : List Edit) (configs : List Config) : Type 0 where
   pub old : (config : Config) → Contains configs config →
-      (list : ListText) → Contains config.lists list → length list.entries + length chosen ≤ 16384
-  pub new : length chosen < 16384
+      (list : ListText) → Contains config.lists list →
+      length list.entries + length chosen ≤ ENTRY_LIMIT
+  pub new : length chosen < ENTRY_LIMIT
 
 -- the edits add nothing to the file of the router
 pub record IsUntouched (net : Network) (chosen : List Edit) (router : ℕ) : Type 0 where

@@ -15,7 +15,8 @@ pub fn edits_are_fitting()
     ensures { EditsAreFitting }
 {}
 
-/// Where no list of the files has more than 2,048 entries, no list has too many after the edits.
+/// Where no list of the files has more than `EDITED_ENTRY_LIMIT` entries, no list has too many
+/// after the edits.
 pub fn short_lists_have_room()
     ensures { ShortListsHaveRoom }
 {}

@@ -3,6 +3,7 @@
 use Rattle.std.specs.Prelude.{◌≡◌, ◌≢◌, ℕ, ◌+◌, ◌≤◌, ◌<◌, ◌⊎◌, true, Some, List, [], ◌∷◌, length}
 use Rattle.std.specs.Prelude.{codes, slice_get, Contains, IsTrue}
 use Rattle.std.specs.List.{AllByRecursion}
+use Rattle.arc_base.specs.declared.limits.TheConstants.{ENTRY_LIMIT}
 use Rattle.arc_base.specs.declared.place.Face.{Face}
 use Rattle.arc_base.specs.PrefixText.{number_of}
 use Rattle.net_model.specs.declared.lists.PacketList.{PacketList}
@@ -125,5 +126,5 @@ pub record IsEditedFile (net : Network) (places : List Places) (chosen : List Ed
       Contains (named_lists net chosen router) (Packet face, name) →
       HasFace net places router cs face.0
   pub room : (list : ListText) → Contains (config_of cs).lists list →
-      length list.entries + length chosen ≤ 16384
-  pub few : length chosen < 16384
+      length list.entries + length chosen ≤ ENTRY_LIMIT
+  pub few : length chosen < ENTRY_LIMIT

@@ -2,6 +2,7 @@
 use Rattle.std.specs.Prelude.{◌≡◌, ◌≢◌, ℕ, ◌+◌, ◌*◌, ◌≤◌, true, false, Some, None, List, [], ◌∷◌}
 use Rattle.std.specs.Prelude.{◌++◌, map, length, codes, Contains, IsTrue}
 use Rattle.std.specs.List.{AllByRecursion, enumerate_from, flat_map}
+use Rattle.arc_base.specs.declared.limits.TheConstants.{ENTRY_LIMIT}
 use Rattle.arc_base.specs.declared.prefix.Prefix.{Prefix}
 use Rattle.net_model.specs.declared.policies.Class.{Class}
 use Rattle.ios_lines.specs.Written.{spaced}
@@ -78,7 +79,7 @@ list_chunks chosen key (named ∷ more) =
 pub record IsNewName (chosen : List Edit) (named : NewList × List ℕ) : Type 0 where
   pub name : IsTrue (is_name named.1)
   pub other : named.1 ≢ codes "sequence-number"
-  pub few : (face : ℕ) → length (new_prefixes chosen face) ≤ 16384
+  pub few : (face : ℕ) → length (new_prefixes chosen face) ≤ ENTRY_LIMIT
   pub writable : (face : ℕ) (class : Class) → Contains (new_classes chosen face) class →
       IsTrue (is_writable class.service)
 

@@ -26,17 +26,17 @@ abbrev pub HasConditions : Network → Document → List Edit → (ConditionNet 
 HasConditions net doc list P =
     (conditions : ConditionNet) × AreConditions net doc list conditions × P conditions
 
--- the formula has at most 16,777,216 variables and at most 32,000,000 literals
+-- the formula has at most VARIABLE_LIMIT variables and at most LITERAL_LIMIT literals
 abbrev pub IsWithin : Network → Document → List Edit → ℕ → Type 0
 IsWithin net doc list bound =
     HasConditions net doc list (λ conditions. IsWithinLimits conditions bound)
 
--- the formula has so many variables, more than 16,777,216
+-- the formula has so many variables, more than VARIABLE_LIMIT
 abbrev pub PassesVariables : Network → Document → List Edit → ℕ → ℕ → Type 0
 PassesVariables net doc list bound count =
     HasConditions net doc list (λ conditions. HasTooManyVariables conditions bound count)
 
--- it has not, but so many literals, more than 32,000,000, or the most that can be counted
+-- it has not, but so many literals, more than LITERAL_LIMIT, or the most that can be counted
 abbrev pub PassesLiterals : Network → Document → List Edit → ℕ → ℕ → Type 0
 PassesLiterals net doc list bound count =
     HasConditions net doc list (λ conditions. HasTooManyLiterals conditions bound count)

@@ -16,6 +16,7 @@ ghost use Rattle.policy_encode.specs.Questions.{IsQuestion, AreConditions};
 use crate::adding::push;
 use crate::edit_index::EditIndex;
 use crate::questions::question;
+use arc_base::limits::{EDIT_LIMIT, POLICY_LIMIT, PRICE_LIMIT, VARIABLE_LIMIT};
 use arc_base::{List, Memory};
 use condition_formula::{ConditionNet, EncodeFault, Encoded, Question};
 use edit_space::{Edit, EditFault};
@@ -106,16 +107,16 @@ pub fn encode(
     bound: u32,
 ) -> Result<Encoded, EditFault>
     requires valid { IsValid net.now }
-    requires few { length doc.now.policies ≤ 256 }
+    requires few { length doc.now.policies ≤ POLICY_LIMIT }
     requires ends { All (λ policy. HasEnds net.now (subject policy)) doc.now.policies }
     requires failures { All (λ policy. HasFewFailures policy.kind) doc.now.policies }
     requires classes { HasFewClasses net.now doc.now }
     requires edits { AreEdits net.now doc.now edits.now }
-    requires few_edits { length edits.now ≤ 8192 }
-    requires bound { bound ≤ 512 }
+    requires few_edits { length edits.now ≤ EDIT_LIMIT }
+    requires bound { bound ≤ PRICE_LIMIT }
     ensures formula { IfOk result (λ e.
         IsRepairFormula net.now doc.now edits.now bound e.formula e.tops) }
-    ensures variables { IfOk result (λ e. e.formula.vars ≤ 16777216) }
+    ensures variables { IfOk result (λ e. e.formula.vars ≤ VARIABLE_LIMIT) }
     ensures limits { OnOk result (IsWithin net.now doc.now edits.now bound) }
     ensures fault { IfErr result (IsFaultOf net.now doc.now edits.now bound) }
 {

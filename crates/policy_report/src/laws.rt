@@ -48,7 +48,7 @@ pub fn budgets_are_refused()
     ensures { BudgetsAreRefused }
 {}
 
-/// A report of short witnesses has at most 2^40 bytes.
+/// A report of short witnesses has at most `limits::PROOF_LIMIT` bytes.
 pub fn reports_are_short()
     ensures { ReportsAreShort }
 {}

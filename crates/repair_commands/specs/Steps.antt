@@ -1,5 +1,6 @@
 -- What the steps of the command answer.
 use Rattle.std.specs.Prelude.{◌≡◌, ◌⊎◌, ℕ, ◌≤◌, List, length}
+use Rattle.arc_base.specs.declared.limits.TheConstants.{EDIT_LIMIT}
 use Rattle.arc_base.specs.declared.refusal.Kind.TheVariants.{Limit}
 use Rattle.net_model.specs.declared.policies.Document.{Document}
 use Rattle.net_model.specs.declared.rows.Network.{Network}
@@ -25,7 +26,7 @@ IsWholeAnswer doc list (Budget log) = Unit {0}
 pub record IsFound (words : RepairWords) (net : Network) (doc : Document) (list : List Edit)
     (answer : Answer) : Type 0 where
   pub answered : IsAnswered words.bound words.conflicts net doc list answer
-  pub few : length list ≤ 8192
+  pub few : length list ≤ EDIT_LIMIT
   pub countable : IsCountable net
 
 -- a count that passes its limit refuses the document, but for want of memory

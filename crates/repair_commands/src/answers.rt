@@ -9,6 +9,9 @@ ghost use Rattle.policy_report.specs.Edits.{edit_lines};
 ghost use Rattle.repair_commands.specs.Repairs.{Writes, WritesAnswer, WritesClaim, WritesRepair};
 ghost use Rattle.repair_commands.specs.Steps.{IsWholeAnswer};
 
+use arc_base::limits::{
+    EDIT_LIMIT, EDITED_ENTRY_LIMIT, EDITED_FILE_LIMIT, PROOF_LIMIT, ROUTER_LIMIT,
+};
 use arc_base::{List, Memory, Name};
 use arc_repair::Answer;
 use changed_files::changes;
@@ -18,7 +21,7 @@ use net_model::{Document, Network};
 use output_files::push_wrote;
 use policy_report::{budget, certificate, edit_lines};
 use proof_log::Log;
-use run_files::{Done, PROOF_LIMIT};
+use run_files::Done;
 use run_inputs::Sources;
 use std::alloc::Global;
 
@@ -90,12 +93,13 @@ fn repair_done(
     chosen: &[bool],
     certificate: Vec<u8>,
 ) -> Result<Done, Memory>
-    requires built { IsBuiltWithin [] 2048 doc.now sources.now.files sources.now.built }
+    requires built { IsBuiltWithin [] EDITED_ENTRY_LIMIT doc.now
+        sources.now.files sources.now.built }
     requires count { length sources.now.files ≡ length doc.now.routers }
-    requires bytes { All (λ text. length text ≤ 1048576) sources.now.files }
-    requires routers { length doc.now.routers ≤ 256 }
+    requires bytes { All (λ text. length text ≤ EDITED_FILE_LIMIT) sources.now.files }
+    requires routers { length doc.now.routers ≤ ROUTER_LIMIT }
     requires edits { AreEdits sources.now.built.net doc.now list.now }
-    requires few { length list.now ≤ 8192 }
+    requires few { length list.now ≤ EDIT_LIMIT }
     requires flags { length chosen.now ≡ length list.now }
     ensures { IfOk result (WritesRepair words.now doc.now sources.now.built sources.now.files
         list.now price chosen.now certificate.items) }
@@ -115,12 +119,13 @@ fn claim_done(
     claim: &Claim,
     log: &Log,
 ) -> Result<Done, Memory>
-    requires built { IsBuiltWithin [] 2048 doc.now sources.now.files sources.now.built }
+    requires built { IsBuiltWithin [] EDITED_ENTRY_LIMIT doc.now
+        sources.now.files sources.now.built }
     requires count { length sources.now.files ≡ length doc.now.routers }
-    requires bytes { All (λ text. length text ≤ 1048576) sources.now.files }
-    requires routers { length doc.now.routers ≤ 256 }
+    requires bytes { All (λ text. length text ≤ EDITED_FILE_LIMIT) sources.now.files }
+    requires routers { length doc.now.routers ≤ ROUTER_LIMIT }
     requires edits { AreEdits sources.now.built.net doc.now list.now }
-    requires few { length list.now ≤ 8192 }
+    requires few { length list.now ≤ EDIT_LIMIT }
     requires whole { IsWholeClaim doc.now list.now claim.now }
     ensures { IfOk result (WritesClaim words.now doc.now sources.now.built sources.now.files
         list.now claim.now log.now) }
@@ -167,12 +172,13 @@ pub fn answer_done(
     list: &List<Edit>,
     answer: &Answer,
 ) -> Result<Done, Memory>
-    requires built { IsBuiltWithin [] 2048 doc.now sources.now.files sources.now.built }
+    requires built { IsBuiltWithin [] EDITED_ENTRY_LIMIT doc.now
+        sources.now.files sources.now.built }
     requires count { length sources.now.files ≡ length doc.now.routers }
-    requires bytes { All (λ text. length text ≤ 1048576) sources.now.files }
-    requires routers { length doc.now.routers ≤ 256 }
+    requires bytes { All (λ text. length text ≤ EDITED_FILE_LIMIT) sources.now.files }
+    requires routers { length doc.now.routers ≤ ROUTER_LIMIT }
     requires edits { AreEdits sources.now.built.net doc.now list.now }
-    requires few { length list.now ≤ 8192 }
+    requires few { length list.now ≤ EDIT_LIMIT }
     requires whole { IsWholeAnswer doc.now list.now answer.now }
     ensures { IfOk result
         (WritesAnswer words.now doc.now sources.now.built sources.now.files list.now answer.now) }

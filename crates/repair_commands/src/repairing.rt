@@ -13,6 +13,7 @@ ghost use Rattle.repair_commands.specs.Repairs.{WritesCertificate};
 ghost use Rattle.repair_commands.specs.Steps.{IsFound, StopsFor};
 
 use crate::answers::answer_done;
+use arc_base::limits::{CONFLICT_LIMIT, POLICY_LIMIT, PRICE_LIMIT};
 use arc_base::{Kind, List, Memory, Name};
 use arc_outside::Store;
 use arc_repair::Answer;
@@ -53,11 +54,11 @@ fn find_repair(
     doc: &Document,
 ) -> Result<(List<Edit>, Answer), EditFault>
     requires valid { IsValid net.now }
-    requires policies { length doc.now.policies ≤ 256 }
+    requires policies { length doc.now.policies ≤ POLICY_LIMIT }
     requires ends { All (λ policy. HasEnds net.now (subject policy)) doc.now.policies }
     requires failures { All (λ policy. HasFewFailures policy.kind) doc.now.policies }
-    requires bound { words.now.bound ≤ 512 }
-    requires most { words.now.conflicts ≤ 200000 }
+    requires bound { words.now.bound ≤ PRICE_LIMIT }
+    requires most { words.now.conflicts ≤ CONFLICT_LIMIT }
     ensures found { IfOk result (λ found. IsFound words.now net.now doc.now found.0 found.1) }
     ensures fault { IfErr result (IsRepairFault net.now doc.now words.now.bound) }
 {
@@ -69,8 +70,8 @@ fn find_repair(
 /// Finds the cheapest edits after which the network meets the document, and writes the changed
 /// files and a certificate.
 pub fn repair<S: Store>(alloc: Global, words: &RepairWords, store: &mut S) -> Result<Done, Stop>
-    requires bound { words.now.bound ≤ 512 }
-    requires most { words.now.conflicts ≤ 200000 }
+    requires bound { words.now.bound ≤ PRICE_LIMIT }
+    requires most { words.now.conflicts ≤ CONFLICT_LIMIT }
     ensures answer { Answers (WritesCertificate words.now) (IsRepairRefusal words.now)
         (IsRepaired words.now) (S.held store.old) result }
     ensures reads { OnlyReads least_limit S.held S.faults S.absences S.taken

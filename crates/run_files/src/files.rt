@@ -7,6 +7,7 @@ ghost use Rattle.run_files.specs.Reading.{ReadsFile, ReadsRouters};
 use crate::limits::Limits;
 use crate::outcome::Stop;
 use crate::refusals::refused;
+use arc_base::limits::ROUTER_FILE_LIMIT;
 use arc_base::{Kind, List, Memory, Name};
 use arc_outside::{Fault, ReadAll, Store, read_all};
 use std::alloc::Global;
@@ -44,7 +45,7 @@ fn read_router<S: Store>(
     ensures told { IfSome (S.held store.old) (λ files.
         ReadsFile (min (router_limit limits) room) files name.now result) }
     ensures within { IfOk result (λ bytes. length bytes.items ≤ room) }
-    ensures few { IfOk result (λ bytes. length bytes.items ≤ 8388608) }
+    ensures few { IfOk result (λ bytes. length bytes.items ≤ ROUTER_FILE_LIMIT) }
     ensures bytes { IfOk result (λ bytes. length bytes.items ≤ router_limit limits) }
     ensures reads { OnlyReads (min least_limit room) S.held S.faults S.absences S.taken
         store.old store.new result }

@@ -14,6 +14,6 @@ mod refusals;
 pub use by_lines::{next_line, try_file};
 pub use files::{read_file, read_routers};
 pub use judgements::{Judgement, told};
-pub use limits::{DOCUMENT_LIMIT, Limits, PROOF_LIMIT};
+pub use limits::Limits;
 pub use outcome::{Done, FileRefusal, Reason, Stop};
 pub use refusals::{line_of, refused};

@@ -2,11 +2,10 @@
 ghost use Rattle.std.specs.Prelude.{◌≡◌, ◌≤◌};
 ghost use Rattle.run_files.specs.Limits.{entries_limit, least_limit, router_limit, routers_limit};
 
-/// How many bytes a document may have.
-pub const DOCUMENT_LIMIT: u64 = 1_048_576;
-
-/// How many bytes a proof or a certificate may have.
-pub const PROOF_LIMIT: u64 = 1_099_511_627_776;
+use arc_base::limits::{
+    ALL_EDITED_FILES_LIMIT, ALL_ROUTER_FILES_LIMIT, EDITED_ENTRY_LIMIT, EDITED_FILE_LIMIT,
+    ENTRY_LIMIT, ROUTER_FILE_LIMIT,
+};
 
 /// Which limits hold for the router files that a command reads.
 #[derive(Clone, Copy, Debug, PartialEq, Eq)]
@@ -22,35 +21,35 @@ impl Limits {
     /// How many bytes a router file may have.
     pub fn router_bytes(self) -> u64
         ensures value { result ≡ router_limit self }
-        ensures small { result ≤ 8388608 }
+        ensures small { result ≤ ROUTER_FILE_LIMIT }
         ensures least { least_limit ≤ result }
     {
         match self {
-            Limits::Judging => 8_388_608,
-            Limits::Editing => 1_048_576,
+            Limits::Judging => ROUTER_FILE_LIMIT,
+            Limits::Editing => EDITED_FILE_LIMIT,
         }
     }
 
     /// How many bytes all router files together may have.
     pub fn all_bytes(self) -> u64
         ensures value { result ≡ routers_limit self }
-        ensures small { result ≤ 67108864 }
+        ensures small { result ≤ ALL_ROUTER_FILES_LIMIT }
         ensures least { least_limit ≤ result }
     {
         match self {
-            Limits::Judging => 67_108_864,
-            Limits::Editing => 16_777_216,
+            Limits::Judging => ALL_ROUTER_FILES_LIMIT,
+            Limits::Editing => ALL_EDITED_FILES_LIMIT,
         }
     }
 
     /// How many entries a list of a router file may have.
     pub fn entries(self) -> u32
         ensures value { result ≡ entries_limit self }
-        ensures small { result ≤ 16384 }
+        ensures small { result ≤ ENTRY_LIMIT }
     {
         match self {
-            Limits::Judging => 16_384,
-            Limits::Editing => 2_048,
+            Limits::Judging => ENTRY_LIMIT,
+            Limits::Editing => EDITED_ENTRY_LIMIT,
         }
     }
 }

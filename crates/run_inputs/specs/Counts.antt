@@ -1,5 +1,6 @@
 -- The traffic classes of a document's policies, which must not be too many.
 use Rattle.std.specs.Prelude.{◌≡◌, ℕ, ◌≤◌, ◌<◌, ◌⊎◌, List, [], length, Result, Ok, Err}
+use Rattle.arc_base.specs.declared.limits.TheConstants.{CLASS_LIMIT}
 use Rattle.arc_base.specs.declared.refusal.Kind.TheVariants.{Limit}
 use Rattle.arc_base.specs.declared.refusal.LimitKind.TheVariants.{Classes}
 use Rattle.arc_outside.specs.Files.{Files}
@@ -15,16 +16,16 @@ use Rattle.run_files.specs.declared.outcome.Stop.TheVariants as stops
 use Rattle.run_files.specs.Refusals.{refusal_of}
 use Rattle.run_inputs.specs.Inputs.{HoldsInput, IsInputRefusal}
 
--- the policies have at most 4,096 different classes
+-- the policies have at most CLASS_LIMIT different classes
 pub record HasFewClasses (net : Network) (policies : List Policy) : Type 0 where
   pub classes : List Class
   pub are : AreAllClasses net policies policies classes
-  pub few : length classes ≤ 4096
+  pub few : length classes ≤ CLASS_LIMIT
 
 -- up to the first policy with which they have more they have so many
 pub record HasManyClasses (net : Network) (policies : List Policy) (count : ℕ) : Type 0 where
   pub first : FirstHaveMore net policies count
-  pub many : 4096 < count
+  pub many : CLASS_LIMIT < count
 
 -- what counting the classes answers
 abbrev pub CountsClasses : List ℕ → Network → List Policy → Result (Unit {0}) Stop → Type 0

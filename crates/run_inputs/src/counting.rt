@@ -8,7 +8,7 @@ use std::alloc::Global;
 use traffic_classes::{ClassFault, all_classes};
 
 /// Counts the traffic classes of the policies over the network, or refuses the document for more
-/// than 4,096.
+/// than `CLASS_LIMIT`.
 pub fn count_classes(
     alloc: Global,
     document: &Name,

@@ -9,12 +9,13 @@ ghost use Rattle.run_inputs.specs.Inputs.{ReadsDocumentAt, ReadsFiles, ReadsInpu
 ghost use Rattle.run_files.specs.Answers.{OnlyReads};
 ghost use Rattle.run_files.specs.Limits.{entries_limit, least_limit, router_limit};
 
+use arc_base::limits::DOCUMENT_LIMIT;
 use arc_base::{List, Memory, Name};
 use arc_outside::Store;
 use net_build::{Built, network_alone, network_within};
 use net_doc::{NetFault, Refusal, document};
 use net_model::{Document, Network};
-use run_files::{DOCUMENT_LIMIT, FileRefusal, Limits, Reason, Stop, read_file, read_routers};
+use run_files::{FileRefusal, Limits, Reason, Stop, read_file, read_routers};
 use std::alloc::Global;
 
 /// A document, and the network of its router files.

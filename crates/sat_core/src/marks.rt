@@ -8,6 +8,7 @@ ghost use Rattle.sat_core.specs.Trails.{IsOf};
 ghost use Rattle.sat_core.specs.Watches.{IsBoth};
 
 use arc_base::Memory;
+use arc_base::limits::VARIABLE_LIMIT;
 use cnf_types::Lit;
 use std::alloc::Global;
 use std::marker::Model;
@@ -35,7 +36,7 @@ impl Model for Marks {
 impl Marks {
     /// Takes the room for a mark of each literal.
     pub fn make(alloc: Global, vars: u64) -> Result<Marks, Memory>
-        requires { vars ≤ 16777216 }
+        requires { vars ≤ VARIABLE_LIMIT }
         ensures { IfOk result (λ marks. marks ≡ vars) }
     {
         Ok(Marks {

@@ -17,6 +17,7 @@ use crate::found::Found;
 use crate::learner::Learner;
 use crate::values::values;
 use arc_base::Memory;
+use arc_base::limits::CONFLICT_LIMIT;
 use proof_log::{Log, Step};
 use sat_core::Core;
 use std::alloc::Global;
@@ -31,7 +32,7 @@ use std::alloc::Global;
 pub fn search(alloc: Global, core: &mut Core, log: &mut Log, limit: u64) -> Result<Found, Memory>
     requires level { core.old.level ≡ 0 }
     requires numbers { core.old.last_id + limit < 2 ^ 63 }
-    requires few { limit ≤ 200000 }
+    requires few { limit ≤ CONFLICT_LIMIT }
     requires room { additions log.old.steps < limit }
     requires filled { IsFalse (list_any adds_empty log.old.steps) }
     requires short { length log.old.steps < 2 ^ 31 }
@@ -86,7 +87,7 @@ pub fn search(alloc: Global, core: &mut Core, log: &mut Log, limit: u64) -> Resu
 fn run(alloc: Global, core: &mut Core, log: &mut Log, limit: u64) -> Result<Found, Memory>
     requires level { core.old.level ≡ 0 }
     requires numbers { core.old.last_id + limit < 2 ^ 63 }
-    requires few { limit ≤ 200000 }
+    requires few { limit ≤ CONFLICT_LIMIT }
     requires room { additions log.old.steps < limit }
     requires short { length log.old.steps < 2 ^ 31 }
     ensures { Searched core.old log.old.steps limit core.new log.new.steps result }

@@ -2,6 +2,7 @@
 use Rattle.std.specs.Prelude.{◌≡◌, ℕ, ◌+◌, ◌<◌, ◌≤◌, ◌&&◌, ◌++◌, nat_eq, not, Bool, List, [], ◌∷◌}
 use Rattle.std.specs.Prelude.{fold, length, map, take, if◌then◌else◌}
 use Rattle.std.specs.List.{flat_map, list_any, AllZip}
+use Rattle.arc_base.specs.declared.limits.TheConstants.{CLASS_LIMIT}
 use Rattle.arc_base.specs.Addresses.{inside}
 use Rattle.net_model.specs.Services.{is_service_inside}
 use Rattle.net_model.specs.declared.policies.Class.{Class}
@@ -58,13 +59,14 @@ pub record HaveClasses (net : Network) (policies some : List Policy) (count : �
   pub are : AreAllClasses net policies some classes
   pub counted : told (length classes) ≡ count
 
--- up to the first policy with which there are more than 4,096 different classes there are so many
+-- up to the first policy with which there are more than CLASS_LIMIT different classes there are so
+-- many
 pub record FirstHaveMore (net : Network) (policies : List Policy) (count : ℕ) : Type 0 where
   pub place : ℕ
   pub within : place < length policies
   pub few : ℕ
   pub before : HaveClasses net policies (take place policies) few
-  pub before_few : few ≤ 4096
+  pub before_few : few ≤ CLASS_LIMIT
   pub with_it : HaveClasses net policies (take (place + 1) policies) count
 
 -- whether the class does not lie in the policy

@@ -4,6 +4,7 @@ use Rattle.std.specs.Prelude.{◌≡◌, ℕ, ◌+◌, ◌-◌, ◌*◌, ◌/◌
 use Rattle.std.specs.Prelude.{List, [], ◌∷◌, length, map, if◌then◌else◌}
 use Rattle.std.specs.List.{flat_map}
 use Rattle.std.proofs.Common.{arith}
+use Rattle.arc_base.specs.declared.limits.TheConstants.{CLASS_LIMIT}
 use Rattle.arc_base.specs.declared.prefix.Prefix.{Prefix}
 use Rattle.net_model.specs.declared.policies.Class.{Class}
 use Rattle.net_model.specs.declared.policies.Policy.{Policy}
@@ -93,7 +94,8 @@ pub record HasClasses (net : Network) (policies : List Policy) (policy : Policy)
   pub are : AreClasses net policies policy classes
   pub counted : told (length classes) ≡ count
 
--- a fault of too many classes names a number that the fact holds of, and that is above 4,096
+-- a fault of too many classes names a number that the fact holds of, and that is above
+-- CLASS_LIMIT
 abbrev pub CountsMore : (ℕ → Type 0) → ClassFault → Type 0
-CountsMore P (TooMany count) = P count × (4096 < count)
+CountsMore P (TooMany count) = P count × (CLASS_LIMIT < count)
 CountsMore P Memory = Unit {0}

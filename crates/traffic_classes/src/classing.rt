@@ -10,6 +10,7 @@ use crate::found::Found;
 use crate::marks::Marks;
 use crate::policy_leaves::Leaves;
 use arc_base::List;
+use arc_base::limits::CLASS_LIMIT;
 use net_model::{Class, Network, Policy};
 use std::alloc::Global;
 
@@ -29,7 +30,7 @@ pub fn classes(
         IfSome (slice_get policies.now which) (λ p. AreClasses net.now policies.now p cs)) }
     ensures parts { IfOk result (λ cs.
         IfSome (slice_get policies.now which) (λ p. MakeUp net.now (subject p) cs)) }
-    ensures few { IfOk result (λ cs. length cs ≤ 4096) }
+    ensures few { IfOk result (λ cs. length cs ≤ CLASS_LIMIT) }
     ensures many { IfErr result (CountsMore (λ count.
         IfSome (slice_get policies.now which) (λ p. HasClasses net.now policies.now p count))) }
 {
@@ -55,7 +56,7 @@ pub fn all_classes(
 ) -> Result<List<Class>, ClassFault>
     ensures classes { IfOk result (AreAllClasses net.now policies.now policies.now) }
     ensures parts { IfOk result (TellApart net.now policies.now) }
-    ensures few { IfOk result (λ cs. length cs ≤ 4096) }
+    ensures few { IfOk result (λ cs. length cs ≤ CLASS_LIMIT) }
     ensures many { IfErr result (CountsMore (FirstHaveMore net.now policies.now)) }
 {
     let marks = Marks::of(alloc, net, policies)?;

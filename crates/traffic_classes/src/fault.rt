@@ -3,13 +3,11 @@
 use arc_base::Memory;
 use thiserror::Error;
 
-/// The greatest number of traffic classes.
-pub const LIMIT: u64 = 4096;
-
 /// Why there are no traffic classes.
 #[derive(Clone, Copy, Debug, PartialEq, Eq, Error)]
 pub enum ClassFault {
-    /// There are so many, more than 4,096. From the end of 64 bits on the number stands still.
+    /// There are so many, more than `CLASS_LIMIT`. From the end of 64 bits on the number stands
+    /// still.
     #[error("{0} traffic classes are too many")]
     TooMany(u64),
     /// Want of memory.

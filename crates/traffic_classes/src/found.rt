@@ -5,8 +5,9 @@ ghost use Rattle.traffic_classes.specs.Classes.{classes_between, classes_from, a
 ghost use Rattle.traffic_classes.specs.Classes.{CountsMore};
 ghost use Rattle.traffic_classes.specs.AllClasses.{key_of, with_class, lies_off, IsIndexed};
 
-use crate::fault::{ClassFault, LIMIT};
+use crate::fault::ClassFault;
 use crate::policy_leaves::Leaves;
+use arc_base::limits::CLASS_LIMIT;
 use arc_base::{Memory, Prefix};
 use indexmap::IndexSet;
 use net_model::{Class, Policy, Service};
@@ -62,20 +63,20 @@ impl Found {
     /// Adds the classes of a policy with these leaves, unless there are too many with them.
     pub fn add(&mut self, policy: &Policy, leaves: &Leaves) -> Result<(), ClassFault>
         requires indexed { IsIndexed self.old }
-        requires few { length self.old.classes.items ≤ 4096 }
+        requires few { length self.old.classes.items ≤ CLASS_LIMIT }
         ensures indexed { OnOk result (IsIndexed self.new) }
         ensures added { OnOk result (self.new.classes.items ≡ fold with_class self.old.classes.items
             (all_triples leaves.now.sources leaves.now.destinations leaves.now.services)) }
         ensures few { OnOk result (length leaves.now.sources * length leaves.now.destinations *
             length leaves.now.services + count_by (lies_off policy.now) self.old.classes.items
-            ≤ 4096) }
+            ≤ CLASS_LIMIT) }
         ensures many { IfErr result
             (CountsMore (λ count. told (length leaves.now.sources * length leaves.now.destinations *
             length leaves.now.services + count_by (lies_off policy.now) self.old.classes.items)
             ≡ count)) }
     {
         let count = leaves.count().saturating_add(self.count_off(policy));
-        if count > LIMIT {
+        if count > CLASS_LIMIT {
             return Err(ClassFault::TooMany(count));
         }
         for source in leaves.sources.slice() {

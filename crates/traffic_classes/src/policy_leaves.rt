@@ -5,10 +5,11 @@ ghost use Rattle.traffic_classes.specs.ServiceLeaves.{AreServiceLeaves};
 ghost use Rattle.traffic_classes.specs.Classes.{classes_between, classes_from, all_triples, told};
 ghost use Rattle.traffic_classes.specs.Classes.{CountsMore};
 
-use crate::fault::{ClassFault, LIMIT};
+use crate::fault::ClassFault;
 use crate::halving::leaves_of;
 use crate::marks::Marks;
 use crate::service_leaves::service_leaves_of;
+use arc_base::limits::CLASS_LIMIT;
 use arc_base::{List, Memory, Prefix};
 use net_model::{Class, Policy, Service};
 use std::alloc::Global;
@@ -67,13 +68,13 @@ impl Leaves {
     pub fn few_triples(&self, alloc: Global) -> Result<List<Class>, ClassFault>
         ensures triples { IfOk result (λ classes.
             classes ≡ all_triples self.now.sources self.now.destinations self.now.services) }
-        ensures few { IfOk result (λ classes. length classes ≤ 4096) }
+        ensures few { IfOk result (λ classes. length classes ≤ CLASS_LIMIT) }
         ensures many { IfErr result (CountsMore (λ count.
             told (length (all_triples self.now.sources self.now.destinations self.now.services))
             ≡ count)) }
     {
         let count = self.count();
-        if count > LIMIT {
+        if count > CLASS_LIMIT {
             return Err(ClassFault::TooMany(count));
         }
         Ok(List::of(self.triples(alloc)?)?)

@@ -1,6 +1,7 @@
 -- Which of the right verdicts is given.
 use Rattle.std.specs.Prelude.{◌≡◌, ℕ, ◌<◌, ◌≤◌, ◌↔◌, Bool, Some, List, map, length, slice_get, All}
 use Rattle.std.specs.Prelude.{AllPairs, Contains}
+use Rattle.arc_base.specs.declared.limits.TheConstants.{CLASS_LIMIT}
 use Rattle.arc_base.specs.declared.place.Link.{Link}
 use Rattle.net_model.specs.declared.lists.Packet.{Packet}
 use Rattle.net_model.specs.declared.policies.Class.{Class}
@@ -109,12 +110,12 @@ IsFixedFor net ends Through whole classes v = IsFixedBlocking net ends Through c
 IsFixedFor net ends (Reach k) whole classes v = IsFixedReach net ends whole classes v
 
 -- the verdict on one of the policies is the one that is given, where its classes are no more than
--- 4,096
+-- CLASS_LIMIT
 pub record IsFixed (net : Network) (policies : List Policy) (policy : Policy)
     (v : Verdict) : Type 0 where
   pub ends : Ends
   pub are_ends : AreEnds net (subject policy) ends
   pub classes : List Class
   pub are_classes : AreClasses net policies policy classes
-  pub few : length classes ≤ 4096
+  pub few : length classes ≤ CLASS_LIMIT
   pub fixed : IsFixedFor net ends policy.kind (subject policy) classes v

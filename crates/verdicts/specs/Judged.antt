@@ -1,5 +1,6 @@
 -- Which policies can be judged, and what is found of their classes.
 use Rattle.std.specs.Prelude.{ℕ, ◌<◌, List, All}
+use Rattle.arc_base.specs.declared.limits.TheConstants.{CLASS_LIMIT}
 use Rattle.net_model.specs.declared.policies.Class.{Class}
 use Rattle.net_model.specs.declared.policies.PolicyKind.{PolicyKind}
 use Rattle.net_model.specs.declared.policies.PolicyKind.TheVariants.{Through}
@@ -18,9 +19,10 @@ use Rattle.verdicts.specs.declared.blocking.ClassAnswer.TheVariants as answers
 use Rattle.verdicts.specs.Fixed.{IsFirstAfter, HasClosedSide, IsLeastClosed, IsFixedBlocking}
 use Rattle.verdicts.specs.Fixed.{IsFixedReach, IsFixedFor}
 
--- a fault of too many classes names a number that the fact holds of, and that is above 4,096
+-- a fault of too many classes names a number that the fact holds of, and that is above
+-- CLASS_LIMIT
 abbrev pub CountsMore : (ℕ → Type 0) → JudgeFault → Type 0
-CountsMore P (TooMany count) = P count × (4096 < count)
+CountsMore P (TooMany count) = P count × (CLASS_LIMIT < count)
 CountsMore P Memory = Unit {0}
 
 -- the arcs over which a walk may break a policy of this kind, of those that permit packets

@@ -4,7 +4,7 @@ use thiserror::Error;
 /// Why there is no verdict.
 #[derive(Clone, Copy, Debug, PartialEq, Eq, Error)]
 pub enum JudgeFault {
-    /// The policy has so many traffic classes, more than 4,096.
+    /// The policy has so many traffic classes, more than `CLASS_LIMIT`.
     #[error("{0} traffic classes are too many")]
     TooMany(u64),
     /// Want of memory.

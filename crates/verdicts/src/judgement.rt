@@ -15,6 +15,7 @@ ghost use Rattle.net_model.specs.Policies.{HasFewFailures};
 use crate::blocking::judge_blocking;
 use crate::fault::JudgeFault;
 use crate::reach::judge_reach;
+use arc_base::limits::CLASS_LIMIT;
 use arc_base::{List, Memory};
 use class_graph::{HostPair, host_pair};
 use net_model::{Class, Network, Policy, PolicyKind, Verdict};
@@ -94,7 +95,7 @@ fn classes_of(
         IfSome (slice_get policies.now which) (λ p. AreClasses net.now policies.now p cs)) }
     ensures parts { IfOk result (λ cs.
         IfSome (slice_get policies.now which) (λ p. MakeUp net.now (subject p) cs)) }
-    ensures few { IfOk result (λ cs. length cs ≤ 4096) }
+    ensures few { IfOk result (λ cs. length cs ≤ CLASS_LIMIT) }
     ensures many { IfErr result (CountsMore (λ count.
         IfSome (slice_get policies.now which) (λ p. HasClasses net.now policies.now p count))) }
 {

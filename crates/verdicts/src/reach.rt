@@ -8,6 +8,7 @@ ghost use Rattle.verdicts.specs.Judged.{AreAllUniform, IsReachVerdict};
 ghost use Rattle.verdicts.specs.Reaching.{HasNoDenial, IsPathsOrCut, paths_of};
 
 use crate::denials::{first_denial, first_kept_out};
+use arc_base::limits::FAILURE_LIMIT;
 use arc_base::{Link, List, Memory};
 use class_graph::{HostPair, routed_graph};
 use graph_flow::{FlowAnswer, LinkRow2, disjoint};
@@ -25,7 +26,7 @@ pub(crate) fn judge_reach(
     requires valid { IsValid net.now }
     requires pair { HasHostPair net.now pair.now }
     requires uniform { AreAllUniform net.now classes.now }
-    requires few { failures ≤ 16 }
+    requires few { failures ≤ FAILURE_LIMIT }
     ensures { IfOk result (λ v. (ends : Ends) (whole : AnyClass) →
         IsHostPair net.now ends pair.now → MakeUp net.now whole classes.now →
         IsReachVerdict net.now ends failures whole classes.now v) }
@@ -61,7 +62,7 @@ fn judge_apart(
     requires valid { IsValid net.now }
     requires pair { HasHostPair net.now pair.now }
     requires uniform { AreAllUniform net.now classes.now }
-    requires few { failures ≤ 16 }
+    requires few { failures ≤ FAILURE_LIMIT }
     requires apart { pair.now.source.router.0 ≢ pair.now.target.router.0 }
     ensures { IfOk result (λ v. (ends : Ends) (whole : AnyClass) →
         IsHostPair net.now ends pair.now → MakeUp net.now whole classes.now →
@@ -85,7 +86,7 @@ fn judge_clear(
     requires valid { IsValid net.now }
     requires pair { HasHostPair net.now pair.now }
     requires uniform { AreAllUniform net.now classes.now }
-    requires few { failures ≤ 16 }
+    requires few { failures ≤ FAILURE_LIMIT }
     requires apart { pair.now.source.router.0 ≢ pair.now.target.router.0 }
     requires clear { HasNoDenial net.now pair.now.to classes.now (length classes.now) }
     ensures { IfOk result (λ v. (ends : Ends) (whole : AnyClass) →
@@ -108,7 +109,7 @@ fn paths_or_cut(
 ) -> Result<Verdict, Memory>
     requires valid { IsValid net.now }
     requires pair { HasHostPair net.now pair.now }
-    requires few { failures ≤ 16 }
+    requires few { failures ≤ FAILURE_LIMIT }
     requires apart { pair.now.source.router.0 ≢ pair.now.target.router.0 }
     ensures { IfOk result (λ v. (ends : Ends) → IsHostPair net.now ends pair.now →
         IsPathsOrCut net.now ends failures v) }

@@ -53,8 +53,8 @@ overflow_add-count-2 c =
       c.in_ok-list.list.small,
     )
 
-pub returns-then-count-gt-LIMIT-clause-limit : goal.returns-then-count-gt-LIMIT-clause-limit
-returns-then-count-gt-LIMIT-clause-limit c =
+pub returns-then-count-gt-EDIT_LIMIT-clause-limit : goal.returns-then-count-gt-EDIT_LIMIT-clause-limit
+returns-then-count-gt-EDIT_LIMIT-clause-limit c =
     let net : Network = c.args.net.now in
     let destinations : List Prefix = c.in_ok-destinations.destinations.items in
     let classes : List Class = c.in_ok-classes.classes in (
@@ -66,7 +66,7 @@ returns-then-count-gt-LIMIT-clause-limit c =
             (c.len-2.ensures ∙ c.in_ok-routes.routes.ok.0 ∙ ap length c.in_ok-routes.ensures.sites) (c.len-3.ensures ∙ c.in_ok-destinations.destinations.ok.0) (c.len-4.ensures ∙ c.in_ok-packets.packets.ok.0 ∙ ap length c.in_ok-packets.ensures.sites)
             (written classes c.slice.result.now c.in_ok-writable.writable.items c.len-5.result (c.len-5.ensures ∙ c.in_ok-writable.writable.ok.0) c.in_ok-writable.ensures c.slice.ensures.items);
       },
-      c.if-count-gt-LIMIT.true,
+      c.if-count-gt-EDIT_LIMIT.true,
     )
 
 is_all : (c : goal.After-drop-classes-inside-2) → c.in_ok-of.field-0 ≡ all_edits c.args.net.now c.in_ok-destinations.destinations.items c.in_ok-classes.classes
@@ -100,7 +100,7 @@ returns-clause-few c =
       counted_all c.args.net.now c.in_ok-destinations.destinations.items c.in_ok-classes.classes c.len.result c.len-2.result c.len-3.result c.len-4.result c.len-5.result (c.len.ensures ∙ c.in_ok-list.list.ok.0 ∙ ap length c.in_ok-list.ensures)
           (c.len-2.ensures ∙ c.in_ok-routes.routes.ok.0 ∙ ap length c.in_ok-routes.ensures.sites) (c.len-3.ensures ∙ c.in_ok-destinations.destinations.ok.0) (c.len-4.ensures ∙ c.in_ok-packets.packets.ok.0 ∙ ap length c.in_ok-packets.ensures.sites)
           (written c.in_ok-classes.classes c.slice.result.now c.in_ok-writable.writable.items c.len-5.result (c.len-5.ensures ∙ c.in_ok-writable.writable.ok.0) c.in_ok-writable.ensures c.slice.ensures.items),
-      c.if-count-gt-LIMIT.false,
+      c.if-count-gt-EDIT_LIMIT.false,
     )
 
 pub returns-clause-few_classes : goal.returns-clause-few_classes
