@@ -2,6 +2,7 @@
 -- that of a repair or as a report.
 use Rattle.std.specs.Prelude.{◌≡◌, ◌↔◌, ◌⊎◌, ℕ, ◌≤◌, Bool, true, false, List, [], ◌∷◌, None, Some}
 use Rattle.std.specs.Prelude.{length, bytes_eq, codes}
+use Rattle.arc_base.specs.declared.limits.TheConstants.{EDIT_LIMIT}
 use Rattle.arc_base.specs.declared.refusal.Kind.TheVariants.{Limit}
 use Rattle.arc_base.specs.declared.refusal.LimitKind.{LimitKind}
 use Rattle.arc_outside.specs.Files.{Files}
@@ -46,7 +47,7 @@ pub record PassesCounted (net : Network) (doc : Document) (text : List ℕ)
   pub list : List Edit
   pub edits : AreEdits net doc list
   pub classes : HasFewClasses net doc
-  pub few : length list ≤ 8192
+  pub few : length list ≤ EDIT_LIMIT
   pub formula : IsCountFault net doc list (text_answers net doc list text) fault
 
 abbrev pub IsTextFault : Network → Document → List ℕ → EditFault → Type 0
@@ -82,7 +83,7 @@ pub record IsJudged (net : Network) (doc : Document) (text : List ℕ)
   pub list : List Edit
   pub edits : AreEdits net doc list
   pub classes : HasFewClasses net doc
-  pub few : length list ≤ 8192
+  pub few : length list ≤ EDIT_LIMIT
   pub counted : IsCounted net doc list (text_answers net doc list text)
   pub outcome_is : IsOutcome net doc list text outcome
   pub accepted : (outcome ≡ Accepted) ↔ IsCertified net doc list text

@@ -1,5 +1,6 @@
 -- What the status of `check` tells, of a certificate of either form.
 use Rattle.std.specs.Prelude.{◌≡◌, ◌↔◌, ◌⊎◌, ℕ, ◌≤◌, List, [], length}
+use Rattle.arc_base.specs.declared.limits.TheConstants.{EDIT_LIMIT}
 use Rattle.arc_outside.specs.Files.{Files}
 use Rattle.net_model.specs.declared.policies.Document.{Document}
 use Rattle.net_model.specs.declared.rows.Network.{Network}
@@ -24,7 +25,7 @@ pub record IsJudgeable (document certificate : List ℕ) (files : Files) (doc : 
   pub input : HoldsInput Editing [] document files doc net
   pub edits : AreEdits net doc list
   pub classes : HasFewClasses net doc
-  pub few : length list ≤ 8192
+  pub few : length list ≤ EDIT_LIMIT
   pub counted : IsCounted net doc list (text_answers net doc list (bytes_at files certificate))
 
 -- it is the certificate of a claim, and each claim that it is the certificate of is true

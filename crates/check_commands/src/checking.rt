@@ -13,6 +13,7 @@ ghost use Rattle.check_commands.specs.RepairChecks.{IsJudged, IsRepairJudged, Is
 ghost use Rattle.check_commands.specs.RepairChecks.{IsTextRefusal};
 
 use arc_base::Name;
+use arc_base::limits::{POLICY_LIMIT, PROOF_LIMIT};
 use arc_outside::Store;
 use cnf_types::first_line;
 use edit_space::{EditFault, edits};
@@ -21,7 +22,7 @@ use repair_check::check_repair;
 use repair_check::laws::certified_claims_are_true;
 use repair_commands::fault_stop;
 use report_check::Outcome;
-use run_files::{Done, Limits, PROOF_LIMIT, Stop, read_file, told};
+use run_files::{Done, Limits, Stop, read_file, told};
 use run_inputs::{read_document, read_sources};
 use std::alloc::Global;
 use verify_commands::{check_text, judgement_of};
@@ -45,7 +46,7 @@ fn judge_repair(
     text: &[u8],
 ) -> Result<Outcome, EditFault>
     requires fit { AreFit doc.now net.now }
-    requires few { length doc.now.policies ≤ 256 }
+    requires few { length doc.now.policies ≤ POLICY_LIMIT }
     ensures judged { IfOk result (IsJudged net.now doc.now text.now) }
     ensures fault { IfErr result (IsTextFault net.now doc.now text.now) }
 {

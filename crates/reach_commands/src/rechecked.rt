@@ -10,12 +10,13 @@ ghost use Rattle.run_files.specs.Limits.{least_limit};
 ghost use Rattle.reach_commands.specs.RecheckRuns.{AreRechecked, rechecked_status};
 ghost use Rattle.reach_commands.specs.RecheckRuns.{IsRecheckRefusal, IsRecheckAnswer};
 
+use arc_base::limits::PROOF_LIMIT;
 use arc_base::{Link, List, Memory, Name};
 use arc_outside::Store;
 use arc_recheck::{Rechecked, alone, held_verdicts, recheck_text};
 use command_words::RecheckWords;
 use net_model::Verdict;
-use run_files::{Done, Limits, PROOF_LIMIT, Stop, read_file};
+use run_files::{Done, Limits, Stop, read_file};
 use run_inputs::{Input, count_classes, read_document, read_files};
 use std::alloc::Global;
 use verdicts::JudgeFault;

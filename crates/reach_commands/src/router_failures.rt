@@ -14,6 +14,7 @@ ghost use Rattle.reach_commands.specs.Nodes.{nodes_policy, nodes_status, IsNodes
 ghost use Rattle.reach_commands.specs.Nodes.{IsNodesAnswer};
 
 use crate::added::with_policy;
+use arc_base::limits::FAILURE_LIMIT;
 use arc_base::{List, Memory, Name};
 use arc_nodecut::{NodeVerdict, judge_nodes, nodes_text};
 use arc_outside::Store;
@@ -74,7 +75,7 @@ fn status_of(verdict: &NodeVerdict) -> u8
 /// Judges whether the packets from the one prefix to the other reach it whichever so many routers
 /// fail beside their ends, and tells the verdict with its witness.
 pub fn nodes<S: Store>(alloc: Global, words: &NodesWords, store: &mut S) -> Result<Done, Stop>
-    requires few { words.now.failures ≤ 16 }
+    requires few { words.now.failures ≤ FAILURE_LIMIT }
     ensures answer { Answers IsJudging (IsNodesRefusal words.now) (IsNodesAnswer words.now)
         (S.held store.old) result }
     ensures reads { OnlyReads least_limit S.held S.faults S.absences S.taken

@@ -1,6 +1,7 @@
 -- Which texts are certificates of a repair, and when the formula of one is counted.
 use Rattle.std.specs.Prelude.{◌≡◌, ◌↔◌, ◌⊎◌, ℕ, ◌≤◌, List, ◌∷◌, length, All, Ok}
 use Rattle.std.specs.List.{filter_map}
+use Rattle.arc_base.specs.declared.limits.TheConstants.{PRICE_LIMIT}
 use Rattle.cnf_types.specs.Words.{lines}
 use Rattle.net_model.specs.declared.policies.Document.{Document}
 use Rattle.net_model.specs.declared.rows.Network.{Network}
@@ -69,9 +70,9 @@ abbrev pub HasBound : ℕ → CertForm → Type 0
 HasBound bound form = ((price : ℕ) × (form ≡ Repaired price bound)) ⊎ (form ≡ NoRepair bound)
 
 -- the lines begin with the head of a repair and an answer in its form, with this bound, which is at
--- most 512
+-- most PRICE_LIMIT
 pub record CountsBound (told : Answers) (bound : ℕ) : Type 0 where
-  pub few : bound ≤ 512
+  pub few : bound ≤ PRICE_LIMIT
   pub form : CertForm
   pub has_bound : HasBound bound form
   pub rest : Answers

@@ -5,6 +5,7 @@
 -- to refute; or the line after the last one where the text ends too early.
 use Rattle.std.specs.Prelude.{◌≡◌, ◌⊎◌, ℕ, ◌+◌, ◌<◌, ◌≤◌, ◌==◌, ◌||◌, Bool, true, false, not, List}
 use Rattle.std.specs.Prelude.{[], ◌∷◌, length, Some, MatchBool, MatchOption, Result, Ok, Err, set}
+use Rattle.arc_base.specs.declared.limits.TheConstants.{PRICE_LIMIT}
 use Rattle.arc_base.specs.declared.certificate.CertKind.{CertKind}
 use Rattle.arc_base.specs.declared.certificate.CertKind.TheVariants as kinds
 use Rattle.cnf_types.specs.declared.clauses.Formula.{Formula}
@@ -129,10 +130,11 @@ IsEditsOutcome net doc list price bound flags number (Ok (Edit place) ∷ rest) 
 IsEditsOutcome net doc list price bound flags number (Ok got ∷ rest) o =
     IsEditsEnd net doc list price bound flags number (Ok got ∷ rest) o
 
--- the outcome by the lines after the answer that there is no repair within a bound of at most 512
+-- the outcome by the lines after the answer that there is no repair within a bound of at most
+-- PRICE_LIMIT
 pub record AfterNone (net : Network) (doc : Document) (list : List edits.Edit) (bound number : ℕ)
     (told : Answers) (o : Outcome) : Type 0 where
-  pub few : bound ≤ 512
+  pub few : bound ≤ PRICE_LIMIT
   pub formula : Formula
   pub tops : List Lit
   pub is_formula : IsRepairFormula net doc list bound formula tops
@@ -145,7 +147,7 @@ IsAnswerOutcome net doc list number (Err fault ∷ rest) o = o ≡ Rejected faul
 IsAnswerOutcome net doc list number (Ok (Head (Repaired price bound)) ∷ rest) o =
     IsEditsOutcome net doc list price bound (none_of list) (number + 1) rest o
 IsAnswerOutcome net doc list number (Ok (Head (NoRepair bound)) ∷ rest) o =
-    ((512 < bound) × (o ≡ rejected 2 kinds.Price)) ⊎
+    ((PRICE_LIMIT < bound) × (o ≡ rejected 2 kinds.Price)) ⊎
     AfterNone net doc list bound (number + 1) rest o
 IsAnswerOutcome net doc list number (Ok other ∷ rest) o = o ≡ rejected number kinds.Form
 

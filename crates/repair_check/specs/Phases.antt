@@ -1,6 +1,7 @@
 -- The judgement line by line: what the lines so far leave to be judged.
 use Rattle.std.specs.Prelude.{◌≡◌, ℕ, ◌+◌, ◌<◌, ◌≤◌, Bool, true, Option, Some, List, [], ◌∷◌}
 use Rattle.std.specs.Prelude.{length, All, MatchOption, Result, Ok, Err, IsFalse}
+use Rattle.arc_base.specs.declared.limits.TheConstants.{PRICE_LIMIT}
 use Rattle.cnf_types.specs.declared.clauses.Formula.{Formula}
 use Rattle.cnf_types.specs.declared.literal.Lit.{Lit}
 use Rattle.net_model.specs.declared.policies.Document.{Document}
@@ -37,17 +38,17 @@ use Rattle.repair_check.specs.Outcomes.{IsLogOutcome, IsEnded}
 -- least bound of the log
 pub record IsReady (net : Network) (doc : Document) (list : List Edit) (bound : ℕ)
     (least : Option ℕ) (checker : Checker) : Type 0 where
-  pub few : bound ≤ 512
+  pub few : bound ≤ PRICE_LIMIT
   pub formula : Formula
   pub tops : List Lit
   pub is_formula : IsRepairFormula net doc list bound formula tops
   pub knows : known checker ≡ start formula least tops
 
 -- the checker is ready for the log of a repair of this price, or there is none where the bound
--- passes 512
+-- passes PRICE_LIMIT
 abbrev pub IsReadyWithin : Network → Document → List Edit → ℕ → ℕ → Option Checker → Type 0
 IsReadyWithin net doc list price bound log =
-    MatchOption log (512 < bound) (IsReady net doc list bound (least_below price))
+    MatchOption log (PRICE_LIMIT < bound) (IsReady net doc list bound (least_below price))
 
 -- what is judged after the edits: the network after them, in which no policy is judged yet, and the
 -- checker before the log

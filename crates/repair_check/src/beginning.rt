@@ -15,6 +15,7 @@ ghost use Rattle.repair_check.specs.Phases.{IsFaultAt, IsJudgeable, IsOpened, Is
 ghost use Rattle.repair_check.specs.Phases.{IsReadyWithin, LeadsTo};
 
 use crate::phases::{Blocks, Next, Phase};
+use arc_base::limits::{EDIT_LIMIT, POLICY_LIMIT, PRICE_LIMIT};
 use arc_base::{CertKind, List, Memory};
 use edit_space::laws::edits_keep_classes;
 use edit_space::{Edit, EditFault, after, price};
@@ -42,13 +43,13 @@ fn ready(
     least: Option<u32>,
 ) -> Result<Checker, EditFault>
     requires valid { IsValid net.now }
-    requires policies { length doc.now.policies ≤ 256 }
+    requires policies { length doc.now.policies ≤ POLICY_LIMIT }
     requires ends { All (λ policy. HasEnds net.now (subject policy)) doc.now.policies }
     requires failures { All (λ policy. HasFewFailures policy.kind) doc.now.policies }
     requires edits { AreEdits net.now doc.now list.now }
-    requires few { length list.now ≤ 8192 }
+    requires few { length list.now ≤ EDIT_LIMIT }
     requires few_classes { HasFewClasses net.now doc.now }
-    requires bound { bound ≤ 512 }
+    requires bound { bound ≤ PRICE_LIMIT }
     ensures ready { IfOk result (IsReady net.now doc.now list.now bound least) }
     ensures limits { OnOk result (IsWithin net.now doc.now list.now bound) }
     ensures fault { IfErr result (IsFaultOf net.now doc.now list.now bound) }
@@ -83,18 +84,18 @@ fn begin_repair(
     number: u64,
 ) -> Result<Next, EditFault>
     requires valid { IsValid net.now }
-    requires policies { length doc.now.policies ≤ 256 }
+    requires policies { length doc.now.policies ≤ POLICY_LIMIT }
     requires ends { All (λ policy. HasEnds net.now (subject policy)) doc.now.policies }
     requires failures { All (λ policy. HasFewFailures policy.kind) doc.now.policies }
     requires edits { AreEdits net.now doc.now list.now }
-    requires few { length list.now ≤ 8192 }
+    requires few { length list.now ≤ EDIT_LIMIT }
     requires few_classes { HasFewClasses net.now doc.now }
     ensures leads { IfOk result (LeadsTo net.now doc.now list.now Phase.Answer number
         (Ok (Got.Head (CertForm.Repaired price bound)))) }
     ensures fault { IfErr result (IsFaultAt net.now doc.now list.now Phase.Answer
         (Ok (Got.Head (CertForm.Repaired price bound)))) }
 {
-    let log = if bound <= 512 {
+    let log = if bound <= PRICE_LIMIT {
         Some(ready(alloc, net, doc, list, bound, least_below(price))?)
     } else {
         None
@@ -113,18 +114,18 @@ fn begin_none(
     number: u64,
 ) -> Result<Next, EditFault>
     requires valid { IsValid net.now }
-    requires policies { length doc.now.policies ≤ 256 }
+    requires policies { length doc.now.policies ≤ POLICY_LIMIT }
     requires ends { All (λ policy. HasEnds net.now (subject policy)) doc.now.policies }
     requires failures { All (λ policy. HasFewFailures policy.kind) doc.now.policies }
     requires edits { AreEdits net.now doc.now list.now }
-    requires few { length list.now ≤ 8192 }
+    requires few { length list.now ≤ EDIT_LIMIT }
     requires few_classes { HasFewClasses net.now doc.now }
     ensures leads { IfOk result (LeadsTo net.now doc.now list.now Phase.Answer number
         (Ok (Got.Head (CertForm.NoRepair bound)))) }
     ensures fault { IfErr result (IsFaultAt net.now doc.now list.now Phase.Answer
         (Ok (Got.Head (CertForm.NoRepair bound)))) }
 {
-    if bound > 512 {
+    if bound > PRICE_LIMIT {
         return Ok(rejected(2, CertKind::Price));
     }
     let checker = ready(alloc, net, doc, list, bound, Some(bound))?;
@@ -157,11 +158,11 @@ pub(crate) fn judge_answer(
     told: Result<Got, CertFault>,
 ) -> Result<Next, EditFault>
     requires valid { IsValid net.now }
-    requires policies { length doc.now.policies ≤ 256 }
+    requires policies { length doc.now.policies ≤ POLICY_LIMIT }
     requires ends { All (λ policy. HasEnds net.now (subject policy)) doc.now.policies }
     requires failures { All (λ policy. HasFewFailures policy.kind) doc.now.policies }
     requires edits { AreEdits net.now doc.now list.now }
-    requires few { length list.now ≤ 8192 }
+    requires few { length list.now ≤ EDIT_LIMIT }
     requires few_classes { HasFewClasses net.now doc.now }
     ensures leads { IfOk result (LeadsTo net.now doc.now list.now Phase.Answer number told) }
     ensures fault { IfErr result (IsFaultAt net.now doc.now list.now Phase.Answer told) }

@@ -16,6 +16,7 @@ use crate::beginning::{end_edits, judge_answer, judge_head};
 use crate::judging::{judge_block, judge_edits, judge_log, judge_ready};
 use crate::laws::certificates_are_accepted;
 use crate::phases::{Next, Phase};
+use arc_base::limits::{EDIT_LIMIT, POLICY_LIMIT};
 use arc_base::{CertKind, List, Memory};
 use cnf_types::first_line;
 use edit_space::{Edit, EditFault};
@@ -41,11 +42,11 @@ fn judge_line(
     told: Result<Got, CertFault>,
 ) -> Result<Next, EditFault>
     requires valid { IsValid net.now }
-    requires policies { length doc.now.policies ≤ 256 }
+    requires policies { length doc.now.policies ≤ POLICY_LIMIT }
     requires ends { All (λ policy. HasEnds net.now (subject policy)) doc.now.policies }
     requires failures { All (λ policy. HasFewFailures policy.kind) doc.now.policies }
     requires edits { AreEdits net.now doc.now list.now }
-    requires few { length list.now ≤ 8192 }
+    requires few { length list.now ≤ EDIT_LIMIT }
     requires few_classes { HasFewClasses net.now doc.now }
     requires number { number < 18446744073709551615 }
     requires going { IsGoing net.now doc.now list.now phase }
@@ -125,8 +126,8 @@ fn read_line(
 /// edits.
 ///
 /// The formula is counted at the line of the answer, where that is in its form with a bound of at
-/// most 512, and made once. Reading takes time linear in the bytes, and for the lines of edits in
-/// the edits; a step of the log takes time linear in the clauses that its hints name.
+/// most `PRICE_LIMIT`, and made once. Reading takes time linear in the bytes, and for the lines of
+/// edits in the edits; a step of the log takes time linear in the clauses that its hints name.
 pub fn check_repair(
     alloc: Global,
     net: &Network,
@@ -135,11 +136,11 @@ pub fn check_repair(
     text: &[u8],
 ) -> Result<Outcome, EditFault>
     requires valid { IsValid net.now }
-    requires policies { length doc.now.policies ≤ 256 }
+    requires policies { length doc.now.policies ≤ POLICY_LIMIT }
     requires ends { All (λ policy. HasEnds net.now (subject policy)) doc.now.policies }
     requires failures { All (λ policy. HasFewFailures policy.kind) doc.now.policies }
     requires edits { AreEdits net.now doc.now list.now }
-    requires few { length list.now ≤ 8192 }
+    requires few { length list.now ≤ EDIT_LIMIT }
     requires few_classes { HasFewClasses net.now doc.now }
     requires countable { IsCountable net.now }
     ensures outcome { IfOk result (IsOutcome net.now doc.now list.now text.now) }

@@ -25,7 +25,7 @@ pub(crate) enum Phase {
     /// The answer, and what follows it.
     Answer,
     /// Edits: the price and the bound that are claimed, the edits that are chosen so far, and what
-    /// the log will be judged by, where the bound is at most 512.
+    /// the log will be judged by, where the bound is at most `PRICE_LIMIT`.
     Edits(u32, u32, Vec<bool>, Option<Checker>),
     /// The blocks of the policies.
     Blocks(Blocks),

@@ -12,7 +12,7 @@ pub fn outcome_is_unique()
     ensures { HasOneOutcome }
 {}
 
-/// A report of right verdicts with few lines each has at most 2^40 bytes.
+/// A report of right verdicts with few lines each has at most `limits::PROOF_LIMIT` bytes.
 pub fn right_reports_are_short()
     ensures { RightReportsAreShort }
 {}
