@@ -3,17 +3,16 @@ ghost use Rattle.std.specs.Prelude.{◌≡◌, ◌+◌, ◌↔◌, IsTrue, IfOk,
 ghost use Rattle.net_model.specs.Validity.{IsValid};
 ghost use Rattle.net_model.specs.Forwarding.{Ends};
 ghost use Rattle.net_model.specs.Tables.{AreRoutedLinks};
-ghost use Rattle.class_graph.specs.Building.{IsArcOver, IsNoArcOver, IsGraphBelow, number, flag};
-ghost use Rattle.class_graph.specs.Building.{cost_from};
+ghost use Rattle.class_graph.specs.Building.{IsArcOver, IsNoArcOver, IsGraphBelow, number};
 ghost use Rattle.class_graph.specs.Graphs.{IsGraphOf};
 ghost use Rattle.class_graph.specs.Hosts.{IsHostPair, HasHostPair};
 ghost use Rattle.net_laws.specs.Routes.{just, HasRoute};
 ghost use Rattle.arc_recheck.specs.Needed.{IsLeft};
 
 use arc_base::{Link, Memory};
-use class_graph::HostPair;
+use class_graph::{HostPair, cost, leads};
 use graph_flow::{Arc, Closure, Graph};
-use net_model::{FaceRow, Network, Protocol, RoutedLink};
+use net_model::Network;
 use std::alloc::Global;
 
 /// Whether a route from the source to the target is left once a link has failed.
@@ -98,21 +97,4 @@ fn arc_over(net: &Network, pair: &HostPair, failed: Link, link: Link, from_a: bo
         head: head.router.0,
         cost: cost(net.protocol, tail),
     })
-}
-
-/// Whether the link's arc in this direction is routed.
-fn leads(flags: &RoutedLink, from_a: bool) -> bool
-    ensures { result ≡ flag flags.now from_a }
-{
-    if from_a { flags.from_a } else { flags.from_b }
-}
-
-/// What an arc costs that begins at the interface.
-fn cost(protocol: Protocol, tail: &FaceRow) -> u32
-    ensures { result ≡ cost_from protocol tail.now }
-{
-    match protocol {
-        Protocol::Ospf => tail.cost,
-        Protocol::Bgp => 1,
-    }
 }

@@ -13,14 +13,14 @@ use graph_flow::{Arc, Graph};
 use net_model::{FaceRow, Network, Protocol, RoutedLink};
 
 /// Whether the link's arc in this direction is routed.
-pub(crate) fn leads(flags: &RoutedLink, from_a: bool) -> bool
+pub fn leads(flags: &RoutedLink, from_a: bool) -> bool
     ensures { result ≡ flag flags.now from_a }
 {
     if from_a { flags.from_a } else { flags.from_b }
 }
 
 /// What an arc costs that begins at the interface.
-fn cost(protocol: Protocol, tail: &FaceRow) -> u32
+pub fn cost(protocol: Protocol, tail: &FaceRow) -> u32
     ensures { result ≡ cost_from protocol tail.now }
 {
     match protocol {

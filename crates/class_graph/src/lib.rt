@@ -11,6 +11,7 @@ mod hosts;
 mod modes;
 
 pub use answers::list_answers;
+pub use arcs::{cost, leads};
 pub use building::{ClassGraph, build, build_between, routed_graph};
 pub use denials::denied_link;
 pub use hosts::{End, HostPair, host_pair};

@@ -11,7 +11,7 @@ use Rattle.sat_core.specs.States.{State}
 use Rattle.sat_search.specs.declared.found.Found.{Found}
 use Rattle.sat_search.specs.declared.found.Found.TheVariants.{Model, Refuted, Budget}
 use Rattle.sat_search.specs.Searches.{IfModel, IsModelOf, KeepsOthers}
-use Rattle.cnf_commands.specs.Cores.{core_of}
+use Rattle.sat_search.specs.Cores.{core_of}
 use Rattle.cnf_commands.specs.Solves.{IsFound}
 use Rattle.cnf_commands.proofs.Searching.{stays_satisfied, unsatisfiable}
 

@@ -17,7 +17,7 @@ use Rattle.sat_search.specs.Live.{clause_in}
 use Rattle.sat_search.specs.Searches.{KeepsOthers}
 use Rattle.sat_search.proofs.Held.{at_held}
 use Rattle.sat_search.proofs.Learnt.{all_at}
-use Rattle.cnf_commands.specs.Cores.{numbered}
+use Rattle.sat_search.specs.Cores.{numbered}
 
 abbrev with_id : ℕ × Clause → Numbered
 with_id p = record { id = p.0; lits = p.1.lits }

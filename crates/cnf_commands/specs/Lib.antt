@@ -1,5 +1,4 @@
 pub mod Formulas
 pub mod ProofLines
 pub mod Lrats
-pub mod Cores
 pub mod Solves

@@ -4,7 +4,6 @@ ghost use Rattle.std.specs.Prelude.{string_bytes};
 ghost use Rattle.clean_logs.specs.CleanLogs.{additions};
 ghost use Rattle.clean_logs.specs.Laws.{HasItsVariables};
 ghost use Rattle.proof_log.specs.Texts.{log_text};
-ghost use Rattle.cnf_commands.specs.Cores.{core_of};
 ghost use Rattle.run_files.specs.Answers.{Answers, OnlyReads};
 ghost use Rattle.run_files.specs.Limits.{least_limit, proof_limit};
 ghost use Rattle.cnf_commands.specs.Solves.{found_status, found_text, value_text, values_text};
@@ -19,24 +18,9 @@ use cnf_types::Formula;
 use command_words::SolveWords;
 use proof_log::{Log, text};
 use run_files::{Done, Stop, refused};
-use sat_core::Core;
-use sat_search::{Found, search};
+use sat_search::{Found, core_of, search};
 use std::alloc::Global;
 use std::fmt::Write;
-
-// A core with the clauses of the formula, under the ids from 1 on.
-fn core_of(alloc: Global, formula: &Formula) -> Result<Core, Memory>
-    requires variables { HasItsVariables formula.now }
-    requires few { formula.now.vars ≤ VARIABLE_LIMIT }
-    ensures core { IfOk result (λ core. core ≡ core_of formula.now) }
-    ensures few { IfOk result (λ core. length formula.now.clauses < 2 ^ 32) }
-{
-    let mut core = Core::make(alloc, formula.vars)?;
-    for (place, clause) in formula.clauses.slice().iter().enumerate() {
-        core.add(place as u64 + 1, clause.lits.slice())?;
-    }
-    Ok(core)
-}
 
 // What a search over the formula finds, and the log of its clauses.
 fn search_formula(alloc: Global, formula: &Formula, limit: u64) -> Result<(Found, Log), Memory>

@@ -1,5 +1,4 @@
 pub mod Prices
 pub mod Outcomes
 pub mod Laws
-pub mod Cores
 pub mod Progress

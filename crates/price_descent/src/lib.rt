@@ -6,7 +6,6 @@
 
 mod beginning;
 mod bounding;
-mod counting;
 mod descending;
 mod found;
 pub mod laws;

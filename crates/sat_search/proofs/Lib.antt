@@ -21,3 +21,4 @@ pub mod Following
 pub mod Forgetting
 pub mod Promises
 pub mod Outcomes
+pub mod Numbering

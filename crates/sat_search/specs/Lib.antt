@@ -4,3 +4,4 @@ pub mod Searches
 pub mod Orders
 pub mod Learners
 pub mod Dropping
+pub mod Cores

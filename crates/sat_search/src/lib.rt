@@ -5,6 +5,8 @@
 //! lemmas are new.
 #![tactic(auto)]
 
+mod beginning;
+mod counting;
 mod deciding;
 mod found;
 mod heap;
@@ -17,5 +19,7 @@ mod restarts;
 mod searching;
 mod values;
 
+pub use beginning::core_of;
+pub use counting::additions;
 pub use found::Found;
 pub use searching::search;

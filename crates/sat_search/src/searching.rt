@@ -9,16 +9,17 @@ ghost use Rattle.proof_check.specs.Knowledge.{Knowledge, start};
 ghost use Rattle.proof_check.specs.Logs.{adds_empty, after_all, IsAccepted, IsRefuting};
 ghost use Rattle.clean_logs.specs.CleanLogs.{IsClean, IsSpent, added_by, dropped_by, additions};
 ghost use Rattle.sat_search.specs.Live.{clause_in};
-ghost use Rattle.sat_search.specs.Searches.{is_addition, appended, ends_empty, live_after};
+ghost use Rattle.sat_search.specs.Searches.{appended, ends_empty, live_after};
 ghost use Rattle.sat_search.specs.Searches.{AddsFrom, DropsOld, HasLiveHints, IfModel, IsModelOf};
 ghost use Rattle.sat_search.specs.Searches.{KeepsOthers, Knows, Searched};
 
+use crate::counting::additions;
 use crate::found::Found;
 use crate::learner::Learner;
 use crate::values::values;
 use arc_base::Memory;
 use arc_base::limits::CONFLICT_LIMIT;
-use proof_log::{Log, Step};
+use proof_log::Log;
 use sat_core::Core;
 use std::alloc::Global;
 
@@ -93,7 +94,7 @@ fn run(alloc: Global, core: &mut Core, log: &mut Log, limit: u64) -> Result<Foun
     ensures { Searched core.old log.old.steps limit core.new log.new.steps result }
 {
     let mut learner = Learner::make(alloc, core.vars(), log.steps.slice())?;
-    let mut added = count_additions(log.steps.slice());
+    let mut added = additions(log.steps.slice());
     loop {
         let Some(conflict) = learner.order.dive(core) else {
             return Ok(Found::Model(values(alloc, core)?));
@@ -107,23 +108,4 @@ fn run(alloc: Global, core: &mut Core, log: &mut Log, limit: u64) -> Result<Foun
         learner.drop_lemmas(core, log)?;
         added += 1;
     }
-}
-
-/// How many steps add a clause.
-fn count_additions(steps: &[Step]) -> u64
-    ensures { result ≡ additions steps.now }
-{
-    let mut count = 0;
-    for step in steps {
-        if is_addition(step) {
-            count += 1;
-        }
-    }
-    count
-}
-
-fn is_addition(step: &Step) -> bool
-    ensures { result ≡ is_addition step.now }
-{
-    matches!(step, Step::Add { .. })
 }

@@ -8,8 +8,8 @@ use Rattle.proof_check.specs.Logs.{after_all, IsAccepted}
 use Rattle.clean_logs.specs.CleanLogs.{IsClean}
 use Rattle.sat_core.specs.States.{State}
 use Rattle.sat_search.specs.Searches.{Knows}
-use Rattle.cnf_commands.specs.Cores.{core_of}
-use Rattle.cnf_commands.proofs.Numbering.{ids_are_positive}
+use Rattle.sat_search.specs.Cores.{core_of}
+use Rattle.sat_search.proofs.Numbering.{ids_are_positive}
 use Rattle.cnf_commands.proofs.Searching.{live_are}
 use Rattle.cnf_commands.proofs.FoundBySearch.{all_appended, is_found}
 use Rattle.cnf_commands.proofs.solving.search_formula.Goals as goal

@@ -1,6 +1,6 @@
 use Rattle.std.proofs.Common.{◌≡◌, ◌≤◌, take}
 use Rattle.clean_logs.specs.CleanLogs.{additions}
-use Rattle.sat_search.proofs.searching.count_additions.Given as goal
+use Rattle.sat_search.proofs.counting.additions.Given as goal
 
 abbrev pub invariant-loop-step : goal.invariant-loop-step
 invariant-loop-step l = record {
