@@ -1,10 +1,9 @@
 //! The lines after the answer, one by one.
-ghost use Rattle.std.specs.Prelude.{◌≡◌, ◌↔◌, ◌<◌, ◌≤◌, List as Items, true, length, set, All};
-ghost use Rattle.std.specs.Prelude.{IfOk, IsTrue};
+ghost use Rattle.std.specs.Prelude.{◌≡◌, ◌<◌, ◌≤◌, List as Items, true, length, set, All};
+ghost use Rattle.std.specs.Prelude.{IfOk};
 ghost use Rattle.net_model.specs.Forwarding.{HasEnds};
 ghost use Rattle.net_model.specs.Packets.{subject};
 ghost use Rattle.net_model.specs.Validity.{IsValid};
-ghost use Rattle.report_check.specs.Outcomes.{IsRightAt};
 ghost use Rattle.repair_check.specs.Outcomes.{is_edit_kind};
 ghost use Rattle.repair_check.specs.Phases.{EndsEdits, IsJudgeable, IsReadyWithin, LeadsTo};
 
@@ -12,31 +11,18 @@ use crate::beginning::{end_edits, rejected};
 use crate::phases::{Blocks, Next, Phase};
 use arc_base::{CertKind, List, Memory};
 use edit_space::Edit;
-use net_model::{Document, Network, Policy, Verdict};
+use net_model::{Document, Network, Verdict};
 use policy_report::{CertFault, Got};
 use proof_check::{Checker, fault_kind};
 use proof_log::Step;
-use report_check::Outcome;
+use report_check::{Outcome, is_right_at};
 use std::alloc::Global;
-use witness_check::accepts;
 
 // Whether a line is rejected as that of an edit.
 fn is_edit_kind(kind: CertKind) -> bool
     ensures { result ≡ is_edit_kind kind }
 {
     matches!(kind, CertKind::Edit)
-}
-
-// Whether the verdict on the policy at this place is right.
-fn is_right_at(net: &Network, policies: &[Policy], which: u32, verdict: &Verdict) -> bool
-    requires valid { IsValid net.now }
-    requires ends { All (λ policy. HasEnds net.now (subject policy)) policies.now }
-    ensures { IsTrue result ↔ IsRightAt net.now policies.now which verdict.now }
-{
-    match policies.get(which as usize) {
-        Some(policy) => accepts(net, policy, verdict),
-        None => false,
-    }
 }
 
 // Judges a step of the log.

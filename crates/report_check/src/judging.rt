@@ -18,8 +18,8 @@ use policy_report::{CertFault, CertForm, Got, Reader};
 use std::alloc::Global;
 use witness_check::accepts;
 
-// Whether the verdict on the policy at this place is right.
-fn is_right_at(net: &Network, policies: &[Policy], which: u32, verdict: &Verdict) -> bool
+/// Whether the verdict on the policy at this index is right. The cost is that of `accepts`.
+pub fn is_right_at(net: &Network, policies: &[Policy], which: u32, verdict: &Verdict) -> bool
     requires valid { IsValid net.now }
     requires ends { All (λ policy. HasEnds net.now (subject policy)) policies.now }
     ensures { IsTrue result ↔ IsRightAt net.now policies.now which verdict.now }

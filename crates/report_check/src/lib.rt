@@ -7,5 +7,5 @@ mod judging;
 pub mod laws;
 mod outcome;
 
-pub use judging::check_report;
+pub use judging::{check_report, is_right_at};
 pub use outcome::Outcome;
