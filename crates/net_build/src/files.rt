@@ -63,7 +63,7 @@ pub fn read_files(alloc: Global, files: &List<Name>) -> Result<ReadFiles, NetFau
 /// given back before the next file is read.
 pub fn read_configs(alloc: Global, files: &List<Name>) -> Result<List<Config>, NetFault>
     requires few { All (λ text. length text < 2 ^ 32) files.now }
-    requires count { length files.now ≤ 256 }
+    requires count { length files.now ≤ ROUTER_LIMIT }
     ensures { ReadsConfigs files.now result }
 {
     let mut configs = List::make(alloc);

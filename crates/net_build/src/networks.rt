@@ -78,9 +78,9 @@ pub fn network_alone(
 ) -> Result<Network, NetFault>
     requires count { length files.now ≡ length doc.now.routers }
     requires few { All (λ text. length text < 2 ^ 32) files.now }
-    requires routers { length doc.now.routers ≤ 256 }
-    requires links { length doc.now.links ≤ 1024 }
-    requires policies { length doc.now.policies ≤ 256 }
+    requires routers { length doc.now.routers ≤ ROUTER_LIMIT }
+    requires links { length doc.now.links ≤ LINK_LIMIT }
+    requires policies { length doc.now.policies ≤ POLICY_LIMIT }
     ensures answer { FindsWithin down.now most_entries doc.now files.now result }
     ensures down { IfOk result (λ net. first_above (length net.links) down.now ≡ None) }
     ensures valid { IfOk result IsValid }
