@@ -1,5 +1,5 @@
 ghost use Rattle.std.specs.Prelude.{◌≡◌};
-ghost use Rattle.net_model.specs.Packets.{first_packet};
+ghost use Rattle.net_model.specs.Packets.{first_packet, subject};
 
 use crate::lists::Packet;
 use crate::services::Service;
@@ -47,6 +47,19 @@ pub struct Policy {
     pub from: Prefix,
     pub to: Prefix,
     pub service: Service,
+}
+
+impl Policy {
+    /// All packets that it speaks of.
+    pub fn subject(&self) -> Class
+        ensures { result ≡ subject self.now }
+    {
+        Class {
+            from: self.from,
+            to: self.to,
+            service: self.service,
+        }
+    }
 }
 
 /// What an edit of each kind costs, from 1 to `limits::WEIGHT_LIMIT`.
