@@ -11,6 +11,6 @@ abbrev pub is_filled : List ℕ → Bool
 is_filled [] = false
 is_filled (b ∷ bytes) = true
 
--- the words of a line: the pieces between its blanks, but for empty ones
+-- the words of a line: the pieces between its blanks, except for empty ones
 abbrev pub words : List ℕ → List (List ℕ)
 words line = filter is_filled (slice_split is_blank line)

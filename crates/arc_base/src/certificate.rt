@@ -1,3 +1,5 @@
+//! The kinds of rejection of a certificate or a proof.
+
 /// Why a certificate or a proof is rejected. Each kind is printed as one word, in lower case with
 /// hyphens; `Memory` is never printed.
 #[derive(Clone, Copy, Debug, PartialEq, Eq)]

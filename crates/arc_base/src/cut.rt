@@ -1,3 +1,4 @@
+//! Cutting a text at a byte, in one look at each byte up to there.
 ghost use Rattle.std.specs.Prelude.{◌≡◌, ◌==◌, option_map, position, IfSome, ◌<◌, length};
 ghost use Rattle.arc_base.specs.Cuts.{cut_at};
 
@@ -11,7 +12,7 @@ pub fn cut_at(text: &[u8], byte: u8) -> Option<(&[u8], &[u8])>
     }
 }
 
-// The place of the first of these bytes.
+// The index of the first of these bytes.
 fn place_of(text: &[u8], byte: u8) -> Option<usize>
     ensures place { result ≡ position (λ b. b == byte) text.now }
     ensures within { IfSome result (λ place. place < length text.now) }

@@ -1,3 +1,4 @@
+//! Texts of bytes with an owner: names and whole files.
 ghost use Rattle.std.specs.Prelude.{◌≡◌, ◌↔◌, IfOk, IsTrue};
 
 use crate::memory::Memory;

@@ -1,3 +1,5 @@
+//! The kinds of refusal of input.
+
 /// Why input is refused. Each kind is printed as one word, in lower case with hyphens.
 #[derive(Clone, Copy, Debug, PartialEq, Eq)]
 pub enum Kind {

@@ -1,3 +1,4 @@
+//! Whether the witness of a verdict under failed routers is right, found without a search.
 ghost use Rattle.std.specs.Prelude.{◌≡◌, ◌↔◌, IsTrue};
 ghost use Rattle.net_model.specs.Packets.{subject};
 ghost use Rattle.net_model.specs.Forwarding.{HasEnds};

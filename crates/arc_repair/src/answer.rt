@@ -1,3 +1,5 @@
+//! The answers of a repair.
+
 use edit_space::Claim;
 use proof_log::Log;
 

@@ -1,3 +1,5 @@
+//! The prices of edits, as the descent asks for them.
+
 use arc_base::List;
 use edit_space::{Edit, price};
 use net_model::Document;

@@ -1,4 +1,4 @@
--- The line that is put where the words match no command.
+-- The line that is printed where the words match no command.
 use Rattle.std.specs.Prelude.{ℕ, List, codes}
 
 abbrev pub usage : List ℕ

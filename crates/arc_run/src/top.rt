@@ -113,7 +113,7 @@ pub fn run<S: Store, K: Sink>(alloc: Global, words: &[Name], store: &mut S, out:
         (Rose (K.faults out.old) (K.faults out.new))
         (S.held store.old) (S.held store.new) (K.written out.old) (K.written out.new) result.code }
 
-    // The usage line comes exactly where the words match no command, but for 7 and 8.
+    // The usage line comes exactly where the words match no command, except for 7 and 8.
     ensures usage { result.code ≡ 4 → command_of words.now ≡ None }
     ensures no_command { command_of words.now ≡ None → (result.code ≡ 4) ⊎ (7 ≤ result.code) }
 

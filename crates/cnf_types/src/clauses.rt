@@ -1,3 +1,5 @@
+//! Clauses, and formulas in conjunctive normal form.
+
 use crate::Lit;
 use arc_base::List;
 

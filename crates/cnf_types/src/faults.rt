@@ -1,3 +1,4 @@
+//! Why a text is no formula in DIMACS form.
 ghost use Rattle.std.specs.Prelude.{◌≡◌};
 
 use arc_base::{LimitKind, Memory};

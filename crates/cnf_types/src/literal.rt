@@ -1,3 +1,4 @@
+//! Literals, coded as numbers. Each call takes constant time.
 ghost use Rattle.std.specs.Prelude.{◌≡◌, ◌<◌, ◌≤◌, ◌^◌};
 
 /// A literal: a variable or its negation. Variable v is written 2 v, and its negation 2 v + 1.

@@ -11,21 +11,21 @@ fn is_blank(byte: u8) -> bool
     byte == b' ' || byte == b'\t'
 }
 
-/// The place of the first line feed.
+/// The index of the first line feed.
 fn line_end(text: &[u8]) -> Option<usize>
     ensures { result ≡ position is_line_feed text.now }
 {
     text.iter().position(|byte| *byte == b'\n')
 }
 
-/// The place of the first byte that is no blank.
+/// The index of the first byte that is no blank.
 fn word_start(line: &[u8]) -> Option<usize>
     ensures { result ≡ position (λ b. not (is_blank b)) line.now }
 {
     line.iter().position(|byte| !is_blank(*byte))
 }
 
-/// The place of the first blank.
+/// The index of the first blank.
 fn word_end(line: &[u8]) -> Option<usize>
     ensures { result ≡ position is_blank line.now }
 {

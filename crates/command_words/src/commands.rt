@@ -1,3 +1,5 @@
+//! The commands, each with its words.
+
 use arc_base::{List, Name, Prefix};
 
 /// A command with its words.

@@ -1,3 +1,5 @@
+//! What a repair claims.
+
 use arc_base::List;
 use net_model::Verdict;
 

@@ -1,3 +1,4 @@
+//! The rows of a network can be counted in 32 bits, which one look at each shows.
 ghost use Rattle.edit_space.specs.Determined.{IsCountable};
 
 use net_model::Network;

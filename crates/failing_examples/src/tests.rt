@@ -111,7 +111,7 @@ fn keeps_files(alloc: Global, case: &Case, store: &MemStore) -> Result<bool, Mem
 }
 
 // Whether of the files that the case writes the first ones stand, so many of them: whole, as after
-// the other run, but for the last of them, which holds its first half.
+// the other run, except for the last of them, which holds its first half.
 fn holds_front(
     alloc: Global,
     case: &Case,

@@ -1,4 +1,4 @@
--- The lines that the command puts.
+-- The lines that the command prints.
 use Rattle.std.specs.Prelude.{ℕ, ◌+◌, Bool, List, [], ◌∷◌, ◌++◌, codes, count_by, decimal}
 use Rattle.net_gen.specs.Plans.{link_count}
 use Rattle.net_model.specs.declared.verdicts.Verdict.{Verdict}

@@ -1,4 +1,4 @@
-//! What the command puts and writes.
+//! What the command prints and writes.
 ghost use Rattle.std.specs.Prelude.{◌≡◌, ◌∷◌, [], ◌++◌, ◌≤◌, length, IfOk, codes};
 ghost use Rattle.output_files.specs.Outputs.{wrote_lines};
 ghost use Rattle.repair_commands.specs.Steps.{IsWholeAnswer};

@@ -1,4 +1,4 @@
-//! The lines that the command puts.
+//! The lines that the command prints.
 ghost use Rattle.std.specs.Prelude.{◌≡◌, ◌∷◌, [], ◌++◌, ◌≤◌, OnOk, codes, decimal};
 ghost use Rattle.policy_report.specs.Lines.{after_spaces, line};
 ghost use Rattle.generate_commands.specs.Summaries.{answer_lines, flags_set, made_line};

@@ -1,4 +1,5 @@
-//! Link-disjoint paths between two nodes, or the cut that rules them out.
+//! Link-disjoint paths between two nodes, or the cut that rules them out (Menger's theorem): a flow
+//! grows by one augmenting path for each of them.
 ghost use Rattle.std.specs.Prelude.{◌≡◌, ◌≢◌, ℕ, ◌≤◌, ◌<◌, ◌+◌, ◌-◌, ◌^◌, length, IfOk, IsTrue};
 ghost use Rattle.std.specs.Prelude.{IsFalse, Some};
 ghost use Rattle.graph_flow.specs.Paths.{AreDisjointPaths};

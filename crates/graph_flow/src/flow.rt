@@ -1,4 +1,5 @@
-//! Flows that grow unit by unit, each over links that have room for it.
+//! Flows that grow unit by unit, each along an augmenting path: over links that have room for it. A
+//! unit more costs one breadth-first search.
 ghost use Rattle.std.specs.Prelude.{◌≡◌, ◌≢◌, ℕ, ◌<◌, ◌+◌, length, IfOk, IsTrue, IsFalse, ◌↔◌};
 ghost use Rattle.graph_flow.specs.Flows.{IsFlow, IsGreatest, IsMadeFor, EndsAt, leaving, flagged};
 ghost use Rattle.graph_flow.specs.Marks.{AreSteps, mark_at, way_to};

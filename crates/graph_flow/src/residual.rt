@@ -1,4 +1,5 @@
-//! The room that links have for one more unit of a flow, and how that unit is sent.
+//! The residual graph of a flow: the room that links have for one more unit, and how that unit is
+//! sent.
 ghost use Rattle.std.specs.Prelude.{◌≡◌, ◌<◌, length};
 ghost use Rattle.graph_flow.specs.Residual.{residual_of, reversed, turn};
 

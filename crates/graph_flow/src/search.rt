@@ -1,4 +1,5 @@
-//! The search in breadth that finds what can be reached over links that have room.
+//! Breadth-first search for what can be reached over links that have room, in time linear in nodes
+//! and arcs.
 ghost use Rattle.std.specs.Prelude.{◌≡◌, ◌≤◌, ◌<◌, ◌+◌, ◌^◌, length, IfOk, IsTrue, IsFalse};
 ghost use Rattle.std.specs.Prelude.{replicate, List, vec_len, ℕ, Contains, Some};
 ghost use Rattle.graph_flow.specs.Flows.{unit_at};
@@ -21,8 +22,8 @@ pub(crate) enum Mark {
     After(Arc, u32),
 }
 
-/// The room of a search in breadth: what it knows of each node, and the nodes in the order in which
-/// it came to them.
+/// The room of a breadth-first search: what it knows of each node, and the nodes in the order in
+/// which it came to them.
 #[derive(Debug, Drop)]
 pub(crate) struct Search {
     pub(crate) marks: Vec<Mark>,

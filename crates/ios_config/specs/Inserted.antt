@@ -78,7 +78,7 @@ CommandsAreOfMarks =
     (text : List ℕ) (lines : Lines) (commands : List FileCommand) →
     AreCommandsOf text lines commands ↔ AreMarksRead (marks_of text lines) commands
 
--- a row that says nothing leaves the commands, but for their numbers
+-- a row that says nothing leaves the commands, except for their numbers
 abbrev pub AnInertLineLeavesCommands : Type 0
 AnInertLineLeavesCommands =
     (old new : List ℕ) (lines more : Lines) (place : ℕ) (m : Mark) (commands : List FileCommand) →

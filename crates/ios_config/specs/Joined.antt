@@ -33,7 +33,7 @@ StandsBeside part front back =
     (part_of next ≡ part))
 
 -- where the part of the new command is that of an earlier one or of the next one, the command joins
--- the group of its part, and the groups stay but for their numbers
+-- the group of its part, and the groups stay except for their numbers
 abbrev pub ACommandJoinsItsGroup : Type 0
 ACommandJoinsItsGroup =
     (place : ℕ) (front : List FileCommand) (c : FileCommand) (back : List FileCommand)

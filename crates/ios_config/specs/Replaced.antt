@@ -12,8 +12,8 @@ use Rattle.ios_config.specs.declared.commands.FileCommand.{FileCommand}
 use Rattle.ios_config.specs.Commands.{AreCommandsOf}
 use Rattle.ios_config.specs.Inserted.{IsMarkWithin, command_at}
 
--- the rows of the new text are those of the old one, but for the words of one that says something
--- and heads no block
+-- the rows of the new text are those of the old one, except for the words of one that says
+-- something and heads no block
 pub record HasOtherWords (old new : List ℕ) (lines more : Lines) (place : ℕ) (m : Mark)
     (ws : List (List ℕ)) : Type 0 where
   pub old_lines : AreLinesOf old lines

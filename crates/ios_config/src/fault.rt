@@ -1,3 +1,5 @@
+//! Why a router file has no settings.
+
 use arc_base::{Kind, Memory};
 use std::alloc::{AllocError, AllocFailed};
 

@@ -38,7 +38,7 @@ pub fn commands_are_of_marks()
 {}
 
 /// A line that is inserted where it may stand adds its command to those of the file, in the block
-/// that is open there, and leaves the others, but for their numbers.
+/// that is open there, and leaves the others, except for their numbers.
 pub fn an_inserted_line_adds_its_command()
     ensures inner { AnInnerLineAddsItsCommand }
     ensures head { AHeadAddsItsCommand }
@@ -58,7 +58,7 @@ pub fn one_group_changes()
     ensures begins { ACommandBeginsItsGroup }
 {}
 
-/// What a file sets, but for the numbers of its lines, is what its groups set one by one; so one
+/// What a file sets, except for the numbers of its lines, is what its groups set one by one; so one
 /// command more changes what its own group sets, and nothing else.
 pub fn one_group_sets_other()
     ensures bare { BareGroupsSetTheSame }

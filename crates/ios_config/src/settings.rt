@@ -1,3 +1,5 @@
+//! What a router file sets, as types, each value with the line that gave it.
+
 use arc_base::{List, Name};
 use ios_words::{AreaText, Command};
 

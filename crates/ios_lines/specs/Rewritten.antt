@@ -24,7 +24,7 @@ abbrev pub MayBeOther : Line → ℕ → List ℕ → Type 0
 MayBeOther row k other =
     (2 ≤ k) ⊎ ((k ≡ 0) × (row.head ≡ false) × (row.block ≢ 0) × IsFalse (is_mark other))
 
--- the new line may take the old one's place, and has its words but for one
+-- the new line may take the old one's place, and has its words except for one
 pub record IsRewritten (text : List ℕ) (place : ℕ) (row : Line) (k : ℕ) (span : Span)
     (other : List ℕ) : Type 0 where
   pub may : MayReplaceAt (text_lines text) place (rewritten text row span other)

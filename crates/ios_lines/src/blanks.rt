@@ -32,14 +32,14 @@ pub(crate) fn is_mark(word: &[u8]) -> bool
     }
 }
 
-/// The place of the first byte of a line that is no blank.
+/// The index of the first byte of a line that is no blank.
 fn word_start(line: &[u8]) -> Option<usize>
     ensures { result ≡ position (λ b. not (is_blank b)) line.now }
 {
     line.iter().position(|byte| !is_blank(*byte))
 }
 
-/// The place of the first blank of a line.
+/// The index of the first blank of a line.
 fn first_blank(line: &[u8]) -> Option<usize>
     ensures { result ≡ position is_blank line.now }
 {

@@ -9,7 +9,7 @@ use crate::blanks::is_blank;
 use arc_base::{List, Memory, Span};
 use std::alloc::Global;
 
-/// The place of the first byte, from a place on, that is no blank, or else where the line ends.
+/// The index of the first byte, from a place on, that is no blank, or else where the line ends.
 fn blanks_end(bytes: &[u8], from: usize, to: usize) -> usize
     requires order { from ≤ to }
     requires within { to ≤ length bytes.now }
@@ -25,7 +25,7 @@ fn blanks_end(bytes: &[u8], from: usize, to: usize) -> usize
     at
 }
 
-/// The place of the first blank from a place on, or else where the line ends.
+/// The index of the first blank from a place on, or else where the line ends.
 fn word_end(bytes: &[u8], from: usize, to: usize) -> usize
     requires order { from ≤ to }
     requires within { to ≤ length bytes.now }

@@ -1,6 +1,6 @@
 -- The patch of a router file: its lines stand in the new file in order, and inserted lines between
--- them. Each old line keeps its bytes, but for the digits of a number that is another, and a last
--- line without an end that gains one where a line follows.
+-- them. Each old line keeps its bytes, except for the digits of a number that is another, and a
+-- last line without an end that gains one where a line follows.
 use Rattle.std.specs.Prelude.{◌≡◌, ℕ, ◌+◌, ◌==◌, IsSomeAnd, List, [], ◌∷◌, ◌++◌, flat_map, decimal}
 use Rattle.std.specs.Prelude.{slice_get, slice_range, if◌then◌else◌}
 use Rattle.std.specs.List.{enumerate_from}

@@ -50,7 +50,7 @@ pub record AreClaimsOf (faces : List FaceRow) (partners : List ℕ)
       face.subnet ≡ Some p → (claim : Claim) × Contains claims claim × (claim.place ≡ place)
   pub apart : AllPairs (λ x y. x.place ≢ y.place) claims
 
--- no two of the first n interfaces overlap, but for the two ends of a link
+-- no two of the first n interfaces overlap, except for the two ends of a link
 abbrev pub ClearBelow : Network → ℕ → Type 0
 ClearBelow net n =
     (i j : ℕ) (f g : FaceRow) → i < j → j < n → slice_get net.faces i ≡ Some f →

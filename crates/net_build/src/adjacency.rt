@@ -118,7 +118,7 @@ fn try_router_ids(alloc: Global, configs: &List<Config>) -> Result<(), NetFault>
     Ok(())
 }
 
-/// Tries whether the ends of each link have one network type, and each router a router id of its
+/// Checks whether the ends of each link have one network type, and each router a router id of its
 /// own.
 pub fn try_adjacency(alloc: Global, net: &Network, configs: &List<Config>) -> Result<(), NetFault>
     requires links { length net.now.links ≤ LINK_LIMIT }

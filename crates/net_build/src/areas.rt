@@ -164,7 +164,7 @@ fn other_area_in(alloc: Global, area: u32, config: &Config) -> Result<Option<u32
     Ok(first_other(area, &areas))
 }
 
-/// Tries whether all OSPF areas are the same.
+/// Checks whether all OSPF areas are the same.
 pub fn try_areas(alloc: Global, configs: &List<Config>) -> Result<(), NetFault>
     requires { length configs.now ≤ ROUTER_LIMIT }
     ensures { TriedAlone (RefusesTwoAreas configs.now) result }

@@ -1,4 +1,4 @@
-//! The network of the settings of all files, or the first refusal of the tries in their order.
+//! The network of the settings of all files, or the first refusal of the checks in their order.
 ghost use Rattle.std.specs.Prelude.{◌≡◌, ◌≤◌, ℕ, List, All, IfOk, OnOk, length, map};
 ghost use Rattle.std.specs.List.{AllZip};
 ghost use Rattle.net_model.specs.declared.policies.Document.{Document};
@@ -43,7 +43,7 @@ use net_doc::NetFault;
 use net_model::{Document, FaceRow, LinkRow, Network, PacketList, Protocol, SessionRow};
 use std::alloc::Global;
 
-/// Tries what is asked of routers by themselves.
+/// Checks what is asked of routers by themselves.
 fn try_routers(alloc: Global, configs: &List<Config>) -> Result<(), NetFault>
     requires { length configs.now ≤ ROUTER_LIMIT }
     ensures { (down : List ℕ) (most : ℕ) (doc : Document) →
@@ -94,7 +94,7 @@ fn sessions_of(
     session_rows(alloc, net, configs, &lists)
 }
 
-/// The rows of the network over these links, but for the sessions.
+/// The rows of the network over these links, except for the sessions.
 fn rows(
     alloc: Global,
     configs: &List<Config>,
@@ -150,7 +150,7 @@ fn joined(
     Ok(net)
 }
 
-/// Tries what is asked of the network of valid links.
+/// Checks what is asked of the network of valid links.
 fn try_network(
     alloc: Global,
     doc: &Document,

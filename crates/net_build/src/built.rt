@@ -1,3 +1,5 @@
+//! A network with the lines of its files, and where they say what it is made of.
+
 use arc_base::{List, Name};
 use ios_config::ListForm;
 use ios_lines::Lines;

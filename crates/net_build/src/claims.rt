@@ -1,3 +1,4 @@
+//! Subnets that interfaces claim, and whether two of them may stand together.
 ghost use Rattle.std.specs.Prelude.{◌↔◌, ◌<◌, ◌≤◌, IsTrue, length};
 
 use arc_base::Prefix;

@@ -14,7 +14,7 @@ fn first_above(links: u32, numbers: &[u32]) -> Option<&u32>
     numbers.iter().find(|number| links < **number)
 }
 
-/// Tries whether these are numbers of the document's links.
+/// Checks whether these are numbers of the document's links.
 pub fn try_down_links(doc: &Document, down: &[u32]) -> Result<(), NetFault>
     ensures { TriedAlone (RefusesDownLinks doc.now down.now) result }
 {

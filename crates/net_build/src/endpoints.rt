@@ -25,7 +25,7 @@ pub fn has_endpoints(net: &Network, from: Prefix, to: Prefix) -> bool
     }
 }
 
-/// Tries whether each policy goes from one host network to another.
+/// Checks whether each policy goes from one host network to another.
 pub fn try_endpoints(net: &Network, doc: &Document) -> Result<(), NetFault>
     requires few { length doc.now.policies ≤ POLICY_LIMIT }
     requires valid { IsValid net.now }

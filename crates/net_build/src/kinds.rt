@@ -1,3 +1,4 @@
+//! The kinds of interfaces, with their default bandwidths.
 ghost use Rattle.std.specs.Prelude.{◌≡◌};
 
 /// The kind of an interface, which its name begins with.

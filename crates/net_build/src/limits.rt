@@ -10,7 +10,7 @@ use arc_base::{Kind, LimitKind, List};
 use ios_config::{Config, ListText};
 use net_doc::NetFault;
 
-/// Tries whether no router has too many interfaces.
+/// Checks whether no router has too many interfaces.
 pub fn try_interfaces(configs: &List<Config>) -> Result<(), NetFault>
     requires { length configs.now ≤ ROUTER_LIMIT }
     ensures { TriedAlone (RefusesInterfaces configs.now) result }
@@ -36,7 +36,7 @@ fn long_list(config: &Config, most_entries: u32) -> Option<&ListText>
         .find(|list| list.entries.len() > most_entries)
 }
 
-/// Tries whether no list has more than so many entries.
+/// Checks whether no list has more than so many entries.
 pub fn try_entries(configs: &List<Config>, most_entries: u32) -> Result<(), NetFault>
     requires { length configs.now ≤ ROUTER_LIMIT }
     ensures { TriedAlone (RefusesEntries most_entries configs.now) result }

@@ -77,7 +77,7 @@ fn add_ends<'a>(ends: &mut IndexSet<FullName<'a>>, link: &'a LinkText) -> Result
     Ok(b_new)
 }
 
-/// Tries whether each link joins two interfaces as it should, and gives the rows of the links.
+/// Checks whether each link joins two interfaces as it should, and gives the rows of the links.
 /// Their ends are added to an index, which is empty before.
 pub fn try_links<'a>(
     alloc: Global,

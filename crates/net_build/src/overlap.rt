@@ -24,7 +24,7 @@ use net_doc::NetFault;
 use net_model::{FaceRow, LinkRow, Network};
 use std::alloc::Global;
 
-/// Whether no two claims overlap, but for those of the two ends of a link.
+/// Whether no two claims overlap, except for those of the two ends of a link.
 fn are_linked_or_apart(claims: Vec<Claim>) -> Result<bool, Memory>
     requires { AreOfPartners claims.items }
     ensures { IfOk result (λ free. MatchBool free (AllPairs AreLinkedOrApart claims.items)
@@ -114,7 +114,7 @@ fn is_clear(alloc: Global, net: &Network, partners: &[u32], count: usize) -> Res
     are_linked_or_apart(claims)
 }
 
-/// The place of the first interface that overlaps one before it.
+/// The index of the first interface that overlaps one before it.
 fn first_overlap(alloc: Global, net: &Network) -> Result<Option<u32>, Memory>
     requires apart { AllPairs AreLinksApart net.now.links }
     requires a_within { All (λ link. link.a.0 < length net.now.faces) net.now.links }
@@ -153,7 +153,7 @@ fn address_line(face: &FaceText) -> u32
     }
 }
 
-/// Tries whether no two interfaces overlap, but for the two ends of a link.
+/// Checks whether no two interfaces overlap, except for the two ends of a link.
 pub fn try_overlap(alloc: Global, net: &Network, configs: &List<Config>) -> Result<(), NetFault>
     requires apart { AllPairs AreLinksApart net.now.links }
     requires routers { length configs.now ≤ ROUTER_LIMIT }

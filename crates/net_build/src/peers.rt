@@ -174,7 +174,7 @@ fn unknown_peer(
     Ok(least)
 }
 
-// Tries whether each neighbour is among these far ends and has an AS.
+// Checks whether each neighbour is among these far ends and has an AS.
 fn try_known(alloc: Global, ends: &IndexSet<FarEnd>, configs: &List<Config>) -> Result<(), NetFault>
     requires few { length configs.now ≤ ROUTER_LIMIT }
     ensures { TriedAlone (InFiles kinds.NeighborUnknown (λ place config line.
@@ -190,7 +190,7 @@ fn try_known(alloc: Global, ends: &IndexSet<FarEnd>, configs: &List<Config>) -> 
     Ok(())
 }
 
-/// Tries whether each neighbour is the far end of a link and has an AS. The network has its
+/// Checks whether each neighbour is the far end of a link and has an AS. The network has its
 /// interfaces and links.
 pub fn try_neighbors(alloc: Global, net: &Network, configs: &List<Config>) -> Result<(), NetFault>
     requires few { length configs.now ≤ ROUTER_LIMIT }
@@ -260,7 +260,7 @@ fn unconnected(alloc: Global, config: &Config) -> Result<Option<u32>, Memory>
     Ok(least)
 }
 
-/// Tries whether each network statement of BGP is for a connected network.
+/// Checks whether each network statement of BGP is for a connected network.
 pub fn try_networks(alloc: Global, configs: &List<Config>) -> Result<(), NetFault>
     requires few { length configs.now ≤ ROUTER_LIMIT }
     requires well_formed { All IsWellFormed configs.now }

@@ -130,7 +130,7 @@ fn has_no_own_process(protocol: Protocol, config: &Config) -> Option<u32>
     }
 }
 
-/// Tries whether each router has one process, and all of one protocol.
+/// Checks whether each router has one process, and all of one protocol.
 pub fn try_processes(configs: &List<Config>) -> Result<(), NetFault>
     requires { length configs.now ≤ ROUTER_LIMIT }
     ensures { TriedAlone (RefusesProtocol configs.now) result }

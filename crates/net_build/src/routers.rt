@@ -37,7 +37,7 @@ fn add_hostname<'a>(
     }
 }
 
-/// Tries whether each router has a name of its own.
+/// Checks whether each router has a name of its own.
 pub fn try_hostnames(alloc: Global, configs: &List<Config>) -> Result<(), NetFault>
     requires { length configs.now ≤ ROUTER_LIMIT }
     ensures { TriedAlone (RefusesHostname configs.now) result }
@@ -75,7 +75,7 @@ fn as_of(config: &Config) -> Option<Given<u32>>
     }
 }
 
-/// Tries whether each router has an AS of its own.
+/// Checks whether each router has an AS of its own.
 pub fn try_as_numbers(alloc: Global, configs: &List<Config>) -> Result<(), NetFault>
     requires { length configs.now ≤ ROUTER_LIMIT }
     ensures { TriedAlone (RefusesSameAs configs.now) result }

@@ -133,7 +133,7 @@ fn first_stop(net: &Network, configs: &List<Config>) -> Option<Refusal>
     first
 }
 
-/// Tries whether no list stops a session on a link that is able.
+/// Checks whether no list stops a session on a link that is able.
 pub fn try_lists(net: &Network, configs: &List<Config>) -> Result<(), NetFault>
     requires few { length configs.now ≤ ROUTER_LIMIT }
     requires named { AreDistinct (full_names configs.now) }

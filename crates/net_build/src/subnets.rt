@@ -44,7 +44,7 @@ fn fits_subnets(net: &Network, link: &LinkRow) -> bool
     have_one_subnet(f, g)
 }
 
-/// Tries whether it holds of each link.
+/// Checks whether it holds of each link.
 pub fn try_subnets(net: &Network) -> Result<(), NetFault>
     requires { length net.now.links ≤ LINK_LIMIT }
     ensures { TriedAlone

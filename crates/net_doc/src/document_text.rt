@@ -1,3 +1,4 @@
+//! Reading a document from its JSON text, or its first refusal.
 ghost use Rattle.std.specs.Prelude.{◌≡◌, ◌≤◌, None, length, map, option_map, All, IfOk, IfErr};
 ghost use Rattle.serde_json.specs.View.{view};
 ghost use Rattle.net_doc.specs.Documents.{ReadsDocument, IsWellFormed, document_from, document_of};

@@ -1,3 +1,5 @@
+//! Refusals with their places, and why there is no document or network.
+
 use arc_base::{Kind, Memory};
 use std::alloc::{AllocError, AllocFailed};
 use thiserror::Error;

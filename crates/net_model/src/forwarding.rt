@@ -1,3 +1,4 @@
+//! Whether a packet list permits a packet, in time linear in its entries.
 ghost use Rattle.std.specs.Prelude.{◌↔◌, IsTrue};
 ghost use Rattle.net_model.specs.Forwarding.{ListPermits};
 

@@ -1,3 +1,5 @@
+//! Packets, and the lists that filter them and routes. A list answers by its first entry that
+//! matches.
 ghost use Rattle.std.specs.Prelude.{◌≡◌, find};
 ghost use Rattle.std.specs.Option.{option_copied};
 

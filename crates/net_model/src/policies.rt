@@ -1,3 +1,4 @@
+//! Documents: policies, traffic classes, and the weights of edits.
 ghost use Rattle.std.specs.Prelude.{◌≡◌};
 ghost use Rattle.net_model.specs.Packets.{first_packet, subject};
 

@@ -1,3 +1,4 @@
+//! Which links and arcs are routed for a host network (RFC 2328, RFC 4271), asked one by one.
 ghost use Rattle.std.specs.Prelude.{◌≡◌, ◌↔◌, ℕ, length, Any, find, slice_get, IsTrue, IfSome};
 ghost use Rattle.std.specs.Prelude.{IfNone};
 ghost use Rattle.std.specs.Option.{option_copied};

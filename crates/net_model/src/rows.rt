@@ -1,3 +1,5 @@
+//! Networks as tables of rows: routers, interfaces, links, sessions and lists.
+
 use crate::lists::{PacketList, RouteList};
 use arc_base::{Face, List, ListId, Name, Prefix, Router};
 

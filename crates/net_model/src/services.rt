@@ -1,3 +1,4 @@
+//! Services: a protocol with a destination port, as one number, and ranges of them.
 ghost use Rattle.std.specs.Prelude.{◌≡◌, ◌↔◌, ◌^◌, ◌<◌, ◌≤◌, IsTrue, IsSome, IfSome};
 
 /// The last service: port 65535 of protocol 255.

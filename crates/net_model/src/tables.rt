@@ -1,3 +1,4 @@
+//! Which arcs of all links are routed for one host network, found in one go.
 ghost use Rattle.std.specs.Prelude.{◌≡◌, ◌↔◌, ◌<◌, ◌==◌, ℕ, length, slice_index_or, if◌then◌else◌};
 ghost use Rattle.std.specs.Prelude.{None, Some, Any, IsTrue, IfOk};
 ghost use Rattle.std.specs.Option.{option_copied, option_or};

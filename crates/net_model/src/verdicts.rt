@@ -1,3 +1,5 @@
+//! Verdicts on policies, with their witnesses.
+
 use crate::lists::Packet;
 use crate::policies::Class;
 use arc_base::{Link, List};

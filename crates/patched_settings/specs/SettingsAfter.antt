@@ -48,7 +48,7 @@ abbrev pub process_with : Network → List Edit → ℕ → ProcessText → Proc
 process_with net chosen router process =
     record process { lines = process.lines ++ map said (process_lines net chosen router) }
 
--- The new settings of the router's file are the old ones after the edits of the network, but for
+-- The new settings of the router's file are the old ones after the edits of the network, except for
 -- the numbers of lines and of entries: the new lists stand together somewhere among the old ones.
 pub record AreSettingsAfter (net : Network) (chosen : List Edit) (router : ℕ)
     (old new : Config) : Type 0 where

@@ -67,8 +67,8 @@ arc_over net list to classes link a b from_a = record {
       classes;
 }
 
--- the arcs of an able link, from a to b and from b to a, but for an arc with a condition that never
--- holds
+-- the arcs of an able link, from a to b and from b to a, except for an arc with a condition that
+-- never holds
 abbrev pub able_arcs : Network → List Edit → Prefix → List Class → ℕ × LinkRow → FaceRow →
     FaceRow → List ConditionArc
 able_arcs net list to classes link a b =

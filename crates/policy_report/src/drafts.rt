@@ -1,3 +1,5 @@
+//! Verdicts whose lines are read in part.
+
 use arc_base::{Link, List};
 use net_model::{ClassSide, LinkPath, PolicyKind, Verdict};
 

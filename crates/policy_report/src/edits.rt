@@ -234,7 +234,7 @@ fn has_text(alloc: Global, net: &Network, edit: &Edit, text: &[u8]) -> Result<bo
     Ok(written.as_slice() == text)
 }
 
-/// The place of the first of these edits that has this text.
+/// The index of the first of these edits that has this text.
 fn find_edit(
     alloc: Global,
     net: &Network,
@@ -252,7 +252,7 @@ fn find_edit(
     Ok(None)
 }
 
-/// The place of the first edit that has this text, among those from this place on.
+/// The index of the first edit that has this text, among those from this place on.
 pub(crate) fn edit_from(
     alloc: Global,
     net: &Network,

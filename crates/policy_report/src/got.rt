@@ -1,3 +1,5 @@
+//! What a line of a certificate tells its reader.
+
 use arc_base::CertKind;
 use net_model::Verdict;
 use proof_log::Step;

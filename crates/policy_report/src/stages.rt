@@ -1,3 +1,5 @@
+//! What may come next in a certificate that is read line by line.
+
 use crate::drafts::Draft;
 use crate::got::CertFault;
 

@@ -1,3 +1,5 @@
+//! Why a step of a proof log is not accepted.
+
 use arc_base::Memory;
 
 /// Why a step is not accepted. Places in the lists of hints and of dropped ids count from 0.

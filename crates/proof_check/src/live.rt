@@ -67,7 +67,7 @@ impl Live {
         }
     }
 
-    /// The place of the first id that has no clause.
+    /// The index of the first id that has no clause.
     pub fn first_unknown(&self, ids: &[u64]) -> Option<usize>
         ensures { result ≡ position (λ id. is_none (clause_in self.now id)) ids.now }
     {

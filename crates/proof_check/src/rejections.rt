@@ -1,3 +1,5 @@
+//! Why a proof is rejected, and the outcomes of a proof.
+
 use crate::faults::StepFault;
 
 /// Why a line of a proof is rejected.

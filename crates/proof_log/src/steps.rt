@@ -1,3 +1,5 @@
+//! Steps of a proof log, and logs of them.
+
 use arc_base::List;
 use cnf_types::Lit;
 

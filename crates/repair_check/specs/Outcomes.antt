@@ -53,8 +53,8 @@ IsEnded number [] o = o ≡ Accepted
 IsEnded number (told ∷ rest) o = o ≡ rejected number kinds.NoEnd
 
 -- The outcome by the lines of the log that are left, where the next of them has this number and
--- this is known. At the line `end` the empty clause has to be known, but for a claim with nothing
--- to refute.
+-- this is known. At the line `end` the empty clause has to be known, except for a claim with
+-- nothing to refute.
 abbrev pub IsLogOutcome : Bool → Knowledge → ℕ → Answers → Outcome → Type 0
 IsLogOutcome needs known number [] o = o ≡ rejected number kinds.NoEnd
 IsLogOutcome needs known number (Err fault ∷ rest) o = o ≡ Rejected fault

@@ -1,3 +1,4 @@
+//! The addresses of neighbours have 32 bits, which one look at each session shows.
 ghost use Rattle.std.specs.Prelude.{◌<◌, ◌^◌};
 ghost use Rattle.policy_report.specs.Edits.{HasAddresses};
 

@@ -98,7 +98,7 @@ fn judge_end(
     }
 }
 
-// What a reader answers to the next line, but for want of memory.
+// What a reader answers to the next line, except for want of memory.
 fn read_line(
     reader: &mut Reader,
     net: &Network,

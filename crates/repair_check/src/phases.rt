@@ -1,3 +1,5 @@
+//! What is judged next of the certificate of a repair, as a state machine over its lines.
+
 use net_model::Network;
 use proof_check::Checker;
 use report_check::Outcome;

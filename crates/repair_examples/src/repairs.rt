@@ -1,3 +1,4 @@
+//! Repairs of pairs of routers, with what their logs show.
 ghost use Rattle.std.specs.Prelude.{◌≤◌, All};
 ghost use Rattle.net_doc.specs.Documents.{IsWellFormed};
 ghost use Rattle.net_model.specs.Forwarding.{HasEnds};

@@ -1,3 +1,5 @@
+//! What the text of a report is judged to.
+
 use policy_report::CertFault;
 
 /// What the text of a report is judged to.

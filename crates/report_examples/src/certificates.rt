@@ -1,3 +1,5 @@
+//! Certificates, and what each of their lines tells.
+
 use crate::tests::{class, policies, read, router};
 use arc_base::{CertKind, Face, List, ListId, Memory, Name, Router};
 use cnf_types::Lit;

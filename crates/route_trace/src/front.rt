@@ -1,3 +1,5 @@
+//! Stable distances by Dijkstra's algorithm (RFC 2328, section 16.1) over a binary heap: for V
+//! routers and E arcs in O((V + E) log E) time.
 ghost use Rattle.std.specs.Prelude.{◌≡◌, ◌+◌, ◌^◌, ◌<◌, ◌⊎◌, ℕ, false, true, None, Some, length};
 ghost use Rattle.std.specs.Prelude.{slice_set, replicate, All, IfOk, IfSome, MatchOption, OnOk};
 ghost use Rattle.std.specs.BinaryHeap.{heap_items};

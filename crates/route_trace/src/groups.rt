@@ -1,3 +1,4 @@
+//! The usable arcs by the router at one end, in time linear in their number.
 ghost use Rattle.std.specs.Prelude.{◌<◌, [], All, IfOk};
 ghost use Rattle.route_trace.specs.Steps.{end_router, AreGroups};
 

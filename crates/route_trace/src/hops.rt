@@ -1,3 +1,4 @@
+//! Next hops: the links over which a router attains its distance. Each call looks at each arc once.
 ghost use Rattle.std.specs.Prelude.{◌≡◌, ◌<◌, [], None, length, IfOk};
 ghost use Rattle.net_model.specs.Validity.{IsValid};
 ghost use Rattle.route_trace.specs.Routes.{flagged, distance_map, IsHostNetwork, AreDistances};

@@ -1,6 +1,6 @@
 //! Where routers send packets for a host network once a set of links has failed: the stable
-//! distances, the links of the next hops, and both as a text. The distances settle outwards from
-//! the owner of the host network, nearest router first.
+//! distances, the links of the next hops, and both as a text. The distances are found by
+//! Dijkstra's algorithm (RFC 2328, section 16.1), from the owner of the host network on.
 //! The definitions are those of `net_model`.
 #![tactic(auto)]
 

@@ -1,3 +1,4 @@
+//! The usable arcs of a network.
 ghost use Rattle.std.specs.Prelude.{◌≡◌, ◌++◌, Bool, false, length, All, IfOk, IfSome, IfNone};
 ghost use Rattle.std.specs.Prelude.{IsTrue, OnOk};
 ghost use Rattle.std.specs.Option.{option_to_list};

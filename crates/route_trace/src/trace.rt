@@ -1,3 +1,4 @@
+//! The text of a trace.
 ghost use Rattle.std.specs.Prelude.{◌≡◌, ◌++◌, length, All, IfOk, OnOk};
 ghost use Rattle.net_model.specs.Validity.{IsValid};
 ghost use Rattle.net_model.specs.Forwarding.{HasHost};

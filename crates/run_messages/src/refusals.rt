@@ -1,4 +1,4 @@
-//! The line that a refusal puts, taken apart again.
+//! The line that a refusal prints, taken apart again.
 use std::str;
 
 /// What a line `refused NAME NUMBER KIND` says.

@@ -1,3 +1,5 @@
+//! What a search finds.
+
 use arc_base::List;
 
 /// What a search has found.

@@ -1,4 +1,5 @@
-//! What a search keeps between its conflicts, and what it does at one.
+//! What a search keeps between its conflicts, and what it does at one: conflict analysis, and the
+//! step back to the level where the lemma implies a literal.
 ghost use Rattle.std.specs.Prelude.{◌≡◌, ◌≢◌, ◌+◌, ◌*◌, ◌≤◌, ◌<◌, ◌-◌, ◌^◌, All, AllPairs, length};
 ghost use Rattle.std.specs.Prelude.{IsSomeAnd, IfOk, OnOk, OnErr};
 ghost use Rattle.proof_log.specs.declared.steps.Log.{Log};

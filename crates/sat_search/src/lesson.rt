@@ -1,4 +1,6 @@
-//! The lemma of a conflict.
+//! Conflict analysis: the lemma of a conflict, or learnt clause. Reasons are resolved away from the
+//! end of the trail on, up to the first unique implication point; then literals that the others
+//! imply are left out. The cost is that of the clauses that are resolved.
 ghost use Rattle.std.specs.Prelude.{◌≡◌, ◌+◌, ◌*◌, ◌<◌, ◌≤◌, ◌^◌, ◌||◌, ◌==◌, if◌then◌else◌, ◌∷◌};
 ghost use Rattle.std.specs.Prelude.{◌++◌, [], length, reverse, All, IsTrue, IsSomeAnd, IfOk};
 ghost use Rattle.std.specs.Prelude.{IfSome, OnOk, Some, option_to_list, false};

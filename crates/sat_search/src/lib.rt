@@ -1,6 +1,6 @@
-//! A search for a model of a core's clauses that learns a lemma at each conflict and goes on at the
-//! level where the lemma implies a literal. It writes each lemma with its hints as a step of a
-//! proof log, so that a refutation can be checked.
+//! A search for a model of a core's clauses by conflict-driven clause learning: at each conflict it
+//! learns a clause, a lemma, and goes on at the level where the lemma implies a literal. It writes
+//! each lemma with its hints as a step of a proof log, so that a refutation can be checked.
 //! The contracts say that the steps are accepted, that a model satisfies all clauses, and that
 //! lemmas are new.
 #![tactic(auto)]

@@ -1,5 +1,6 @@
 //! In which order variables are decided, and how: those that conflicts met most come first, late
-//! conflicts counting more, each with the value that it had last. Nothing but speed depends on it.
+//! conflicts counting more (their activity), each with the value that it had last (phase saving).
+//! Nothing but speed depends on it.
 ghost use Rattle.std.specs.Prelude.{◌≡◌, ◌<◌, ◌≤◌, ◌^◌, All, IfOk};
 ghost use Rattle.sat_core.specs.Trails.{IsOf};
 ghost use Rattle.sat_core.specs.States.{at_level};

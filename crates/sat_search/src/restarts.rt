@@ -1,5 +1,5 @@
-//! When a search goes back to level 0 and begins its decisions anew. Nothing but speed depends on
-//! it.
+//! Restarts: when a search goes back to level 0 and begins its decisions anew. Nothing but speed
+//! depends on it.
 
 /// The conflicts before the first restart.
 const FIRST: u64 = 100;

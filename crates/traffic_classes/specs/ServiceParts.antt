@@ -3,7 +3,7 @@ use Rattle.std.specs.Prelude.{◌≡◌, ℕ, ◌+◌, ◌<◌, ◌≤◌, ◌&&
 use Rattle.std.specs.Prelude.{if◌then◌else◌}
 use Rattle.net_model.specs.declared.services.Service.{Service}
 
--- the numbers inside the whole, but for its first, at which the mark begins or has just ended
+-- the numbers inside the whole, except for its first, at which the mark begins or has just ended
 abbrev pub inner_ends : Service → Service → List ℕ
 inner_ends whole mark =
     (if nat_lt whole.low mark.low && nat_le mark.low whole.high then mark.low ∷ [] else []) ++

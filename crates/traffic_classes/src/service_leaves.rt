@@ -8,7 +8,8 @@ use arc_base::{List, Memory};
 use net_model::Service;
 use std::alloc::Global;
 
-/// Adds the numbers inside the whole, but for its first, at which a mark begins or has just ended.
+/// Adds the numbers inside the whole, except for its first, at which a mark begins or has just
+/// ended.
 fn add_ends(cuts: &mut Vec<u32>, mark: &Service, whole: &Service) -> Result<(), Memory>
     ensures { OnOk result (cuts.new.items ≡ cuts.old.items ++ inner_ends whole.now mark.now) }
 {
@@ -21,8 +22,8 @@ fn add_ends(cuts: &mut Vec<u32>, mark: &Service, whole: &Service) -> Result<(), 
     Ok(())
 }
 
-/// The numbers at which the leaves of a range begin under marks, but for the first, each once and
-/// in rising order.
+/// The numbers at which the leaves of a range begin under marks, except for the first, each once
+/// and in rising order.
 fn cuts_inside(alloc: Global, marks: &[Service], whole: &Service) -> Result<Vec<u32>, Memory>
     ensures rising { IfOk result (λ cuts. IsStrictlyIncreasing cuts.items) }
     ensures each { IfOk result (λ cuts. (c : ℕ) →

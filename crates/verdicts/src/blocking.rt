@@ -1,3 +1,4 @@
+//! Verdicts on blocked and through policies: one search of the graph of each class.
 ghost use Rattle.std.specs.Prelude.{◌≡◌, ◌<◌, ◌↔◌, length, IsTrue, IfOk, IsSome, None};
 ghost use Rattle.std.specs.Prelude.{slice_index_or};
 ghost use Rattle.net_model.specs.Validity.{IsValid};

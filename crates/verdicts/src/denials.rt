@@ -1,3 +1,4 @@
+//! The first link that denies a class.
 ghost use Rattle.std.specs.Prelude.{◌≡◌, ◌↔◌, length, IsTrue, IfOk, IfSome, IfNone};
 ghost use Rattle.net_model.specs.Forwarding.{Ends};
 ghost use Rattle.class_graph.specs.Hosts.{IsHostPair, HasHostPair};

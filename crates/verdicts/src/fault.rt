@@ -1,3 +1,5 @@
+//! Why there is no verdict.
+
 use arc_base::Memory;
 use thiserror::Error;
 

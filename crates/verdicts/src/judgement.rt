@@ -1,3 +1,4 @@
+//! The verdict on a policy by its kind.
 ghost use Rattle.std.specs.Prelude.{◌≡◌, ◌<◌, ◌≤◌, length, slice_get, Some, IfOk, IfErr, IfSome};
 ghost use Rattle.std.specs.Option.{ForSome};
 ghost use Rattle.net_model.specs.declared.policies.Class.{Class as AnyClass};

@@ -1,3 +1,4 @@
+//! Verdicts on reach policies: link-disjoint paths, one more than links may fail, or a smaller cut.
 ghost use Rattle.std.specs.Prelude.{◌≡◌, ◌≢◌, ◌≤◌, ℕ, length, IfOk};
 ghost use Rattle.net_model.specs.declared.policies.Class.{Class as AnyClass};
 ghost use Rattle.net_model.specs.Validity.{IsValid};

@@ -1,3 +1,4 @@
+//! The routers that the packets of a class get to.
 ghost use Rattle.std.specs.Prelude.{◌≡◌, ◌<◌, ◌^◌, length, map, is_some, IfOk};
 ghost use Rattle.verdicts.specs.Sides.{IsReached};
 

@@ -1,3 +1,5 @@
+//! How many packets of a class a list gives an answer to, found by splitting the class at its
+//! entries.
 ghost use Rattle.std.specs.Prelude.{◌≡◌, ◌↔◌, ◌≤◌, IsTrue, position, length, drop, IfSome, IsNone};
 ghost use Rattle.net_model.specs.Packets.{IsOf};
 ghost use Rattle.net_model.specs.Witnesses.{IsUniform};
@@ -27,7 +29,7 @@ pub struct Asked<'a> {
     pub answer: bool,
 }
 
-/// The place of the first entry that shares a packet with the class.
+/// The index of the first entry that shares a packet with the class.
 fn first_met(entries: &[PacketEntry], class: Class) -> Option<usize>
     ensures { result ≡ position (λ e. classes_meet class (entry_class e)) entries.now }
 {

@@ -1,3 +1,4 @@
+//! Routed arcs with their rows.
 ghost use Rattle.std.specs.Prelude.{◌≡◌, ◌↔◌, IsTrue, IfSome, IfNone};
 ghost use Rattle.witness_check.specs.Cases.{IsTold, arc_of, IsRoutedArc, IsOver, EachOver};
 ghost use Rattle.net_model.specs.declared.rows.Network.{Network};

@@ -1,3 +1,4 @@
+//! Classes as boxes of addresses and services: whether two meet, and whether one splits another.
 ghost use Rattle.std.specs.Prelude.{◌≡◌, ◌↔◌, ◌<◌, ◌+◌, IsTrue};
 ghost use Rattle.net_model.specs.Packets.{ShareNoPacket};
 ghost use Rattle.witness_check.specs.Boxes.{prefixes_meet, classes_meet, entry_class};

@@ -1,3 +1,4 @@
+//! What the witness of one policy is judged against.
 ghost use Rattle.std.specs.Prelude.{◌≡◌, ◌↔◌, IsTrue};
 ghost use Rattle.net_model.specs.Packets.{subject};
 ghost use Rattle.net_model.specs.Forwarding.{AreEnds, HasEnds};

@@ -1,3 +1,4 @@
+//! Whether the lists on a link permit each packet of a class.
 ghost use Rattle.std.specs.Prelude.{◌↔◌, IsTrue};
 ghost use Rattle.net_model.specs.Packets.{subject};
 ghost use Rattle.net_model.specs.Forwarding.{Ends, AreEnds, HasEnds};

@@ -1,3 +1,4 @@
+//! Whether links are a cut: all links whose routed arcs leave a side.
 ghost use Rattle.std.specs.Prelude.{◌≡◌, ◌↔◌, ◌≤◌, ◌<◌, ℕ, IsTrue, Contains, All, map};
 ghost use Rattle.std.specs.List.Sorted.{IsStrictlyIncreasing};
 ghost use Rattle.net_model.specs.Routing.{Arc, IsArc, IsRouted};

@@ -1,3 +1,4 @@
+//! Whether paths share no link and lead from the source to the target.
 ghost use Rattle.std.specs.Prelude.{◌≡◌, ◌≢◌, ◌↔◌, ◌+◌, ◌⊎◌, IsTrue, Contains, AllPairs, All};
 ghost use Rattle.std.specs.Prelude.{length};
 ghost use Rattle.std.specs.List.{flat_map};

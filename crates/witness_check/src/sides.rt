@@ -1,3 +1,4 @@
+//! Whether sides are closed and their classes make up all packets of the policy.
 ghost use Rattle.std.specs.Prelude.{◌≡◌, ◌↔◌, ◌^◌, ◌<◌, ◌≤◌, IsTrue, All, AllPairs, length, sum_by};
 ghost use Rattle.arc_base.specs.Addresses.{size};
 ghost use Rattle.net_model.specs.Packets.{ShareNoPacket, packets};

@@ -1,3 +1,4 @@
+//! Whether links lead on from router to router.
 ghost use Rattle.std.specs.Prelude.{◌≡◌, ◌↔◌, IsTrue, IfSome, IfNone};
 ghost use Rattle.net_model.specs.Routing.{Arc};
 ghost use Rattle.net_model.specs.Validity.{IsValid};

@@ -1,3 +1,4 @@
+//! Whether links are a walk that breaks the policy.
 ghost use Rattle.std.specs.Prelude.{◌↔◌, IsTrue};
 ghost use Rattle.net_model.specs.Validity.{IsValid};
 ghost use Rattle.net_model.specs.Witnesses.{IsRightWalk};
