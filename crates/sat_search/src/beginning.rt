@@ -3,8 +3,8 @@ ghost use Rattle.std.specs.Prelude.{◌≡◌, ◌<◌, ◌≤◌, ◌^◌, leng
 ghost use Rattle.clean_logs.specs.Laws.{HasItsVariables};
 ghost use Rattle.sat_search.specs.Cores.{core_of};
 
-use arc_base::limits::VARIABLE_LIMIT;
 use arc_base::Memory;
+use arc_base::limits::VARIABLE_LIMIT;
 use cnf_types::Formula;
 use sat_core::Core;
 use std::alloc::Global;
