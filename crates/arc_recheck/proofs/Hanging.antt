@@ -19,8 +19,9 @@ use Rattle.net_model.proofs.Hosts.{one_pair_of_ends}
 use Rattle.net_laws.proofs.RightPaths.{refusals_are_right}
 use Rattle.net_laws.proofs.RightCuts.{right_denials_break_reach}
 use Rattle.class_graph.specs.Hosts.{IsHostPair, IsHostPairOf}
+use Rattle.class_graph.specs.Passing.{EachPasses}
 use Rattle.class_graph.specs.declared.hosts.HostPair.{HostPair}
-use Rattle.verdicts.specs.Fixed.{Passes, IsFixed, IsFixedFor, IsFixedReach}
+use Rattle.verdicts.specs.Fixed.{IsFixed, IsFixedFor, IsFixedReach}
 use Rattle.traffic_classes.specs.Classes.{AreClasses, told}
 use Rattle.verdicts.proofs.Lists.{rising_numbers}
 use Rattle.net_laws.specs.Breaking.{no_link}
@@ -31,7 +32,7 @@ use Rattle.net_laws.proofs.LeftRoutes.{routes_decide}
 use Rattle.net_laws.proofs.AllUp.{routes_decide_all_up}
 
 module _ (net : Network) (valid : IsValid net) (policy : Policy) (ends : Ends) (are : AreEnds net (subject policy) ends)
-    (clear : IsClear net ends (subject policy)) (passes : Passes net ends (subject policy)) where
+    (clear : IsClear net ends (subject policy)) (passes : EachPasses net ends (subject policy)) where
   -- where there is a route the needed links are alone
   holds_but : (k : ℕ) → policy.kind ≡ Reach k → (links : List Link) → AreNeeded net ends links → HoldsBut net policy links
   holds_but k reach links needed = record {
@@ -70,7 +71,7 @@ module _ (net : Network) (valid : IsValid net) (policy : Policy) (ends : Ends) (
 
 -- a verdict with paths or a cut shows that the policy is clear, and that its packets enter and leave
 shown_clear : (net : Network) (ends : Ends) (k : ℕ) (whole : Class) (classes : List Class) (v : Verdict) → IsRightReach net ends k whole v →
-    IsFixedReach net ends whole classes v → shows_routes v ≡ true → IsClear net ends whole × Passes net ends whole
+    IsFixedReach net ends whole classes v → shows_routes v ≡ true → IsClear net ends whole × EachPasses net ends whole
 shown_clear net ends k whole classes (Paths paths) right fixed shows = (right.clear, λ p of. (right.enters p of, right.leaves p of))
 shown_clear net ends k whole classes (Cut links side) right fixed shows = (right.clear, fixed.passes)
 shown_clear net ends k whole classes (Closed sides) right fixed shows = absurd right
@@ -123,7 +124,7 @@ alone_of_needed net valid policies policy kind v right fixed shows class whole p
     subst (λ (e : Ends). IsFixedFor net e policy.kind (subject policy) fixed.classes v) from_fixed fixed.fixed in
     let given_reach : IsFixedReach net right.ends (subject policy) fixed.classes v =
     subst (λ (kind : PolicyKind). IsFixedFor net right.ends kind (subject policy) fixed.classes v) reach.1 given_here in
-    let both : IsClear net right.ends (subject policy) × Passes net right.ends (subject policy) =
+    let both : IsClear net right.ends (subject policy) × EachPasses net right.ends (subject policy) =
     shown_clear net right.ends reach.0 (subject policy) fixed.classes v shown given_reach shows in
     answered net valid policy right.ends right.are_ends both.0 both.1 reach.0 reach.1 found
     (subst (λ (e : Ends). IsNeededAnswer net e found) from_pair (needed of_policy.ends of_policy.is_pair))

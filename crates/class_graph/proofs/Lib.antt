@@ -6,3 +6,4 @@ pub mod Denied
 pub mod Between
 pub mod ClassDenials
 pub mod Through
+pub mod Passing

@@ -1,5 +1,5 @@
 -- Classes on which lists agree.
-use Rattle.std.specs.Prelude.{All}
+use Rattle.std.specs.Prelude.{List, All}
 use Rattle.net_model.specs.declared.lists.Packet.{Packet}
 use Rattle.net_model.specs.declared.policies.Class.{Class}
 use Rattle.net_model.specs.declared.rows.Network.{Network}
@@ -11,6 +11,10 @@ use Rattle.net_model.specs.Witnesses.{IsUniform}
 -- each packet list of the network gives one answer to all packets of the class
 abbrev pub AreUniform : Network → Class → Type 0
 AreUniform net class = All (λ l. IsUniform l.entries class) net.packet_lists
+
+-- each packet list of the network is uniform on each of the classes
+abbrev pub AreAllUniform : Network → List Class → Type 0
+AreAllUniform net classes = All (AreUniform net) classes
 
 -- the arc permits the class: it permits each packet of it
 abbrev pub PermitsClass : Network → Class → Arc → Type 0

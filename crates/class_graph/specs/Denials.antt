@@ -1,5 +1,5 @@
 -- Links over which routed arcs deny packets.
-use Rattle.std.specs.Prelude.{◌≡◌, ℕ, ◌<◌, Bool, List}
+use Rattle.std.specs.Prelude.{◌≡◌, ℕ, ◌<◌, Bool, Some, List, slice_get}
 use Rattle.arc_base.specs.declared.prefix.Prefix.{Prefix}
 use Rattle.net_model.specs.declared.lists.Packet.{Packet}
 use Rattle.net_model.specs.declared.policies.Class.{Class}
@@ -20,6 +20,11 @@ pub record IsDeniedOn (net : Network) (to : Prefix) (class : Class) (link : ℕ)
 -- no link does
 abbrev pub IsDeniedNowhere : Network → Prefix → Class → Type 0
 IsDeniedNowhere net to class = (link : ℕ) → ¬ IsDeniedOn net to class link
+
+-- the first classes, so many, are denied over no link
+abbrev pub HasNoDenial : Network → Prefix → List Class → ℕ → Type 0
+HasNoDenial net to classes n =
+    (k : ℕ) (c : Class) → k < n → slice_get classes k ≡ Some c → IsDeniedNowhere net to c
 
 -- it is the first link that does
 pub record IsLeastDenied (net : Network) (to : Prefix) (class : Class) (link : ℕ) : Type 0 where

@@ -4,3 +4,4 @@ pub mod Hosts
 pub mod Graphs
 pub mod Building
 pub mod Denials
+pub mod Passing

@@ -1,12 +1,13 @@
 //! The interfaces at which the packets of a class enter and leave.
-ghost use Rattle.std.specs.Prelude.{◌≡◌, ◌↔◌, IsTrue, IfOk};
+ghost use Rattle.std.specs.Prelude.{◌≡◌, ◌↔◌, IsTrue, length, IfOk, IfSome, IfNone};
 ghost use Rattle.net_model.specs.declared.lists.Packet.{Packet as AnyPacket};
 ghost use Rattle.net_model.specs.Packets.{IsOf};
 ghost use Rattle.net_model.specs.Forwarding.{Ends, HasEnds, Enters, Leaves};
-ghost use Rattle.class_graph.specs.Classes.{AreUniform};
+ghost use Rattle.class_graph.specs.Classes.{AreUniform, AreAllUniform};
 ghost use Rattle.class_graph.specs.Answers.{Allows};
 ghost use Rattle.class_graph.specs.Hosts.{end_in, end_out, IsOpenTo, Admits, IsHostPair};
 ghost use Rattle.class_graph.specs.Hosts.{IsHostPairOf};
+ghost use Rattle.class_graph.specs.Passing.{AllPass, IsFirstKeptOut};
 
 use crate::answers::allows;
 use arc_base::{List, ListId, Memory, Prefix, Router};
@@ -59,6 +60,22 @@ impl HostPair {
             ((p : AnyPacket) → IsOf class p → Enters net.now ends p × Leaves net.now ends p) }
     {
         self.admits(net, class.first_packet())
+    }
+
+    /// The first class of which not each packet enters and leaves.
+    pub fn first_kept_out(&self, net: &Network, classes: &List<Class>) -> Option<Class>
+        requires { AreAllUniform net.now classes.now }
+        ensures found { IfSome result (λ class. (ends : Ends) → IsHostPair net.now ends self.now →
+            IsFirstKeptOut net.now ends classes.now class) }
+        ensures none { IfNone result ((ends : Ends) → IsHostPair net.now ends self.now →
+            AllPass net.now ends classes.now (length classes.now)) }
+    {
+        for class in classes.slice() {
+            if !self.lets_through(net, *class) {
+                return Some(*class);
+            }
+        }
+        None
     }
 
     /// Whether both interfaces are up, and their lists permit the packet.

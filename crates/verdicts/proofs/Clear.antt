@@ -19,8 +19,7 @@ use Rattle.class_graph.specs.Denials.{IsDeniedOn}
 use Rattle.class_graph.proofs.Alike.{arc_alike, lists_alike}
 use Rattle.net_model.proofs.Readings.{place_of_item}
 use Rattle.traffic_classes.specs.Parts.{MakeUp, HasPacket}
-use Rattle.verdicts.specs.Fixed.{Passes}
-use Rattle.verdicts.specs.Reaching.{AllPass}
+use Rattle.class_graph.specs.Passing.{EachPasses, AllPass}
 
 either_answer : (b : Bool) → IsTrue b ⊎ (¬ IsTrue b)
 either_answer true = inl refl
@@ -61,14 +60,14 @@ permits_all net to whole classes parts arc is_arc routed none p of_whole =
     ]
 
 -- where each packet of each class enters and leaves each packet of the whole does
-pub whole_passes : (net : Network) (ends : Ends) (whole : Class) (classes : List Class) → MakeUp net whole classes → AllPass net ends classes (length classes) → Passes net ends whole
+pub whole_passes : (net : Network) (ends : Ends) (whole : Class) (classes : List Class) → MakeUp net whole classes → AllPass net ends classes (length classes) → EachPasses net ends whole
 whole_passes net ends whole classes parts all = λ p of_whole.
     let has : HasPacket classes p = parts.cover p of_whole in
     let at = place_of_item classes has.class has.one in
     all (at.0) has.class (slice_get_within classes (at.0) has.class (at.1)) (at.1) p has.is_of
 
 -- of a class that is kept out no packet both enters and leaves
-pub none_passes : (net : Network) (ends : Ends) (class : Class) → AreUniform net class → (¬ Passes net ends class) → (p : Packet) → IsOf class p → Enters net ends p → ¬ Leaves net ends p
+pub none_passes : (net : Network) (ends : Ends) (class : Class) → AreUniform net class → (¬ EachPasses net ends class) → (p : Packet) → IsOf class p → Enters net ends p → ¬ Leaves net ends p
 none_passes net ends class uniform kept p of_p enters leaves = kept (λ q of_q. (
   (enters.0, lists_alike net class uniform p q of_p of_q ends.source.list_in (enters.1)),
   (leaves.0, lists_alike net class uniform p q of_p of_q ends.target.list_out (leaves.1)),

@@ -1,27 +1,17 @@
 -- The first class of a list, as a walk through the list finds it.
-use Rattle.std.proofs.Common.{◌≡◌, ℕ, ◌+◌, ◌<◌, ◌≤◌, ◌⊎◌, Bool, true, false, Option, Some, None, List, length, refl, sym, ◌∙◌, subst, inl, inr, arith}
+use Rattle.std.proofs.Common.{◌≡◌, ℕ, ◌+◌, ◌<◌, ◌≤◌, Bool, true, false, Option, Some, None, List, length, refl, sym, ◌∙◌, subst, inl, inr, arith}
 use Rattle.std.specs.Prelude.{if◌then◌else◌, nat_le, slice_get, MatchOption}
-use Rattle.std.proofs.lemmas.Bool.{cases_lt, false≢true}
+use Rattle.std.proofs.lemmas.Bool.{false≢true}
 use Rattle.std.proofs.lemmas.Bool.Decides.{leb_tells}
-use Rattle.std.proofs.lemmas.Option.{same_Some, slice_get_within}
+use Rattle.std.proofs.lemmas.Option.{slice_get_within}
 use Rattle.arc_base.specs.declared.place.Link.{Link}
 use Rattle.arc_base.specs.declared.prefix.Prefix.{Prefix}
 use Rattle.net_model.specs.declared.policies.Class.{Class}
 use Rattle.net_model.specs.declared.rows.Network.{Network}
 use Rattle.class_graph.specs.Denials.{IsDeniedOn, IsDeniedNowhere, IsLeastDenied}
+use Rattle.class_graph.proofs.Passing.{one_more_class}
 use Rattle.verdicts.specs.declared.denials.Denial.{Denial}
 use Rattle.verdicts.specs.Reaching.{IsDenial, IsFirstDenial, lower_of}
-
-split_below : (n m : ℕ) → n < m + 1 → (n < m) ⊎ (n ≡ m)
-split_below n m low = elim (cases_lt n m) [ inl below ↦ inl below | inr above ↦ inr (omega arith) ]
-
--- what holds of the classes before and of the next one holds of all of these
-pub one_more_class : (P : Class → Type 0) (classes : List Class) (n : ℕ) (class : Class) → slice_get classes n ≡ Some class →
-    ((k : ℕ) (c : Class) → k < n → slice_get classes k ≡ Some c → P c) → P class → (k : ℕ) (c : Class) → k < n + 1 → slice_get classes k ≡ Some c → P c
-one_more_class P classes n class at before here k c low at_k = elim (split_below k n low) [
-  | inl below ↦ before k c below at_k
-  | inr same ↦ subst P (same_Some class c (sym at ∙ subst (λ (i : ℕ). slice_get classes i ≡ Some c) same at_k)) here
-]
 
 old_stays : (net : Network) (to : Prefix) (classes : List Class) (n : ℕ) (class : Class) → slice_get classes n ≡ Some class → (d : Denial) → IsDenial net to classes n d →
     ((link : ℕ) → link < d.link.0 → ¬ IsDeniedOn net to class link) → IsDenial net to classes (n + 1) d

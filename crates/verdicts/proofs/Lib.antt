@@ -4,7 +4,6 @@ pub mod Walks
 pub mod ClosedSides
 pub mod Reached
 pub mod Firsts
-pub mod Passing
 pub mod Pushes
 pub mod Clear
 pub mod Cuts

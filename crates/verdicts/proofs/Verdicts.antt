@@ -18,6 +18,8 @@ use Rattle.net_model.specs.Forwarding.{Ends, source_router, target_router}
 use Rattle.net_model.specs.Policies.{IsClear}
 use Rattle.net_model.specs.Witnesses.{IsRightClosed, IsRightWalk, IsRightBlocking, IsRight}
 use Rattle.class_graph.specs.Classes.{AreUniform}
+use Rattle.class_graph.specs.Denials.{HasNoDenial}
+use Rattle.class_graph.specs.Passing.{EachPasses, AllPass, IsFirstKeptOut}
 use Rattle.class_graph.specs.Hosts.{IsHostPair, IsHostPairOf}
 use Rattle.class_graph.specs.declared.hosts.End.{End}
 use Rattle.class_graph.specs.declared.hosts.HostPair.{HostPair}
@@ -26,9 +28,9 @@ use Rattle.net_model.proofs.Readings.{item_at_place}
 use Rattle.traffic_classes.specs.Classes.{AreClasses}
 use Rattle.traffic_classes.specs.Parts.{MakeUp}
 use Rattle.verdicts.specs.declared.denials.Denial.{Denial}
-use Rattle.verdicts.specs.Fixed.{IsLeastClosed, AreLeastSides, IsFixedBlocking, Passes, IsFixed}
+use Rattle.verdicts.specs.Fixed.{IsLeastClosed, AreLeastSides, IsFixedBlocking, IsFixed}
 use Rattle.verdicts.specs.Judged.{IsBlockingAnswer, IsReachVerdict, IsVerdict}
-use Rattle.verdicts.specs.Reaching.{HasNoDenial, IsDenial, IsFirstDenial, AllPass, IsFirstKeptOut, IsPathsOrCut}
+use Rattle.verdicts.specs.Reaching.{IsDenial, IsFirstDenial, IsPathsOrCut}
 use Rattle.verdicts.proofs.Lists.{all_of_map, pairs_of_map, sum_of_map, rising_numbers}
 use Rattle.verdicts.proofs.Clear.{permits_all, whole_passes, none_passes}
 
@@ -129,7 +131,7 @@ denied_apart net ends k whole classes parts none class out = denied_verdict net 
 pub no_paths : (net : Network) (ends : Ends) (k : ℕ) (whole : Class) (classes : List Class) → MakeUp net whole classes → source_router ends ≡ target_router ends →
     AllPass net ends classes (length classes) → IsReachVerdict net ends k whole classes (Paths [])
 no_paths net ends k whole classes parts together all =
-    let passes : Passes net ends whole = whole_passes net ends whole classes parts all in
+    let passes : EachPasses net ends whole = whole_passes net ends whole classes parts all in
     record {
       right = record {
         clear = inl together;
@@ -173,7 +175,7 @@ refused_verdict net ends k whole classes parts apart d denial p packet =
 pub settled : (net : Network) (ends : Ends) (k : ℕ) (whole : Class) (classes : List Class) → MakeUp net whole classes → source_router ends ≢ target_router ends →
     HasNoDenial net ends.to classes (length classes) → AllPass net ends classes (length classes) → (v : Verdict) → IsPathsOrCut net ends k v → IsReachVerdict net ends k whole classes v
 settled net ends k whole classes parts apart none all (Paths paths) is =
-    let passes : Passes net ends whole = whole_passes net ends whole classes parts all in
+    let passes : EachPasses net ends whole = whole_passes net ends whole classes parts all in
     record {
       right = record {
         clear = clear_of net ends whole classes parts none;

@@ -1,6 +1,6 @@
 -- Which of the right verdicts is given.
-use Rattle.std.specs.Prelude.{◌≡◌, ℕ, ◌<◌, ◌≤◌, ◌↔◌, Bool, Some, List, map, length, slice_get, All}
-use Rattle.std.specs.Prelude.{AllPairs, Contains}
+use Rattle.std.specs.Prelude.{◌≡◌, ℕ, ◌<◌, ◌≤◌, ◌↔◌, Bool, List, map, length, All, AllPairs}
+use Rattle.std.specs.Prelude.{Contains}
 use Rattle.arc_base.specs.declared.limits.TheConstants.{CLASS_LIMIT}
 use Rattle.arc_base.specs.declared.place.Link.{Link}
 use Rattle.net_model.specs.declared.lists.Packet.{Packet}
@@ -15,19 +15,13 @@ use Rattle.net_model.specs.declared.verdicts.Verdict.TheVariants.{Closed, Paths,
 use Rattle.net_model.specs.declared.verdicts.Verdict.TheVariants.{Refused}
 use Rattle.net_model.specs.Packets.{IsOf, subject, first_packet}
 use Rattle.net_model.specs.Routing.{Arc, IsArc, IsRouted}
-use Rattle.net_model.specs.Forwarding.{Ends, AreEnds, source_router, target_router, Enters, Leaves}
+use Rattle.net_model.specs.Forwarding.{Ends, AreEnds, source_router, target_router}
 use Rattle.net_model.specs.Forwarding.{ArcPermits}
 use Rattle.net_model.specs.Witnesses.{IsOn, IsClosed, LeavesSide}
 use Rattle.class_graph.specs.Denials.{IsDeniedOn}
+use Rattle.class_graph.specs.Passing.{IsFirstAfter, EachPasses}
 use Rattle.graph_flow.specs.Answers.{AreInOrder}
 use Rattle.traffic_classes.specs.Classes.{AreClasses}
-
--- the class is one of the list, and this holds of each class before it
-pub record IsFirstAfter (Before : Class → Type 0) (classes : List Class)
-    (class : Class) : Type 0 where
-  pub place : ℕ
-  pub at_place : slice_get classes place ≡ Some class
-  pub before : (k : ℕ) (c : Class) → k < place → slice_get classes k ≡ Some c → Before c
 
 -- the side is closed, and every closed side holds its routers
 pub record IsLeastClosed (net : Network) (ends : Ends) (kind : PolicyKind) (class : Class)
@@ -57,10 +51,6 @@ IsFixedBlocking net ends kind classes (Denied class) = ⊥
 IsFixedBlocking net ends kind classes (Cut links side) = ⊥
 IsFixedBlocking net ends kind classes (Refused p link) = ⊥
 
--- each packet of the class enters and leaves
-abbrev pub Passes : Network → Ends → Class → Type 0
-Passes net ends class = (p : Packet) → IsOf class p → Enters net ends p × Leaves net ends p
-
 -- the links, rising, are exactly those of the routed arcs that leave the side, and the side has the
 -- source and not the target
 pub record IsSeparator (net : Network) (ends : Ends) (links : List Link)
@@ -75,7 +65,7 @@ pub record IsSeparator (net : Network) (ends : Ends) (links : List Link)
 -- and its side lies in every side that no more links leave
 pub record IsLeastCut (net : Network) (ends : Ends) (whole : Class) (links : List Link)
     (side : List Bool) : Type 0 where
-  pub passes : Passes net ends whole
+  pub passes : EachPasses net ends whole
   pub fewest : (others : List Link) (other : List Bool) → IsSeparator net ends others other →
       length links ≤ length others
   pub least : (others : List Link) (other : List Bool) → IsSeparator net ends others other →
@@ -99,7 +89,8 @@ abbrev pub IsFixedReach : Network → Ends → Class → List Class → Verdict 
 IsFixedReach net ends whole classes (Closed sides) = ⊥
 IsFixedReach net ends whole classes (Walk class path) = ⊥
 IsFixedReach net ends whole classes (Paths paths) = AreInOrder (map (λ path. path.links) paths)
-IsFixedReach net ends whole classes (Denied class) = IsFirstAfter (Passes net ends) classes class
+IsFixedReach net ends whole classes (Denied class) =
+    IsFirstAfter (EachPasses net ends) classes class
 IsFixedReach net ends whole classes (Cut links side) = IsLeastCut net ends whole links side
 IsFixedReach net ends whole classes (Refused p link) = IsFirstRefusal net ends whole classes p link
 

@@ -1,5 +1,5 @@
 -- Which policies can be judged, and what is found of their classes.
-use Rattle.std.specs.Prelude.{ℕ, ◌<◌, List, All}
+use Rattle.std.specs.Prelude.{ℕ, ◌<◌, List}
 use Rattle.arc_base.specs.declared.limits.TheConstants.{CLASS_LIMIT}
 use Rattle.net_model.specs.declared.policies.Class.{Class}
 use Rattle.net_model.specs.declared.policies.PolicyKind.{PolicyKind}
@@ -11,13 +11,20 @@ use Rattle.net_model.specs.Forwarding.{Ends}
 use Rattle.net_model.specs.Witnesses.{IsRightWalk, IsRightReach, IsRightFor}
 use Rattle.class_graph.specs.declared.modes.Mode.{Mode}
 use Rattle.class_graph.specs.declared.modes.Mode.TheVariants.{Permitted, PermittedOffWaypoint}
-use Rattle.class_graph.specs.Classes.{AreUniform}
+use Rattle.class_graph.specs.Passing.{IsFirstAfter}
+use Rattle.traffic_classes.specs.declared.fault.ClassFault.{ClassFault}
+use Rattle.traffic_classes.specs.declared.fault.ClassFault.TheVariants as classes
 use Rattle.verdicts.specs.declared.fault.JudgeFault.{JudgeFault}
 use Rattle.verdicts.specs.declared.fault.JudgeFault.TheVariants.{TooMany, Memory}
 use Rattle.verdicts.specs.declared.blocking.ClassAnswer.{ClassAnswer}
 use Rattle.verdicts.specs.declared.blocking.ClassAnswer.TheVariants as answers
-use Rattle.verdicts.specs.Fixed.{IsFirstAfter, HasClosedSide, IsLeastClosed, IsFixedBlocking}
+use Rattle.verdicts.specs.Fixed.{HasClosedSide, IsLeastClosed, IsFixedBlocking}
 use Rattle.verdicts.specs.Fixed.{IsFixedReach, IsFixedFor}
+
+-- the fault of a judgement that comes of a fault of classes
+abbrev pub fault_of : ClassFault → JudgeFault
+fault_of (classes.TooMany count) = TooMany count
+fault_of classes.Memory = Memory
 
 -- a fault of too many classes names a number that the fact holds of, and that is above
 -- CLASS_LIMIT
@@ -42,10 +49,6 @@ IsBlockingAnswer net ends kind classes (Walk class path) =
     IsFirstAfter (HasClosedSide net ends kind) classes class ×
     IsRightWalk net ends kind class class path
 IsBlockingAnswer net ends kind classes v = IsFixedBlocking net ends kind classes v
-
--- each packet list of the network is uniform on each of the classes
-abbrev pub AreAllUniform : Network → List Class → Type 0
-AreAllUniform net classes = All (AreUniform net) classes
 
 -- the verdict on a reach policy is right, and the one that is given
 pub record IsReachVerdict (net : Network) (ends : Ends) (k : ℕ) (whole : Class)

@@ -14,14 +14,10 @@ use Rattle.net_model.specs.declared.verdicts.Verdict.TheVariants.{Closed, Paths,
 use Rattle.net_model.specs.declared.verdicts.Verdict.TheVariants.{Refused}
 use Rattle.net_model.specs.Forwarding.{Ends}
 use Rattle.net_model.specs.Witnesses.{IsPath, IsOn}
-use Rattle.class_graph.specs.Denials.{IsDeniedOn, IsDeniedNowhere}
+use Rattle.class_graph.specs.Denials.{IsDeniedOn, HasNoDenial}
+use Rattle.class_graph.specs.Passing.{IsFirstAfter}
 use Rattle.verdicts.specs.declared.denials.Denial.{Denial}
-use Rattle.verdicts.specs.Fixed.{IsFirstAfter, Passes, IsSeparator}
-
--- the first classes, so many, are denied over no link
-abbrev pub HasNoDenial : Network → Prefix → List Class → ℕ → Type 0
-HasNoDenial net to classes n =
-    (k : ℕ) (c : Class) → k < n → slice_get classes k ≡ Some c → IsDeniedNowhere net to c
+use Rattle.verdicts.specs.Fixed.{IsSeparator}
 
 -- of the first classes, so many, the denial's is the first that its link denies, and no lower link
 -- denies any
@@ -45,17 +41,6 @@ lower_of best None class = best
 lower_of None (Some link) class = Some (record { link = link; class = class })
 lower_of (Some d) (Some link) class =
     if nat_le d.link.0 link.0 then Some d else Some (record { link = link; class = class })
-
--- each packet of the first classes, so many, enters and leaves
-abbrev pub AllPass : Network → Ends → List Class → ℕ → Type 0
-AllPass net ends classes n =
-    (k : ℕ) (c : Class) → k < n → slice_get classes k ≡ Some c → Passes net ends c
-
--- the class is the first of which not each packet enters and leaves
-pub record IsFirstKeptOut (net : Network) (ends : Ends) (classes : List Class)
-    (class : Class) : Type 0 where
-  pub is_first : IsFirstAfter (Passes net ends) classes class
-  pub kept_out : ¬ Passes net ends class
 
 -- so many paths, no link stands in them twice, and they are in rising order of their first links
 pub record AreGoodPaths (net : Network) (ends : Ends) (many : ℕ)

@@ -4,9 +4,9 @@ ghost use Rattle.std.specs.Prelude.{slice_index_or};
 ghost use Rattle.net_model.specs.Validity.{IsValid};
 ghost use Rattle.net_model.specs.Forwarding.{Ends};
 ghost use Rattle.net_model.specs.Tables.{AreRoutedLinks};
-ghost use Rattle.class_graph.specs.Classes.{AreUniform};
+ghost use Rattle.class_graph.specs.Classes.{AreUniform, AreAllUniform};
 ghost use Rattle.class_graph.specs.Hosts.{IsHostPair, HasHostPair};
-ghost use Rattle.verdicts.specs.Judged.{mode_of, IsClassAnswer, IsBlockingAnswer, AreAllUniform};
+ghost use Rattle.verdicts.specs.Judged.{mode_of, IsClassAnswer, IsBlockingAnswer};
 
 use crate::sides::{reached_from_source, side_of};
 use arc_base::{List, Memory};

@@ -1,9 +1,8 @@
 //! The first link that denies a class.
-ghost use Rattle.std.specs.Prelude.{◌≡◌, ◌↔◌, length, IsTrue, IfOk, IfSome, IfNone};
-ghost use Rattle.net_model.specs.Forwarding.{Ends};
-ghost use Rattle.class_graph.specs.Hosts.{IsHostPair, HasHostPair};
-ghost use Rattle.verdicts.specs.Judged.{AreAllUniform};
-ghost use Rattle.verdicts.specs.Reaching.{IsFirstDenial, lower_of, IsFirstKeptOut, AllPass};
+ghost use Rattle.std.specs.Prelude.{◌≡◌, length, IfOk};
+ghost use Rattle.class_graph.specs.Classes.{AreAllUniform};
+ghost use Rattle.class_graph.specs.Hosts.{HasHostPair};
+ghost use Rattle.verdicts.specs.Reaching.{IsFirstDenial, lower_of};
 
 use arc_base::{Link, List, Memory};
 use class_graph::{HostPair, denied_link};
@@ -45,20 +44,4 @@ fn lower(best: Option<Denial>, found: Option<Link>, class: Class) -> Option<Deni
         Some(denial) if denial.link.0 <= link.0 => Some(denial),
         _ => Some(Denial { link, class }),
     }
-}
-
-/// The first class of which not each packet enters and leaves.
-pub(crate) fn first_kept_out(net: &Network, pair: &HostPair, classes: &List<Class>) -> Option<Class>
-    requires { AreAllUniform net.now classes.now }
-    ensures found { IfSome result (λ class. (ends : Ends) → IsHostPair net.now ends pair.now →
-        IsFirstKeptOut net.now ends classes.now class) }
-    ensures none { IfNone result ((ends : Ends) → IsHostPair net.now ends pair.now →
-        AllPass net.now ends classes.now (length classes.now)) }
-{
-    for class in classes.slice() {
-        if !pair.lets_through(net, *class) {
-            return Some(*class);
-        }
-    }
-    None
 }

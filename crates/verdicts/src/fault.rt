@@ -2,6 +2,7 @@
 
 use arc_base::Memory;
 use thiserror::Error;
+use traffic_classes::ClassFault;
 
 /// Why there is no verdict.
 #[derive(Clone, Copy, Debug, PartialEq, Eq, Error)]
@@ -22,5 +23,19 @@ impl From<Memory> for JudgeFault {
 
     fn from(_error: Memory) -> JudgeFault {
         JudgeFault::Memory
+    }
+}
+
+impl From<ClassFault> for JudgeFault {
+    ghost use Rattle.std.specs.Prelude.{◌≡◌};
+    ghost use Rattle.verdicts.specs.Judged.{fault_of};
+
+    ghost from_gives = { λ fault e. e ≡ fault_of fault };
+
+    fn from(fault: ClassFault) -> JudgeFault {
+        match fault {
+            ClassFault::TooMany(count) => JudgeFault::TooMany(count),
+            ClassFault::Memory => JudgeFault::Memory,
+        }
     }
 }

@@ -1,27 +1,27 @@
 //! The verdict on a policy by its kind.
-ghost use Rattle.std.specs.Prelude.{◌≡◌, ◌<◌, ◌≤◌, length, slice_get, Some, IfOk, IfErr, IfSome};
+ghost use Rattle.std.specs.Prelude.{◌≡◌, ◌<◌, length, slice_get, Some, IfOk, IfErr, IfSome};
 ghost use Rattle.std.specs.Option.{ForSome};
 ghost use Rattle.net_model.specs.declared.policies.Class.{Class as AnyClass};
 ghost use Rattle.net_model.specs.Packets.{subject};
 ghost use Rattle.net_model.specs.Validity.{IsValid};
 ghost use Rattle.net_model.specs.Forwarding.{Ends, HasEnds};
 ghost use Rattle.net_model.specs.Witnesses.{IsRight};
+ghost use Rattle.class_graph.specs.Classes.{AreAllUniform};
 ghost use Rattle.class_graph.specs.Hosts.{IsHostPair, HasHostPair};
-ghost use Rattle.traffic_classes.specs.Classes.{AreClasses, HasClasses};
+ghost use Rattle.traffic_classes.specs.Classes.{HasClasses};
 ghost use Rattle.traffic_classes.specs.Parts.{MakeUp};
 ghost use Rattle.verdicts.specs.Fixed.{IsFixed};
-ghost use Rattle.verdicts.specs.Judged.{CountsMore, AreAllUniform, IsVerdict};
+ghost use Rattle.verdicts.specs.Judged.{CountsMore, IsVerdict};
 ghost use Rattle.net_model.specs.Policies.{HasFewFailures};
 
 use crate::blocking::judge_blocking;
 use crate::fault::JudgeFault;
 use crate::reach::judge_reach;
-use arc_base::limits::CLASS_LIMIT;
 use arc_base::{List, Memory};
 use class_graph::{HostPair, host_pair};
 use net_model::{Class, Network, Policy, PolicyKind, Verdict};
 use std::alloc::Global;
-use traffic_classes::{ClassFault, classes};
+use traffic_classes::classes;
 
 /// The verdict on the policy at a place, counted from 0.
 ///
@@ -67,44 +67,10 @@ fn judge_policy(
     ensures many { IfErr result (CountsMore (λ count.
         IfSome (slice_get policies.now which) (λ p. HasClasses net.now policies.now p count))) }
 {
-    let parts = classes_of(alloc, net, policies, which)?;
-    let pair = host_pair(alloc, net, class_of(policy))?;
+    let parts = classes(alloc, net, policies, which)?;
+    let pair = host_pair(alloc, net, policy.subject())?;
     let verdict = judge_classes(alloc, net, &pair, &parts, policy.kind)?;
     Ok(verdict)
-}
-
-/// All packets that the policy speaks of.
-fn class_of(policy: &Policy) -> Class
-    ensures { result ≡ subject policy.now }
-{
-    Class {
-        from: policy.from,
-        to: policy.to,
-        service: policy.service,
-    }
-}
-
-/// The traffic classes of the policy at a place.
-fn classes_of(
-    alloc: Global,
-    net: &Network,
-    policies: &List<Policy>,
-    which: u32,
-) -> Result<List<Class>, JudgeFault>
-    requires { which < length policies.now }
-    ensures classes { IfOk result (λ cs.
-        IfSome (slice_get policies.now which) (λ p. AreClasses net.now policies.now p cs)) }
-    ensures parts { IfOk result (λ cs.
-        IfSome (slice_get policies.now which) (λ p. MakeUp net.now (subject p) cs)) }
-    ensures few { IfOk result (λ cs. length cs ≤ CLASS_LIMIT) }
-    ensures many { IfErr result (CountsMore (λ count.
-        IfSome (slice_get policies.now which) (λ p. HasClasses net.now policies.now p count))) }
-{
-    match classes(alloc, net, policies, which) {
-        Ok(parts) => Ok(parts),
-        Err(ClassFault::TooMany(count)) => Err(JudgeFault::TooMany(count)),
-        Err(ClassFault::Memory) => Err(JudgeFault::Memory),
-    }
 }
 
 /// The verdict on a policy of this kind with these classes.

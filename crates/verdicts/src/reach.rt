@@ -3,12 +3,14 @@ ghost use Rattle.std.specs.Prelude.{◌≡◌, ◌≢◌, ◌≤◌, ℕ, length
 ghost use Rattle.net_model.specs.declared.policies.Class.{Class as AnyClass};
 ghost use Rattle.net_model.specs.Validity.{IsValid};
 ghost use Rattle.net_model.specs.Forwarding.{Ends};
+ghost use Rattle.class_graph.specs.Classes.{AreAllUniform};
+ghost use Rattle.class_graph.specs.Denials.{HasNoDenial};
 ghost use Rattle.class_graph.specs.Hosts.{IsHostPair, HasHostPair};
 ghost use Rattle.traffic_classes.specs.Parts.{MakeUp};
-ghost use Rattle.verdicts.specs.Judged.{AreAllUniform, IsReachVerdict};
-ghost use Rattle.verdicts.specs.Reaching.{HasNoDenial, IsPathsOrCut, paths_of};
+ghost use Rattle.verdicts.specs.Judged.{IsReachVerdict};
+ghost use Rattle.verdicts.specs.Reaching.{IsPathsOrCut, paths_of};
 
-use crate::denials::{first_denial, first_kept_out};
+use crate::denials::first_denial;
 use arc_base::limits::FAILURE_LIMIT;
 use arc_base::{Link, List, Memory};
 use class_graph::{HostPair, routed_graph};
@@ -46,7 +48,7 @@ fn judge_together(alloc: Global, net: &Network, pair: &HostPair, classes: &List<
     ensures { (ends : Ends) (whole : AnyClass) (k : ℕ) → IsHostPair net.now ends pair.now →
         MakeUp net.now whole classes.now → IsReachVerdict net.now ends k whole classes.now result }
 {
-    match first_kept_out(net, pair, classes) {
+    match pair.first_kept_out(net, classes) {
         Some(class) => Verdict::Denied(class),
         None => Verdict::Paths(List::make(alloc)),
     }
@@ -94,7 +96,7 @@ fn judge_clear(
         IsHostPair net.now ends pair.now → MakeUp net.now whole classes.now →
         IsReachVerdict net.now ends failures whole classes.now v) }
 {
-    match first_kept_out(net, pair, classes) {
+    match pair.first_kept_out(net, classes) {
         Some(class) => Ok(Verdict::Denied(class)),
         None => paths_or_cut(alloc, net, pair, failures),
     }

@@ -44,11 +44,7 @@ impl Case<'_> {
             target,
             to,
             told: net.told(to),
-            whole: Class {
-                from: policy.from,
-                to: policy.to,
-                service: policy.service,
-            },
+            whole: policy.subject(),
         }
     }
 

@@ -3,8 +3,7 @@ use Rattle.std.proofs.lemmas.List.{take_all}
 use Rattle.net_model.specs.declared.verdicts.ClassSide.{ClassSide}
 use Rattle.verdicts.specs.Fixed.{IsLeastClosed, HasClosedSide}
 use Rattle.verdicts.specs.Judged.{IsClassAnswer}
-use Rattle.verdicts.proofs.Firsts.{one_more_class}
-use Rattle.verdicts.proofs.Passing.{item_here, first_after}
+use Rattle.class_graph.proofs.Passing.{item_here, one_more_class, first_after}
 use Rattle.verdicts.proofs.Pushes.{map_more, all_push}
 use Rattle.verdicts.proofs.blocking.judge_blocking.Goals as goal
 
