@@ -1,21 +1,20 @@
 -- Each line that is written is read as the step that it was written from.
-use Rattle.std.proofs.Common.{◌≡◌, ◌≢◌, ℕ, suc, zero, ◌+◌, ◌-◌, ◌*◌, ◌/◌, ◌%◌, ◌<◌, ◌≤◌, ◌^◌, ℤ, pos, negsuc, unsigned_abs, Bool, true, false, not, cond, ◌&&◌, ◌==◌, nat_lt, List, [], ◌∷◌, ◌++◌, length, map, refl, ap, ap₂, sym, ◌∙◌, subst, arith, All, Option, Some, None, Result, Ok, Err, decimal, codes, append_assoc, append-nil, ⊎_elim}
-use Rattle.std.specs.List.{list_any, list_all, slice_split}
+use Rattle.std.proofs.Common.{◌≡◌, ℕ, suc, zero, ◌+◌, ◌*◌, ◌/◌, ◌%◌, ◌<◌, ◌^◌, ℤ, pos, negsuc, unsigned_abs, Bool, true, false, cond, ◌&&◌, ◌==◌, nat_lt, List, [], ◌∷◌, ◌++◌, length, map, refl, ap, ap₂, sym, ◌∙◌, subst, arith, All, Some, None, Ok, decimal, append_assoc, append-nil, ⊎_elim}
+use Rattle.std.specs.List.{list_any, list_all}
 use Rattle.std.specs.Fmt.{signed_decimal}
-use Rattle.std.proofs.lemmas.Bool.{cond-true, cond-false, ne_eqb, eq-eqb, cases_eq, lt-ltb, and_from}
+use Rattle.std.proofs.lemmas.Bool.{cond-true, ne_eqb, eq-eqb, cases_eq, lt-ltb, and_from}
 use Rattle.std.proofs.lemmas.List.Splits.{slice_split_at}
 use Rattle.std.proofs.lemmas.List.Elements.{All-cons, All-nil, All-append, All-head, All-tail}
 use Rattle.cnf_types.specs.declared.literal.Lit.{Lit}
 use Rattle.cnf_types.specs.Literals.{literal, variable, is_positive}
-use Rattle.cnf_types.specs.Words.{lines, without_return}
+use Rattle.cnf_types.specs.Words.{lines}
 use Rattle.arc_base.specs.Words.{words}
 use Rattle.cnf_types.specs.Dimacs.{is_comment, is_zero, literal_of}
 use Rattle.proof_log.specs.declared.steps.Step.{Step}
 use Rattle.proof_log.specs.declared.steps.Step.TheVariants.{Add, Drop, Bound}
 use Rattle.proof_log.specs.declared.steps.Log.{Log}
-use Rattle.proof_log.specs.declared.numbers.Sign.{Sign}
 use Rattle.proof_log.specs.declared.numbers.Sign.TheVariants.{Adds, Drops, Bounds}
-use Rattle.proof_log.specs.Reading.{reading, log_number, numbers, is_bad, sign, sign_of, number_words, unless_sign, formed, add_of, drop_of, bound_of, is_positive as positive_number, is_negative}
+use Rattle.proof_log.specs.Reading.{reading, log_number, numbers, is_bad, sign, sign_of, number_words, unless_sign, formed, add_of, drop_of, is_positive as positive_number}
 use Rattle.proof_log.specs.Texts.{literal_text, before_spaces, step_text, last_added, steps_text, log_text, IsId, IsLiteral, IsHint, HasLine}
 use Rattle.proof_log.proofs.Forms.{reads_step}
 use Rattle.proof_log.proofs.Printed.{IsPlain, IsWord, plain_word, decimal_plain, minus_plain, number_decimal, number_minus, AreWords, words_spaced, spaced_append, IsInLine, spaced_in_line, line_and_rest, no_return, no_comment, adds_by, Write, written_good, written_numbers, write_append, words_append}

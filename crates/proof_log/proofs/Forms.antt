@@ -1,12 +1,11 @@
 -- What a line is read as, from what its parts are.
-use Rattle.std.proofs.Common.{◌≡◌, ℕ, Bool, true, false, not, List, [], ◌∷◌, refl, ap, sym, ◌∙◌, Option, Some, None, Result, Ok, Err, IsFalse, cond, ◌||◌, length, ◌==◌}
+use Rattle.std.proofs.Common.{◌≡◌, ℕ, true, false, not, List, [], ◌∷◌, refl, ap, sym, ◌∙◌, Some, None, Ok, Err, IsFalse, cond, ◌||◌, length, ◌==◌}
 use Rattle.std.proofs.lemmas.Bool.{false≢true}
 use Rattle.std.specs.List.{list_any}
 use Rattle.cnf_types.specs.Dimacs.{is_comment, line_words}
 use Rattle.cnf_types.specs.Words.{without_return}
 use Rattle.arc_base.specs.Words.{is_filled, words}
 use Rattle.proof_log.specs.declared.steps.Step.{Step}
-use Rattle.proof_log.specs.declared.reading.LineKind.{LineKind}
 use Rattle.proof_log.specs.declared.reading.LineKind.TheVariants.{BadNumber}
 use Rattle.proof_log.specs.Reading.{reading, is_bad, number_words, formed, sign, numbers, ok_or_bad_line}
 

@@ -1,20 +1,18 @@
 -- What is written is read again: words, numbers and lines.
-use Rattle.std.proofs.Common.{◌≡◌, ◌≢◌, ℕ, suc, zero, ◌+◌, ◌-◌, ◌*◌, ◌<◌, ◌≤◌, ◌^◌, ℤ, pos, negsuc, unsigned_abs, Bool, true, false, not, cond, ◌&&◌, ◌||◌, ◌==◌, eqb, nat_le, List, [], ◌∷◌, ◌++◌, length, take, drop, get_or, map, filter, filter_map, flat_map, refl, ap, ap₂, sym, ◌∙◌, subst, arith, rules, All, Option, Some, None, Result, Ok, Err, decimal, codes, append_assoc, append-nil, option_map, option_and_then, is_none, length-append, ⊎_elim}
-use Rattle.std.specs.List.{list_any, list_all, slice_split, onto_first, cons_option}
-use Rattle.std.specs.Str.{all_ascii_digits, bytes_eq}
-use Rattle.std.specs.Fmt.{signed_decimal}
+use Rattle.std.proofs.Common.{◌≡◌, ℕ, suc, ◌-◌, ◌<◌, ◌≤◌, ◌^◌, ℤ, pos, negsuc, true, false, ◌||◌, ◌==◌, nat_le, List, [], ◌∷◌, ◌++◌, length, take, get_or, filter, refl, ap, ap₂, sym, ◌∙◌, arith, rules, All, Some, None, decimal, append_assoc, option_map, option_and_then, is_none, length-append}
+use Rattle.std.specs.List.{list_any, slice_split, onto_first, cons_option}
+use Rattle.std.specs.Str.{all_ascii_digits}
 use Rattle.std.proofs.lemmas.Str.Parse.{IsNumeralModel, numerals_by_fold, tells_all_ascii_digits, FoldsDigits, digit_at}
 use Rattle.std.proofs.lemmas.Fmt.{digits_decimal, digits_value-decimal, decimal_nonempty, decimal_is_IsNumeral}
 use Rattle.std.proofs.lemmas.Option.{none-some}
 use Rattle.std.proofs.lemmas.List.{get_or_at}
-use Rattle.std.proofs.lemmas.Bool.{and_from, and_left, le-leb, cond-true, cond-false, ne_eqb, eq-eqb}
-use Rattle.std.proofs.lemmas.List.Splits.{slice_split_at, slice_split_none}
+use Rattle.std.proofs.lemmas.Bool.{and_from, and_left, le-leb, cond-true, cond-false, ne_eqb}
+use Rattle.std.proofs.lemmas.List.Splits.{slice_split_at}
 use Rattle.std.proofs.lemmas.List.Elements.{All-cons, All-nil, All-append, All-weaker, All-from_get_or, All-head, All-tail}
-use Rattle.cnf_types.specs.Numbers.{natural, is_natural, number, minus, value_after, with_digit}
+use Rattle.cnf_types.specs.Numbers.{natural, is_natural, number, minus, value_after}
 use Rattle.cnf_types.specs.Words.{lines, without_return, is_line_feed}
 use Rattle.arc_base.specs.Words.{words, is_filled, is_blank}
 use Rattle.cnf_types.specs.Dimacs.{is_comment}
-use Rattle.proof_log.specs.declared.numbers.Sign.{Sign}
 use Rattle.proof_log.specs.declared.numbers.Sign.TheVariants.{Adds, Drops, Bounds}
 use Rattle.proof_log.specs.Reading.{log_number, numbers, is_bad, sign_of}
 use Rattle.proof_log.specs.Texts.{before_spaces}
@@ -25,7 +23,7 @@ folds = search rules
 own : IsNumeralModel (λ ds. all_ascii_digits ds ≡ true) (value_after 0)
 own = numerals_by_fold _ tells_all_ascii_digits value_after folds
 
-filled_by : (bytes : List ℕ) → 0 < length bytes → is_filled bytes ≡ true
+pub filled_by : (bytes : List ℕ) → 0 < length bytes → is_filled bytes ≡ true
 filled_by [] h = absurd (omega arith)
 filled_by (b ∷ bytes) h = refl
 
@@ -60,7 +58,7 @@ pub minus_plain : (n : ℕ) → n < 2 ^ 64 → IsPlain (45 ∷ decimal n)
 minus_plain n fits = (omega arith, All-cons (λ b. (32 < b) × (b ≤ 57)) 45 (decimal n) (omega arith, omega arith) ((decimal_plain n fits).1))
 
 -- digits without a sign
-number_plain : (limit n : ℕ) (w : List ℕ) → All (λ b. (48 ≤ b) × (b ≤ 57)) w → natural limit w ≡ Some n → number limit w ≡ Some (pos n)
+pub number_plain : (limit n : ℕ) (w : List ℕ) → All (λ b. (48 ≤ b) × (b ≤ 57)) w → natural limit w ≡ Some n → number limit w ≡ Some (pos n)
 number_plain limit n [] digits e = absurd (none-some n e)
 number_plain limit n (b ∷ bytes) digits e =
     let low = (All-head (λ b. (48 ≤ b) × (b ≤ 57)) b bytes digits).0 in
@@ -76,13 +74,13 @@ number_minus n fits = ap (option_and_then minus) (natural_decimal (2 ^ 63 - 1) (
 not_blank : (b : ℕ) → 32 < b → is_blank b ≡ false
 not_blank b h = ap₂ (λ x y. x || y) (ne_eqb b 32 (λ e. omega arith)) (ne_eqb b 9 (λ e. omega arith))
 
-no_blanks : (w : List ℕ) → All (λ b. 32 < b) w → All (λ b. is_blank b ≡ false) w
+pub no_blanks : (w : List ℕ) → All (λ b. 32 < b) w → All (λ b. is_blank b ≡ false) w
 no_blanks w h = All-weaker (λ b. 32 < b) (λ b. is_blank b ≡ false) (λ b k. not_blank b k) w h
 
-front_word : (w : List ℕ) (ps : List (List ℕ)) → 0 < length w → filter is_filled (w ∷ ps) ≡ w ∷ filter is_filled ps
+pub front_word : (w : List ℕ) (ps : List (List ℕ)) → 0 < length w → filter is_filled (w ∷ ps) ≡ w ∷ filter is_filled ps
 front_word w ps h = cond-true (is_filled w) (w ∷ filter is_filled ps) (filter is_filled ps) (filled_by w h)
 
-first_word : (w rest : List ℕ) → IsWord w → words (w ++ 32 ∷ rest) ≡ w ∷ words rest
+pub first_word : (w rest : List ℕ) → IsWord w → words (w ++ 32 ∷ rest) ≡ w ∷ words rest
 first_word w rest h =
     ap (filter is_filled) (slice_split_at is_blank w 32 rest (no_blanks w h.1) refl) ∙ front_word w (slice_split is_blank rest) h.0
 

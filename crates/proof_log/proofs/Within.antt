@@ -1,8 +1,8 @@
 -- The numbers of a line are below 2 ^ 63.
-use Rattle.std.proofs.Common.{◌≡◌, ℕ, suc, zero, ◌<◌, ◌≤◌, ◌-◌, ◌^◌, ℤ, pos, negsuc, unsigned_abs, Bool, true, false, List, [], ◌∷◌, refl, ap, sym, ◌∙◌, arith, All, Option, Some, None, filter_map, ⊎_elim, ◌==◌, cond, option_map, option_and_then, ◌&&◌, nat_le}
+use Rattle.std.proofs.Common.{◌≡◌, ℕ, suc, zero, ◌<◌, ◌≤◌, ◌-◌, ◌^◌, ℤ, pos, unsigned_abs, Bool, true, false, List, [], ◌∷◌, refl, sym, arith, All, Option, Some, None, ◌==◌, cond, option_map, option_and_then, ◌&&◌, nat_le}
 use Rattle.std.specs.List.{cons_option}
 use Rattle.std.specs.Str.{all_ascii_digits}
-use Rattle.std.proofs.lemmas.Bool.{cases_Bool, and_parts, leb-true}
+use Rattle.std.proofs.lemmas.Bool.{and_parts, leb-true}
 use Rattle.std.proofs.lemmas.Option.{cond_some, none-some, same_Some, option_and_then_some}
 use Rattle.std.proofs.lemmas.List.Elements.{All-cons, All-nil, All-same}
 use Rattle.cnf_types.specs.Numbers.{natural, is_natural, number, minus, value_after}

@@ -1,7 +1,7 @@
 -- The text of a proof log.
-use Rattle.std.specs.Prelude.{◌≡◌, ℕ, suc, ◌+◌, ◌-◌, ◌*◌, ◌/◌, ◌<◌, ◌≤◌, ◌^◌, ℤ, pos, negsuc, Bool}
-use Rattle.std.specs.Prelude.{true, false, if◌then◌else◌, List, [], ◌∷◌, ◌++◌, map, flat_map, codes}
-use Rattle.std.specs.Prelude.{decimal, All, Some, Ok, unsigned_abs, ◌≢◌}
+use Rattle.std.specs.Prelude.{◌≡◌, ℕ, ◌<◌, ◌^◌, ℤ}
+use Rattle.std.specs.Prelude.{if◌then◌else◌, List, [], ◌∷◌, ◌++◌, map, flat_map, codes}
+use Rattle.std.specs.Prelude.{decimal, All, Some, Ok, unsigned_abs}
 use Rattle.std.specs.Fmt.{signed_decimal}
 use Rattle.cnf_types.specs.declared.literal.Lit.{Lit}
 use Rattle.cnf_types.specs.Literals.{variable, is_positive}

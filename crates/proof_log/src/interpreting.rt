@@ -1,12 +1,12 @@
 //! The step that the numbers of a line write.
 ghost use Rattle.std.specs.Prelude.{◌≡◌, ◌<◌, ◌≤◌, ◌^◌, ◌-◌, ◌++◌, [], ◌∷◌, ℕ, ℤ, None, length};
 ghost use Rattle.std.specs.Prelude.{map, take, false, All, IsTrue, IfOk, OnOk, IsErrOf, IfNone};
-ghost use Rattle.std.specs.Prelude.{IfSome, MatchOption, unsigned_abs};
+ghost use Rattle.std.specs.Prelude.{IfSome, MatchOption, Some, unsigned_abs};
 ghost use Rattle.std.specs.List.{list_all, slice_split};
 ghost use Rattle.cnf_types.specs.Dimacs.{is_zero, literal_of};
 ghost use Rattle.proof_log.specs.Reading.{add_of, drop_of, bound_of, is_positive, formed};
 
-use crate::numbers::{Numbers, Sign};
+use crate::numbers::Sign;
 use crate::steps::Step;
 use arc_base::{List, Memory};
 use cnf_types::Lit;
@@ -103,19 +103,33 @@ fn all_positive(numbers: &[i64]) -> bool
     numbers.iter().all(|number| *number > 0)
 }
 
+/// The id, the numbers of the literals and the hints of `ID LITS 0 HINTS 0`, from what follows the
+/// id.
+fn add_parts(id: i64, rest: &[i64]) -> Option<(u64, &[i64], &[i64])>
+    requires { All (λ z. unsigned_abs z < 2 ^ 63) rest.now }
+    ensures none { IfNone result (add_of id (slice_split is_zero rest.now) ≡ None) }
+    ensures some { IfSome result (λ parts. add_of id (slice_split is_zero rest.now)
+        ≡ Some (Step.Add parts.0 (map literal_of parts.1.now) parts.2.now)) }
+    ensures free { IfSome result (λ parts. All (λ z. is_zero z ≡ false) parts.1.now) }
+    ensures within { IfSome result (λ parts. All (λ z. unsigned_abs z < 2 ^ 63) parts.1.now) }
+{
+    let (lits, hints) = two_parts(rest)?;
+    if id < 1 {
+        return None;
+    }
+    Some((id as u64, lits, hints))
+}
+
 /// The step `ID LITS 0 HINTS 0`, from what follows the id.
 fn add_step(alloc: Global, id: i64, rest: &[i64]) -> Result<Option<Step>, Memory>
-    requires fits { All (λ z. unsigned_abs z < 2 ^ 63) rest.now }
+    requires { All (λ z. unsigned_abs z < 2 ^ 63) rest.now }
     ensures { IfOk result (λ step. step ≡ add_of id (slice_split is_zero rest.now)) }
 {
-    let Some((lits, numbers)) = two_parts(rest) else {
+    let Some((id, lits, numbers)) = add_parts(id, rest) else {
         return Ok(None);
     };
-    if id < 1 {
-        return Ok(None);
-    }
     Ok(Some(Step::Add {
-        id: id as u64,
+        id,
         lits: literals(alloc, lits)?,
         hints: hints(alloc, numbers)?,
     }))
@@ -155,15 +169,31 @@ fn bound_step(id: i64, rest: &[i64]) -> Option<Step>
     }
 }
 
-/// The step that the numbers of a line write, if it has one of the three forms.
-pub(crate) fn interpret(alloc: Global, numbers: &Numbers) -> Result<Option<Step>, Memory>
-    requires fits { All (λ z. unsigned_abs z < 2 ^ 63) numbers.now.all.items }
-    ensures { IfOk result (λ step. step ≡ formed numbers.now.sign numbers.now.all.items) }
+/// What the numbers of a line that adds a clause write, if it has that form: the id, the numbers of
+/// the literals and the hints.
+pub fn added(numbers: &[i64]) -> Option<(u64, &[i64], &[i64])>
+    requires { All (λ z. unsigned_abs z < 2 ^ 63) numbers.now }
+    ensures none { IfNone result (formed Sign.Adds numbers.now ≡ None) }
+    ensures some { IfSome result (λ parts. formed Sign.Adds numbers.now
+        ≡ Some (Step.Add parts.0 (map literal_of parts.1.now) parts.2.now)) }
+    ensures free { IfSome result (λ parts. All (λ z. is_zero z ≡ false) parts.1.now) }
+    ensures within { IfSome result (λ parts. All (λ z. unsigned_abs z < 2 ^ 63) parts.1.now) }
 {
-    let [first, rest @ ..] = numbers.all.as_slice() else {
+    match numbers {
+        [id, rest @ ..] => add_parts(*id, rest),
+        [] => None,
+    }
+}
+
+/// The step that the numbers of a line of this sign write, if it has one of the three forms.
+pub fn interpret(alloc: Global, sign: Sign, numbers: &[i64]) -> Result<Option<Step>, Memory>
+    requires { All (λ z. unsigned_abs z < 2 ^ 63) numbers.now }
+    ensures { IfOk result (λ step. step ≡ formed sign numbers.now) }
+{
+    let [first, rest @ ..] = numbers else {
         return Ok(None);
     };
-    match numbers.sign {
+    match sign {
         Sign::Adds => add_step(alloc, *first, rest),
         Sign::Drops => drop_step(alloc, *first, rest),
         Sign::Bounds => Ok(bound_step(*first, rest)),

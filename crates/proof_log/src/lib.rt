@@ -10,8 +10,10 @@ mod printing;
 mod reading;
 mod steps;
 
+pub use interpreting::{added, interpret};
+pub use numbers::Sign;
 pub use printing::text;
-pub use reading::{LineKind, step};
+pub use reading::{LineKind, line_numbers, step};
 pub use steps::{Log, Step};
 
 #[cfg(test)]

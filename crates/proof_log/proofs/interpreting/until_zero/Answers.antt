@@ -1,4 +1,4 @@
-use Rattle.std.proofs.Common.{◌≡◌, ◌<◌, ℕ, length, pos, true, false, get_or, arith, rules, sym, ap, ◌∙◌, SFits, w64, to_z-of_z}
+use Rattle.std.proofs.Common.{pos, get_or, arith, rules, sym, ap, ◌∙◌, SFits, w64, to_z-of_z}
 use Rattle.cnf_types.specs.Dimacs.{is_zero}
 use Rattle.proof_log.proofs.Zeros.{none_before, cut_at, uncut}
 use Rattle.proof_log.proofs.interpreting.until_zero.Goals as goal

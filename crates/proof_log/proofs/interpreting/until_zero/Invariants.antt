@@ -1,4 +1,4 @@
-use Rattle.std.proofs.Common.{◌≡◌, ◌<◌, ℕ, ℤ, pos, false, get_or}
+use Rattle.std.proofs.Common.{◌≡◌, ◌<◌, ℕ, pos, false, get_or}
 use Rattle.cnf_types.specs.Dimacs.{is_zero}
 use Rattle.proof_log.proofs.interpreting.until_zero.Given as goal
 
