@@ -1,4 +1,7 @@
 //! The checker of proof logs.
+ghost use Rattle.std.specs.Prelude.{◌≡◌, ◌<◌, ◌^◌, All, OnOk, false, map, unsigned_abs};
+ghost use Rattle.cnf_types.specs.Dimacs.{is_zero, literal_of};
+
 use crate::faults::StepFault;
 use crate::hints::follow;
 use crate::left::Marks;
@@ -7,6 +10,7 @@ use arc_base::{List, Memory};
 use cnf_types::{Formula, Lit};
 use proof_log::Step;
 use std::alloc::Global;
+use std::mem;
 
 /// A checker of one proof log for one formula.
 #[derive(Drop)]
@@ -18,11 +22,29 @@ pub struct Checker {
     least: Option<u32>,
     tops: Vec<Lit>,
     refuted: bool,
+    // Room that is used again for each line: for its numbers and its literals.
+    numbers: Vec<i64>,
+    lits: Vec<Lit>,
+}
+
+/// Puts the literals that numbers stand for in place of those that are there.
+fn read_literals(lits: &mut Vec<Lit>, numbers: &[i64]) -> Result<(), Memory>
+    requires nonzero { All (λ z. is_zero z ≡ false) numbers.now }
+    requires fits { All (λ z. unsigned_abs z < 2 ^ 63) numbers.now }
+    ensures { OnOk result (lits.new.items ≡ map literal_of numbers.now) }
+{
+    lits.clear();
+    for number in numbers {
+        lits.push(Lit::make(number.unsigned_abs(), *number > 0))?;
+    }
+    Ok(())
 }
 
 impl Checker {
     ghost use Rattle.std.specs.Prelude.{◌≡◌, ◌<◌, ◌^◌, length, None, IfOk, IfErr, OnOk, OnErr, ℕ};
-    ghost use Rattle.std.specs.Prelude.{Bool, List as Items, IsTrue, ◌↔◌, nat_lt};
+    ghost use Rattle.std.specs.Prelude.{Bool, List as Items, IsTrue, ◌↔◌, nat_lt, All, false, map};
+    ghost use Rattle.std.specs.Prelude.{unsigned_abs};
+    ghost use Rattle.cnf_types.specs.Dimacs.{is_zero, literal_of};
     ghost use Rattle.cnf_types.specs.Formulas.{Satisfies};
     ghost use Rattle.proof_check.specs.Logs.{after_all, IsAccepted, IsRefuting, KeepsBounds};
     ghost use Rattle.proof_check.specs.Knowledge.{start, step_fault, after, IsFirst};
@@ -48,7 +70,23 @@ impl Checker {
             least,
             tops: Vec::from_slice(alloc, tops.slice())?,
             refuted: false,
+            numbers: Vec::new(alloc),
+            lits: Vec::new(alloc),
         })
+    }
+
+    /// Hands out the room for the numbers of a line.
+    pub(crate) fn take_numbers(&mut self, alloc: Global) -> Vec<i64>
+        ensures { known self.new ≡ known self.old }
+    {
+        mem::replace(&mut self.numbers, Vec::new(alloc))
+    }
+
+    /// Takes the room for the numbers of a line back.
+    pub(crate) fn give_numbers(&mut self, numbers: Vec<i64>)
+        ensures { known self.new ≡ known self.old }
+    {
+        self.numbers = numbers;
     }
 
     /// Whether an id is above every id before it.
@@ -77,6 +115,35 @@ impl Checker {
         self.last = id;
         self.refuted = self.refuted || lits.is_empty();
         Ok(())
+    }
+
+    /// Adds the clause whose literals these numbers stand for, which the hints have to show.
+    pub(crate) fn add_numbers(
+        &mut self,
+        id: u64,
+        numbers: &[i64],
+        hints: &[i64],
+    ) -> Result<(), StepFault>
+        requires nonzero { All (λ z. is_zero z ≡ false) numbers.now }
+        requires fits { All (λ z. unsigned_abs z < 2 ^ 63) numbers.now }
+        ensures ok { OnOk result (step_fault (known self.old)
+            (Step.Add id (map literal_of numbers.now) hints.now) ≡ None) }
+        ensures after { OnOk result (known self.new
+            ≡ after (known self.old) (Step.Add id (map literal_of numbers.now) hints.now)) }
+        ensures fault { IfErr result (IsFirst (step_fault (known self.old)
+            (Step.Add id (map literal_of numbers.now) hints.now))) }
+        ensures same { OnErr result (known self.new ≡ known self.old) }
+    {
+        if hints.len() > u32::MAX as usize {
+            return Err(StepFault::Memory);
+        }
+        let mut lits = mem::replace(&mut self.lits, Vec::new(self.alloc));
+        let judged = match read_literals(&mut lits, numbers) {
+            Ok(()) => self.add(id, &lits, hints),
+            Err(Memory) => Err(StepFault::Memory),
+        };
+        self.lits = lits;
+        judged
     }
 
     /// Drops clauses.

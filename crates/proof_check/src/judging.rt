@@ -1,8 +1,9 @@
 //! The judgement of a proof text.
-ghost use Rattle.std.specs.Prelude.{◌≡◌, ℕ, ◌↔◌, [], ◌<◌, ◌^◌, length, Bool, None, IfOk, IsNone};
+ghost use Rattle.std.specs.Prelude.{◌≡◌, ℕ, ◌↔◌, [], ◌<◌, ◌^◌, length, All, Bool, None, IfOk, IsNone};
+ghost use Rattle.std.specs.Prelude.{unsigned_abs};
 ghost use Rattle.cnf_types.specs.Words.{lines};
 ghost use Rattle.cnf_types.specs.Formulas.{Satisfies};
-ghost use Rattle.proof_log.specs.Reading.{reading};
+ghost use Rattle.proof_log.specs.Reading.{formed, ok_or_bad_line, reading};
 ghost use Rattle.proof_check.specs.Knowledge.{start};
 ghost use Rattle.proof_check.specs.Outcomes.{fault_kind, line_rejection, line_after, log_outcome};
 ghost use Rattle.proof_check.specs.Outcomes.{IsRefutation};
@@ -13,7 +14,7 @@ use crate::faults::StepFault;
 use crate::rejections::{Outcome, Rejection};
 use arc_base::{CertKind, List, Memory};
 use cnf_types::{Formula, first_line};
-use proof_log::{LineKind, step};
+use proof_log::{LineKind, Sign, added, interpret, line_numbers};
 use std::alloc::Global;
 
 /// The kind of reason for which a step is not accepted, without its place.
@@ -32,6 +33,50 @@ pub fn fault_kind(fault: StepFault) -> CertKind
     }
 }
 
+/// Judges the numbers of a line that adds a clause, and takes its step where that is accepted.
+fn judge_added(checker: &mut Checker, numbers: &[i64]) -> Result<Option<Rejection>, Memory>
+    requires { All (λ z. unsigned_abs z < 2 ^ 63) numbers.now }
+    ensures rejection { IfOk result (λ r. r
+        ≡ line_rejection (ok_or_bad_line (formed Sign.Adds numbers.now)) (known checker.old)) }
+    ensures after { IfOk result (λ r. IsNone r → known checker.new
+        ≡ line_after (ok_or_bad_line (formed Sign.Adds numbers.now)) (known checker.old)) }
+{
+    let Some((id, lits, hints)) = added(numbers) else {
+        return Ok(Some(Rejection::Form));
+    };
+    match checker.add_numbers(id, lits, hints) {
+        Ok(()) => Ok(None),
+        Err(StepFault::Memory) => Err(Memory),
+        Err(fault) => Ok(Some(Rejection::Fault(fault))),
+    }
+}
+
+/// Judges the numbers of a line of this sign, and takes its step where that is accepted.
+fn judge_numbers(
+    alloc: Global,
+    checker: &mut Checker,
+    sign: Sign,
+    numbers: &[i64],
+) -> Result<Option<Rejection>, Memory>
+    requires { All (λ z. unsigned_abs z < 2 ^ 63) numbers.now }
+    ensures rejection { IfOk result (λ r.
+        r ≡ line_rejection (ok_or_bad_line (formed sign numbers.now)) (known checker.old)) }
+    ensures after { IfOk result (λ r. IsNone r → known checker.new
+        ≡ line_after (ok_or_bad_line (formed sign numbers.now)) (known checker.old)) }
+{
+    if matches!(sign, Sign::Adds) {
+        return judge_added(checker, numbers);
+    }
+    match interpret(alloc, sign, numbers)? {
+        Some(step) => match checker.step(&step) {
+            Ok(()) => Ok(None),
+            Err(StepFault::Memory) => Err(Memory),
+            Err(fault) => Ok(Some(Rejection::Fault(fault))),
+        },
+        None => Ok(Some(Rejection::Form)),
+    }
+}
+
 /// Judges a line, and takes its step where that is accepted.
 pub fn judge_line(
     alloc: Global,
@@ -43,16 +88,15 @@ pub fn judge_line(
     ensures after { IfOk result (λ r. IsNone r →
         known checker.new ≡ line_after (reading line.now) (known checker.old)) }
 {
-    match step(alloc, line) {
+    let mut numbers = checker.take_numbers(alloc);
+    let judged = match line_numbers(&mut numbers, line) {
         Ok(None) => Ok(None),
-        Ok(Some(step)) => match checker.step(&step) {
-            Ok(()) => Ok(None),
-            Err(StepFault::Memory) => Err(Memory),
-            Err(fault) => Ok(Some(Rejection::Fault(fault))),
-        },
+        Ok(Some(sign)) => judge_numbers(alloc, checker, sign, &numbers),
         Err(LineKind::Memory) => Err(Memory),
         Err(_) => Ok(Some(Rejection::Form)),
-    }
+    };
+    checker.give_numbers(numbers);
+    judged
 }
 
 /// Judges the lines of a proof.
