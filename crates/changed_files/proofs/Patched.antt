@@ -9,10 +9,10 @@ use Rattle.net_doc.specs.declared.fault.Refusal.{Refusal}
 use Rattle.net_model.specs.declared.policies.Document.{Document}
 use Rattle.ios_config.specs.declared.settings.Config.{Config}
 use Rattle.ios_config.specs.declared.settings.ListText.{ListText}
-use Rattle.net_build.specs.Limits.{long_list, RefusesEntries}
+use Rattle.net_rows.specs.Limits.{long_list, RefusesEntries}
 use Rattle.net_build.specs.Networks.{IsBuilt}
 use Rattle.net_build.specs.Order.{tries, AreClear, Refuses, RefusesWithin}
-use Rattle.net_build.specs.Reasons.{IsClear}
+use Rattle.net_rows.specs.Reasons.{IsClear}
 use Rattle.patched_settings.proofs.Room.{room_within}
 use Rattle.patched_texts.proofs.EditedFiles.{edited_files_have_the_network}
 use Rattle.changed_files.specs.Changes.{LeftPatchedIsReadAgain, PatchesHaveTheNetwork}

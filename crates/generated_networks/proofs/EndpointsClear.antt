@@ -17,13 +17,13 @@ use Rattle.net_model.specs.declared.rows.Network.{Network}
 use Rattle.net_model.specs.declared.rows.Protocol.{Protocol}
 use Rattle.net_model.specs.declared.rows.Protocol.TheVariants.{Ospf}
 use Rattle.net_model.specs.Forwarding.{IsHostOf}
-use Rattle.net_build.specs.Addressing.{RefusesEndpoint}
-use Rattle.net_build.specs.Lists.{packet_list_key}
-use Rattle.net_build.specs.Reasons.{IsClear}
-use Rattle.net_build.specs.Rows.{IsFaceRow, AreRows, IsSubnet, host_address_of}
-use Rattle.net_build.specs.Settings.{IsPrefixAt}
-use Rattle.net_build.specs.Sites.{Site, sites, full_name, ends_of}
-use Rattle.net_build.proofs.Distinct.{at_Contains, Contains-at}
+use Rattle.net_rows.specs.Addressing.{RefusesEndpoint}
+use Rattle.net_rows.specs.Lists.{packet_list_key}
+use Rattle.net_rows.specs.Reasons.{IsClear}
+use Rattle.net_rows.specs.Rows.{IsFaceRow, AreRows, IsSubnet, host_address_of}
+use Rattle.net_rows.specs.Settings.{IsPrefixAt}
+use Rattle.net_rows.specs.Sites.{Site, sites, full_name, ends_of}
+use Rattle.net_rows.proofs.Distinct.{at_Contains, Contains-at}
 use Rattle.net_gen.specs.Plans.{numbers, link_count, a_router, b_router, port}
 use Rattle.net_gen.specs.RouterFiles.{host_name, face_name}
 use Rattle.net_gen.specs.Generated.{link_text, IsHostNetwork, Asked, asked, asked_around, Asks}

@@ -9,11 +9,11 @@ use Rattle.arc_base.proofs.Items as items
 use Rattle.ios_config.specs.declared.settings.Config.{Config}
 use Rattle.ios_config.specs.declared.settings.FaceText.{FaceText}
 use Rattle.arc_base.specs.Lists.{AreDistinct}
-use Rattle.net_build.specs.Sites.{Site, FullName, sites_of, sites, full_name, full_names}
-use Rattle.net_build.specs.Sites as build
-use Rattle.net_build.proofs.Distinct.{one_place}
-use Rattle.net_build.proofs.NamesDiffer.{full_names_distinct}
-use Rattle.net_build.proofs.SiteFacts.{site_of, name_at_site}
+use Rattle.net_rows.specs.Sites.{Site, FullName, sites_of, sites, full_name, full_names}
+use Rattle.net_rows.specs.Sites as build
+use Rattle.net_rows.proofs.Distinct.{one_place}
+use Rattle.net_rows.proofs.NamesDiffer.{full_names_distinct}
+use Rattle.net_rows.proofs.SiteFacts.{site_of, name_at_site}
 use Rattle.net_gen.specs.Plans.{numbers, link_count, has_end, port}
 use Rattle.net_gen.specs.RouterFiles.{host_name, face_name}
 use Rattle.generated_networks.proofs.Once.{PortsRise, IsAbove, all-above, face-name-one, host-name-one, ports-rise}

@@ -12,11 +12,11 @@ use Rattle.net_model.specs.declared.rows.LinkRow.{LinkRow}
 use Rattle.net_model.specs.declared.rows.Network.{Network}
 use Rattle.net_model.specs.declared.rows.SessionRow.{SessionRow}
 use Rattle.arc_base.specs.declared.place.Face.{Face}
-use Rattle.net_build.specs.Lists.{packet_list_key}
+use Rattle.net_rows.specs.Lists.{packet_list_key}
 use Rattle.net_build.specs.Networks.{Says}
-use Rattle.net_build.specs.Rows.{IsFaceRow, AreRows}
-use Rattle.net_build.specs.Sites.{sites_of, sites, ends_of}
-use Rattle.net_build.proofs.Distinct.{at_Contains}
+use Rattle.net_rows.specs.Rows.{IsFaceRow, AreRows}
+use Rattle.net_rows.specs.Sites.{sites_of, sites, ends_of}
+use Rattle.net_rows.proofs.Distinct.{at_Contains}
 use Rattle.net_gen.specs.Generated.{Asks, asked}
 use Rattle.traffic_classes.specs.AllClasses.{AreAllClasses, FirstHaveMore}
 use Rattle.edit_space.specs.declared.edit_kinds.Edit.{Edit}

@@ -13,15 +13,15 @@ use Rattle.ios_words.specs.Prefixes.{whole}
 use Rattle.ios_config.specs.declared.settings.Config.{Config}
 use Rattle.ios_config.specs.declared.settings.FaceText.{FaceText}
 use Rattle.ios_config.specs.declared.settings.Given.{Given}
-use Rattle.net_build.specs.Limits.{RefusesInterfaces, RefusesEntries, long_list}
-use Rattle.net_build.specs.Linking.{RefusesDownLinks, HasTypeAt, RefusesAdjacencyForm}
-use Rattle.net_build.specs.Peers.{RefusesNeighbor, RefusesNetwork, NamesOther, IsKnown, TellsUnconnected}
-use Rattle.net_build.specs.Reasons.{IsClear}
-use Rattle.net_build.specs.Routers.{NamesRouter, HasNoOwnName, RefusesHostname, protocol_of, NamesOtherProcess, RunsOther, MixesProcesses, HasNoOwnProcess, RefusesProtocol, face_area, areas_of, IsOther, NamesOtherArea, RefusesTwoAreas, Repeats, as_of, RefusesSameAs}
-use Rattle.net_build.specs.Linking.{router_id_of}
-use Rattle.net_build.specs.Settings.{lines_of, is_point_to_point}
-use Rattle.net_build.specs.Sites.{Site, sites}
-use Rattle.net_build.specs.Stops.{RefusesListStopsSession}
+use Rattle.net_rows.specs.Limits.{RefusesInterfaces, RefusesEntries, long_list}
+use Rattle.net_rows.specs.Linking.{RefusesDownLinks, HasTypeAt, RefusesAdjacencyForm}
+use Rattle.net_rows.specs.Peers.{RefusesNeighbor, RefusesNetwork, NamesOther, IsKnown, TellsUnconnected}
+use Rattle.net_rows.specs.Reasons.{IsClear}
+use Rattle.net_rows.specs.Routers.{NamesRouter, HasNoOwnName, RefusesHostname, protocol_of, NamesOtherProcess, RunsOther, MixesProcesses, HasNoOwnProcess, RefusesProtocol, face_area, areas_of, IsOther, NamesOtherArea, RefusesTwoAreas, Repeats, as_of, RefusesSameAs}
+use Rattle.net_rows.specs.Linking.{router_id_of}
+use Rattle.net_rows.specs.Settings.{lines_of, is_point_to_point}
+use Rattle.net_rows.specs.Sites.{Site, sites}
+use Rattle.net_rows.specs.Stops.{RefusesListStopsSession}
 use Rattle.net_gen.specs.Plans.{numbers, link_count, has_end, port}
 use Rattle.net_gen.specs.RouterFiles.{host_name, face_name}
 use Rattle.generated_networks.proofs.Faces.{HasSite, site-is}

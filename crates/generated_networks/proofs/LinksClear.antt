@@ -14,13 +14,13 @@ use Rattle.net_model.specs.declared.rows.FaceRow.{FaceRow}
 use Rattle.net_model.specs.declared.rows.LinkRow.{LinkRow}
 use Rattle.net_model.specs.declared.rows.Network.{Network}
 use Rattle.ios_config.specs.declared.settings.FaceText.{FaceText}
-use Rattle.net_build.specs.Linking.{JoinsFree, RefusesLinkFace, FitsSubnets, RefusesLinkSubnets}
-use Rattle.net_build.specs.Lists.{packet_list_key}
-use Rattle.net_build.specs.Reasons.{IsClear}
-use Rattle.net_build.specs.Rows.{IsFaceRow, IsLinkRow, AreRows, IsSubnet}
-use Rattle.net_build.specs.Settings.{address_of, IsPrefixAt}
-use Rattle.net_build.specs.Sites.{Site, sites, full_name, full_names, two_ends, ends_of}
-use Rattle.net_build.proofs.SiteFacts.{name_at_site}
+use Rattle.net_rows.specs.Linking.{JoinsFree, RefusesLinkFace, FitsSubnets, RefusesLinkSubnets}
+use Rattle.net_rows.specs.Lists.{packet_list_key}
+use Rattle.net_rows.specs.Reasons.{IsClear}
+use Rattle.net_rows.specs.Rows.{IsFaceRow, IsLinkRow, AreRows, IsSubnet}
+use Rattle.net_rows.specs.Settings.{address_of, IsPrefixAt}
+use Rattle.net_rows.specs.Sites.{Site, sites, full_name, full_names, two_ends, ends_of}
+use Rattle.net_rows.proofs.SiteFacts.{name_at_site}
 use Rattle.net_gen.specs.Plans.{numbers, link_count, a_router, b_router, has_end, port}
 use Rattle.net_gen.specs.Generated.{link_text}
 use Rattle.generated_networks.proofs.Faces.{site-is, end_name, has-end-name, link-site}

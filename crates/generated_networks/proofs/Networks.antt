@@ -13,14 +13,14 @@ use Rattle.net_model.specs.declared.rows.RouterRow.{RouterRow}
 use Rattle.net_model.specs.declared.rows.Protocol.{Protocol}
 use Rattle.net_model.specs.declared.rows.Protocol.TheVariants.{Ospf}
 use Rattle.ios_config.specs.declared.settings.Config.{Config}
-use Rattle.net_build.specs.Lists.{IsPacketListRow, IsRouteListRow, packet_row_at, route_row_at, route_list_key}
+use Rattle.net_rows.specs.Lists.{IsPacketListRow, IsRouteListRow, packet_row_at, route_row_at, route_list_key}
 use Rattle.net_build.specs.Networks.{Says, IsFirstRefusalWithin}
 use Rattle.net_build.specs.Order.{Try, tries, RefusesWithin, IsFirstOf}
 use Rattle.net_build.specs.Order as order
-use Rattle.net_build.specs.Reasons.{IsClear, IsFirst}
-use Rattle.net_build.specs.Rows.{IsRouterRow, IsLinkRow, AreRows, AreSessions}
-use Rattle.net_build.specs.Sites.{full_names}
-use Rattle.net_build.specs.Sites as build
+use Rattle.net_rows.specs.Reasons.{IsClear, IsFirst}
+use Rattle.net_rows.specs.Rows.{IsRouterRow, IsLinkRow, AreRows, AreSessions}
+use Rattle.net_rows.specs.Sites.{full_names}
+use Rattle.net_rows.specs.Sites as build
 use Rattle.net_gen.specs.Generated.{asked, Asks}
 use Rattle.net_gen.specs.Plans.{numbers, link_count}
 use Rattle.net_gen.specs.RouterFiles.{host_name}

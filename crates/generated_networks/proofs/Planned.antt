@@ -18,10 +18,10 @@ use Rattle.ios_words.specs.Prefixes.{holding, whole}
 use Rattle.ios_config.specs.declared.settings.Config.{Config}
 use Rattle.ios_config.specs.declared.settings.FaceText.{FaceText}
 use Rattle.ios_config.specs.declared.settings.Given.{Given}
-use Rattle.net_build.specs.Lists.{packet_list_key}
-use Rattle.net_build.specs.Rows.{IsFaceRow, IsLinkRow, AreRows}
-use Rattle.net_build.specs.Settings.{address_of, CommandCovers, IsEnabled, IsPrefixAt, is_passive, is_up, lines_of}
-use Rattle.net_build.specs.Sites.{Site, sites, full_name, full_names, ends_of}
+use Rattle.net_rows.specs.Lists.{packet_list_key}
+use Rattle.net_rows.specs.Rows.{IsFaceRow, IsLinkRow, AreRows}
+use Rattle.net_rows.specs.Settings.{address_of, CommandCovers, IsEnabled, IsPrefixAt, is_passive, is_up, lines_of}
+use Rattle.net_rows.specs.Sites.{Site, sites, full_name, full_names, ends_of}
 use Rattle.net_gen.specs.Generated.{link_text, IsHostNetwork}
 use Rattle.net_gen.specs.Plans.{link_count, a_router, b_router, has_end}
 use Rattle.generated_networks.specs.Plans.{IsEndAt, JoinsRouters, HasHostNetwork}

@@ -11,13 +11,13 @@ use Rattle.net_model.specs.declared.rows.LinkRow.{LinkRow}
 use Rattle.net_model.specs.declared.rows.Network.{Network}
 use Rattle.net_model.specs.Validity.{EndsAt, AreLinked, AreApart}
 use Rattle.ios_config.specs.declared.settings.FaceText.{FaceText}
-use Rattle.net_build.specs.Addressing.{RefusesOverlap}
-use Rattle.net_build.specs.Reasons.{IsClear}
-use Rattle.net_build.specs.Rows.{IsLinkRow, AreRows, IsSubnet}
-use Rattle.net_build.specs.Settings.{address_of, IsPrefixAt}
-use Rattle.net_build.specs.Sites.{Site, sites, full_names}
-use Rattle.net_build.proofs.Distinct.{one_place, Contains-at}
-use Rattle.net_build.proofs.SiteFacts.{name_at_site}
+use Rattle.net_rows.specs.Addressing.{RefusesOverlap}
+use Rattle.net_rows.specs.Reasons.{IsClear}
+use Rattle.net_rows.specs.Rows.{IsLinkRow, AreRows, IsSubnet}
+use Rattle.net_rows.specs.Settings.{address_of, IsPrefixAt}
+use Rattle.net_rows.specs.Sites.{Site, sites, full_names}
+use Rattle.net_rows.proofs.Distinct.{one_place, Contains-at}
+use Rattle.net_rows.proofs.SiteFacts.{name_at_site}
 use Rattle.net_gen.specs.Plans.{link_count, a_router, has_end}
 use Rattle.net_gen.specs.RouterFiles.{host_name, face_name}
 use Rattle.net_gen.specs.Generated.{link_text}

@@ -17,7 +17,7 @@ use Rattle.ios_config.specs.declared.settings.ListForm.{ListForm}
 use Rattle.ios_config.specs.declared.settings.ListForm.TheVariants.{Block, Lines, PrefixLines}
 use Rattle.net_build.specs.declared.built.Places.{Places}
 use Rattle.net_build.specs.declared.built.ListPlace.{ListPlace}
-use Rattle.net_build.specs.Lists.{packet_text}
+use Rattle.net_rows.specs.Lists.{packet_text}
 use Rattle.edit_space.specs.declared.edit_kinds.Edit.{Edit}
 use Rattle.edit_space.specs.After.{opposite_packet_entry, opposite_route_entry}
 use Rattle.edit_space.specs.Changes.{list_prefixes, list_classes}

@@ -7,7 +7,7 @@ use Rattle.net_model.specs.declared.policies.Class.{Class}
 use Rattle.net_model.specs.declared.rows.Network.{Network}
 use Rattle.net_model.specs.Routing.{session_at}
 use Rattle.ios_lines.specs.Written.{spaced}
-use Rattle.net_build.specs.Lists.{packet_text}
+use Rattle.net_rows.specs.Lists.{packet_text}
 use Rattle.edit_space.specs.After.{class_entry, every_packet}
 use Rattle.ios_words.specs.Printed.{prefix_line_words, permit_all_words, list_head_words}
 use Rattle.ios_words.specs.Printed.{entry_words, neighbor_list_words, group_words, top_line}

@@ -5,7 +5,7 @@ ghost use Rattle.std.specs.List.{filter_map, zip, enumerate_from};
 ghost use Rattle.net_model.specs.Routing.{session_at};
 ghost use Rattle.ios_lines.specs.Written.{spaced};
 ghost use Rattle.ios_words.specs.Printed.{permit_all_words, list_head_words, entry_words, top_line};
-ghost use Rattle.net_build.specs.Lists.{packet_text};
+ghost use Rattle.net_rows.specs.Lists.{packet_text};
 ghost use Rattle.edit_space.specs.After.{class_entry, every_packet};
 ghost use Rattle.edit_space.specs.Working.{AreChanges};
 ghost use Rattle.line_patcher.specs.NewListLines.{deny_line, new_route_lines, deny_class_line};

@@ -1,10 +1,6 @@
 -- The lists of a network that has the rows of its files are valid.
-use Rattle.std.proofs.Common.{◌≡◌, ◌≢◌, ℕ, suc, ◌⊎◌, inl, inr, Option, Some, None, List, [], ◌∷◌, get_or, refl, sym, ◌∙◌, ap, subst, arith}
+use Rattle.std.proofs.Common.{◌≡◌, ◌≢◌, ℕ, suc, ◌⊎◌, inl, inr, Option, Some, None, List, [], ◌∷◌, get_or, refl, ◌∙◌, subst, arith}
 use Rattle.std.specs.Prelude.{All, AllPairs, Contains, IfSome, slice_get, ◌==◌, Bool, true, false, if◌then◌else◌}
-use Rattle.std.specs.Cmp.Lexicographic.{slice_cmp}
-use Rattle.std.specs.Ordering.{nat_cmp, ordering_then}
-use Rattle.std.specs.declared.cmp.Ordering.{Ordering}
-use Rattle.std.specs.declared.cmp.Ordering.TheVariants.{Less, Equal}
 use Rattle.std.specs.List.{filter_map, last_or, cons_option}
 use Rattle.std.proofs.lemmas.List.Elements.{All-contains}
 use Rattle.std.proofs.lemmas.Option.{slice_get-get_or, none-some, same_Some}
@@ -14,40 +10,20 @@ use Rattle.net_model.specs.declared.policies.Document.{Document}
 use Rattle.net_model.specs.declared.rows.RouterRow.{RouterRow}
 use Rattle.net_model.specs.declared.rows.Network.{Network}
 use Rattle.net_model.specs.Validity.{IsValidPacketList, IsValidRouteList}
-use Rattle.arc_base.specs.NameForms.{IsName, IsNameBefore}
+use Rattle.arc_base.specs.NameForms.{IsName}
 use Rattle.ios_words.specs.declared.commands.Command.{Command}
 use Rattle.ios_words.specs.declared.commands.Command.TheVariants as commands
 use Rattle.ios_config.specs.declared.settings.Given.{Given}
 use Rattle.ios_config.specs.declared.settings.Config.{Config}
-use Rattle.net_build.specs.Forms.{IsWellFormed, IsWellFormedFace, BindsName}
-use Rattle.net_build.specs.Settings.{lines_of, value}
-use Rattle.net_build.specs.Neighbors.{says_filter}
-use Rattle.net_build.specs.Ordered.{IsPairBefore}
-use Rattle.net_build.specs.Lists.{IsBoundPacketList, IsBoundRouteList, IsListName, IsPacketListRow, IsRouteListRow}
-use Rattle.net_build.specs.Rows.{IsRouterRow}
-use Rattle.net_build.proofs.Distinct.{Contains-at}
+use Rattle.net_rows.specs.Forms.{IsWellFormed, IsWellFormedFace, BindsName}
+use Rattle.net_rows.specs.Settings.{lines_of, value}
+use Rattle.net_rows.specs.Neighbors.{says_filter}
+use Rattle.net_rows.specs.Lists.{IsBoundPacketList, IsBoundRouteList, IsListName, IsPacketListRow, IsRouteListRow}
+use Rattle.net_rows.specs.Rows.{IsRouterRow}
+use Rattle.net_rows.proofs.Distinct.{Contains-at}
 use Rattle.net_build.proofs.ValidRows.{AreKnown}
 use Rattle.arc_base.proofs.Zips.{AllZip-right}
-
--- no name comes before itself
-compare_same : (n : ℕ) → nat_cmp n n ≡ Equal
-compare_same n = grind arith
-
-not_before_itself : (name : List ℕ) → slice_cmp nat_cmp name name ≡ Equal
-not_before_itself [] = refl
-not_before_itself (n ∷ name) = ap (λ (o : Ordering). ordering_then o (slice_cmp nat_cmp name name)) (compare_same n) ∙ not_before_itself name
-
-equal_is_no_less : Equal ≡ Less → ⊥
-equal_is_no_less e = subst (λ (o : Ordering). IsEqual o) e tt
-  where
-    IsEqual : Ordering → Type 0
-    IsEqual Less = ⊥
-    IsEqual other = Unit {0}
-
-pub names_differ : (x y : ℕ × List ℕ) → IsPairBefore IsNameBefore x y → x.0 ≡ y.0 → x.1 ≢ y.1
-names_differ x y (inl lower) router name = omega (arith, lower, router)
-names_differ x y (inr (same, before)) router name =
-    equal_is_no_less (sym (not_before_itself x.1) ∙ subst (λ (n : List ℕ). slice_cmp nat_cmp x.1 n ≡ Less) (sym name) before)
+use Rattle.net_rows.proofs.ListKeys.{names_differ}
 
 -- a name that an interface of a well formed file binds has its form
 name_of : (o : Option (Given (List ℕ))) (name : List ℕ) → IfSome o (λ g. IsName g.value) → value o ≡ Some name → IsName name

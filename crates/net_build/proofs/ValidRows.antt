@@ -1,5 +1,5 @@
 -- The rows of a network that no try refuses: its interfaces, links and routers are valid.
-use Rattle.std.proofs.Common.{◌≡◌, ◌≢◌, ℕ, zero, suc, ◌<◌, ◌≤◌, inl, inr, Bool, true, false, Option, Some, None, List, [], ◌∷◌, length, get_or, cond, refl, sym, ◌∙◌, ap, subst, arith}
+use Rattle.std.proofs.Common.{◌≡◌, ◌≢◌, ℕ, ◌<◌, ◌≤◌, inl, inr, Bool, true, false, Option, Some, None, List, [], ◌∷◌, length, get_or, cond, refl, sym, ◌∙◌, ap, subst, arith}
 use Rattle.std.specs.Prelude.{All, AllPairs, Contains, IfSome, IsSome, slice_get, ◌==◌, IsTrue, count_by, sum_by, option_map, option_and_then, unwrap_or, is_some, map, if◌then◌else◌}
 use Rattle.std.proofs.lemmas.Bool.{false≢true}
 use Rattle.std.proofs.lemmas.List.{length-map}
@@ -20,19 +20,19 @@ use Rattle.ios_words.specs.declared.commands.Command.{Command}
 use Rattle.ios_config.specs.declared.settings.Given.{Given}
 use Rattle.ios_config.specs.declared.settings.Config.{Config}
 use Rattle.ios_config.specs.declared.settings.FaceText.{FaceText}
-use Rattle.net_build.specs.Forms.{IsWellFormed, IsWellFormedFace}
+use Rattle.net_rows.specs.Forms.{IsWellFormed, IsWellFormedFace}
 use Rattle.arc_base.specs.Lists.{AreDistinct}
-use Rattle.net_build.specs.Settings.{lines_of, address_of, value, cost_of, cost_at, reference_of, bandwidth_of}
-use Rattle.net_build.specs.Sites.{Site, FullName, sites, full_name, full_names, host_name, a_end, b_end, two_ends, ends_of}
-use Rattle.net_build.specs.Lists.{packet_list_key, IsPlaceAmong}
-use Rattle.net_build.specs.Rows.{IsFaceRow, IsLinkRow, IsSubnet, host_address_of, host_len, is_host_route, IsEnd, AreBaseRows, IsRouterRow}
-use Rattle.net_build.specs.Linking.{RefusesLinkFace}
-use Rattle.net_build.specs.Reasons.{IsClear}
-use Rattle.net_build.proofs.Distinct.{Contains-at}
+use Rattle.net_rows.specs.Settings.{lines_of, address_of, value, cost_of, cost_at, reference_of, bandwidth_of}
+use Rattle.net_rows.specs.Sites.{Site, FullName, sites, full_name, full_names, host_name, a_end, b_end, two_ends, ends_of}
+use Rattle.net_rows.specs.Lists.{packet_list_key, IsPlaceAmong}
+use Rattle.net_rows.specs.Rows.{IsFaceRow, IsLinkRow, IsSubnet, host_address_of, host_len, is_host_route, IsEnd, AreBaseRows, IsRouterRow}
+use Rattle.net_rows.specs.Linking.{RefusesLinkFace}
+use Rattle.net_rows.specs.Reasons.{IsClear}
+use Rattle.net_rows.proofs.Distinct.{Contains-at, item_at}
 use Rattle.net_build.proofs.FewFaces.{counts, few_sites, sum_zip}
 use Rattle.arc_base.proofs.Items.{Contains-head, Contains-tail, Contains-piece}
-use Rattle.net_build.proofs.LinksApart.{joins_free, one_name}
-use Rattle.net_build.proofs.SiteFacts.{site_of, name_at_site, same_router, same_site, well_formed_at}
+use Rattle.net_rows.proofs.LinksApart.{joins_free, one_name}
+use Rattle.net_rows.proofs.SiteFacts.{site_of, name_at_site, same_router, same_site, well_formed_at}
 use Rattle.arc_base.proofs.Zips.{AllZip-left, AllZip-right, AllZip-length}
 
 -- what is known of the rows of the network once the links are tried
@@ -42,11 +42,6 @@ pub record AreKnown (doc : Document) (configs : List Config) (net : Network) : T
   pub names : AreDistinct (full_names configs)
   pub clear : IsClear (RefusesLinkFace doc configs)
   pub rows : AreBaseRows doc configs net
-
-pub item_at : {X : Type 0} (xs : List X) (k : ℕ) → k < length xs → (x : X) × (slice_get xs k ≡ Some x)
-item_at [] k h = absurd (omega (arith, h))
-item_at (x ∷ xs) zero h = (x, refl)
-item_at (x ∷ xs) (suc k) h = item_at xs k (omega arith)
 
 cost_range : (reference bandwidth : ℕ) → (1 ≤ cost_at reference bandwidth) × (cost_at reference bandwidth ≤ 65535)
 cost_range reference bandwidth = (omega arith, omega arith)

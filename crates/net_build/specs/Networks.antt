@@ -17,7 +17,7 @@ use Rattle.ios_config.specs.Configs.{IsConfigOf, IsRefused}
 use Rattle.net_build.specs.declared.built.Built.{Built}
 use Rattle.net_build.specs.declared.files.ReadFile.{ReadFile}
 use Rattle.net_build.specs.declared.files.ReadFiles.{ReadFiles}
-use Rattle.net_build.specs.Rows.{AreRows}
+use Rattle.net_rows.specs.Rows.{AreRows}
 use Rattle.net_build.specs.Order.{tries, RefusesWithin, IsFirstOf, AreClear, Answers}
 use Rattle.net_build.specs.Places.{places_of}
 

@@ -6,15 +6,15 @@ use Rattle.net_doc.specs.declared.fault.NetFault.{NetFault}
 use Rattle.net_doc.specs.declared.fault.NetFault.TheVariants.{Refused, Memory}
 use Rattle.net_model.specs.declared.policies.Document.{Document}
 use Rattle.ios_config.specs.declared.settings.Config.{Config}
-use Rattle.net_build.specs.Reasons.{IsClear, IsFirst}
-use Rattle.net_build.specs.Routers.{RefusesHostname, RefusesProtocol, RefusesTwoAreas}
-use Rattle.net_build.specs.Routers.{RefusesSameAs}
-use Rattle.net_build.specs.Linking.{RefusesLinkFace, RefusesDownLinks, RefusesLinkSubnets}
-use Rattle.net_build.specs.Linking.{RefusesAdjacencyForm}
-use Rattle.net_build.specs.Peers.{RefusesNeighbor, RefusesNetwork}
-use Rattle.net_build.specs.Addressing.{RefusesOverlap, RefusesEndpoint}
-use Rattle.net_build.specs.Stops.{RefusesListStopsSession}
-use Rattle.net_build.specs.Limits.{RefusesInterfaces, RefusesEntries}
+use Rattle.net_rows.specs.Reasons.{IsClear, IsFirst}
+use Rattle.net_rows.specs.Routers.{RefusesHostname, RefusesProtocol, RefusesTwoAreas}
+use Rattle.net_rows.specs.Routers.{RefusesSameAs}
+use Rattle.net_rows.specs.Linking.{RefusesLinkFace, RefusesDownLinks, RefusesLinkSubnets}
+use Rattle.net_rows.specs.Linking.{RefusesAdjacencyForm}
+use Rattle.net_rows.specs.Peers.{RefusesNeighbor, RefusesNetwork}
+use Rattle.net_rows.specs.Addressing.{RefusesOverlap, RefusesEndpoint}
+use Rattle.net_rows.specs.Stops.{RefusesListStopsSession}
+use Rattle.net_rows.specs.Limits.{RefusesInterfaces, RefusesEntries}
 
 -- a try: one reason to refuse the network
 pub data Try : Type 0 where

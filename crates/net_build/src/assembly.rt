@@ -3,44 +3,39 @@ ghost use Rattle.std.specs.Prelude.{◌≡◌, ◌≤◌, ℕ, List, All, IfOk, 
 ghost use Rattle.std.specs.List.{AllZip};
 ghost use Rattle.net_model.specs.declared.policies.Document.{Document};
 ghost use Rattle.net_model.specs.Validity.{IsValid};
-ghost use Rattle.net_build.specs.Sites.{sites, full_names, ends_of};
-ghost use Rattle.net_build.specs.Names.{names_at};
+ghost use Rattle.net_rows.specs.Sites.{sites, full_names, ends_of};
+ghost use Rattle.net_rows.specs.Names.{names_at};
 ghost use Rattle.arc_base.specs.Lists.{AreDistinct};
-ghost use Rattle.net_build.specs.Lists.{ArePacketLists, AreRouteLists, packet_list_key};
-ghost use Rattle.net_build.specs.Lists.{route_list_key};
-ghost use Rattle.net_build.specs.Rows.{IsFaceRow, IsLinkRow, AreBaseRows, AreRows, AreSessions};
-ghost use Rattle.net_build.specs.Reasons.{IsClear};
-ghost use Rattle.net_build.specs.Routers.{RefusesHostname};
-ghost use Rattle.net_build.specs.Linking.{RefusesLinkFace};
-ghost use Rattle.net_build.specs.Addressing.{HasEndpoints};
+ghost use Rattle.net_rows.specs.Lists.{ArePacketLists, AreRouteLists, packet_list_key};
+ghost use Rattle.net_rows.specs.Lists.{route_list_key};
+ghost use Rattle.net_rows.specs.Rows.{IsFaceRow, IsLinkRow, AreBaseRows, AreRows, AreSessions};
+ghost use Rattle.net_rows.specs.Reasons.{IsClear};
+ghost use Rattle.net_rows.specs.Routers.{RefusesHostname};
+ghost use Rattle.net_rows.specs.Linking.{RefusesLinkFace};
+ghost use Rattle.net_rows.specs.Addressing.{HasEndpoints};
 ghost use Rattle.net_build.specs.Order.{RefusesWithin, Answers, router_tries, link_tries};
 ghost use Rattle.net_build.specs.Order.{network_tries};
-ghost use Rattle.net_build.specs.Forms.{IsWellFormed};
+ghost use Rattle.net_rows.specs.Forms.{IsWellFormed};
 ghost use Rattle.net_build.specs.Networks.{Assembles};
 
-use crate::adjacency::try_adjacency;
-use crate::areas::try_areas;
-use crate::down_links::try_down_links;
-use crate::endpoints::try_endpoints;
-use crate::faces::{Surroundings, face_rows, router_rows};
-use crate::limits::{try_entries, try_interfaces};
-use crate::links::try_links;
-use crate::lists::{packet_lists, route_lists};
-use crate::names::{FullName, index_names};
-use crate::overlap::try_overlap;
-use crate::peers::{try_neighbors, try_networks};
-use crate::places_of_lists::{index_packet_lists, index_route_lists};
-use crate::processes::{protocol_of, try_processes};
-use crate::routers::{try_as_numbers, try_hostnames};
-use crate::sessions::session_rows;
-use crate::stops::try_lists;
-use crate::subnets::try_subnets;
+use address_checks::{try_endpoints, try_overlap, try_subnets};
 use arc_base::limits::{LINK_LIMIT, POLICY_LIMIT, ROUTER_LIMIT};
 use arc_base::{List, Memory};
 use indexmap::IndexSet;
+use interface_rows::{
+    Surroundings, face_rows, index_packet_lists, index_route_lists, session_rows, try_down_links,
+    try_links,
+};
 use ios_config::Config;
+use list_rows::{packet_lists, route_lists, router_rows};
 use net_doc::NetFault;
 use net_model::{Document, FaceRow, LinkRow, Network, PacketList, Protocol, SessionRow};
+use net_rows::{FullName, index_names, protocol_of};
+use router_checks::{
+    try_adjacency, try_areas, try_as_numbers, try_entries, try_hostnames, try_interfaces,
+    try_processes,
+};
+use session_checks::{try_lists, try_neighbors, try_networks};
 use std::alloc::Global;
 
 /// Checks what is asked of routers by themselves.

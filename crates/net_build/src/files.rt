@@ -2,12 +2,12 @@
 ghost use Rattle.std.specs.Prelude.{◌≡◌, ◌≤◌, ◌+◌, ◌<◌, ◌^◌, length, All};
 ghost use Rattle.net_build.specs.Networks.{ReadsConfigs, ReadsFile, ReadsFiles};
 
-use crate::reasons::in_file;
 use arc_base::limits::ROUTER_LIMIT;
 use arc_base::{Kind, List, Name};
 use ios_config::{Config, ConfigFault, config};
 use ios_lines::{LineFault, Lines, cut};
 use net_doc::NetFault;
+use net_rows::in_file;
 use std::alloc::Global;
 
 /// A router file with its lines.

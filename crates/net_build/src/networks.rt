@@ -3,7 +3,7 @@ ghost use Rattle.std.specs.Prelude.{◌≡◌, ◌≤◌, ◌^◌, ◌<◌, None
 ghost use Rattle.net_model.specs.Validity.{IsValid};
 ghost use Rattle.net_model.specs.Packets.{subject};
 ghost use Rattle.net_model.specs.Forwarding.{HasEnds};
-ghost use Rattle.net_build.specs.Linking.{first_above};
+ghost use Rattle.net_rows.specs.Linking.{first_above};
 ghost use Rattle.net_build.specs.Networks.{Builds, BuildsWithin, FindsWithin};
 
 use crate::assembly::assemble;

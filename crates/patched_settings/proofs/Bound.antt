@@ -3,7 +3,7 @@ use Rattle.std.proofs.Common.{◌≡◌, ℕ, Option, Some, None, List, map, ref
 use Rattle.std.specs.Prelude.{Contains, IsSomeAnd, slice_get, option_map}
 use Rattle.std.proofs.lemmas.Option.{none-some, same_Some, slice_get-map}
 use Rattle.arc_base.specs.declared.place.ListId.{ListId}
-use Rattle.net_build.specs.Lists.{IsPlaceAmong}
+use Rattle.net_rows.specs.Lists.{IsPlaceAmong}
 use Rattle.edit_space.specs.After.{StaysBound}
 
 -- where a list of either kind stands after the edits

@@ -17,13 +17,13 @@ use Rattle.net_model.proofs.Readings.{item_at_place, place_of_item}
 use Rattle.ios_config.specs.declared.settings.Config.{Config}
 use Rattle.ios_config.specs.declared.settings.FaceText.{FaceText}
 use Rattle.ios_config.specs.Bare.{bare_face}
-use Rattle.net_build.specs.Lists.{IsListName, packet_list_key, route_list_key}
-use Rattle.net_build.specs.Rows.{AreRows, IsRouterRow, IsFaceRow, IsConfigured, IsSession, AreSessions}
+use Rattle.net_rows.specs.Lists.{IsListName, packet_list_key, route_list_key}
+use Rattle.net_rows.specs.Rows.{AreRows, IsRouterRow, IsFaceRow, IsConfigured, IsSession, AreSessions}
 use Rattle.net_model.specs.declared.rows.SessionRow.{SessionRow}
 use Rattle.net_model.specs.declared.rows.Protocol.{Protocol}
 use Rattle.net_model.specs.declared.rows.Protocol.TheVariants.{Ospf, Bgp}
-use Rattle.net_build.specs.Settings.{process_of}
-use Rattle.net_build.specs.Sites.{Site, sites, sites_of, ends_of}
+use Rattle.net_rows.specs.Settings.{process_of}
+use Rattle.net_rows.specs.Sites.{Site, sites, sites_of, ends_of}
 use Rattle.edit_space.specs.Determined.{IsCountable}
 use Rattle.edit_space.specs.declared.edit_kinds.Edit.{Edit}
 use Rattle.edit_space.specs.declared.edit_kinds.Edit.TheVariants as edits

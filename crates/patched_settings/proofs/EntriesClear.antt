@@ -17,9 +17,9 @@ use Rattle.ios_config.specs.declared.settings.ListKind.{ListKind}
 use Rattle.ios_config.specs.declared.settings.ListKind.TheVariants as kinds
 use Rattle.ios_config.specs.declared.settings.ListForm.TheVariants as forms
 use Rattle.ios_config.specs.declared.settings.ListText.{ListText}
-use Rattle.net_build.specs.Limits.{RefusesEntries}
-use Rattle.net_build.specs.Lists.{packet_entries, route_entries}
-use Rattle.net_build.specs.Reasons.{IsClear}
+use Rattle.net_rows.specs.Limits.{RefusesEntries}
+use Rattle.net_rows.specs.Lists.{packet_entries, route_entries}
+use Rattle.net_rows.specs.Reasons.{IsClear}
 use Rattle.edit_space.specs.declared.edit_kinds.Edit.{Edit}
 use Rattle.edit_space.specs.declared.new_lists.NewList.{NewList}
 use Rattle.edit_space.specs.declared.new_lists.NewList.TheVariants as lists

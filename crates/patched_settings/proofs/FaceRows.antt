@@ -18,12 +18,12 @@ use Rattle.ios_words.specs.declared.commands.Command.{Command}
 use Rattle.ios_words.specs.declared.commands.Command.TheVariants as commands
 use Rattle.ios_config.specs.declared.settings.Config.{Config}
 use Rattle.ios_config.specs.declared.settings.Given.{Given}
-use Rattle.net_build.specs.Kinds.{kind_of, is_loopback, default_bandwidth}
-use Rattle.net_build.specs.Settings.{value, process_of, lines_of, address_of, last_said, says_reference, cost_at, cost_of, is_passive, CommandCovers, IsEnabled}
-use Rattle.net_build.specs.Sites.{Site, FullName, sites, full_name, ends_of}
-use Rattle.net_build.specs.Lists.{IsPlaceAmong, IsListName, BindsPacketList, packet_list_key}
-use Rattle.net_build.specs.Rows.{IsSubnet, TellsHost, IsFaceRow, host_address_of}
-use Rattle.net_build.proofs.SiteFacts.{IsSiteOf, site_of}
+use Rattle.net_rows.specs.Kinds.{kind_of, is_loopback, default_bandwidth}
+use Rattle.net_rows.specs.Settings.{value, process_of, lines_of, address_of, last_said, says_reference, cost_at, cost_of, is_passive, CommandCovers, IsEnabled}
+use Rattle.net_rows.specs.Sites.{Site, FullName, sites, full_name, ends_of}
+use Rattle.net_rows.specs.Lists.{IsPlaceAmong, IsListName, BindsPacketList, packet_list_key}
+use Rattle.net_rows.specs.Rows.{IsSubnet, TellsHost, IsFaceRow, host_address_of}
+use Rattle.net_rows.proofs.SiteFacts.{IsSiteOf, site_of}
 use Rattle.edit_space.specs.declared.edit_kinds.Edit.{Edit}
 use Rattle.edit_space.specs.declared.new_lists.NewList.TheVariants as lists
 use Rattle.edit_space.specs.Changes.{new_classes}

@@ -24,12 +24,12 @@ use Rattle.ios_config.specs.declared.settings.ProcessText.{ProcessText}
 use Rattle.ios_config.specs.declared.settings.ProcessKind.{ProcessKind}
 use Rattle.ios_config.specs.declared.settings.ProcessKind.TheVariants as processes
 use Rattle.ios_config.specs.Bare.{bare_process, bare_setting}
-use Rattle.net_build.specs.Linking.{says_router_id, router_id_line, router_id_of}
-use Rattle.net_build.specs.Reasons.{IsClear, InFiles}
-use Rattle.net_build.specs.Routers.{NamesRouter, HasNoOwnName, RefusesHostname, protocol_of_kind, protocol_of, NamesOtherProcess, RunsOther, MixesProcesses, HasNoOwnProcess, RefusesProtocol, area_of_command, line_area, face_area, areas_of, IsFirstArea, IsOther, NamesOtherArea, RefusesTwoAreas, Gives, Repeats, as_of_process, as_of, RefusesSameAs}
-use Rattle.net_build.specs.Settings.{value, process_of, lines_of, last_said}
-use Rattle.net_build.specs.Sites.{host_name}
-use Rattle.net_build.proofs.HostNames.{hosts_differ}
+use Rattle.net_rows.specs.Linking.{says_router_id, router_id_line, router_id_of}
+use Rattle.net_rows.specs.Reasons.{IsClear, InFiles}
+use Rattle.net_rows.specs.Routers.{NamesRouter, HasNoOwnName, RefusesHostname, protocol_of_kind, protocol_of, NamesOtherProcess, RunsOther, MixesProcesses, HasNoOwnProcess, RefusesProtocol, area_of_command, line_area, face_area, areas_of, IsFirstArea, IsOther, NamesOtherArea, RefusesTwoAreas, Gives, Repeats, as_of_process, as_of, RefusesSameAs}
+use Rattle.net_rows.specs.Settings.{value, process_of, lines_of, last_said}
+use Rattle.net_rows.specs.Sites.{host_name}
+use Rattle.net_rows.proofs.HostNames.{hosts_differ}
 use Rattle.edit_space.specs.declared.edit_kinds.Edit.{Edit}
 use Rattle.edit_space.proofs.NewListFacts.{picked_from, picks}
 use Rattle.patched_settings.specs.SettingsAfter.{process_with, AreSettingsAfter}

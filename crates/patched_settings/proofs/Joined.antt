@@ -11,19 +11,19 @@ use Rattle.net_model.specs.declared.rows.Protocol.TheVariants.{Ospf, Bgp}
 use Rattle.net_model.specs.Validity.{IsValid}
 use Rattle.ios_config.specs.declared.settings.Config.{Config}
 use Rattle.ios_config.specs.declared.settings.ProcessText.{ProcessText}
-use Rattle.net_build.specs.Forms.{IsWellFormed}
-use Rattle.net_build.specs.Lists.{packet_list_key, route_list_key, ArePacketLists, AreRouteLists}
+use Rattle.net_rows.specs.Forms.{IsWellFormed}
+use Rattle.net_rows.specs.Lists.{packet_list_key, route_list_key, ArePacketLists, AreRouteLists}
 use Rattle.arc_base.specs.Lists.{AreDistinct}
 use Rattle.net_build.specs.Networks.{Says, IsNetworkOf}
 use Rattle.net_build.specs.Order.{tries, Refuses, AreClear}
-use Rattle.net_build.specs.Reasons.{IsClear}
-use Rattle.net_build.specs.Linking.{RefusesAdjacencyForm}
-use Rattle.net_build.specs.Routers.{HasNoOwnProcess, MixesProcesses, protocol_of, RefusesProtocol}
-use Rattle.net_build.specs.Rows.{AreRows, AreSessions, IsRouterRow, IsFaceRow, IsLinkRow}
-use Rattle.net_build.specs.Settings.{process_of}
-use Rattle.net_build.specs.Sites.{FullName, sites, full_names, ends_of}
-use Rattle.net_build.proofs.HostNames.{hosts_differ}
-use Rattle.net_build.proofs.NamesDiffer.{full_names_distinct}
+use Rattle.net_rows.specs.Reasons.{IsClear}
+use Rattle.net_rows.specs.Linking.{RefusesAdjacencyForm}
+use Rattle.net_rows.specs.Routers.{HasNoOwnProcess, MixesProcesses, protocol_of, RefusesProtocol}
+use Rattle.net_rows.specs.Rows.{AreRows, AreSessions, IsRouterRow, IsFaceRow, IsLinkRow}
+use Rattle.net_rows.specs.Settings.{process_of}
+use Rattle.net_rows.specs.Sites.{FullName, sites, full_names, ends_of}
+use Rattle.net_rows.proofs.HostNames.{hosts_differ}
+use Rattle.net_rows.proofs.NamesDiffer.{full_names_distinct}
 use Rattle.net_build.proofs.OneAnswer.{all_well_formed}
 use Rattle.edit_space.specs.Determined.{IsCountable}
 use Rattle.edit_space.specs.declared.edit_kinds.Edit.{Edit}

@@ -19,8 +19,8 @@ use Rattle.ios_config.specs.declared.settings.Given.{Given}
 use Rattle.ios_config.specs.declared.settings.ProcessText.{ProcessText}
 use Rattle.ios_config.specs.declared.settings.Setting.{Setting}
 use Rattle.ios_config.specs.Bare.{bare_process, bare_given, bare_setting}
-use Rattle.net_build.specs.Settings.{process_of, lines_of, last_said}
-use Rattle.net_build.specs.Sites.{host_name}
+use Rattle.net_rows.specs.Settings.{process_of, lines_of, last_said}
+use Rattle.net_rows.specs.Sites.{host_name}
 use Rattle.edit_space.specs.declared.edit_kinds.Edit.{Edit}
 use Rattle.edit_space.specs.declared.edit_kinds.Edit.TheVariants as edits
 use Rattle.edit_space.specs.declared.new_lists.NewList.{NewList}

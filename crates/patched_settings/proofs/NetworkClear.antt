@@ -15,16 +15,16 @@ use Rattle.net_model.specs.Forwarding.{IsHostOf}
 use Rattle.net_model.specs.Validity.{IsValid}
 use Rattle.ios_config.specs.declared.settings.Config.{Config}
 use Rattle.ios_config.specs.declared.settings.FaceText.{FaceText}
-use Rattle.net_build.specs.Addressing.{Overlap, RefusesOverlap, HasEndpoints, RefusesEndpoint}
-use Rattle.net_build.specs.Kinds.{kind_of, is_serial}
-use Rattle.net_build.specs.Limits.{RefusesInterfaces}
-use Rattle.net_build.specs.Linking.{JoinsFree, RefusesLinkFace, FitsSubnets, RefusesLinkSubnets, HasTypeAt, TypesDiffer, RefusesTypes}
+use Rattle.net_rows.specs.Addressing.{Overlap, RefusesOverlap, HasEndpoints, RefusesEndpoint}
+use Rattle.net_rows.specs.Kinds.{kind_of, is_serial}
+use Rattle.net_rows.specs.Limits.{RefusesInterfaces}
+use Rattle.net_rows.specs.Linking.{JoinsFree, RefusesLinkFace, FitsSubnets, RefusesLinkSubnets, HasTypeAt, TypesDiffer, RefusesTypes}
 use Rattle.arc_base.specs.Lists.{AreDistinct}
-use Rattle.net_build.specs.Reasons.{IsClear, InDocument}
-use Rattle.net_build.specs.Rows.{AreRows}
-use Rattle.net_build.specs.Settings.{is_point_to_point}
-use Rattle.net_build.specs.Sites.{Site, FullName, sites, full_names}
-use Rattle.net_build.proofs.SameNetwork.{same_rows}
+use Rattle.net_rows.specs.Reasons.{IsClear, InDocument}
+use Rattle.net_rows.specs.Rows.{AreRows}
+use Rattle.net_rows.specs.Settings.{is_point_to_point}
+use Rattle.net_rows.specs.Sites.{Site, FullName, sites, full_names}
+use Rattle.net_rows.proofs.SameNetwork.{same_rows}
 use Rattle.edit_space.specs.declared.edit_kinds.Edit.{Edit}
 use Rattle.edit_space.specs.After.{IsAfter, IsFaceAfter}
 use Rattle.edit_space.proofs.RowFacts.{row_was, row_now}

@@ -15,9 +15,9 @@ use Rattle.net_model.proofs.Readings.{item_at_place, place_of_item}
 use Rattle.ios_config.specs.declared.settings.Config.{Config}
 use Rattle.ios_config.specs.declared.settings.FaceText.{FaceText}
 use Rattle.ios_config.specs.declared.settings.ListText.{ListText}
-use Rattle.net_build.specs.Lists.{BindsPacketList, IsBoundPacketList, is_of_kind, is_packet_kind, list_named, has_entries, packet_row, packet_row_at, IsPacketListRow}
-use Rattle.net_build.specs.Settings.{value}
-use Rattle.net_build.proofs.SiteFacts.{site_of}
+use Rattle.net_rows.specs.Lists.{BindsPacketList, IsBoundPacketList, is_of_kind, is_packet_kind, list_named, has_entries, packet_row, packet_row_at, IsPacketListRow}
+use Rattle.net_rows.specs.Settings.{value}
+use Rattle.net_rows.proofs.SiteFacts.{site_of}
 use Rattle.edit_space.specs.declared.edit_kinds.Edit.{Edit}
 use Rattle.edit_space.specs.declared.new_lists.NewList.{NewList}
 use Rattle.edit_space.specs.declared.new_lists.NewList.TheVariants as lists

@@ -21,13 +21,13 @@ use Rattle.ios_words.specs.declared.commands.Command.TheVariants as commands
 use Rattle.ios_config.specs.declared.settings.Config.{Config}
 use Rattle.ios_config.specs.declared.settings.FaceText.{FaceText}
 use Rattle.ios_config.specs.declared.settings.Given.{Given}
-use Rattle.net_build.specs.Neighbors.{names_peer, says_remote}
-use Rattle.net_build.specs.Peers.{IsKnown, NamesOther, RefusesNeighbor, IsConnectedAt, IsConnected, TellsUnconnected, RefusesNetwork}
-use Rattle.net_build.specs.Reasons.{IsClear}
-use Rattle.net_build.specs.Rows.{IsLinkRow, IsSubnet}
-use Rattle.net_build.specs.Settings.{lines_of}
-use Rattle.net_build.specs.Sites.{FullName, sites, full_names, full_name, host_name, a_end, b_end, AreJoined}
-use Rattle.net_build.proofs.SiteFacts.{site_of, name_at_site}
+use Rattle.net_rows.specs.Neighbors.{names_peer, says_remote}
+use Rattle.net_rows.specs.Peers.{IsKnown, NamesOther, RefusesNeighbor, IsConnectedAt, IsConnected, TellsUnconnected, RefusesNetwork}
+use Rattle.net_rows.specs.Reasons.{IsClear}
+use Rattle.net_rows.specs.Rows.{IsLinkRow, IsSubnet}
+use Rattle.net_rows.specs.Settings.{lines_of}
+use Rattle.net_rows.specs.Sites.{FullName, sites, full_names, full_name, host_name, a_end, b_end, AreJoined}
+use Rattle.net_rows.proofs.SiteFacts.{site_of, name_at_site}
 use Rattle.edit_space.specs.declared.edit_kinds.Edit.{Edit}
 use Rattle.edit_space.specs.declared.edit_kinds.Edit.TheVariants as edits
 use Rattle.edit_space.specs.declared.new_lists.NewList.{NewList}

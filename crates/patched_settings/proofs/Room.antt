@@ -10,8 +10,8 @@ use Rattle.arc_base.proofs.Items.{Contains-none, Contains-cases}
 use Rattle.net_model.proofs.Readings.{place_of_item}
 use Rattle.ios_config.specs.declared.settings.Config.{Config}
 use Rattle.ios_config.specs.declared.settings.ListText.{ListText}
-use Rattle.net_build.specs.Limits.{RefusesEntries, long_list}
-use Rattle.net_build.specs.Reasons.{IsClear}
+use Rattle.net_rows.specs.Limits.{RefusesEntries, long_list}
+use Rattle.net_rows.specs.Reasons.{IsClear}
 use Rattle.edit_space.specs.declared.edit_kinds.Edit.{Edit}
 use Rattle.edit_space.specs.Prices.{if_chosen, chosen_of}
 use Rattle.edit_space.proofs.Counts.{few_picked}

@@ -14,9 +14,9 @@ use Rattle.net_model.specs.declared.rows.Network.{Network}
 use Rattle.net_model.proofs.Readings.{item_at_place, place_of_item}
 use Rattle.ios_config.specs.declared.settings.Config.{Config}
 use Rattle.ios_config.specs.declared.settings.ListText.{ListText}
-use Rattle.net_build.specs.Lists.{IsBoundRouteList, is_of_kind, is_packet_kind, list_named, has_entries, route_row, route_row_at, IsRouteListRow}
-use Rattle.net_build.specs.Settings.{lines_of}
-use Rattle.net_build.proofs.SiteFacts.{site_of}
+use Rattle.net_rows.specs.Lists.{IsBoundRouteList, is_of_kind, is_packet_kind, list_named, has_entries, route_row, route_row_at, IsRouteListRow}
+use Rattle.net_rows.specs.Settings.{lines_of}
+use Rattle.net_rows.proofs.SiteFacts.{site_of}
 use Rattle.edit_space.specs.declared.edit_kinds.Edit.{Edit}
 use Rattle.edit_space.specs.declared.new_lists.NewList.{NewList}
 use Rattle.edit_space.specs.declared.new_lists.NewList.TheVariants as lists
@@ -31,7 +31,7 @@ use Rattle.patched_settings.proofs.PacketLists.{any_of}
 use Rattle.patched_settings.proofs.Pairs.{last_is_in}
 use Rattle.patched_settings.proofs.Said.{IsBoundNew, names_bound, bound_new, filter_after, filter_is_new}
 use Rattle.patched_settings.proofs.SessionFacts.{session_found}
-use Rattle.net_build.specs.Neighbors.{filter_of}
+use Rattle.net_rows.specs.Neighbors.{filter_of}
 use Rattle.edit_space.specs.Changes.{new_prefixes}
 use Rattle.edit_space.specs.Numbered.{is_empty}
 use Rattle.arc_base.proofs.Items.{Contains-head}

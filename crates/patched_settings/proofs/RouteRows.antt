@@ -16,7 +16,7 @@ use Rattle.ios_config.specs.declared.settings.ListKind.{ListKind}
 use Rattle.ios_config.specs.declared.settings.ListKind.TheVariants as kinds
 use Rattle.ios_config.specs.declared.settings.ListText.{ListText}
 use Rattle.ios_words.specs.declared.commands.Command.{Command}
-use Rattle.net_build.specs.Lists.{is_packet_kind, has_entries, if_defined, route_entry, route_entries, route_row}
+use Rattle.net_rows.specs.Lists.{is_packet_kind, has_entries, if_defined, route_entry, route_entries, route_row}
 use Rattle.edit_space.specs.declared.edit_kinds.Edit.{Edit}
 use Rattle.edit_space.specs.declared.edit_kinds.Edit.TheVariants as edits
 use Rattle.edit_space.specs.declared.new_lists.NewList.TheVariants as lists

@@ -15,9 +15,9 @@ use Rattle.net_model.proofs.Readings.{item_at_place}
 use Rattle.ios_config.specs.declared.settings.Config.{Config}
 use Rattle.ios_config.specs.declared.settings.ListText.{ListText}
 use Rattle.ios_config.specs.declared.settings.ProcessText.{ProcessText}
-use Rattle.net_build.specs.Lists.{IsListName}
-use Rattle.net_build.specs.Rows.{asn_of, IsRouterRow}
-use Rattle.net_build.specs.Settings.{process_of}
+use Rattle.net_rows.specs.Lists.{IsListName}
+use Rattle.net_rows.specs.Rows.{asn_of, IsRouterRow}
+use Rattle.net_rows.specs.Settings.{process_of}
 use Rattle.edit_space.specs.declared.edit_kinds.Edit.{Edit}
 use Rattle.edit_space.specs.declared.new_lists.NewList.{NewList}
 use Rattle.edit_space.specs.After.{IsAfter, IsRouterAfter}

@@ -17,8 +17,8 @@ use Rattle.net_model.specs.Validity.{IsValid}
 use Rattle.ios_words.specs.declared.commands.Command.{Command}
 use Rattle.ios_words.specs.declared.commands.Command.TheVariants as commands
 use Rattle.ios_config.specs.declared.settings.Config.{Config}
-use Rattle.net_build.specs.Settings.{process_of, lines_of, last_said, says_passive, is_passive}
-use Rattle.net_build.specs.Neighbors.{says_down, says_filter, is_down, filter_of}
+use Rattle.net_rows.specs.Settings.{process_of, lines_of, last_said, says_passive, is_passive}
+use Rattle.net_rows.specs.Neighbors.{says_down, says_filter, is_down, filter_of}
 use Rattle.edit_space.specs.Determined.{IsCountable}
 use Rattle.edit_space.specs.declared.edit_kinds.Edit.{Edit}
 use Rattle.edit_space.specs.declared.edit_kinds.Edit.TheVariants as edits

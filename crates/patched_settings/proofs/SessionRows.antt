@@ -20,15 +20,15 @@ use Rattle.net_model.proofs.Readings.{item_at_place, place_of_item}
 use Rattle.ios_words.specs.declared.commands.Command.{Command}
 use Rattle.ios_words.specs.declared.commands.Command.TheVariants as commands
 use Rattle.ios_config.specs.declared.settings.Config.{Config}
-use Rattle.net_build.specs.Lists.{IsPlaceAmong, IsListName, route_list_key, AreRouteLists}
-use Rattle.net_build.specs.Neighbors.{says_remote, remote_of, is_down, filter_of}
-use Rattle.net_build.specs.Ordered.{AreInOrder, IsPairBefore}
-use Rattle.net_build.specs.Rows.{IsConfigured, IsSessionOf, IsSession, IsSessionBefore, AreSessions}
-use Rattle.net_build.specs.Settings.{process_of, lines_of, address_of}
-use Rattle.net_build.specs.Sites.{Site, sites}
-use Rattle.net_build.proofs.ListKeys.{route_keys_differ}
-use Rattle.net_build.proofs.SameRows.{one_list_place}
-use Rattle.net_build.proofs.SiteFacts.{IsSiteOf, site_of}
+use Rattle.net_rows.specs.Lists.{IsPlaceAmong, IsListName, route_list_key, AreRouteLists}
+use Rattle.net_rows.specs.Neighbors.{says_remote, remote_of, is_down, filter_of}
+use Rattle.net_rows.specs.Ordered.{AreInOrder, IsPairBefore}
+use Rattle.net_rows.specs.Rows.{IsConfigured, IsSessionOf, IsSession, IsSessionBefore, AreSessions}
+use Rattle.net_rows.specs.Settings.{process_of, lines_of, address_of}
+use Rattle.net_rows.specs.Sites.{Site, sites}
+use Rattle.net_rows.proofs.ListKeys.{route_keys_differ}
+use Rattle.net_rows.proofs.SameRows.{one_list_place}
+use Rattle.net_rows.proofs.SiteFacts.{IsSiteOf, site_of}
 use Rattle.edit_space.specs.declared.edit_kinds.Edit.{Edit}
 use Rattle.edit_space.specs.declared.new_lists.NewList.TheVariants as lists
 use Rattle.edit_space.specs.Changes.{new_prefixes}

@@ -34,12 +34,12 @@ use Rattle.net_model.specs.Validity.{EndsAt, IsLinkEnd, AreApart}
 use Rattle.net_model.proofs.Readings.{item_at_place, place_of_item}
 use Rattle.net_model.proofs.ServiceRanges.{bounds, serve}
 use Rattle.ios_config.specs.declared.settings.Config.{Config}
-use Rattle.net_build.specs.Lists.{IsPlaceAmong, packet_list_key}
-use Rattle.net_build.specs.Reasons.{IsClear}
-use Rattle.net_build.specs.Rows.{AreRows, IsSubnet}
-use Rattle.net_build.specs.Settings.{value, address_of}
-use Rattle.net_build.specs.Sites.{Site}
-use Rattle.net_build.specs.Stops.{IsAble, IsNeeded, targets, session_services, Denies, StopsPackets, RefusesListStopsSession}
+use Rattle.net_rows.specs.Lists.{IsPlaceAmong, packet_list_key}
+use Rattle.net_rows.specs.Reasons.{IsClear}
+use Rattle.net_rows.specs.Rows.{AreRows, IsSubnet}
+use Rattle.net_rows.specs.Settings.{value, address_of}
+use Rattle.net_rows.specs.Sites.{Site}
+use Rattle.net_rows.specs.Stops.{IsAble, IsNeeded, targets, session_services, Denies, StopsPackets, RefusesListStopsSession}
 use Rattle.traffic_classes.proofs.Ranges.{range_holds, holds_range, ends_below}
 use Rattle.edit_space.specs.declared.edit_kinds.Edit.{Edit}
 use Rattle.edit_space.specs.declared.edit_kinds.Edit.TheVariants as edits

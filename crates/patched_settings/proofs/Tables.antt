@@ -19,7 +19,7 @@ use Rattle.ios_config.specs.declared.settings.Given.{Given}
 use Rattle.ios_config.specs.declared.settings.ListText.{ListText}
 use Rattle.ios_config.specs.declared.settings.ListForm.{ListForm}
 use Rattle.ios_config.specs.declared.settings.ListForm.TheVariants as forms
-use Rattle.net_build.specs.Lists.{is_of_kind, is_packet_kind, list_named, packet_entry, route_entry, packet_entries, route_entries}
+use Rattle.net_rows.specs.Lists.{is_of_kind, is_packet_kind, list_named, packet_entry, route_entry, packet_entries, route_entries}
 use Rattle.edit_space.specs.Determined.{IsCountable}
 use Rattle.edit_space.specs.declared.edit_kinds.Edit.{Edit}
 use Rattle.edit_space.specs.declared.new_lists.NewList.{NewList}

@@ -14,7 +14,7 @@ use Rattle.ios_config.specs.declared.settings.ListKind.TheVariants as kinds
 use Rattle.ios_config.specs.declared.settings.ListText.{ListText}
 use Rattle.ios_config.specs.declared.settings.ProcessText.{ProcessText}
 use Rattle.ios_config.specs.Bare.{bare_face, bare_process}
-use Rattle.net_build.specs.Lists.{packet_entries, route_entries}
+use Rattle.net_rows.specs.Lists.{packet_entries, route_entries}
 use Rattle.edit_space.specs.declared.edit_kinds.Edit.{Edit}
 use Rattle.edit_space.specs.declared.new_lists.NewList.{NewList}
 use Rattle.edit_space.specs.After.{opposite_route_entry, opposite_packet_entry}

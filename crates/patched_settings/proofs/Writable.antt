@@ -23,13 +23,13 @@ use Rattle.ios_config.specs.declared.settings.FaceText.{FaceText}
 use Rattle.ios_config.specs.Commands.{command_lines, IsReadAs}
 use Rattle.ios_config.specs.Configs.{IsConfigOf}
 use Rattle.ios_config.specs.Groups.{is_same, part_of, distinct}
-use Rattle.net_build.specs.Lists.{packet_list_key, route_list_key}
+use Rattle.net_rows.specs.Lists.{packet_list_key, route_list_key}
 use Rattle.net_build.specs.Networks.{Says, IsNetworkOf}
-use Rattle.net_build.specs.Rows.{IsFaceRow, IsSubnet, IsSession, AreSessions}
-use Rattle.net_build.specs.Settings.{address_of}
-use Rattle.net_build.specs.Sites.{sites, ends_of}
+use Rattle.net_rows.specs.Rows.{IsFaceRow, IsSubnet, IsSession, AreSessions}
+use Rattle.net_rows.specs.Settings.{address_of}
+use Rattle.net_rows.specs.Sites.{sites, ends_of}
 use Rattle.net_build.proofs.FacesApart.{piece_head}
-use Rattle.net_build.proofs.SiteFacts.{site_of}
+use Rattle.net_rows.proofs.SiteFacts.{site_of}
 use Rattle.patched_settings.specs.Premises.{IsWritable}
 use Rattle.arc_base.proofs.Zips.{AllZip-left, AllZip-right}
 

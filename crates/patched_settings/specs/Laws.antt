@@ -9,8 +9,8 @@ use Rattle.net_model.specs.Forwarding.{HasEnds}
 use Rattle.net_model.specs.Packets.{subject}
 use Rattle.net_model.specs.Validity.{IsValid}
 use Rattle.ios_config.specs.declared.settings.Config.{Config}
-use Rattle.net_build.specs.Limits.{RefusesEntries}
-use Rattle.net_build.specs.Reasons.{IsClear}
+use Rattle.net_rows.specs.Limits.{RefusesEntries}
+use Rattle.net_rows.specs.Reasons.{IsClear}
 use Rattle.net_build.specs.Networks.{Says, IsNetworkOf}
 use Rattle.edit_space.specs.declared.edit_kinds.Edit.{Edit}
 use Rattle.edit_space.specs.After.{IsAfter}

@@ -21,7 +21,7 @@ use Rattle.ios_config.specs.Appended.{HasBlock, IsLineOf}
 use Rattle.ios_config.specs.ProcessLines.{AreLinesIn, HasProcess, IsQuiet}
 use Rattle.net_build.specs.declared.built.FacePlace.{FacePlace}
 use Rattle.net_build.specs.declared.built.Places.{Places}
-use Rattle.net_build.specs.Routers.{protocol_of_kind}
+use Rattle.net_rows.specs.Routers.{protocol_of_kind}
 use Rattle.edit_space.specs.declared.edit_kinds.Edit.{Edit}
 use Rattle.edit_space.specs.declared.new_lists.NewList.{NewList}
 use Rattle.edit_space.specs.declared.new_lists.NewList.TheVariants.{Route, Packet}

@@ -28,7 +28,7 @@ use Rattle.ios_config.specs.declared.settings.ListText.{ListText}
 use Rattle.ios_config.specs.Texts.{config_of, entry_number}
 use Rattle.net_build.specs.declared.built.ListPlace.{ListPlace}
 use Rattle.net_build.specs.declared.built.Places.{Places}
-use Rattle.net_build.specs.Lists.{packet_text}
+use Rattle.net_rows.specs.Lists.{packet_text}
 use Rattle.net_build.specs.Places.{list_place}
 use Rattle.edit_space.specs.declared.edit_kinds.Edit.{Edit}
 use Rattle.edit_space.specs.declared.new_lists.NewList.{NewList}

@@ -32,7 +32,7 @@ use Rattle.ios_config.specs.declared.settings.ListKind.TheVariants as list_kinds
 use Rattle.ios_config.specs.declared.settings.ListText.{ListText}
 use Rattle.ios_config.specs.Texts.{config_of, is_standard}
 use Rattle.net_build.specs.declared.built.ListPlace.{ListPlace}
-use Rattle.net_build.specs.Lists.{IsPacketListRow, IsRouteListRow, has_entries, if_defined, is_extended_kind, is_of_kind, is_packet_kind, list_named, packet_row, packet_row_at, route_row, route_row_at}
+use Rattle.net_rows.specs.Lists.{IsPacketListRow, IsRouteListRow, has_entries, if_defined, is_extended_kind, is_of_kind, is_packet_kind, list_named, packet_row, packet_row_at, route_row, route_row_at}
 use Rattle.net_build.specs.Places.{list_place}
 use Rattle.edit_space.specs.declared.edit_kinds.Edit.{Edit}
 use Rattle.edit_space.specs.declared.edit_kinds.Edit.TheVariants as edits

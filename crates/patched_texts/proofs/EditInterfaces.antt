@@ -24,10 +24,10 @@ use Rattle.net_build.specs.declared.built.FacePlace.{FacePlace}
 use Rattle.net_build.specs.declared.built.Places.{Places}
 use Rattle.net_build.specs.Networks.{IsBuilt}
 use Rattle.net_build.specs.Places.{face_place, places_of}
-use Rattle.net_build.specs.Routers.{HasNoOwnProcess, MixesProcesses, RunsOther, protocol_of, protocol_of_kind}
-use Rattle.net_build.specs.Rows.{IsFaceRow}
-use Rattle.net_build.specs.Settings.{process_of}
-use Rattle.net_build.specs.Sites.{Site, sites, sites_of}
+use Rattle.net_rows.specs.Routers.{HasNoOwnProcess, MixesProcesses, RunsOther, protocol_of, protocol_of_kind}
+use Rattle.net_rows.specs.Rows.{IsFaceRow}
+use Rattle.net_rows.specs.Settings.{process_of}
+use Rattle.net_rows.specs.Sites.{Site, sites, sites_of}
 use Rattle.edit_space.specs.declared.edit_kinds.Edit.{Edit}
 use Rattle.edit_space.specs.declared.new_lists.NewList.TheVariants.{Packet}
 use Rattle.edit_space.specs.Determined.{IsCountable}

@@ -26,7 +26,7 @@ use Rattle.ios_config.specs.Groups.{Part, part_of, members}
 use Rattle.ios_config.specs.Texts.{config_of, entries, given, is_entry}
 use Rattle.net_build.specs.declared.built.ListPlace.{ListPlace}
 use Rattle.net_build.specs.declared.built.Places.{Places}
-use Rattle.net_build.specs.Lists.{packet_entries, packet_entry, route_entries, route_entry}
+use Rattle.net_rows.specs.Lists.{packet_entries, packet_entry, route_entries, route_entry}
 use Rattle.net_build.specs.Places.{list_place}
 use Rattle.edit_space.specs.declared.edit_kinds.Edit.{Edit}
 use Rattle.edit_space.specs.declared.edit_kinds.Edit.TheVariants as edits

@@ -16,8 +16,8 @@ use Rattle.arc_base.specs.NameForms.{IsName, is_name, is_name_byte}
 use Rattle.ios_config.specs.declared.settings.Config.{Config}
 use Rattle.ios_config.specs.declared.settings.ListText.{ListText}
 use Rattle.net_model.specs.declared.policies.Class.{Class}
-use Rattle.net_build.specs.Lists.{IsListName}
-use Rattle.net_build.specs.Rows.{IsRouterRow}
+use Rattle.net_rows.specs.Lists.{IsListName}
+use Rattle.net_rows.specs.Rows.{IsRouterRow}
 use Rattle.edit_space.specs.declared.edit_kinds.Edit.{Edit}
 use Rattle.edit_space.specs.declared.new_lists.NewList.{NewList}
 use Rattle.edit_space.specs.Changes.{new_classes, new_route_change}

@@ -19,7 +19,7 @@ use Rattle.ios_config.specs.Texts.{config_of}
 use Rattle.ios_config.proofs.LineLists.{commands-of-lines}
 use Rattle.net_build.specs.declared.built.Built.{Built}
 use Rattle.net_build.specs.Networks.{Says, IsBuilt}
-use Rattle.net_build.specs.Rows.{IsRouterRow}
+use Rattle.net_rows.specs.Rows.{IsRouterRow}
 use Rattle.edit_space.specs.declared.edit_kinds.Edit.{Edit}
 use Rattle.edit_space.specs.Changes.{list_classes}
 use Rattle.edit_space.specs.Determined.{IsCountable}

@@ -34,7 +34,7 @@ use Rattle.ios_words.proofs.PrintedLines.{entry-line, list_line-line, prefix_lin
 use Rattle.ios_words.proofs.RenumberedLines as renumbering
 use Rattle.ios_config.specs.Groups.{Block}
 use Rattle.net_build.specs.declared.built.ListPlace.{ListPlace}
-use Rattle.net_build.specs.Lists.{packet_text}
+use Rattle.net_rows.specs.Lists.{packet_text}
 use Rattle.edit_space.specs.After.{opposite_route_entry}
 use Rattle.line_patcher.specs.EntryLines.{order_at, class_line, prefix_line}
 use Rattle.edited_lines.specs.Sites.{bytes_of}

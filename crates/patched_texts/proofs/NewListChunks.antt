@@ -19,7 +19,7 @@ use Rattle.ios_words.specs.declared.kinds.BlockKind.TheVariants as kinds
 use Rattle.ios_words.proofs.PrintedLines.{entry-line, list_head-line, prefix_line-line, permit_all-line, closing-line}
 use Rattle.ios_config.specs.declared.commands.FileCommand.{FileCommand}
 use Rattle.ios_config.specs.Groups.{Block, is_same, part_in, part_of}
-use Rattle.net_build.specs.Lists.{packet_text}
+use Rattle.net_rows.specs.Lists.{packet_text}
 use Rattle.edit_space.specs.After.{class_entry, every_packet}
 use Rattle.edit_space.specs.Changes.{new_prefixes, new_classes}
 use Rattle.edit_space.specs.Writable.{is_writable}

@@ -30,9 +30,9 @@ use Rattle.ios_config.specs.Rising.{NumbersRise}
 use Rattle.ios_config.specs.Texts.{config_of}
 use Rattle.ios_config.specs.Twice.{StandOnce}
 use Rattle.net_build.specs.declared.built.Places.{Places}
-use Rattle.net_build.specs.Lists.{packet_entries, route_entries}
+use Rattle.net_rows.specs.Lists.{packet_entries, route_entries}
 use Rattle.net_build.specs.Places.{face_place, list_place, places_of}
-use Rattle.net_build.specs.Routers.{protocol_of_kind}
+use Rattle.net_rows.specs.Routers.{protocol_of_kind}
 use Rattle.edit_space.specs.declared.edit_kinds.Edit.{Edit}
 use Rattle.edit_space.specs.declared.new_lists.NewList.{NewList}
 use Rattle.edit_space.specs.declared.new_lists.NewList.TheVariants.{Packet}

@@ -10,7 +10,7 @@ use Rattle.ios_words.specs.declared.commands.Command.TheVariants as commands
 use Rattle.arc_base.specs.NameForms.{is_name}
 use Rattle.ios_words.specs.Printed.{permit_all_words, list_head_words, entry_words, top_line}
 use Rattle.ios_words.specs.Printed.{route_text, all_routes}
-use Rattle.net_build.specs.Lists.{packet_text}
+use Rattle.net_rows.specs.Lists.{packet_text}
 use Rattle.edit_space.specs.After.{class_entry, every_packet}
 use Rattle.edit_space.specs.Changes.{new_prefixes, new_classes}
 use Rattle.edit_space.specs.declared.edit_kinds.Edit.{Edit}

@@ -11,8 +11,8 @@ use Rattle.net_model.specs.declared.rows.Network.{Network}
 use Rattle.net_model.specs.Packets.{subject}
 use Rattle.net_model.specs.Forwarding.{HasEnds}
 use Rattle.net_model.specs.Validity.{IsValid}
-use Rattle.net_build.specs.Addressing.{HasEndpoints}
-use Rattle.net_build.proofs.Distinct.{Contains-at}
+use Rattle.net_rows.specs.Addressing.{HasEndpoints}
+use Rattle.net_rows.proofs.Distinct.{Contains-at}
 use Rattle.net_model.proofs.Hosts.{some_host, one_host}
 use Rattle.run_files.specs.declared.outcome.Stop.{Stop}
 use Rattle.run_files.specs.declared.outcome.Stop.TheVariants as stops

@@ -5,7 +5,7 @@ use Rattle.std.proofs.lemmas.Bool.{false≢true}
 use Rattle.arc_outside.specs.Files.{Files}
 use Rattle.net_model.specs.declared.policies.Document.{Document}
 use Rattle.net_model.specs.declared.rows.Network.{Network}
-use Rattle.net_build.specs.Addressing.{HasEndpoints}
+use Rattle.net_rows.specs.Addressing.{HasEndpoints}
 use Rattle.arc_nodecut.specs.RouterFailures.{MeetsPast}
 use Rattle.arc_nodecut.specs.NodeWitnesses.{is_yes}
 use Rattle.arc_nodecut.proofs.NodeVerdicts.{right_verdicts_decide}

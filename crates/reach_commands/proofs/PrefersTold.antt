@@ -6,7 +6,7 @@ use Rattle.arc_base.specs.declared.place.Router.{Router}
 use Rattle.arc_outside.specs.Files.{Files}
 use Rattle.net_model.specs.declared.policies.Document.{Document}
 use Rattle.net_model.specs.declared.rows.Network.{Network}
-use Rattle.net_build.specs.Addressing.{HasEndpoints}
+use Rattle.net_rows.specs.Addressing.{HasEndpoints}
 use Rattle.arc_prefer.specs.declared.answers.Stray.{Stray}
 use Rattle.arc_prefer.specs.Preferred.{Prefers}
 use Rattle.arc_prefer.proofs.Deciding.{right_answers_decide}

@@ -7,7 +7,7 @@ use Rattle.net_model.specs.declared.policies.PolicyKind.TheVariants.{Reach}
 use Rattle.net_model.specs.declared.rows.Network.{Network}
 use Rattle.net_model.specs.Services.{whole_service}
 use Rattle.net_model.specs.Validity.{IsValid}
-use Rattle.net_build.specs.Addressing.{HasEndpoints}
+use Rattle.net_rows.specs.Addressing.{HasEndpoints}
 use Rattle.arc_nodecut.specs.declared.verdict.NodeVerdict.{NodeVerdict}
 use Rattle.arc_nodecut.specs.RouterFailures.{MeetsPast}
 use Rattle.arc_nodecut.specs.NodeWitnesses.{IsRight, is_yes}

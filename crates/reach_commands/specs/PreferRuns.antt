@@ -11,7 +11,7 @@ use Rattle.net_model.specs.declared.policies.PolicyKind.TheVariants.{Reach}
 use Rattle.net_model.specs.declared.rows.Network.{Network}
 use Rattle.net_model.specs.Services.{whole_service}
 use Rattle.net_model.specs.Validity.{IsValid}
-use Rattle.net_build.specs.Addressing.{HasEndpoints}
+use Rattle.net_rows.specs.Addressing.{HasEndpoints}
 use Rattle.arc_prefer.specs.declared.answers.Preferred.{Preferred}
 use Rattle.arc_prefer.specs.declared.answers.Stray.{Stray}
 use Rattle.arc_prefer.specs.Preferred.{Prefers}

@@ -2,7 +2,7 @@
 use Rattle.std.proofs.Common.{◌≡◌, ℕ, zero, suc, ◌<◌, ◌≤◌, List, [], ◌∷◌, refl, ◌∙◌, arith, inl, inr, ⊎_elim}
 use Rattle.net_doc.specs.declared.fault.Refusal.{Refusal}
 use Rattle.net_build.specs.Order.{AreClear, IsFirstOf, RefusesWithin, Try, tries}
-use Rattle.net_build.specs.Reasons.{IsClear, IsFirst}
+use Rattle.net_rows.specs.Reasons.{IsClear, IsFirst}
 use Rattle.arc_base.specs.declared.refusal.Kind.TheVariants as kinds
 use Rattle.refusal_order.specs.Gaps.{TextsHaveBlocks, SettingsHaveAnswer}
 

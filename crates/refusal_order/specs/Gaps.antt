@@ -9,7 +9,7 @@ use Rattle.net_model.specs.declared.rows.Network.{Network}
 use Rattle.ios_config.specs.declared.settings.Config.{Config}
 use Rattle.net_build.specs.Networks.{HasBlocks, IsFaulty, IsFirstRefusalWithin, IsNetworkWithin}
 use Rattle.net_build.specs.Networks.{Says}
-use Rattle.net_build.specs.Rows.{AreRows}
+use Rattle.net_rows.specs.Rows.{AreRows}
 
 -- a text that is refused at no line has blocks
 abbrev pub TextsHaveBlocks : Type 0

@@ -12,7 +12,7 @@ use Rattle.net_model.specs.declared.rows.RouterRow.{RouterRow}
 use Rattle.net_model.specs.Policies.{MeetsDocument}
 use Rattle.net_model.specs.Validity.{IsValid}
 use Rattle.net_build.specs.Networks.{IsNetworkWithin}
-use Rattle.net_build.specs.Rows.{IsRouterRow}
+use Rattle.net_rows.specs.Rows.{IsRouterRow}
 use Rattle.edit_space.specs.declared.edit_kinds.Edit.{Edit}
 use Rattle.edit_space.specs.After.{IsAfter}
 use Rattle.arc_base.specs.NameForms.{IsNameBefore}

@@ -6,7 +6,7 @@ use Rattle.arc_outside.specs.Files.{Files}
 use Rattle.net_model.specs.declared.policies.Document.{Document}
 use Rattle.net_model.specs.declared.rows.Network.{Network}
 use Rattle.net_model.specs.Validity.{IsValid}
-use Rattle.net_build.specs.Addressing.{HasEndpoints}
+use Rattle.net_rows.specs.Addressing.{HasEndpoints}
 use Rattle.route_trace.specs.Routes.{flagged}
 use Rattle.route_trace.specs.TraceText.{IsTrace}
 use Rattle.command_words.specs.declared.commands.TraceWords.{TraceWords}

@@ -1,0 +1,5 @@
+mod LinkFaces
+mod NamesKeys
+mod SessionEnds
+mod SessionSteps
+mod IndexLines

@@ -1,0 +1,4 @@
+mod ListsNames
+mod ListsTables
+mod ListsRows
+mod ListsKinds

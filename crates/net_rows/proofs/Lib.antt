@@ -1,0 +1,21 @@
+pub mod Anys
+pub mod Leasts
+pub mod Firsts
+pub mod Named
+pub mod Lasts
+pub mod Cases
+pub mod Distinct
+pub mod Keys
+pub mod NameLists
+pub mod SiteFacts
+pub mod LinksApart
+pub mod ListKeys
+pub mod InOrder
+pub mod SameRows
+pub mod SpotSites
+pub mod SameNetwork
+pub mod NamesDiffer
+pub mod HostNames
+mod PrefixKeys
+pub mod Gathered
+pub mod PlainKeys

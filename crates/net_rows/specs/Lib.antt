@@ -1,0 +1,17 @@
+pub mod Kinds
+pub mod Settings
+pub mod Forms
+pub mod Sites
+pub mod Ordered
+pub mod Neighbors
+pub mod Lists
+pub mod Routers
+pub mod Rows
+pub mod Reasons
+pub mod Linking
+pub mod Peers
+pub mod Addressing
+pub mod Stops
+pub mod Limits
+pub mod Names
+pub mod Prefixes

@@ -1,0 +1,6 @@
+mod StopsFirst
+mod StopsEnds
+mod PeersEnds
+mod PeersFiles
+mod ConnectedSubnets
+mod SessionPackets

@@ -1,0 +1,4 @@
+pub mod FarEnds
+pub mod Stopping
+pub mod Subnets
+pub mod SessionPackets
