@@ -3,7 +3,6 @@ ghost use Rattle.std.specs.Prelude.{◌≡◌, ◌++◌, ◌∷◌, [], codes, d
 ghost use Rattle.std.specs.List.{concat};
 ghost use Rattle.net_model.specs.declared.rows.Network.{Network};
 ghost use Rattle.policy_report.specs.Lines.{after_spaces, line};
-ghost use Rattle.policy_report.specs.Reports.{path_line};
 ghost use Rattle.arc_nodecut.specs.NodeText.{answer_word, router_word, cut_line, witness_lines};
 ghost use Rattle.arc_nodecut.specs.NodeText.{answer_line, nodes_text};
 
@@ -11,7 +10,7 @@ use crate::verdict::NodeVerdict;
 use arc_base::{Memory, Router};
 use net_model::{LinkPath, Network};
 use policy_report::{
-    push_count, push_denied_line, push_path_line, push_refused_line, push_side_line, push_word,
+    push_count, push_denied_line, push_paths, push_refused_line, push_side_line, push_word,
 };
 use std::alloc::Global;
 
@@ -104,15 +103,6 @@ fn push_arc_line(alloc: Global, text: &mut Vec<u8>, number: u64) -> Result<(), M
     text.extend_from_slice(b"arc")?;
     push_count(alloc, text, number)?;
     text.push(b'\n')?;
-    Ok(())
-}
-
-fn push_paths(alloc: Global, text: &mut Vec<u8>, paths: &[LinkPath]) -> Result<(), Memory>
-    ensures { OnOk result (text.new.items ≡ text.old.items ++ concat (map path_line paths.now)) }
-{
-    for path in paths {
-        push_path_line(alloc, text, path)?;
-    }
     Ok(())
 }
 

@@ -31,4 +31,4 @@ pub use listing::edits;
 pub use network_after::after;
 pub use new_lists::{NewList, lists_made, new_names};
 pub use numbered::{Group, add, empty_groups, grouped, is_filled, things_at};
-pub use prices::{chosen_edits, price};
+pub use prices::{chosen_edits, price, weight};

@@ -28,7 +28,7 @@ pub fn chosen_edits(alloc: Global, edits: &[Edit], chosen: &[bool]) -> Result<Ve
 }
 
 /// What an edit costs.
-fn weight(weights: &Weights, edit: &Edit) -> u32
+pub fn weight(weights: &Weights, edit: &Edit) -> u32
     ensures { result ≡ weight weights.now edit.now }
 {
     match edit {

@@ -19,20 +19,9 @@ use crate::questions::question;
 use arc_base::limits::{EDIT_LIMIT, POLICY_LIMIT, PRICE_LIMIT, VARIABLE_LIMIT};
 use arc_base::{List, Memory};
 use condition_formula::{ConditionNet, EncodeFault, Encoded, Question};
-use edit_space::{Edit, EditFault};
-use net_model::{Document, Network, Weights};
+use edit_space::{Edit, EditFault, weight};
+use net_model::{Document, Network};
 use std::alloc::Global;
-
-/// What an edit costs.
-fn weight(weights: &Weights, edit: &Edit) -> u32
-    ensures { result ≡ weight weights.now edit.now }
-{
-    match edit {
-        Edit::Session(_) => weights.session,
-        Edit::RouteList(_, _) | Edit::RouteNew(_, _) => weights.filter,
-        Edit::PacketList(_, _) | Edit::PacketNew(_, _) => weights.list,
-    }
-}
 
 /// What each edit costs.
 fn all_weights(alloc: Global, doc: &Document, edits: &List<Edit>) -> Result<List<u32>, Memory>

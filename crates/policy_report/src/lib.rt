@@ -28,5 +28,5 @@ pub use got::{CertFault, CertForm, Got};
 pub use lines::{push_denied_line, push_path_line, push_refused_line, push_side_line};
 pub use reader::Reader;
 pub use reports::{push_answer_words, report};
-pub use witness::{count_lines, push_witness};
+pub use witness::{count_lines, push_paths, push_witness};
 pub use words::{push_class, push_count, push_links, push_word};

@@ -62,7 +62,8 @@ fn push_sides(
     Ok(())
 }
 
-fn push_paths(alloc: Global, text: &mut Vec<u8>, paths: &[LinkPath]) -> Result<(), Memory>
+/// Writes the lines of these paths.
+pub fn push_paths(alloc: Global, text: &mut Vec<u8>, paths: &[LinkPath]) -> Result<(), Memory>
     ensures { OnOk result (text.new.items ≡ text.old.items ++ concat (map path_line paths.now)) }
 {
     for path in paths {
