@@ -8,7 +8,7 @@ use Rattle.condition_formula.proofs.small.are_small.Goals as goal
 pub loop-q-preserved : goal.loop-q-preserved
 loop-q-preserved c =
     let P = λ (q : Question). length q.arcs ≤ 65536 in
-    let few : length c.q-item.result.arcs ≤ 65536 = omega (arith, c.len.ensures, c.if-len-gt65536.false) in
+    let few : length c.q-item.result.arcs ≤ 65536 = omega (arith, c.len.ensures, c.if-len-gt-ARC_LIMIT.false) in
     All-more P c.args.questions.now c.loop-q.q-index c.q-item.result c.loop-q-test.true c.loop-q.invariant (subst P c.q-item.is few)
 
 pub returns : goal.returns

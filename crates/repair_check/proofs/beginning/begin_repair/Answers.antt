@@ -8,7 +8,7 @@ use Rattle.price_descent.specs.Outcomes.{least_below}
 use Rattle.arc_repair.specs.Repairs.{none_of}
 use Rattle.repair_check.specs.Phases.{IsReady, IsReadyWithin}
 use Rattle.repair_check.proofs.Counted.{fault_there, repair_begun}
-use Rattle.repair_check.proofs.beginning.begin_repair.Goals.{then-bound-le512+in_ok-ready, else-bound-le512}
+use Rattle.repair_check.proofs.beginning.begin_repair.Goals.{then-bound-le-PRICE_LIMIT+in_ok-ready, else-bound-le-PRICE_LIMIT}
 use Rattle.repair_check.proofs.beginning.begin_repair.Goals as goal
 
 pub returns-in_err-ready-clause-fault : goal.returns-in_err-ready-clause-fault
@@ -21,12 +21,12 @@ pub returns-clause-leads : goal.returns-clause-leads
 returns-clause-leads c =
     let none : c.in_ok-flags.flags.items ≡ none_of c.args.list.now = c.in_ok-flags.ensures ∙ ap none_of c.slice.ensures.items in
     let P : Option Checker → Type 0 = λ log. IsReadyWithin c.args.net.now c.args.doc.now c.args.list.now c.args.price c.args.bound log in
-    elim c.if-bound-le512.branch [
-      | then-bound-le512+in_ok-ready w ↦
+    elim c.if-bound-le-PRICE_LIMIT.branch [
+      | then-bound-le-PRICE_LIMIT+in_ok-ready w ↦
           let Q : Option ℕ → Type 0 = λ least. IsReady c.args.net.now c.args.doc.now c.args.list.now c.args.bound least w.in_ok-ready.field-0 in
-          repair_begun c.args.net.now c.args.doc.now c.args.list.now c.args.price c.args.bound c.args.number c.in_ok-flags.flags c.if-bound-le512.log none
+          repair_begun c.args.net.now c.args.doc.now c.args.list.now c.args.price c.args.bound c.args.number c.in_ok-flags.flags c.if-bound-le-PRICE_LIMIT.log none
           (subst P (sym w.log-is) (subst Q w.least_below.ensures w.in_ok-ready.ensures.ready)) (λ few. w.in_ok-ready.ensures.limits)
-      | else-bound-le512 w ↦
-          repair_begun c.args.net.now c.args.doc.now c.args.list.now c.args.price c.args.bound c.args.number c.in_ok-flags.flags c.if-bound-le512.log none
-          (subst P (sym w.log-is) w.if-bound-le512.false) (λ few. absurd (omega (arith, few, w.if-bound-le512.false)))
+      | else-bound-le-PRICE_LIMIT w ↦
+          repair_begun c.args.net.now c.args.doc.now c.args.list.now c.args.price c.args.bound c.args.number c.in_ok-flags.flags c.if-bound-le-PRICE_LIMIT.log none
+          (subst P (sym w.log-is) w.if-bound-le-PRICE_LIMIT.false) (λ few. absurd (omega (arith, few, w.if-bound-le-PRICE_LIMIT.false)))
     ]

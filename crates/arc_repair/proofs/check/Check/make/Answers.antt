@@ -10,8 +10,8 @@ use Rattle.arc_repair.proofs.ClaimDefects.{beyond, flags_of, none_wrong, this_wr
 use Rattle.arc_repair.proofs.Glue.{formula_fault, of_each, out_of_memory}
 use Rattle.arc_repair.proofs.check.Check.make.Goals as goal
 
-pub returns-then-bound-gt512-clause-made : goal.returns-then-bound-gt512-clause-made
-returns-then-bound-gt512-clause-made c = λ other others. beyond c.args.net.now c.args.doc.now other c.args.claim.now (omega (arith, c.bound_of-bound.ensures, c.if-bound-gt512.true))
+pub returns-then-bound-gt-PRICE_LIMIT-clause-made : goal.returns-then-bound-gt-PRICE_LIMIT-clause-made
+returns-then-bound-gt-PRICE_LIMIT-clause-made c = λ other others. beyond c.args.net.now c.args.doc.now other c.args.claim.now (omega (arith, c.bound_of-bound.ensures, c.if-bound-gt-PRICE_LIMIT.true))
 
 pub encode-requires-clause-failures : goal.encode-requires-clause-failures
 encode-requires-clause-failures c = c.requires.failures
