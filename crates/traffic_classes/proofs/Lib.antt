@@ -15,3 +15,4 @@ pub mod MakingUp
 pub mod Sameness
 pub mod Unions
 pub mod EachPolicy
+pub mod Marked

@@ -1,5 +1,5 @@
 -- A list gives one answer to all packets of a class that none of its entries splits.
-use Rattle.std.proofs.Common.{◌≡◌, ℕ, ◌&&◌, inl, inr, Bool, true, false, cond, Option, Some, List, [], ◌∷◌, IsTrue, nat_eq, if◌then◌else◌, refl, sym, ◌∙◌, ap}
+use Rattle.std.proofs.Common.{◌≡◌, ℕ, ◌&&◌, inl, inr, Bool, true, false, cond, Option, Some, List, [], ◌∷◌, IsTrue, refl, sym, ◌∙◌, ap}
 use Rattle.std.specs.Prelude.{Contains, map}
 use Rattle.std.specs.List.{find, flat_map}
 use Rattle.std.specs.Option.{option_map_or}
@@ -20,7 +20,7 @@ use Rattle.net_model.specs.Packets.{IsOf}
 use Rattle.net_model.specs.Witnesses.{IsUniform}
 use Rattle.traffic_classes.specs.Leaves.{IsSplit}
 use Rattle.traffic_classes.specs.ServiceLeaves.{IsCut}
-use Rattle.traffic_classes.specs.Classes.{source_marks, destination_marks, service_marks, marks_of, protocol, whole_protocol}
+use Rattle.traffic_classes.specs.Classes.{source_marks, destination_marks, service_marks, marks_of}
 use Rattle.traffic_classes.specs.Parts.{IsUniformFor}
 use Rattle.arc_base.proofs.Items.{Contains-head, Contains-tail, Contains-map, Contains-piece, All-from}
 use Rattle.traffic_classes.proofs.Ranges.{nested}

@@ -12,6 +12,7 @@ use Rattle.net_model.specs.declared.rows.Network.{Network}
 use Rattle.net_model.specs.declared.services.Service.{Service}
 use Rattle.traffic_classes.specs.declared.fault.ClassFault.{ClassFault}
 use Rattle.traffic_classes.specs.declared.fault.ClassFault.TheVariants.{TooMany, Memory}
+use Rattle.traffic_classes.specs.declared.marks.Marks.{Marks}
 use Rattle.traffic_classes.specs.Leaves.{AreLeaves}
 use Rattle.traffic_classes.specs.ServiceLeaves.{AreServiceLeaves}
 
@@ -55,6 +56,12 @@ abbrev pub service_marks : Network → List Policy → List Service
 service_marks net policies =
     flat_map (λ l. flat_map (λ e. marks_of e.service) l.entries) net.packet_lists ++
     flat_map (λ p. marks_of p.service) policies
+
+-- these are the marks of the network with the policies
+pub record AreMarks (net : Network) (policies : List Policy) (marks : Marks) : Type 0 where
+  pub sources : marks.sources.items ≡ source_marks net policies
+  pub destinations : marks.destinations.items ≡ destination_marks net policies
+  pub services : marks.services.items ≡ service_marks net policies
 
 -- the classes from this source to this destination, of each of the services in order
 abbrev pub classes_between : List Service → Prefix → Prefix → List Class

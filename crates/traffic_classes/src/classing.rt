@@ -1,7 +1,10 @@
 //! The classes of one policy, and those of all together.
-ghost use Rattle.std.specs.Prelude.{◌<◌, ◌≤◌, length, slice_get, IfOk, IfErr, IfSome};
+ghost use Rattle.std.specs.Prelude.{◌<◌, ◌≤◌, List as Items, length, slice_get, IfOk, IfErr};
+ghost use Rattle.std.specs.Prelude.{IfSome};
+ghost use Rattle.net_model.specs.declared.policies.Policy.{Policy as AnyPolicy};
+ghost use Rattle.net_model.specs.declared.rows.Network.{Network as AnyNetwork};
 ghost use Rattle.net_model.specs.Packets.{subject};
-ghost use Rattle.traffic_classes.specs.Classes.{AreClasses, HasClasses, CountsMore};
+ghost use Rattle.traffic_classes.specs.Classes.{AreMarks, AreClasses, HasClasses, CountsMore};
 ghost use Rattle.traffic_classes.specs.AllClasses.{AreAllClasses, FirstHaveMore};
 ghost use Rattle.traffic_classes.specs.Parts.{MakeUp, TellApart};
 
@@ -37,10 +40,27 @@ pub fn classes(
     match policies.get(which) {
         Some(policy) => {
             let marks = Marks::of(alloc, net, policies)?;
-            let leaves = Leaves::of(alloc, &marks, policy)?;
-            Ok(leaves.few_triples(alloc)?)
+            marks.classes(alloc, policy)
         }
         None => unreachable!(),
+    }
+}
+
+impl Marks {
+    /// The traffic classes of a policy under these marks, as the call `classes` gives them. For
+    /// several policies of a network find their marks once, by `Marks::of`.
+    pub fn classes(&self, alloc: Global, policy: &Policy) -> Result<List<Class>, ClassFault>
+        ensures classes { IfOk result (λ cs. (net : AnyNetwork) (policies : Items AnyPolicy) →
+            AreMarks net policies self.now → AreClasses net policies policy.now cs) }
+        ensures parts { IfOk result (λ cs. (net : AnyNetwork) (policies : Items AnyPolicy) →
+            AreMarks net policies self.now → MakeUp net (subject policy.now) cs) }
+        ensures few { IfOk result (λ cs. length cs ≤ CLASS_LIMIT) }
+        ensures many { IfErr result
+            (CountsMore (λ count. (net : AnyNetwork) (policies : Items AnyPolicy) →
+            AreMarks net policies self.now → HasClasses net policies policy.now count)) }
+    {
+        let leaves = Leaves::of(alloc, self, policy)?;
+        Ok(leaves.few_triples(alloc)?)
     }
 }
 

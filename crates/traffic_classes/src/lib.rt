@@ -17,3 +17,4 @@ mod tests;
 
 pub use classing::{all_classes, classes};
 pub use fault::ClassFault;
+pub use marks::Marks;

@@ -1,8 +1,7 @@
 //! Collecting the marks of a network and its policies.
 ghost use Rattle.std.specs.Prelude.{◌≡◌, ◌++◌, ◌<◌, ◌^◌, List as Items, map, IfOk, OnOk};
 ghost use Rattle.std.specs.List.{flat_map};
-ghost use Rattle.traffic_classes.specs.Classes.{source_marks, destination_marks, service_marks};
-ghost use Rattle.traffic_classes.specs.Classes.{marks_of, protocol, whole_protocol};
+ghost use Rattle.traffic_classes.specs.Classes.{AreMarks, marks_of, protocol, whole_protocol};
 ghost use Rattle.net_model.specs.declared.lists.PacketEntry.{PacketEntry};
 ghost use Rattle.net_model.specs.declared.policies.Policy.{Policy};
 
@@ -52,12 +51,7 @@ pub struct Marks {
 impl Marks {
     /// The marks of a network with its policies.
     pub fn of(alloc: Global, net: &Network, policies: &List<Policy>) -> Result<Marks, Memory>
-        ensures sources { IfOk result (λ marks.
-            marks.sources.items ≡ source_marks net.now policies.now) }
-        ensures destinations { IfOk result (λ marks.
-            marks.destinations.items ≡ destination_marks net.now policies.now) }
-        ensures services { IfOk result (λ marks.
-            marks.services.items ≡ service_marks net.now policies.now) }
+        ensures { IfOk result (AreMarks net.now policies.now) }
     {
         let mut marks = Marks {
             sources: Vec::new(alloc),

@@ -1,5 +1,5 @@
 //! The verdict on a policy by its kind.
-ghost use Rattle.std.specs.Prelude.{◌≡◌, ◌<◌, length, slice_get, Some, IfOk, IfErr, IfSome};
+ghost use Rattle.std.specs.Prelude.{◌<◌, length, slice_get, IfOk, IfErr, IfSome};
 ghost use Rattle.std.specs.Option.{ForSome};
 ghost use Rattle.net_model.specs.declared.policies.Class.{Class as AnyClass};
 ghost use Rattle.net_model.specs.Packets.{subject};
@@ -8,7 +8,7 @@ ghost use Rattle.net_model.specs.Forwarding.{Ends, HasEnds};
 ghost use Rattle.net_model.specs.Witnesses.{IsRight};
 ghost use Rattle.class_graph.specs.Classes.{AreAllUniform};
 ghost use Rattle.class_graph.specs.Hosts.{IsHostPair, HasHostPair};
-ghost use Rattle.traffic_classes.specs.Classes.{HasClasses};
+ghost use Rattle.traffic_classes.specs.Classes.{AreMarks, HasClasses};
 ghost use Rattle.traffic_classes.specs.Parts.{MakeUp};
 ghost use Rattle.verdicts.specs.Fixed.{IsFixed};
 ghost use Rattle.verdicts.specs.Judged.{CountsMore, IsVerdict};
@@ -21,11 +21,12 @@ use arc_base::{List, Memory};
 use class_graph::{HostPair, host_pair};
 use net_model::{Class, Network, Policy, PolicyKind, Verdict};
 use std::alloc::Global;
-use traffic_classes::classes;
+use traffic_classes::Marks;
 
 /// The verdict on the policy at a place, counted from 0.
 ///
-/// It looks at each traffic class of the policy once, and at no set of failed links.
+/// It looks at each traffic class of the policy once, and at no set of failed links. For several
+/// policies find their marks once, and call `judge_under`.
 pub fn judge(
     alloc: Global,
     net: &Network,
@@ -43,31 +44,34 @@ pub fn judge(
     ensures many { IfErr result (CountsMore (λ count.
         IfSome (slice_get policies.now which) (λ p. HasClasses net.now policies.now p count))) }
 {
-    match policies.get(which) {
-        Some(policy) => judge_policy(alloc, net, policies, which, policy),
-        None => unreachable!(),
-    }
+    let marks = Marks::of(alloc, net, policies)?;
+    judge_under(alloc, net, policies, &marks, which)
 }
 
-/// The verdict on the policy, which stands at this place.
-fn judge_policy(
+/// The verdict that `judge` gives, where these are the marks of the network with the policies.
+pub fn judge_under(
     alloc: Global,
     net: &Network,
     policies: &List<Policy>,
+    marks: &Marks,
     which: u32,
-    policy: &Policy,
 ) -> Result<Verdict, JudgeFault>
     requires valid { IsValid net.now }
-    requires at_place { slice_get policies.now which ≡ Some policy.now }
+    requires marks { AreMarks net.now policies.now marks.now }
     requires place { which < length policies.now }
-    requires ends { HasEnds net.now (subject policy.now) }
-    requires failures { HasFewFailures policy.now.kind }
-    ensures right { IfOk result (IsRight net.now policy.now) }
-    ensures fixed { IfOk result (IsFixed net.now policies.now policy.now) }
+    requires ends { ForSome (slice_get policies.now which) (λ p. HasEnds net.now (subject p)) }
+    requires failures { ForSome (slice_get policies.now which) (λ p. HasFewFailures p.kind) }
+    ensures right { IfOk result (λ v.
+        IfSome (slice_get policies.now which) (λ p. IsRight net.now p v)) }
+    ensures fixed { IfOk result (λ v.
+        IfSome (slice_get policies.now which) (λ p. IsFixed net.now policies.now p v)) }
     ensures many { IfErr result (CountsMore (λ count.
         IfSome (slice_get policies.now which) (λ p. HasClasses net.now policies.now p count))) }
 {
-    let parts = classes(alloc, net, policies, which)?;
+    let Some(policy) = policies.get(which) else {
+        unreachable!()
+    };
+    let parts = marks.classes(alloc, policy)?;
     let pair = host_pair(alloc, net, policy.subject())?;
     let verdict = judge_classes(alloc, net, &pair, &parts, policy.kind)?;
     Ok(verdict)

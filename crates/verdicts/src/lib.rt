@@ -12,4 +12,4 @@ mod reach;
 mod sides;
 
 pub use fault::JudgeFault;
-pub use judgement::judge;
+pub use judgement::{judge, judge_under};

@@ -15,7 +15,8 @@ use policy_report::report;
 use run_files::{Done, Limits, Stop};
 use run_inputs::{Input, count_classes, read_input};
 use std::alloc::Global;
-use verdicts::{JudgeFault, judge};
+use traffic_classes::Marks;
+use verdicts::{JudgeFault, judge_under};
 
 // The verdict on each policy of the document, in order. All classes are few, and no policy has more
 // than all of them.
@@ -25,9 +26,10 @@ fn judge_all(alloc: Global, input: &Input) -> Result<List<Verdict>, Memory>
     ensures { IfOk result
         (AllZip (IsVerdictOn input.now.net input.now.doc.policies) input.now.doc.policies) }
 {
+    let marks = Marks::of(alloc, &input.net, &input.doc.policies)?;
     let mut verdicts = List::make(alloc);
     for which in 0..input.doc.policies.len() {
-        match judge(alloc, &input.net, &input.doc.policies, which) {
+        match judge_under(alloc, &input.net, &input.doc.policies, &marks, which) {
             Ok(verdict) => verdicts.push(verdict)?,
             Err(JudgeFault::TooMany(_)) => unreachable!(),
             Err(JudgeFault::Memory) => return Err(Memory),

@@ -1,40 +1,22 @@
-use Rattle.std.proofs.Common.{◌≡◌, ◌≤◌, ◌*◌, ◌+◌, ℕ, List, length, take, subst, sym, refl, ap, ◌∙◌, arith}
+use Rattle.std.proofs.Common.{◌≡◌, ◌≤◌, ◌*◌, ◌+◌, ℕ, List, length, take, subst, sym, ap, ◌∙◌, arith}
 use Rattle.std.specs.Prelude.{count_by, fold}
 use Rattle.std.proofs.lemmas.Result.{err_from_is_err_and}
-use Rattle.arc_base.specs.declared.prefix.Prefix.{Prefix}
 use Rattle.net_model.specs.declared.policies.Class.{Class}
 use Rattle.net_model.specs.declared.policies.Policy.{Policy}
-use Rattle.net_model.specs.declared.rows.Network.{Network}
-use Rattle.net_model.specs.declared.services.Service.{Service}
-use Rattle.traffic_classes.specs.Leaves.{AreLeaves}
-use Rattle.traffic_classes.specs.ServiceLeaves.{AreServiceLeaves}
-use Rattle.traffic_classes.specs.Classes.{source_marks, destination_marks, service_marks, all_triples, told, AreClasses}
+use Rattle.traffic_classes.specs.Classes.{all_triples, told, AreClasses}
 use Rattle.traffic_classes.specs.AllClasses.{AreAllClasses, FirstHaveMore, with_class, lies_off}
+use Rattle.traffic_classes.proofs.Marked.{made}
 use Rattle.traffic_classes.proofs.Triples.{length-triples}
 use Rattle.traffic_classes.proofs.Unions.{next_classes, next_count, next_have, counts_more, tell_apart}
 use Rattle.std.proofs.lemmas.List.{take_all}
 use Rattle.traffic_classes.specs.Parts.{TellApart}
 use Rattle.traffic_classes.proofs.classing.all_classes.Goals as goal
 
-made : (net : Network) (policies : List Policy) (policy : Policy) (ms ns : List Prefix) (os : List Service) (ss ds : List Prefix) (vs : List Service) →
-    ms ≡ source_marks net policies → ns ≡ destination_marks net policies → os ≡ service_marks net policies →
-    AreLeaves ms policy.from ss → AreLeaves ns policy.to ds → AreServiceLeaves os policy.service vs → AreClasses net policies policy (all_triples ss ds vs)
-made net policies policy ms ns os ss ds vs e f g one two three = record {
-  sources = ss;
-  destinations = ds;
-  services = vs;
-  sources_are = subst (λ (m : List Prefix). AreLeaves m policy.from ss) e one;
-  destinations_are = subst (λ (m : List Prefix). AreLeaves m policy.to ds) f two;
-  services_are = subst (λ (m : List Service). AreServiceLeaves m policy.service vs) g three;
-  triples = refl;
-}
-
 pub returns-in_err-add-clause-many : goal.returns-in_err-add-clause-many
 returns-in_err-add-clause-many c =
     let are : AreClasses c.args.net.now c.args.policies.now c.policy-item.result (all_triples c.in_ok-leaves.leaves.sources c.in_ok-leaves.leaves.destinations c.in_ok-leaves.leaves.services) =
-    made c.args.net.now c.args.policies.now c.policy-item.result c.in_ok-marks.marks.sources.items c.in_ok-marks.marks.destinations.items c.in_ok-marks.marks.services.items
+    made c.args.net.now c.args.policies.now c.in_ok-marks.marks c.in_ok-marks.ensures c.policy-item.result
     c.in_ok-leaves.leaves.sources c.in_ok-leaves.leaves.destinations c.in_ok-leaves.leaves.services
-    c.in_ok-marks.ensures.sources c.in_ok-marks.ensures.destinations c.in_ok-marks.ensures.services
     c.in_ok-leaves.ensures.sources c.in_ok-leaves.ensures.destinations c.in_ok-leaves.ensures.services in
     let P : ℕ → Type 0 = λ n. told (length c.in_ok-leaves.leaves.sources * length c.in_ok-leaves.leaves.destinations * length c.in_ok-leaves.leaves.services + count_by (lies_off c.policy-item.result) c.loop-policy.found.classes.items) ≡ n in
     let have : (n : ℕ) → P n → FirstHaveMore c.args.net.now c.args.policies.now n =
@@ -49,9 +31,8 @@ returns-in_err-add-clause-many c =
 pub loop-policy-preserved : goal.loop-policy-preserved
 loop-policy-preserved c =
     let are : AreClasses c.args.net.now c.args.policies.now c.policy-item.result (all_triples c.in_ok-leaves.leaves.sources c.in_ok-leaves.leaves.destinations c.in_ok-leaves.leaves.services) =
-    made c.args.net.now c.args.policies.now c.policy-item.result c.in_ok-marks.marks.sources.items c.in_ok-marks.marks.destinations.items c.in_ok-marks.marks.services.items
+    made c.args.net.now c.args.policies.now c.in_ok-marks.marks c.in_ok-marks.ensures c.policy-item.result
     c.in_ok-leaves.leaves.sources c.in_ok-leaves.leaves.destinations c.in_ok-leaves.leaves.services
-    c.in_ok-marks.ensures.sources c.in_ok-marks.ensures.destinations c.in_ok-marks.ensures.services
     c.in_ok-leaves.ensures.sources c.in_ok-leaves.ensures.destinations c.in_ok-leaves.ensures.services in
     let number : length (fold with_class c.loop-policy.found.classes.items (all_triples c.in_ok-leaves.leaves.sources c.in_ok-leaves.leaves.destinations c.in_ok-leaves.leaves.services)) ≡
     length (all_triples c.in_ok-leaves.leaves.sources c.in_ok-leaves.leaves.destinations c.in_ok-leaves.leaves.services) + count_by (lies_off c.policy-item.result) c.loop-policy.found.classes.items =

@@ -1,4 +1,4 @@
-use Rattle.std.proofs.Common.{◌≡◌, List, ◌++◌, map, ap, ◌∙◌}
+use Rattle.std.proofs.Common.{List, ◌++◌, map, ap, ◌∙◌}
 use Rattle.std.specs.List.{flat_map}
 use Rattle.arc_base.specs.declared.prefix.Prefix.{Prefix}
 use Rattle.net_model.specs.declared.lists.PacketEntry.{PacketEntry}
@@ -31,29 +31,21 @@ loop-list-preserved c = record {
       (c.in_ok-add_entries.ensures.services ∙ ap (λ (es : List PacketEntry). c.loop-list.marks.services.items ++ flat_map (λ (e : PacketEntry). marks_of e.service) es) c.slice.ensures.items);
 }
 
-pub returns-clause-sources : goal.returns-clause-sources
-returns-clause-sources c =
-    let all : c.loop-list.marks.sources.items ≡ flat_map froms c.args.net.now.packet_lists =
-    pieces_all froms c.loop-list.marks.sources.items c.slice-list-items.result.now c.loop-list.list-index c.loop-list-test.false c.loop-list.invariant.sources
-    ∙ ap (flat_map froms) c.slice-list-items.ensures.items in
-    c.in_ok-add_policies.ensures.sources
-    ∙ ap (λ (ps : List Policy). c.loop-list.marks.sources.items ++ map (λ (p : Policy). p.from) ps) c.slice-2.ensures.items
-    ∙ ap (λ (xs : List Prefix). xs ++ map (λ (p : Policy). p.from) c.args.policies.now) all
-
-pub returns-clause-destinations : goal.returns-clause-destinations
-returns-clause-destinations c =
-    let all : c.loop-list.marks.destinations.items ≡ flat_map tos c.args.net.now.packet_lists =
-    pieces_all tos c.loop-list.marks.destinations.items c.slice-list-items.result.now c.loop-list.list-index c.loop-list-test.false c.loop-list.invariant.destinations
-    ∙ ap (flat_map tos) c.slice-list-items.ensures.items in
-    c.in_ok-add_policies.ensures.destinations
-    ∙ ap (λ (ps : List Policy). c.loop-list.marks.destinations.items ++ map (λ (p : Policy). p.to) ps) c.slice-2.ensures.items
-    ∙ ap (λ (xs : List Prefix). xs ++ map (λ (p : Policy). p.to) c.args.policies.now) all
-
-pub returns-clause-services : goal.returns-clause-services
-returns-clause-services c =
-    let all : c.loop-list.marks.services.items ≡ flat_map of_services c.args.net.now.packet_lists =
-    pieces_all of_services c.loop-list.marks.services.items c.slice-list-items.result.now c.loop-list.list-index c.loop-list-test.false c.loop-list.invariant.services
-    ∙ ap (flat_map of_services) c.slice-list-items.ensures.items in
-    c.in_ok-add_policies.ensures.services
-    ∙ ap (λ (ps : List Policy). c.loop-list.marks.services.items ++ flat_map (λ (p : Policy). marks_of p.service) ps) c.slice-2.ensures.items
-    ∙ ap (λ (xs : List Service). xs ++ flat_map (λ (p : Policy). marks_of p.service) c.args.policies.now) all
+pub returns : goal.returns
+returns c = record {
+  sources = c.in_ok-add_policies.ensures.sources
+      ∙ ap (λ (ps : List Policy). c.loop-list.marks.sources.items ++ map (λ (p : Policy). p.from) ps) c.slice-2.ensures.items
+      ∙ ap (λ (xs : List Prefix). xs ++ map (λ (p : Policy). p.from) c.args.policies.now)
+      (pieces_all froms c.loop-list.marks.sources.items c.slice-list-items.result.now c.loop-list.list-index c.loop-list-test.false c.loop-list.invariant.sources
+      ∙ ap (flat_map froms) c.slice-list-items.ensures.items);
+  destinations = c.in_ok-add_policies.ensures.destinations
+      ∙ ap (λ (ps : List Policy). c.loop-list.marks.destinations.items ++ map (λ (p : Policy). p.to) ps) c.slice-2.ensures.items
+      ∙ ap (λ (xs : List Prefix). xs ++ map (λ (p : Policy). p.to) c.args.policies.now)
+      (pieces_all tos c.loop-list.marks.destinations.items c.slice-list-items.result.now c.loop-list.list-index c.loop-list-test.false c.loop-list.invariant.destinations
+      ∙ ap (flat_map tos) c.slice-list-items.ensures.items);
+  services = c.in_ok-add_policies.ensures.services
+      ∙ ap (λ (ps : List Policy). c.loop-list.marks.services.items ++ flat_map (λ (p : Policy). marks_of p.service) ps) c.slice-2.ensures.items
+      ∙ ap (λ (xs : List Service). xs ++ flat_map (λ (p : Policy). marks_of p.service) c.args.policies.now)
+      (pieces_all of_services c.loop-list.marks.services.items c.slice-list-items.result.now c.loop-list.list-index c.loop-list-test.false c.loop-list.invariant.services
+      ∙ ap (flat_map of_services) c.slice-list-items.ensures.items);
+}
