@@ -1,3 +1,4 @@
 pub mod Outcomes
 pub mod Lines
+pub mod LineByLine
 pub mod Lengths

@@ -1,24 +1,38 @@
 -- One line of the judgement.
-use Rattle.std.specs.Prelude.{ℕ, ◌+◌, List, ◌∷◌, Result}
+use Rattle.std.specs.Prelude.{◌≡◌, ℕ, ◌+◌, Bool, true, false, List, [], ◌∷◌, Result}
 use Rattle.net_model.specs.declared.policies.Policy.{Policy}
 use Rattle.net_model.specs.declared.rows.Network.{Network}
 use Rattle.policy_report.specs.declared.got.Got.{Got}
 use Rattle.policy_report.specs.declared.got.CertFault.{CertFault}
 use Rattle.report_check.specs.declared.judging.Next.{Next}
-use Rattle.report_check.specs.declared.judging.Next.TheVariants.{Line, Done}
+use Rattle.report_check.specs.declared.judging.Next.TheVariants.{Line, End, Done}
 use Rattle.report_check.specs.declared.outcome.Outcome.{Outcome}
+use Rattle.report_check.specs.declared.outcome.Outcome.TheVariants.{Accepted}
 use Rattle.report_check.specs.Outcomes.{IsOutcome}
 
--- another line comes
-abbrev pub IsLine : Next → Type 0
-IsLine (Line begins) = Unit {0}
-IsLine (Done o) = ⊥
+-- another line may come
+abbrev pub MayCome : Next → Type 0
+MayCome (Line begins) = Unit {0}
+MayCome End = Unit {0}
+MayCome (Done o) = ⊥
+
+-- the outcome by the lines that are left, by whether the line before was the end: then there need
+-- be none
+abbrev pub IsOutcomeAfter : Bool → Network → List Policy → ℕ → ℕ →
+    List (Result Got CertFault) → Outcome → Type 0
+IsOutcomeAfter true net policies first number [] o = o ≡ Accepted
+IsOutcomeAfter true net policies first number (told ∷ rest) o =
+    IsOutcome net policies first number (told ∷ rest) o
+IsOutcomeAfter false net policies first number told o = IsOutcome net policies first number told o
 
 -- what a line's answer leads to: to an outcome, or to that of the rest
 abbrev pub LeadsTo : Network → List Policy → ℕ → ℕ → Result Got CertFault →
     List (Result Got CertFault) → Next → Type 0
 LeadsTo net policies first number told rest (Line begins) =
     (o : Outcome) → IsOutcome net policies begins (number + 1) rest o →
+    IsOutcome net policies first number (told ∷ rest) o
+LeadsTo net policies first number told rest End =
+    (o : Outcome) → IsOutcomeAfter true net policies first (number + 1) rest o →
     IsOutcome net policies first number (told ∷ rest) o
 LeadsTo net policies first number told rest (Done o) =
     IsOutcome net policies first number (told ∷ rest) o

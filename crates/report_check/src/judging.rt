@@ -1,21 +1,16 @@
-//! The judgement of a report, line by line.
-ghost use Rattle.std.specs.Prelude.{◌≡◌, ◌↔◌, ◌<◌, ◌≤◌, [], List, Result, length, All, IfOk};
-ghost use Rattle.std.specs.Prelude.{IsTrue};
-ghost use Rattle.cnf_types.specs.Words.{lines};
+//! The judgement of one line of a report.
+ghost use Rattle.std.specs.Prelude.{◌≡◌, ◌↔◌, ◌<◌, [], List, Result, All, IfOk, IsTrue};
 ghost use Rattle.net_model.specs.Packets.{subject};
 ghost use Rattle.net_model.specs.Forwarding.{HasEnds};
 ghost use Rattle.net_model.specs.Validity.{IsValid};
-ghost use Rattle.policy_report.specs.Steps.{standing, start, step};
-ghost use Rattle.policy_report.specs.Rereading.{answers};
-ghost use Rattle.report_check.specs.Outcomes.{IsRightAt, IsOutcome, IsReport};
-ghost use Rattle.report_check.specs.Lines.{IsLine, LeadsTo};
+ghost use Rattle.policy_report.specs.Steps.{standing, step};
+ghost use Rattle.report_check.specs.Outcomes.{IsRightAt};
+ghost use Rattle.report_check.specs.Lines.{LeadsTo, MayCome};
 
 use crate::outcome::Outcome;
 use arc_base::{CertKind, Memory};
-use cnf_types::first_line;
 use net_model::{Document, Network, Policy, Verdict};
 use policy_report::{CertFault, CertForm, Got, Reader};
-use std::alloc::Global;
 use witness_check::accepts;
 
 /// Whether the verdict on the policy at this index is right. The cost is that of `accepts`.
@@ -30,11 +25,13 @@ pub fn is_right_at(net: &Network, policies: &[Policy], which: u32, verdict: &Ver
     }
 }
 
-// What comes after a line.
+/// What comes after a line.
 #[derive(Clone, Copy)]
-enum Next {
+pub(crate) enum Next {
     /// The next line, of a block that begins at this line.
     Line(u64),
+    /// Nothing has to: this line is the end.
+    End,
     /// Nothing: this is the outcome.
     Done(Outcome),
 }
@@ -50,23 +47,21 @@ fn no_report(number: u64) -> Next
     }))
 }
 
-// Judges a line, which has this number and belongs to a block that begins at `first`.
-fn judge_line(
+/// Judges a line, which has this number and belongs to a block that begins at `first`.
+pub(crate) fn judge_line(
     net: &Network,
     doc: &Document,
     reader: &mut Reader,
     first: u64,
     number: u64,
     line: &[u8],
-    is_last: bool,
 ) -> Result<Next, Memory>
     requires valid { IsValid net.now }
     requires ends { All (λ policy. HasEnds net.now (subject policy)) doc.now.policies }
     requires number { number < 18446744073709551615 }
-    ensures reader { IfOk result (λ next. IsLine next →
+    ensures reader { IfOk result (λ next. MayCome next →
         standing reader.new ≡ (step net.now doc.now [] (standing reader.old) line.now).0) }
     ensures next { IfOk result (λ next. (rest : List (Result Got CertFault)) →
-        (IsTrue is_last ↔ (rest ≡ [])) →
         LeadsTo net.now doc.now.policies first number
         (step net.now doc.now [] (standing reader.old) line.now).1 rest next) }
 {
@@ -86,13 +81,7 @@ fn judge_line(
                 }))
             }
         }
-        Ok(Got::End) => {
-            if is_last {
-                Next::Done(Outcome::Accepted)
-            } else {
-                Next::Line(first)
-            }
-        }
+        Ok(Got::End) => Next::End,
         Err(fault) => {
             if fault.kind == CertKind::Memory {
                 return Err(Memory);
@@ -101,41 +90,4 @@ fn judge_line(
         }
     };
     Ok(next)
-}
-
-/// Judges a text as a report over the network, for the policies of the document. Reading takes time
-/// linear in the bytes, and for each `closed` or `side` line in the routers. A witness is judged by
-/// going over the network for each of its lines; the `closed` lines of a block are also compared
-/// pair by pair. It takes memory for one block at a time.
-pub fn check_report(
-    alloc: Global,
-    net: &Network,
-    doc: &Document,
-    text: &[u8],
-) -> Result<Outcome, Memory>
-    requires valid { IsValid net.now }
-    requires ends { All (λ policy. HasEnds net.now (subject policy)) doc.now.policies }
-    requires few { length doc.now.policies ≤ 4294967295 }
-    ensures outcome { IfOk result (IsOutcome net.now doc.now.policies 1 1
-        (answers net.now doc.now [] start (lines text.now))) }
-    ensures accepted { IfOk result (λ o. (o ≡ Outcome.Accepted) ↔
-        IsReport net.now doc.now text.now) }
-{
-    let mut reader = Reader::make(alloc);
-    let mut first = 1;
-    let mut number = 1;
-    let mut rest = text;
-    while !rest.is_empty() {
-        let (line, after) = first_line(rest);
-        match judge_line(net, doc, &mut reader, first, number, line, after.is_empty())? {
-            Next::Line(begins) => first = begins,
-            Next::Done(outcome) => return Ok(outcome),
-        }
-        number += 1;
-        rest = after;
-    }
-    Ok(Outcome::Rejected(CertFault {
-        line: number,
-        kind: CertKind::NoEnd,
-    }))
 }

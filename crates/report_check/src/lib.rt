@@ -1,11 +1,16 @@
 //! Judges the text of a report from the network and the text alone. A text is accepted exactly
 //! where it is a report with one block for each policy in order, each with a right verdict; else
-//! the first line that is not of that form or whose block is not right is told.
+//! the first line that is not of that form or whose block is not right is told. A `ReportJudge`
+//! takes the lines one by one; `check_report` has them at hand.
 #![tactic(auto)]
 
+mod checking;
+mod judge;
 mod judging;
 pub mod laws;
 mod outcome;
 
-pub use judging::{check_report, is_right_at};
+pub use checking::check_report;
+pub use judge::ReportJudge;
+pub use judging::is_right_at;
 pub use outcome::Outcome;

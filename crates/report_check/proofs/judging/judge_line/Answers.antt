@@ -10,7 +10,7 @@ use Rattle.report_check.proofs.judging.judge_line.Goals.{then-is_right_at, else-
 use Rattle.report_check.proofs.judging.judge_line.Goals as goal
 
 pub returns-after-is_right_at-clause-next : goal.returns-after-is_right_at-clause-next
-returns-after-is_right_at-clause-next c rest last =
+returns-after-is_right_at-clause-next c rest =
     let told : (step c.args.net.now c.args.doc.now [] (standing c.args.reader.now) c.args.line.now).1 ≡ Ok (Verdict c.in-Ok-Verdict.which c.in-Ok-Verdict.verdict) =
     read_told _ _ _ _ _ c.report_line.ensures.read c.in-Ok-Verdict.is ∙ ap Ok c.in-Ok-Verdict.field-0-is in
     let same : (v : _) → IsRightAt c.args.net.now c.slice.result.now c.in-Ok-Verdict.which v → IsRightAt c.args.net.now c.args.doc.now.policies c.in-Ok-Verdict.which v =
