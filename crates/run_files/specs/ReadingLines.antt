@@ -1,9 +1,13 @@
 -- What the helpers that read files line by line answer.
-use Rattle.std.specs.Prelude.{◌≡◌, ℕ, List, [], Bool, true, false, None, Some, Result, Ok, Err}
+use Rattle.std.specs.Prelude.{◌≡◌, ◌<◌, ◌≤◌, ℕ, List, [], Bool, true, false, Option, None, Some}
+use Rattle.std.specs.Prelude.{Result, Ok, Err, IsSomeAnd, length}
 use Rattle.arc_outside.specs.Files.{Files}
 use Rattle.arc_outside.specs.Lines.{IsFirstLine}
 use Rattle.arc_outside.specs.LinesRead.{left}
+use Rattle.arc_outside.specs.declared.fault.Fault.TheVariants as Fault
 use Rattle.arc_outside.specs.declared.pieces.Pieces.{Pieces}
+use Rattle.arc_outside.specs.declared.reading.ReadAll.{ReadAll}
+use Rattle.arc_outside.specs.declared.reading.ReadAll.TheVariants.{Fault as fault, TooLong}
 use Rattle.run_files.specs.declared.outcome.Stop.{Stop}
 use Rattle.run_files.specs.declared.outcome.Stop.TheVariants.{Refused, Memory, Failed}
 use Rattle.run_files.specs.Answers.{Gives}
@@ -19,6 +23,15 @@ MovesOn files name before after (Ok false) =
 MovesOn files name before after (Err (Refused r)) = read_refusal before.limit files name ≡ Some r
 MovesOn files name before after (Err Memory) = Unit {0}
 MovesOn files name before after (Err Failed) = Unit {0}
+
+-- What reading past a file answers: that it has at most so many bytes; TooLong where it has more;
+-- Missing where the name holds nothing.
+abbrev pub IsReadPast : Option (List ℕ) → ℕ → Result (Unit {0}) ReadAll → Type 0
+IsReadPast file limit (Ok u) = IsSomeAnd file (λ bytes. length bytes ≤ limit)
+IsReadPast file limit (Err TooLong) = IsSomeAnd file (λ bytes. limit < length bytes)
+IsReadPast file limit (Err (fault Fault.Missing)) = file ≡ None
+IsReadPast file limit (Err (fault Fault.Failed)) = Unit {0}
+IsReadPast file limit (Err (fault Fault.Memory)) = Unit {0}
 
 -- that a file is not refused, or its refusal
 abbrev pub IsWithinLimit : ℕ → Files → List ℕ → Result (Unit {0}) Stop → Type 0

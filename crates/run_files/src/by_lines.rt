@@ -1,9 +1,11 @@
 //! Files that are read line by line.
 ghost use Rattle.std.specs.Prelude.{◌≡◌, ◌+◌, ◌-◌, ◌^◌, ◌<◌, ◌≤◌, min, false, IfOk, IfSome, OnOk};
-ghost use Rattle.std.specs.Prelude.{IsTrue};
+ghost use Rattle.std.specs.Prelude.{IsErrOf, IsTrue};
+ghost use Rattle.arc_outside.specs.Causes.{Rose};
 ghost use Rattle.arc_outside.specs.LinesRead.{ahead};
+ghost use Rattle.arc_outside.specs.Reads.{TookMore, TookOn};
 ghost use Rattle.run_files.specs.Answers.{OnlyReads};
-ghost use Rattle.run_files.specs.ReadingLines.{MovesOn, IsWithinLimit};
+ghost use Rattle.run_files.specs.ReadingLines.{IsReadPast, IsWithinLimit, MovesOn};
 
 use crate::outcome::Stop;
 use crate::refusals::refused;
@@ -39,17 +41,55 @@ pub fn next_line<S: Store>(
     }
 }
 
+/// How many bytes one read asks for.
+const PIECE: usize = 65536;
+
+/// Reads a file to its end, if it has at most `limit` bytes, and keeps nothing of it. It takes the
+/// memory of one piece. The first read is at place 0, and each other begins where the one before
+/// ended. It ends for every store, since each turn takes a byte.
+fn read_past<S: Store>(alloc: Global, store: &mut S, name: &Name, limit: u64) -> Result<(), ReadAll>
+    ensures told { IfSome (S.held store.old) (λ files. IsReadPast (files name.now) limit result) }
+    ensures same { S.held store.new ≡ S.held store.old }
+    ensures taken { TookOn (S.taken store.old) (S.taken store.new) }
+    ensures too_long { IsErrOf result ReadAll.TooLong →
+        TookMore limit (S.taken store.old) (S.taken store.new) }
+    ensures failed { IsErrOf result (ReadAll.Fault Fault.Failed) →
+        Rose (S.faults store.old) (S.faults store.new) }
+    ensures missing { IsErrOf result (ReadAll.Fault Fault.Missing) →
+        Rose (S.absences store.old) (S.absences store.new) }
+    ensures faults { S.faults store.old ≤ S.faults store.new }
+    ensures absences { S.absences store.old ≤ S.absences store.new }
+{
+    let mut piece = match Vec::from_elem(alloc, 0u8, PIECE) {
+        Ok(piece) => piece,
+        Err(_) => return Err(ReadAll::Fault(Fault::Memory)),
+    };
+    let mut place = 0;
+    'pieces: loop {
+        let n = match store.read_at(name, place, piece.as_mut_slice()) {
+            Ok(n) => n,
+            Err(fault) => return Err(ReadAll::Fault(fault)),
+        };
+        if n == 0 {
+            return Ok(());
+        }
+        if n as u64 > limit - place {
+            return Err(ReadAll::TooLong);
+        }
+        place += n as u64;
+    }
+}
+
 /// Reads a file to its end and keeps nothing of it, or refuses it.
 pub fn try_file<S: Store>(alloc: Global, store: &mut S, name: &Name, limit: u64) -> Result<(), Stop>
     ensures told { IfSome (S.held store.old) (λ files. IsWithinLimit limit files name.now result) }
     ensures reads { OnlyReads limit S.held S.faults S.absences S.taken store.old store.new result }
 {
-    let mut pieces = Pieces::make(alloc, limit);
-    'lines: loop {
-        match next_line(alloc, &mut pieces, store, name) {
-            Ok(true) => {}
-            Ok(false) => return Ok(()),
-            Err(stop) => return Err(stop),
-        }
+    match read_past(alloc, store, name, limit) {
+        Ok(()) => Ok(()),
+        Err(ReadAll::TooLong) => Err(refused(alloc, name, 0, Kind::TooLong)),
+        Err(ReadAll::Fault(Fault::Missing)) => Err(refused(alloc, name, 0, Kind::Missing)),
+        Err(ReadAll::Fault(Fault::Failed)) => Err(Stop::Failed),
+        Err(ReadAll::Fault(Fault::Memory)) => Err(Stop::Memory),
     }
 }
