@@ -1,5 +1,6 @@
 //! The judgement of a proof text.
-ghost use Rattle.std.specs.Prelude.{◌≡◌, ℕ, ◌↔◌, [], ◌<◌, ◌^◌, length, All, Bool, None, IfOk, IsNone};
+ghost use Rattle.std.specs.Prelude.{◌≡◌, ℕ, ◌↔◌, [], ◌<◌, ◌^◌, length, All, Bool, None, IfOk};
+ghost use Rattle.std.specs.Prelude.{IsNone};
 ghost use Rattle.std.specs.Prelude.{unsigned_abs};
 ghost use Rattle.cnf_types.specs.Words.{lines};
 ghost use Rattle.cnf_types.specs.Formulas.{Satisfies};

@@ -1,6 +1,7 @@
 //! The numbers of a line of a proof log.
 ghost use Rattle.std.specs.Prelude.{◌≡◌, ◌<◌, ◌≤◌, ◌^◌, ◌-◌, ◌||◌, [], ◌∷◌, ℕ, length, ◌++◌, Some};
-ghost use Rattle.std.specs.Prelude.{IsTrue, IsFalse, IfOk, OnOk, IsErrOf, IfNone, IfSome, true, take};
+ghost use Rattle.std.specs.Prelude.{IsTrue, IsFalse, IfOk, OnOk, IsErrOf, IfNone, IfSome, true};
+ghost use Rattle.std.specs.Prelude.{take};
 ghost use Rattle.std.specs.Prelude.{drop, is_none, option_to_list, pos, if◌then◌else◌, List};
 ghost use Rattle.std.specs.List.{list_any, slice_split};
 ghost use Rattle.std.specs.Str.{all_ascii_digits};
