@@ -9,6 +9,7 @@ ghost use Rattle.run_files.specs.ReadingLines.{IsReadPast, IsWithinLimit, MovesO
 
 use crate::outcome::Stop;
 use crate::refusals::refused;
+use arc_base::limits::PIECE_LENGTH;
 use arc_base::{Kind, Name};
 use arc_outside::{Fault, Pieces, ReadAll, Store};
 use std::alloc::Global;
@@ -41,9 +42,6 @@ pub fn next_line<S: Store>(
     }
 }
 
-/// How many bytes one read asks for.
-const PIECE: usize = 65536;
-
 /// Reads a file to its end, if it has at most `limit` bytes, and keeps nothing of it. It takes the
 /// memory of one piece. The first read is at place 0, and each other begins where the one before
 /// ended. It ends for every store, since each turn takes a byte.
@@ -60,7 +58,7 @@ fn read_past<S: Store>(alloc: Global, store: &mut S, name: &Name, limit: u64) ->
     ensures faults { S.faults store.old ≤ S.faults store.new }
     ensures absences { S.absences store.old ≤ S.absences store.new }
 {
-    let mut piece = match Vec::from_elem(alloc, 0u8, PIECE) {
+    let mut piece = match Vec::from_elem(alloc, 0u8, PIECE_LENGTH) {
         Ok(piece) => piece,
         Err(_) => return Err(ReadAll::Fault(Fault::Memory)),
     };
