@@ -9,7 +9,7 @@ use Rattle.net_model.specs.declared.rows.Network.{Network}
 use Rattle.net_model.specs.Validity.{IsValid}
 use Rattle.edit_space.specs.declared.edit_kinds.Edit.{Edit}
 use Rattle.edit_space.proofs.OneEditList.{edit_lists_are_one}
-use Rattle.edit_space.proofs.SomeAfter.{after_is_there}
+use Rattle.edited_networks.proofs.SomeAfter.{after_is_there}
 use Rattle.edit_files.specs.EditFiles.{AreEditLines, chosen_by}
 use Rattle.output_files.specs.Outputs.{clashes, copy_names}
 use Rattle.changed_files.proofs.FewEdits.{few_or_limit}

@@ -14,8 +14,8 @@ use Rattle.edit_space.specs.declared.edit_kinds.Edit.{Edit}
 use Rattle.edit_space.specs.After.{IsAfter}
 use Rattle.edit_space.specs.Determined.{IsCountable}
 use Rattle.edit_space.specs.Prices.{chosen_of}
-use Rattle.edit_space.proofs.OneAfter.{after_is_one}
-use Rattle.edit_space.proofs.SomeNames.{after_is_valid}
+use Rattle.edited_networks.proofs.OneAfter.{after_is_one}
+use Rattle.edited_networks.proofs.SomeNames.{after_is_valid}
 use Rattle.policy_encode.specs.Formulas.{IsRepairFormula}
 use Rattle.price_descent.specs.declared.found.Offer.{Offer}
 use Rattle.proof_log.specs.declared.steps.Step.{Step}

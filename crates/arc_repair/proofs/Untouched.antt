@@ -10,7 +10,7 @@ use Rattle.net_model.specs.declared.verdicts.Verdict.{Verdict}
 use Rattle.edit_space.specs.declared.claims.Claim.TheVariants.{Repaired}
 use Rattle.edit_space.specs.declared.edit_kinds.Edit.{Edit}
 use Rattle.edit_space.specs.After.{IsAfter}
-use Rattle.edit_space.specs.Laws.{NoEditsChangeNothing}
+use Rattle.edit_laws.specs.Laws.{NoEditsChangeNothing}
 use Rattle.edit_space.specs.Prices.{chosen_of, price_of}
 use Rattle.policy_encode.specs.Formulas.{IsRepairFormula}
 use Rattle.arc_repair.specs.Claims.{Shows}

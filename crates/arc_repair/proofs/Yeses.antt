@@ -21,7 +21,7 @@ use Rattle.verdicts.specs.Judged.{CountsMore}
 use Rattle.edit_space.specs.declared.edit_kinds.Edit.{Edit}
 use Rattle.edit_space.specs.After.{IsAfter}
 use Rattle.edit_space.specs.EditLists.{AreEdits, HasFewClasses}
-use Rattle.edit_space.specs.Kept.{ClassesStay}
+use Rattle.edit_laws.specs.Kept.{ClassesStay}
 use Rattle.edit_space.specs.Prices.{chosen_of}
 use Rattle.arc_repair.specs.Claims.{IsRightYes}
 use Rattle.arc_repair.specs.Search.{HasFewClassesEach}

@@ -14,7 +14,8 @@ ghost use Rattle.arc_repair.specs.Repairs.{Mends};
 ghost use Rattle.arc_repair.specs.Search.{HasFewClassesEach, AreYesAfter};
 
 use arc_base::{List, Memory};
-use edit_space::{Edit, after};
+use edit_space::Edit;
+use edited_networks::after;
 use net_laws::verdicts_are_right;
 use net_model::{Document, Network, Policy, Verdict};
 use std::alloc::Global;

@@ -13,7 +13,7 @@ use crate::costs::Costs;
 use arc_base::limits::{CONFLICT_LIMIT, PRICE_LIMIT, VARIABLE_LIMIT};
 use arc_base::{List, Memory};
 use edit_space::Edit;
-use edit_space::laws::networks_after_edits_are_valid;
+use edited_networks::laws::networks_after_edits_are_valid;
 use net_model::{Document, Network};
 use policy_encode::Encoded;
 use policy_encode::laws::{formulas_are_searchable, models_are_repairs, one_model_serves};

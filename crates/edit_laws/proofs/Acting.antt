@@ -30,8 +30,8 @@ use Rattle.edit_space.specs.Changes.{list_classes, list_prefixes, new_classes, n
 use Rattle.edit_space.specs.EditLists.{AreEdits}
 use Rattle.edit_space.specs.Numbered.{is_empty}
 use Rattle.edit_space.specs.Prices.{chosen_of}
-use Rattle.edit_space.proofs.Listed.{chosen_listed, class_listed}
-use Rattle.edit_space.proofs.Turning.{turning_classes, staying_packets, turning_prefixes, staying_prefixes}
+use Rattle.edit_laws.proofs.Listed.{chosen_listed, class_listed}
+use Rattle.edit_laws.proofs.Turning.{turning_classes, staying_packets, turning_prefixes, staying_prefixes}
 use Rattle.edit_laws.specs.Acting.{ActsOnPackets, ActsOnPrefixes, PacketListsActWhereverBound, RouteListsActWhereverBound}
 use Rattle.edit_laws.proofs.Apart.{alike_of}
 use Rattle.edit_laws.proofs.Changed.{route_list_in, in_route_list, route_new_in, packet_list_in, in_packet_list, packet_new_in, new_packets_unbound, new_routes_unbound}

@@ -2,5 +2,12 @@ pub mod Apart
 pub mod NewEntries
 pub mod Changed
 pub mod Told
-pub mod Turns
-pub mod Acting
+mod Turns
+mod Acting
+pub mod Turning
+pub mod NoEdits
+pub mod Listed
+pub mod SameHosts
+mod KeptEntries
+mod SameServices
+pub mod SameClasses

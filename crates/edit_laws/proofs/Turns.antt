@@ -1,7 +1,5 @@
--- What new lists answer, which edits turn what, and how new lists are named.
-use Rattle.edit_space.proofs.NamedFacts.{name_is_new, one_list}
-use Rattle.edit_space.proofs.SomeNames.{names_made, named_made}
-use Rattle.edit_laws.specs.Turned.{NewClassesAreDenied, OtherPacketsArePermitted, NewPrefixesAreDenied, OtherPrefixesArePermitted, SessionsTurnByTheirEdit, ListsGetTheirEntries, NewNamesAreNew, NewNamesDiffer}
+-- What new lists answer, and which edits turn what.
+use Rattle.edit_laws.specs.Turned.{NewClassesAreDenied, OtherPacketsArePermitted, NewPrefixesAreDenied, OtherPrefixesArePermitted, SessionsTurnByTheirEdit, ListsGetTheirEntries}
 use Rattle.edit_laws.proofs.Changed.{route_list_in, in_route_list, route_new_in, in_route_new, packet_list_in, in_packet_list, packet_new_in, in_packet_new, session_in, in_session}
 use Rattle.edit_laws.proofs.NewEntries.{new_permits, new_denies, new_takes, new_refuses}
 
@@ -27,13 +25,3 @@ lists_get_entries chosen = record {
   packet_lists = λ list class. (packet_list_in chosen list class, in_packet_list chosen list class);
   new_packets = λ face class. (packet_new_in chosen face class, in_packet_new chosen face class);
 }
-
-pub new_names_are_new : NewNamesAreNew
-new_names_are_new net valid countable chosen router list name new =
-    let made = named_made net valid countable chosen in
-    name_is_new net valid chosen (names_made net valid countable chosen) made.0 made.1.new_names made.1.are_named router list name made.1.few new
-
-pub new_names_differ : NewNamesDiffer
-new_names_differ net valid countable chosen router one other name this that =
-    let made = named_made net valid countable chosen in
-    one_list net valid chosen (names_made net valid countable chosen) made.0 made.1.new_names made.1.are_named router one other name made.1.few this that

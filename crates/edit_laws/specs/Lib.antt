@@ -1,2 +1,4 @@
 pub mod Turned
 pub mod Acting
+pub mod Laws
+pub mod Kept

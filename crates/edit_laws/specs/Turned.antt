@@ -1,24 +1,18 @@
--- Laws of single edits: which answers a new list gives, which edits turn a session or an entry of a
--- list, and how new lists are named.
-use Rattle.std.specs.Prelude.{◌≡◌, ◌↔◌, ℕ, true, false, IsTrue, List, Contains}
+-- Laws of single edits: which answers a new list gives, and which edits turn a session or an entry
+-- of a list.
+use Rattle.std.specs.Prelude.{◌≡◌, ◌↔◌, true, false, IsTrue, List, Contains}
 use Rattle.arc_base.specs.declared.place.Face.{Face}
 use Rattle.arc_base.specs.declared.place.ListId.{ListId}
 use Rattle.arc_base.specs.declared.prefix.Prefix.{Prefix}
 use Rattle.net_model.specs.declared.lists.Packet.{Packet}
 use Rattle.net_model.specs.declared.policies.Class.{Class}
-use Rattle.net_model.specs.declared.rows.Network.{Network}
 use Rattle.net_model.specs.Lists.{permits, route_permits}
 use Rattle.net_model.specs.Packets.{IsOf}
-use Rattle.net_model.specs.Validity.{IsValid}
-use Rattle.arc_base.specs.NameForms.{IsName}
 use Rattle.edit_space.specs.declared.edit_kinds.Edit.{Edit}
 use Rattle.edit_space.specs.declared.edit_kinds.Edit.TheVariants as edits
-use Rattle.edit_space.specs.declared.new_lists.NewList.{NewList}
 use Rattle.edit_space.specs.After.{new_packet_entries, new_route_entries}
 use Rattle.edit_space.specs.Changes.{turns_session, list_prefixes, new_prefixes, list_classes}
 use Rattle.edit_space.specs.Changes.{new_classes}
-use Rattle.edit_space.specs.Determined.{IsCountable}
-use Rattle.edit_space.specs.NewLists.{names_of, IsNewList}
 
 -- a new packet list denies the packets of its classes
 abbrev pub NewClassesAreDenied : Type 0
@@ -64,17 +58,3 @@ pub record EntriesAreOfTheirEdits (chosen : List Edit) : Type 0 where
 
 abbrev pub ListsGetTheirEntries : Type 0
 ListsGetTheirEntries = (chosen : List Edit) → EntriesAreOfTheirEdits chosen
-
--- the name of a new list is none that the router's file gives or binds, and well formed
-abbrev pub NewNamesAreNew : Type 0
-NewNamesAreNew =
-    (net : Network) → IsValid net → IsCountable net →
-    (chosen : List Edit) (router : ℕ) (list : NewList) (name : List ℕ) →
-    IsNewList net chosen router list name → (¬ Contains (names_of net router) name) × IsName name
-
--- and no two new lists of a router have one name
-abbrev pub NewNamesDiffer : Type 0
-NewNamesDiffer =
-    (net : Network) → IsValid net → IsCountable net →
-    (chosen : List Edit) (router : ℕ) (one other : NewList) (name : List ℕ) →
-    IsNewList net chosen router one name → IsNewList net chosen router other name → one ≡ other

@@ -3,7 +3,6 @@ ghost use Rattle.edit_laws.specs.Acting.{PacketListsActWhereverBound, RouteLists
 ghost use Rattle.edit_laws.specs.Turned.{NewClassesAreDenied, OtherPacketsArePermitted};
 ghost use Rattle.edit_laws.specs.Turned.{NewPrefixesAreDenied, OtherPrefixesArePermitted};
 ghost use Rattle.edit_laws.specs.Turned.{SessionsTurnByTheirEdit, ListsGetTheirEntries};
-ghost use Rattle.edit_laws.specs.Turned.{NewNamesAreNew, NewNamesDiffer};
 
 /// A new list denies what its edits name and permits all else. A session is turned, and a list gets
 /// an entry, exactly where the edit of it is chosen.
@@ -14,13 +13,6 @@ pub fn edits_turn_their_own()
     ensures other_prefixes { OtherPrefixesArePermitted }
     ensures sessions { SessionsTurnByTheirEdit }
     ensures entries { ListsGetTheirEntries }
-{}
-
-/// A new list has a name that its router's file does not give or bind, and no other new list of the
-/// router has it.
-pub fn new_names_clash_with_none()
-    ensures new { NewNamesAreNew }
-    ensures differ { NewNamesDiffer }
 {}
 
 /// A list that edits put entries into acts with them wherever it is bound: at each interface,

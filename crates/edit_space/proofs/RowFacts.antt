@@ -1,10 +1,30 @@
 -- Lists that go together row by row.
-use Rattle.std.proofs.Common.{◌≡◌, ℕ, ◌+◌, ◌<◌, ◌==◌, cond, Some, List, [], ◌∷◌, length, get_or, map, refl, sym, ◌∙◌, ap, subst, arith}
+use Rattle.std.proofs.Common.{◌≡◌, ℕ, ◌+◌, ◌<◌, ◌==◌, cond, Some, List, [], ◌∷◌, length, get_or, map, refl, sym, ◌∙◌, ap, subst, arith, ◌≢◌, inl, inr}
 use Rattle.std.specs.Prelude.{All, AllPairs, slice_get, count_by}
 use Rattle.std.proofs.lemmas.List.{get_or-map, length-map, same_lists}
 use Rattle.std.proofs.lemmas.List.Sums.{sum_by-cons}
-use Rattle.std.proofs.lemmas.Option.{slice_get_within, slice_get-get_or, get_or_from_slice_get}
+use Rattle.std.proofs.lemmas.Option.{slice_get_within, slice_get-get_or, get_or_from_slice_get, same_Some}
 use Rattle.edit_space.specs.Numbered.{EachRow}
+use Rattle.std.proofs.lemmas.Bool.{cases_lt}
+
+-- an item has one place where no two are the same
+pub one_place : {X : Type 0} (xs : List X) (i j : ℕ) (x : X) → AllPairs (λ x y. x ≢ y) xs → slice_get xs i ≡ Some x → slice_get xs j ≡ Some x → i ≡ j
+one_place xs i j x apart at_i at_j =
+    let in_i : i < length xs = slice_get_within xs i x at_i in
+    let in_j : j < length xs = slice_get_within xs j x at_j in
+    let read_i : get_or xs i x ≡ x = get_or_from_slice_get xs i x x at_i in
+    let read_j : get_or xs j x ≡ x = get_or_from_slice_get xs j x x at_j in
+    elim (cases_lt i j) [
+      | inl h ↦ absurd (apart i j x h in_j (read_i ∙ sym read_j))
+      | inr h ↦ elim (cases_lt j i) [
+        | inl g ↦ absurd (apart j i x g in_i (read_j ∙ sym read_i))
+        | inr g ↦ omega (arith, h, g)
+      ]
+    ]
+
+-- one item at a place
+pub one_item : {X : Type 0} (xs : List X) (i : ℕ) (x y : X) → slice_get xs i ≡ Some x → slice_get xs i ≡ Some y → x ≡ y
+one_item xs i x y at_x at_y = same_Some x y (sym at_x ∙ at_y)
 
 pub item_of : {X : Type 0} (xs : List X) (k : ℕ) → k < length xs → (x : X) × (slice_get xs k ≡ Some x)
 item_of [] k l = absurd (omega (arith, l))

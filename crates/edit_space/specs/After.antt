@@ -21,7 +21,7 @@ use Rattle.net_model.specs.Lists.{permits, route_permits}
 use Rattle.net_model.specs.Packets.{first_packet}
 use Rattle.net_model.specs.Services.{whole_service}
 use Rattle.edit_space.specs.declared.edit_kinds.Edit.{Edit}
-use Rattle.edit_space.specs.declared.new_lists.NewList.TheVariants.{Route, Packet}
+use Rattle.edit_space.specs.declared.list_kinds.NewList.TheVariants.{Route, Packet}
 use Rattle.edit_space.specs.Numbered.{is_empty, EachRow}
 use Rattle.edit_space.specs.Changes.{turns_session, list_prefixes, new_prefixes, list_classes}
 use Rattle.edit_space.specs.Changes.{new_classes}

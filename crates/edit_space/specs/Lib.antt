@@ -8,7 +8,4 @@ pub mod NewLists
 pub mod Ordered
 pub mod After
 pub mod Prices
-pub mod Laws
-pub mod Kept
 pub mod Determined
-pub mod Working

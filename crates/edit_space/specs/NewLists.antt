@@ -8,8 +8,8 @@ use Rattle.net_model.specs.declared.rows.FaceRow.{FaceRow}
 use Rattle.net_model.specs.declared.rows.SessionRow.{SessionRow}
 use Rattle.net_model.specs.declared.rows.Network.{Network}
 use Rattle.edit_space.specs.declared.edit_kinds.Edit.{Edit}
-use Rattle.edit_space.specs.declared.new_lists.NewList.{NewList}
-use Rattle.edit_space.specs.declared.new_lists.NewList.TheVariants.{Route, Packet}
+use Rattle.edit_space.specs.declared.list_kinds.NewList.{NewList}
+use Rattle.edit_space.specs.declared.list_kinds.NewList.TheVariants.{Route, Packet}
 use Rattle.edit_space.specs.Numbered.{placed, of_number, is_empty}
 use Rattle.edit_space.specs.Changes.{new_prefixes, new_classes}
 

@@ -1,34 +1,25 @@
 //! The modelled edits of a network: sessions that are turned, and entries that are put at the front
 //! of lists that stand or into new ones. It lists the edits of a network for a document in their
-//! one order, tells what a set of them costs, and makes the network after them.
+//! one order, and tells what a set of them costs. What the network after them is, is defined here;
+//! `edited_networks` makes it.
 #![tactic(auto)]
 
-mod changes;
 mod claims;
 mod countable;
 mod destinations;
 mod edit_kinds;
-mod entries;
 pub mod laws;
+mod list_kinds;
 mod listing;
-mod names;
-mod network_after;
-mod new_lists;
 mod numbered;
-mod order;
-mod packet_lists;
 mod prices;
-mod route_lists;
-mod rows;
 mod sites;
 mod writable;
 
-pub use changes::Changes;
 pub use claims::Claim;
 pub use edit_kinds::{Edit, EditFault};
-pub use entries::{any, opposite_packet_entry, opposite_route_entry};
+pub use list_kinds::NewList;
 pub use listing::edits;
-pub use network_after::after;
-pub use new_lists::{NewList, lists_made, new_names};
-pub use numbered::{Group, add, empty_groups, grouped, is_filled, things_at};
+pub use numbered::{Group, add, append, empty_groups, grouped, is_filled, marked, things_at};
 pub use prices::{chosen_edits, price, weight};
+pub use sites::Site;

@@ -17,7 +17,7 @@ use Rattle.edit_space.specs.Numbered.{if_number, of_number, Tells}
 use Rattle.edit_space.specs.Prices.{if_chosen, chosen_of}
 use Rattle.edit_space.proofs.Counts.{few_picked}
 use Rattle.edit_space.specs.NewLists.{new_lists, new_lists_of, new_names_of}
-use Rattle.edit_space.specs.Working.{AreNewNames}
+use Rattle.edited_networks.specs.Working.{AreNewNames}
 use Rattle.edit_space.proofs.Numbers.{things_told, told_at}
 use Rattle.edit_space.proofs.PriceSteps.{pairs_length}
 use Rattle.line_patcher.specs.declared.additions.NewNumber.{NewNumber}

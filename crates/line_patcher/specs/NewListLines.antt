@@ -14,8 +14,8 @@ use Rattle.ios_words.specs.Printed.{entry_words, neighbor_list_words, group_word
 use Rattle.net_build.specs.declared.built.Places.{Places}
 use Rattle.net_build.specs.declared.built.FacePlace.{FacePlace}
 use Rattle.edit_space.specs.declared.edit_kinds.Edit.{Edit}
-use Rattle.edit_space.specs.declared.new_lists.NewList.{NewList}
-use Rattle.edit_space.specs.declared.new_lists.NewList.TheVariants.{Route, Packet}
+use Rattle.edit_space.specs.declared.list_kinds.NewList.{NewList}
+use Rattle.edit_space.specs.declared.list_kinds.NewList.TheVariants.{Route, Packet}
 use Rattle.edit_space.specs.Changes.{new_prefixes, new_classes}
 use Rattle.edit_space.specs.NewLists.{named_lists}
 

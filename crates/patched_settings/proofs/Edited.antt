@@ -27,7 +27,7 @@ use Rattle.net_rows.specs.Sites.{Site, sites, sites_of, ends_of}
 use Rattle.edit_space.specs.Determined.{IsCountable}
 use Rattle.edit_space.specs.declared.edit_kinds.Edit.{Edit}
 use Rattle.edit_space.specs.declared.edit_kinds.Edit.TheVariants as edits
-use Rattle.edit_space.specs.declared.new_lists.NewList.{NewList}
+use Rattle.edit_space.specs.declared.list_kinds.NewList.{NewList}
 use Rattle.edit_space.specs.Changes.{new_packet_change, new_classes, new_route_change, new_prefixes}
 use Rattle.edit_space.specs.NewLists.{names_of, IsNewList}
 use Rattle.edit_space.specs.Numbered.{is_empty, if_number}

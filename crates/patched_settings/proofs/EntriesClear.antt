@@ -21,8 +21,8 @@ use Rattle.net_rows.specs.Limits.{RefusesEntries}
 use Rattle.net_rows.specs.Lists.{packet_entries, route_entries}
 use Rattle.net_rows.specs.Reasons.{IsClear}
 use Rattle.edit_space.specs.declared.edit_kinds.Edit.{Edit}
-use Rattle.edit_space.specs.declared.new_lists.NewList.{NewList}
-use Rattle.edit_space.specs.declared.new_lists.NewList.TheVariants as lists
+use Rattle.edit_space.specs.declared.list_kinds.NewList.{NewList}
+use Rattle.edit_space.specs.declared.list_kinds.NewList.TheVariants as lists
 use Rattle.edit_space.specs.Changes.{new_route_change, new_packet_change, new_prefixes, new_classes}
 use Rattle.edit_space.specs.Numbered.{if_number}
 use Rattle.edit_space.specs.After.{exact_entry, class_entry, opposite_route_entry, opposite_packet_entry, new_route_entries, new_packet_entries, any, every_packet}

@@ -25,12 +25,12 @@ use Rattle.net_rows.specs.Lists.{IsPlaceAmong, IsListName, BindsPacketList, pack
 use Rattle.net_rows.specs.Rows.{IsSubnet, TellsHost, IsFaceRow, host_address_of}
 use Rattle.net_rows.proofs.SiteFacts.{IsSiteOf, site_of}
 use Rattle.edit_space.specs.declared.edit_kinds.Edit.{Edit}
-use Rattle.edit_space.specs.declared.new_lists.NewList.TheVariants as lists
+use Rattle.edit_space.specs.declared.list_kinds.NewList.TheVariants as lists
 use Rattle.edit_space.specs.Changes.{new_classes}
 use Rattle.edit_space.specs.NewLists.{IsNewList}
 use Rattle.edit_space.specs.Numbered.{is_empty}
 use Rattle.edit_space.specs.After.{IsAfter, IsFaceAfter, StaysBound, PacketListMoves, IsNewPacketList, edited_packet_list}
-use Rattle.edit_space.proofs.NamedFacts.{packet_router}
+use Rattle.edited_networks.proofs.NamedFacts.{packet_router}
 use Rattle.edit_space.proofs.RowFacts.{row_was}
 use Rattle.patched_settings.specs.Additions.{new_inbound}
 use Rattle.patched_settings.specs.SettingsAfter.{AreSettingsAfter}

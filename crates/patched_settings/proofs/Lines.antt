@@ -23,8 +23,8 @@ use Rattle.net_rows.specs.Settings.{process_of, lines_of, last_said}
 use Rattle.net_rows.specs.Sites.{host_name}
 use Rattle.edit_space.specs.declared.edit_kinds.Edit.{Edit}
 use Rattle.edit_space.specs.declared.edit_kinds.Edit.TheVariants as edits
-use Rattle.edit_space.specs.declared.new_lists.NewList.{NewList}
-use Rattle.edit_space.specs.declared.new_lists.NewList.TheVariants as lists
+use Rattle.edit_space.specs.declared.list_kinds.NewList.{NewList}
+use Rattle.edit_space.specs.declared.list_kinds.NewList.TheVariants as lists
 use Rattle.edit_space.proofs.NewListFacts.{picked_from}
 use Rattle.patched_settings.specs.Plain.{said}
 use Rattle.patched_settings.specs.Additions.{own_face, session_line, turning_line, filter_line, process_lines}

@@ -13,16 +13,16 @@ use Rattle.net_model.specs.Validity.{IsValid}
 use Rattle.net_model.proofs.Readings.{item_at_place}
 use Rattle.edit_space.specs.Determined.{IsCountable}
 use Rattle.edit_space.specs.declared.edit_kinds.Edit.{Edit}
-use Rattle.edit_space.specs.declared.new_lists.NewList.{NewList}
+use Rattle.edit_space.specs.declared.list_kinds.NewList.{NewList}
 use Rattle.edit_space.specs.NewLists.{new_route_list, new_packet_list, new_lists, new_lists_of, names_of, new_names_of, IsNewList, named_lists}
 use Rattle.edit_space.specs.Numbered.{placed, if_number, is_empty}
 use Rattle.edit_space.proofs.Counts.{few_picked, few_placed}
-use Rattle.edit_space.proofs.FreeNames.{free_names_found, free_name_is_new, free_names_apart}
-use Rattle.edit_space.proofs.NamedFacts.{one_place, one_item}
+use Rattle.edited_networks.proofs.FreeNames.{free_names_found, free_name_is_new, free_names_apart}
+use Rattle.edit_space.proofs.RowFacts.{one_place, one_item}
 use Rattle.edit_space.proofs.NewListFacts.{picks, pairs_picked, new_lists_apart, placed_there}
 use Rattle.net_model.specs.declared.rows.FaceRow.{FaceRow}
 use Rattle.net_model.specs.declared.rows.SessionRow.{SessionRow}
-use Rattle.edit_space.specs.declared.new_lists.NewList.TheVariants.{Route, Packet}
+use Rattle.edit_space.specs.declared.list_kinds.NewList.TheVariants.{Route, Packet}
 use Rattle.edit_space.specs.Changes.{new_prefixes, new_classes}
 
 -- what stands in a zip stands at one place in both

@@ -19,11 +19,11 @@ use Rattle.net_rows.specs.Lists.{BindsPacketList, IsBoundPacketList, is_of_kind,
 use Rattle.net_rows.specs.Settings.{value}
 use Rattle.net_rows.proofs.SiteFacts.{site_of}
 use Rattle.edit_space.specs.declared.edit_kinds.Edit.{Edit}
-use Rattle.edit_space.specs.declared.new_lists.NewList.{NewList}
-use Rattle.edit_space.specs.declared.new_lists.NewList.TheVariants as lists
+use Rattle.edit_space.specs.declared.list_kinds.NewList.{NewList}
+use Rattle.edit_space.specs.declared.list_kinds.NewList.TheVariants as lists
 use Rattle.edit_space.specs.NewLists.{IsNewList}
 use Rattle.edit_space.specs.After.{edited_packet_list, IsNewPacketList, IsPacketListAfter}
-use Rattle.edit_space.proofs.NamedFacts.{of_packet_face}
+use Rattle.edited_networks.proofs.NamedFacts.{of_packet_face}
 use Rattle.patched_settings.specs.Additions.{new_inbound}
 use Rattle.patched_settings.specs.Plain.{plain_list}
 use Rattle.patched_settings.specs.SettingsAfter.{list_with, new_list_text, AreSettingsAfter}

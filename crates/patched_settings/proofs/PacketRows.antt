@@ -20,7 +20,7 @@ use Rattle.ios_words.specs.declared.commands.Command.{Command}
 use Rattle.net_rows.specs.Lists.{is_packet_kind, is_extended_kind, has_entries, if_defined, packet_entry, packet_entries, packet_row}
 use Rattle.edit_space.specs.declared.edit_kinds.Edit.{Edit}
 use Rattle.edit_space.specs.declared.edit_kinds.Edit.TheVariants as edits
-use Rattle.edit_space.specs.declared.new_lists.NewList.TheVariants as lists
+use Rattle.edit_space.specs.declared.list_kinds.NewList.TheVariants as lists
 use Rattle.edit_space.specs.Changes.{packet_list_change, list_classes, new_classes}
 use Rattle.edit_space.specs.Numbered.{if_number}
 use Rattle.edit_space.specs.After.{opposite_packet_entry, with_classes, new_packet_entries, edited_packet_list, class_entry, every_packet}

@@ -30,9 +30,9 @@ use Rattle.net_rows.specs.Sites.{FullName, sites, full_names, full_name, host_na
 use Rattle.net_rows.proofs.SiteFacts.{site_of, name_at_site}
 use Rattle.edit_space.specs.declared.edit_kinds.Edit.{Edit}
 use Rattle.edit_space.specs.declared.edit_kinds.Edit.TheVariants as edits
-use Rattle.edit_space.specs.declared.new_lists.NewList.{NewList}
+use Rattle.edit_space.specs.declared.list_kinds.NewList.{NewList}
 use Rattle.edit_space.specs.NewLists.{IsNewList, named_lists}
-use Rattle.edit_space.proofs.NamedFacts.{of_route_face}
+use Rattle.edited_networks.proofs.NamedFacts.{of_route_face}
 use Rattle.edit_space.proofs.NewListFacts.{picked_from}
 use Rattle.patched_settings.specs.Additions.{own_face, session_line, turning_line, filter_line}
 use Rattle.patched_settings.specs.SettingsAfter.{AreSettingsAfter}

@@ -18,11 +18,11 @@ use Rattle.net_rows.specs.Lists.{IsBoundRouteList, is_of_kind, is_packet_kind, l
 use Rattle.net_rows.specs.Settings.{lines_of}
 use Rattle.net_rows.proofs.SiteFacts.{site_of}
 use Rattle.edit_space.specs.declared.edit_kinds.Edit.{Edit}
-use Rattle.edit_space.specs.declared.new_lists.NewList.{NewList}
-use Rattle.edit_space.specs.declared.new_lists.NewList.TheVariants as lists
+use Rattle.edit_space.specs.declared.list_kinds.NewList.{NewList}
+use Rattle.edit_space.specs.declared.list_kinds.NewList.TheVariants as lists
 use Rattle.edit_space.specs.NewLists.{IsNewList}
 use Rattle.edit_space.specs.After.{edited_route_list, IsNewRouteList, IsRouteListAfter}
-use Rattle.edit_space.proofs.NamedFacts.{of_route_face}
+use Rattle.edited_networks.proofs.NamedFacts.{of_route_face}
 use Rattle.patched_settings.specs.Plain.{plain_list}
 use Rattle.patched_settings.specs.SettingsAfter.{list_with, new_list_text, AreSettingsAfter}
 use Rattle.patched_settings.proofs.Edited.{AreEdited, file_now, file_was, face_row, face_site, not_new, session_site, route_edit_there}

@@ -19,7 +19,7 @@ use Rattle.ios_words.specs.declared.commands.Command.{Command}
 use Rattle.net_rows.specs.Lists.{is_packet_kind, has_entries, if_defined, route_entry, route_entries, route_row}
 use Rattle.edit_space.specs.declared.edit_kinds.Edit.{Edit}
 use Rattle.edit_space.specs.declared.edit_kinds.Edit.TheVariants as edits
-use Rattle.edit_space.specs.declared.new_lists.NewList.TheVariants as lists
+use Rattle.edit_space.specs.declared.list_kinds.NewList.TheVariants as lists
 use Rattle.edit_space.specs.Changes.{route_list_change, list_prefixes, new_prefixes}
 use Rattle.edit_space.specs.Numbered.{if_number}
 use Rattle.edit_space.specs.After.{opposite_route_entry, with_prefixes, new_route_entries, edited_route_list, exact_entry, any}

@@ -19,7 +19,7 @@ use Rattle.net_rows.specs.Lists.{IsListName}
 use Rattle.net_rows.specs.Rows.{asn_of, IsRouterRow}
 use Rattle.net_rows.specs.Settings.{process_of}
 use Rattle.edit_space.specs.declared.edit_kinds.Edit.{Edit}
-use Rattle.edit_space.specs.declared.new_lists.NewList.{NewList}
+use Rattle.edit_space.specs.declared.list_kinds.NewList.{NewList}
 use Rattle.edit_space.specs.After.{IsAfter, IsRouterAfter}
 use Rattle.edit_space.specs.NewLists.{new_names_of, IsNewList, named_lists}
 use Rattle.edit_space.proofs.RowFacts.{row_was}

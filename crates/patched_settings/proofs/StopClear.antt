@@ -48,7 +48,7 @@ use Rattle.edit_space.specs.Numbered.{is_empty, if_number}
 use Rattle.edit_space.specs.After.{IsAfter, IsFaceAfter, IsSessionAfter, IsRouterAfter, StaysBound, PacketListMoves, IsNewPacketList, edited_packet_list, with_classes, class_entry, new_packet_entries, any, every_packet}
 use Rattle.edit_space.proofs.NewListFacts.{picked_from}
 use Rattle.edit_space.proofs.RowFacts.{row_was}
-use Rattle.edit_space.proofs.Turning.{staying_packets}
+use Rattle.edit_laws.proofs.Turning.{staying_packets}
 use Rattle.ios_config.specs.declared.settings.Given.{Given}
 use Rattle.patched_settings.proofs.Edited.{AreEdited, face_site, packet_edit_of}
 use Rattle.patched_settings.proofs.NewNames.{numbered}

@@ -22,7 +22,7 @@ use Rattle.ios_config.specs.declared.settings.ListForm.TheVariants as forms
 use Rattle.net_rows.specs.Lists.{is_of_kind, is_packet_kind, list_named, packet_entry, route_entry, packet_entries, route_entries}
 use Rattle.edit_space.specs.Determined.{IsCountable}
 use Rattle.edit_space.specs.declared.edit_kinds.Edit.{Edit}
-use Rattle.edit_space.specs.declared.new_lists.NewList.{NewList}
+use Rattle.edit_space.specs.declared.list_kinds.NewList.{NewList}
 use Rattle.edit_space.specs.NewLists.{IsNewList, named_lists}
 use Rattle.patched_settings.specs.Plain.{said, without_number, plain_entry, plain_list}
 use Rattle.patched_settings.specs.Additions.{new_list_kind, route_line, packet_line}

@@ -8,7 +8,7 @@ use Rattle.ios_config.specs.declared.settings.ListText.{ListText}
 use Rattle.ios_config.specs.declared.settings.ProcessText.{ProcessText}
 use Rattle.ios_config.specs.Bare.{bare_face, bare_process, bare_setting}
 use Rattle.edit_space.specs.declared.edit_kinds.Edit.{Edit}
-use Rattle.edit_space.specs.declared.new_lists.NewList.{NewList}
+use Rattle.edit_space.specs.declared.list_kinds.NewList.{NewList}
 use Rattle.edit_space.specs.Numbered.{EachRow}
 use Rattle.patched_settings.specs.Plain.{said, plain_list}
 use Rattle.patched_settings.specs.Additions.{process_lines, new_inbound, front_lines}

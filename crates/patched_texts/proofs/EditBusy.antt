@@ -22,8 +22,8 @@ use Rattle.net_build.specs.declared.built.ListPlace.{ListPlace}
 use Rattle.net_build.specs.declared.built.Places.{Places}
 use Rattle.net_build.specs.Places.{list_place}
 use Rattle.edit_space.specs.declared.edit_kinds.Edit.{Edit}
-use Rattle.edit_space.specs.declared.new_lists.NewList.{NewList}
-use Rattle.edit_space.specs.declared.new_lists.NewList.TheVariants.{Route, Packet}
+use Rattle.edit_space.specs.declared.list_kinds.NewList.{NewList}
+use Rattle.edit_space.specs.declared.list_kinds.NewList.TheVariants.{Route, Packet}
 use Rattle.edit_space.specs.Changes.{list_prefixes, list_classes}
 use Rattle.edit_space.proofs.NewListFacts.{picked_from}
 use Rattle.line_patcher.specs.declared.additions.NewNumber.{NewNumber}

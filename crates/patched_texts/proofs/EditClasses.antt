@@ -11,7 +11,7 @@ use Rattle.edit_space.specs.EditLists.{AreEdits}
 use Rattle.edit_space.specs.Numbered.{of_number}
 use Rattle.edit_space.specs.Prices.{chosen_of}
 use Rattle.edit_space.specs.Writable.{is_writable}
-use Rattle.edit_space.proofs.Listed.{chosen_classes_are_writable}
+use Rattle.edit_laws.proofs.Listed.{chosen_classes_are_writable}
 use Rattle.patched_settings.proofs.Pairs.{picks_nothing}
 use Rattle.patched_texts.specs.Sessions.{AreSessions}
 

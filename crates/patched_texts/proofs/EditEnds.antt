@@ -23,8 +23,8 @@ use Rattle.net_build.specs.declared.built.FacePlace.{FacePlace}
 use Rattle.net_build.specs.declared.built.Places.{Places}
 use Rattle.net_rows.specs.Routers.{protocol_of_kind}
 use Rattle.edit_space.specs.declared.edit_kinds.Edit.{Edit}
-use Rattle.edit_space.specs.declared.new_lists.NewList.{NewList}
-use Rattle.edit_space.specs.declared.new_lists.NewList.TheVariants.{Route, Packet}
+use Rattle.edit_space.specs.declared.list_kinds.NewList.{NewList}
+use Rattle.edit_space.specs.declared.list_kinds.NewList.TheVariants.{Route, Packet}
 use Rattle.edit_space.specs.Numbered.{of_number}
 use Rattle.edit_space.proofs.NewListFacts.{picked_from}
 use Rattle.line_patcher.specs.NewListLines.{face_places, filter_lines}

@@ -31,8 +31,8 @@ use Rattle.net_build.specs.declared.built.Places.{Places}
 use Rattle.net_rows.specs.Lists.{packet_text}
 use Rattle.net_build.specs.Places.{list_place}
 use Rattle.edit_space.specs.declared.edit_kinds.Edit.{Edit}
-use Rattle.edit_space.specs.declared.new_lists.NewList.{NewList}
-use Rattle.edit_space.specs.declared.new_lists.NewList.TheVariants.{Route, Packet}
+use Rattle.edit_space.specs.declared.list_kinds.NewList.{NewList}
+use Rattle.edit_space.specs.declared.list_kinds.NewList.TheVariants.{Route, Packet}
 use Rattle.edit_space.specs.After.{class_entry, every_packet, opposite_packet_entry}
 use Rattle.edit_space.specs.Writable.{is_writable}
 use Rattle.edit_space.specs.Changes.{list_prefixes, list_classes, new_prefixes, new_classes}

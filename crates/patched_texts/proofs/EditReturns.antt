@@ -26,7 +26,7 @@ use Rattle.ios_config.specs.LineLists.{AreCommandsIn}
 use Rattle.ios_config.specs.ProcessLines.{HasProcess}
 use Rattle.net_build.specs.declared.built.Places.{Places}
 use Rattle.edit_space.specs.declared.edit_kinds.Edit.{Edit}
-use Rattle.edit_space.specs.declared.new_lists.NewList.{NewList}
+use Rattle.edit_space.specs.declared.list_kinds.NewList.{NewList}
 use Rattle.edit_space.specs.Numbered.{of_number}
 use Rattle.edit_space.proofs.NewListFacts.{picked_from}
 use Rattle.line_patcher.specs.Additions.{all_at, lines_after}

@@ -18,7 +18,7 @@ use Rattle.ios_config.specs.Bare.{bare}
 use Rattle.ios_config.specs.ProcessLines.{AreLinesIn, IsQuiet}
 use Rattle.ios_config.specs.Texts.{face_of, process_of}
 use Rattle.edit_space.specs.declared.edit_kinds.Edit.{Edit}
-use Rattle.edit_space.specs.declared.new_lists.NewList.{NewList}
+use Rattle.edit_space.specs.declared.list_kinds.NewList.{NewList}
 use Rattle.line_patcher.specs.NewListLines.{filter_lines}
 use Rattle.line_patcher.specs.SessionLines.{session_lines}
 use Rattle.patched_settings.specs.Additions.{process_lines, new_inbound}

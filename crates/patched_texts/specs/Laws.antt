@@ -21,7 +21,7 @@ use Rattle.line_patcher.specs.declared.additions.NewNumber.{NewNumber}
 use Rattle.line_patcher.specs.Patches.{ArePatched, patched_text, line_end}
 use Rattle.edited_lines.specs.Grown.{HasGrownGroups}
 use Rattle.edited_lines.specs.Sites.{Site, new_lines, AreChunks, chunk_lines}
-use Rattle.edit_space.specs.declared.new_lists.NewList.{NewList}
+use Rattle.edit_space.specs.declared.list_kinds.NewList.{NewList}
 use Rattle.line_patcher.specs.NewListLines.{new_list_lines}
 use Rattle.patched_texts.specs.NewListSites.{IsNewName, AreClear, AreDifferent, list_chunks}
 use Rattle.patched_texts.specs.NewListSites.{SetNewLists}

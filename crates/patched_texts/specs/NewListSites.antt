@@ -14,8 +14,8 @@ use Rattle.net_rows.specs.Lists.{packet_text}
 use Rattle.edit_space.specs.After.{class_entry, every_packet}
 use Rattle.edit_space.specs.Changes.{new_prefixes, new_classes}
 use Rattle.edit_space.specs.declared.edit_kinds.Edit.{Edit}
-use Rattle.edit_space.specs.declared.new_lists.NewList.{NewList}
-use Rattle.edit_space.specs.declared.new_lists.NewList.TheVariants.{Route, Packet}
+use Rattle.edit_space.specs.declared.list_kinds.NewList.{NewList}
+use Rattle.edit_space.specs.declared.list_kinds.NewList.TheVariants.{Route, Packet}
 use Rattle.edit_space.specs.Writable.{is_writable}
 use Rattle.line_patcher.specs.NewListLines.{deny_line, deny_class_line}
 use Rattle.patched_settings.specs.Plain.{plain_list}

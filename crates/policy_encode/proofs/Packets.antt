@@ -32,8 +32,8 @@ use Rattle.edit_space.specs.After.{with_classes, edited_packet_list, new_packet_
 use Rattle.edit_space.specs.Changes.{list_classes, new_classes}
 use Rattle.edit_space.specs.Numbered.{is_empty}
 use Rattle.edit_space.specs.Prices.{chosen_of}
-use Rattle.edit_space.proofs.Listed.{chosen_listed, class_put, class_listed}
-use Rattle.edit_space.proofs.Turning.{turning_classes, staying_packets}
+use Rattle.edit_laws.proofs.Listed.{chosen_listed, class_put, class_listed}
+use Rattle.edit_laws.proofs.Turning.{turning_classes, staying_packets}
 use Rattle.policy_encode.specs.Answers.{packet_answer, list_condition, inbound_condition, outbound_condition}
 use Rattle.policy_encode.specs.Laws.{IsEdited}
 use Rattle.policy_encode.specs.Turning.{turned}

@@ -31,9 +31,9 @@ use Rattle.edit_space.specs.After.{with_prefixes, edited_route_list, new_route_e
 use Rattle.edit_space.specs.Changes.{list_prefixes, new_prefixes, turns_session}
 use Rattle.edit_space.specs.Numbered.{is_empty}
 use Rattle.edit_space.specs.Prices.{chosen_of}
-use Rattle.edit_space.proofs.Listed.{chosen_listed}
+use Rattle.edit_laws.proofs.Listed.{chosen_listed}
 use Rattle.edit_space.proofs.RowFacts.{item_of, row_now}
-use Rattle.edit_space.proofs.Turning.{turning_prefixes, staying_prefixes}
+use Rattle.edit_laws.proofs.Turning.{turning_prefixes, staying_prefixes}
 use Rattle.policy_encode.specs.Answers.{is_open, session_condition, route_answer, filter_condition, route_condition}
 use Rattle.policy_encode.specs.Laws.{IsEdited}
 use Rattle.policy_encode.specs.Turning.{turned}

@@ -3,7 +3,7 @@ ghost use Rattle.repair_check.specs.Certifies.{CertificatesAreAccepted, Certific
 ghost use Rattle.repair_check.specs.Certifies.{CertifiedClaimsAreTrue, WrittenClaimsAreCertified};
 
 use arc_repair::laws::certificates_are_true;
-use edit_space::laws::networks_after_edits_are_valid;
+use edited_networks::laws::networks_after_edits_are_valid;
 use policy_encode::laws::one_formula;
 use policy_report::laws::{
     certificates_are_read_again, edits_are_told_apart, only_certificates_are_taken,

@@ -17,7 +17,7 @@ use Rattle.edit_space.specs.declared.edit_kinds.Edit.{Edit}
 use Rattle.edit_space.specs.After.{IsAfter}
 use Rattle.arc_base.specs.NameForms.{IsNameBefore}
 use Rattle.edit_space.specs.Prices.{chosen_of}
-use Rattle.edit_space.proofs.NoEdits.{none_change}
+use Rattle.edit_laws.proofs.NoEdits.{none_change}
 use Rattle.arc_repair.specs.Repairs.{Mends, none_of}
 
 abbrev HasNamesInOrder : RouterRow → Type 0

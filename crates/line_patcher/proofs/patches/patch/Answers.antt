@@ -3,7 +3,7 @@ use Rattle.ios_lines.specs.Lines.{AreLinesOf}
 use Rattle.edit_space.specs.declared.edit_kinds.Edit.{Edit}
 use Rattle.edit_space.specs.Numbered.{EachRow}
 use Rattle.edit_space.specs.Prices.{chosen_of}
-use Rattle.edit_space.proofs.Naming.{rows_more, no_rows, all_rows}
+use Rattle.edited_networks.proofs.Naming.{rows_more, no_rows, all_rows}
 use Rattle.line_patcher.specs.Patches.{IsPatched}
 use Rattle.line_patcher.proofs.BuiltFiles.{IsFileOf, is-file}
 use Rattle.line_patcher.proofs.Tables.{few_chosen}

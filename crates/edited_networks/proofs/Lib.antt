@@ -1,0 +1,18 @@
+mod NameSets
+pub mod FreeNames
+mod Keys
+mod PlacesFound
+pub mod Naming
+mod Picking
+pub mod NamedFacts
+mod PacketPlaces
+mod RoutePlaces
+mod Made
+mod Bound
+mod Whole
+mod AfterValid
+mod Sorting
+pub mod SomeNames
+pub mod SomeAfter
+pub mod OneAfter
+mod NewNames

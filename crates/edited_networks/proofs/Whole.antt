@@ -1,0 +1,69 @@
+-- The network that is put together is the network after the edits.
+use Rattle.std.proofs.Common.{◌≡◌, ℕ, ◌<◌, ◌↔◌, List, length, map, sym, subst}
+use Rattle.std.specs.Prelude.{AllPairs, Contains}
+use Rattle.net_model.specs.declared.rows.Network.{Network}
+use Rattle.net_model.specs.Validity.{IsValid}
+use Rattle.arc_base.specs.NameForms.{IsName}
+use Rattle.edit_space.specs.declared.edit_kinds.Edit.{Edit}
+use Rattle.edit_space.specs.declared.list_kinds.NewList.{NewList}
+use Rattle.edited_networks.specs.declared.new_lists.Named.{Named}
+use Rattle.edited_networks.specs.declared.order.Keyed.{Keyed}
+use Rattle.edited_networks.specs.declared.order.Places.{Places}
+use Rattle.net_model.specs.declared.rows.FaceRow.{FaceRow}
+use Rattle.net_model.specs.declared.rows.SessionRow.{SessionRow}
+use Rattle.edit_space.specs.After.{IsRouterAfter, IsFaceAfter, IsSessionAfter, IsAfter}
+use Rattle.edit_space.specs.NewLists.{IsNewList}
+use Rattle.edit_space.specs.Numbered.{placed, EachRow}
+use Rattle.edit_space.specs.Ordered.{IsKeyBefore}
+use Rattle.edited_networks.specs.Working.{key_of, packet_keys, route_keys, ArePlaces, IsPacketListFor, IsRouteListFor, face_after, session_after}
+use Rattle.edited_networks.proofs.AfterValid.{is_valid}
+use Rattle.edited_networks.proofs.NamedFacts.{router_within, name_is_new}
+use Rattle.edited_networks.proofs.Bound.{faces_are, sessions_are}
+use Rattle.edited_networks.proofs.Made.{AreMade}
+use Rattle.edited_networks.proofs.PacketPlaces as packet_facts
+use Rattle.edited_networks.proofs.RoutePlaces as route_facts
+
+-- what is known of the lists in their order, and of where they stand
+pub record AreInPlace (keys sorted : List Keyed) (places : Places) : Type 0 where
+  pub order : AllPairs (λ x y. IsKeyBefore (key_of x) (key_of y)) sorted
+  pub same : (x : Keyed) → Contains sorted x ↔ Contains keys x
+  pub are : ArePlaces sorted places
+
+pub in_place : (keyed keys sorted d : List Keyed) (places : Places) → keyed ≡ keys → AllPairs (λ x y. IsKeyBefore (key_of x) (key_of y)) sorted → ((x : Keyed) → Contains sorted x ↔ Contains keyed x) → d ≡ sorted → ArePlaces d places →
+    AreInPlace keys sorted places
+in_place keyed keys sorted d places is order same d_is are = record {
+  order = order;
+  same = subst (λ (l : List Keyed). (x : Keyed) → Contains sorted x ↔ Contains l x) is same;
+  are = subst (λ (l : List Keyed). ArePlaces l places) d_is are;
+}
+
+module _ (net : Network) (valid : IsValid net) (chosen : List Edit) (names : List (List (List ℕ))) (named : List Named) (m : AreMade net chosen names named)
+    (packets routes : List Keyed) (packet_places route_places : Places) (p : AreInPlace (packet_keys net named) packets packet_places) (r : AreInPlace (route_keys net named) routes route_places)
+    (after : Network) (protocol : after.protocol ≡ net.protocol) (links : after.links ≡ net.links) (routers : EachRow (IsRouterAfter net chosen) net.routers after.routers)
+    (faces : after.faces ≡ map (face_after net.protocol chosen packet_places) (placed net.faces)) (sessions : after.sessions ≡ map (session_after chosen route_places) net.sessions)
+    (packet_rows : EachRow (λ place. IsPacketListFor net chosen) packets after.packet_lists) (route_rows : EachRow (λ place. IsRouteListFor net chosen) routes after.route_lists) where
+  pub is_after : IsAfter net chosen after
+  is_after = record {
+    protocol = protocol;
+    links = links;
+    routers = routers;
+    faces = subst (λ (l : List FaceRow). EachRow (IsFaceAfter net chosen after) net.faces l) (sym faces)
+        (faces_are net valid chosen names named m.new_names m.are_named after packet_places
+        (packet_facts.old_told net valid chosen names named m.new_names m.are_named m.few packets p.order p.same after.packet_lists packet_rows packet_places p.are)
+        (packet_facts.new_told net valid chosen names named m.new_names m.are_named m.few packets p.order p.same after.packet_lists packet_rows packet_places p.are));
+    sessions = subst (λ (l : List SessionRow). EachRow (IsSessionAfter net chosen after) net.sessions l) (sym sessions)
+        (sessions_are net valid chosen names named m.new_names m.are_named after route_places
+        (route_facts.old_told net valid chosen names named m.new_names m.are_named m.few routes r.order r.same after.route_lists route_rows route_places r.are)
+        (route_facts.new_told net valid chosen names named m.new_names m.are_named m.few routes r.order r.same after.route_lists route_rows route_places r.are));
+    packet_order = packet_facts.lists_in_order net valid chosen names named m.new_names m.are_named m.few packets p.order p.same after.packet_lists packet_rows;
+    packet_lists = packet_facts.just_lists net valid chosen names named m.new_names m.are_named m.few packets p.order p.same after.packet_lists packet_rows;
+    route_order = route_facts.lists_in_order net valid chosen names named m.new_names m.are_named m.few routes r.order r.same after.route_lists route_rows;
+    route_lists = route_facts.just_lists net valid chosen names named m.new_names m.are_named m.few routes r.order r.same after.route_lists route_rows;
+  }
+
+  good_names : (router : ℕ) (list : NewList) (name : List ℕ) → IsNewList net chosen router list name → (router < length net.routers) × IsName name
+  good_names router list name new =
+      (router_within net valid chosen names named m.new_names m.are_named router list name new, (name_is_new net valid chosen names named m.new_names m.are_named router list name m.few new).1)
+
+  pub is_valid_after : IsValid after
+  is_valid_after = is_valid net valid chosen after is_after good_names

@@ -1,0 +1,20 @@
+//! The network after edits. What the edits change is put together once, interface by interface and
+//! list by list; new lists get the first names that are free at their routers, and the lists that
+//! stand and the new ones are sorted by router and name.
+#![tactic(auto)]
+
+mod changes;
+mod entries;
+pub mod laws;
+mod names;
+mod network_after;
+mod new_lists;
+mod order;
+mod packet_lists;
+mod route_lists;
+mod rows;
+
+pub use changes::Changes;
+pub use entries::{any, opposite_packet_entry, opposite_route_entry};
+pub use network_after::after;
+pub use new_lists::{lists_made, new_names};
