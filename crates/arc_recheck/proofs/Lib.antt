@@ -1,5 +1,5 @@
 pub mod Ways
 pub mod NeededLists
 pub mod Hanging
-pub mod HeldBlocks
+pub mod BlocksTaken
 pub mod OneAnswer

@@ -4,3 +4,4 @@ pub mod Needed
 pub mod Texts
 pub mod Held
 pub mod Laws
+pub mod HeldLines

@@ -1,15 +1,17 @@
 //! The blocks that an old report holds.
-ghost use Rattle.std.specs.Prelude.{◌≡◌, ◌++◌, ◌∷◌, [], IfOk, OnOk};
+ghost use Rattle.std.specs.Prelude.{◌≡◌, ◌++◌, ◌∷◌, ℕ, [], List as Items, IfOk, IsTrue, OnOk};
+ghost use Rattle.std.specs.ControlFlow.{MatchControlFlow};
 ghost use Rattle.cnf_types.specs.Words.{lines};
 ghost use Rattle.policy_report.specs.Steps.{standing, start, step};
 ghost use Rattle.policy_report.specs.Rereading.{answers};
-ghost use Rattle.arc_recheck.specs.Held.{verdicts_before, held_verdicts, is_head, told_by, IsTaken};
+ghost use Rattle.arc_recheck.specs.Held.{held_verdicts, is_head, told_by, IsTaken};
 
 use arc_base::{CertKind, List, Memory};
 use cnf_types::first_line;
 use net_model::{Document, Network, Verdict};
-use policy_report::{CertFault, CertForm, Got, Reader};
+use policy_report::{CertForm, Got, Reader};
 use std::alloc::Global;
+use std::ops::ControlFlow;
 
 /// What a line tells of the blocks.
 #[derive(Drop)]
@@ -22,9 +24,89 @@ enum Told {
     Refused,
 }
 
-/// The verdicts of the blocks that a report holds, in the order of the policies: those before the
-/// first line that is not of the form. A text that does not begin as a report holds none. The time
-/// is linear in the bytes, and for each `closed` or `side` line in the routers.
+/// The verdicts of the blocks that a report holds, in the order of the policies, up to the line
+/// that comes next. They end before the first line that is not of the form; a text that does not
+/// begin as a report holds none. All lines are taken for the same network and document.
+#[derive(Drop)]
+pub struct HeldBlocks {
+    reader: Reader,
+    // Whether the first line came: the head of a report.
+    begun: bool,
+    held: List<Verdict>,
+}
+
+impl HeldBlocks {
+    ghost use Rattle.arc_recheck.specs.HeldLines.{HasComeTo};
+
+    /// No line came.
+    pub fn make(alloc: Global) -> HeldBlocks
+        ensures { (net : Network) (doc : Document) (text : Items ℕ) →
+            HasComeTo net doc text (lines text) result }
+    {
+        HeldBlocks {
+            reader: Reader::make(alloc),
+            begun: false,
+            held: List::make(alloc),
+        }
+    }
+
+    /// Takes the next line, without its line feed: another may tell more, or these are all that are
+    /// held, whatever follows. The time is linear in the bytes, and for a `closed` or `side` line
+    /// in the routers.
+    pub fn line(
+        self,
+        net: &Network,
+        doc: &Document,
+        line: &[u8],
+    ) -> Result<ControlFlow<List<Verdict>, HeldBlocks>, Memory>
+        ensures { (text : Items ℕ) (rest : Items (Items ℕ)) →
+            HasComeTo net.now doc.now text (line.now ∷ rest) self →
+            IfOk result (λ flow. MatchControlFlow flow (HasComeTo net.now doc.now text rest)
+            (λ held. held ≡ held_verdicts (answers net.now doc.now [] start (lines text)))) }
+    {
+        let begun = true;
+        let mut reader = self.reader;
+        let mut held = self.held;
+        if !self.begun {
+            if !takes_head(net, doc, &mut reader, line)? {
+                return Ok(ControlFlow::Break(held));
+            }
+            return Ok(ControlFlow::Continue(HeldBlocks {
+                reader,
+                begun,
+                held,
+            }));
+        }
+        match take_line(net, doc, &mut reader, line)? {
+            Told::Block(verdict) => {
+                add(&mut held, verdict)?;
+                Ok(ControlFlow::Continue(HeldBlocks {
+                    reader,
+                    begun,
+                    held,
+                }))
+            }
+            Told::Other => Ok(ControlFlow::Continue(HeldBlocks {
+                reader,
+                begun,
+                held,
+            })),
+            Told::Refused => Ok(ControlFlow::Break(held)),
+        }
+    }
+
+    /// What is held where no other line comes.
+    pub fn end(self) -> List<Verdict>
+        ensures { (net : Network) (doc : Document) (text : Items ℕ) →
+            HasComeTo net doc text [] self →
+            result ≡ held_verdicts (answers net doc [] start (lines text)) }
+    {
+        self.held
+    }
+}
+
+/// The verdicts of the blocks that a report holds whose text is at hand whole: line by line, as
+/// `HeldBlocks` takes them.
 pub fn held_verdicts(
     alloc: Global,
     net: &Network,
@@ -34,48 +116,44 @@ pub fn held_verdicts(
     ensures { IfOk result (λ held.
         held ≡ held_verdicts (answers net.now doc.now [] start (lines text.now))) }
 {
-    if text.is_empty() {
-        return Ok(List::make(alloc));
-    }
-    let mut reader = Reader::make(alloc);
-    let (first, rest) = first_line(text);
-    let told = reader.report_line(net, doc, first);
-    if !is_head(&told) {
-        return Ok(List::make(alloc));
-    }
-    verdicts_before(alloc, net, doc, reader, rest)
-}
-
-/// Whether the answer to the first line is the head of a report.
-fn is_head(told: &Result<Got, CertFault>) -> bool
-    ensures { result ≡ is_head told.now }
-{
-    matches!(told, Ok(Got::Head(CertForm::Report)))
-}
-
-/// The verdicts of the blocks that are still to come, before the first line that is rejected.
-fn verdicts_before(
-    alloc: Global,
-    net: &Network,
-    doc: &Document,
-    mut reader: Reader,
-    text: &[u8],
-) -> Result<List<Verdict>, Memory>
-    ensures { IfOk result (λ held.
-        held ≡ verdicts_before (answers net.now doc.now [] (standing reader) (lines text.now))) }
-{
-    let mut held = List::make(alloc);
+    let mut blocks = HeldBlocks::make(alloc);
     let mut rest = text;
     while !rest.is_empty() {
         let (line, after) = first_line(rest);
-        match take_line(net, doc, &mut reader, line)? {
-            Told::Block(verdict) => add(&mut held, verdict)?,
-            Told::Other => {}
-            Told::Refused => return Ok(held),
+        match blocks.line(net, doc, line)? {
+            ControlFlow::Continue(next) => blocks = next,
+            ControlFlow::Break(held) => return Ok(held),
         }
         rest = after;
     }
-    Ok(held)
+    Ok(blocks.end())
+}
+
+/// Takes the first line, and says whether it is the head of a report.
+fn takes_head(
+    net: &Network,
+    doc: &Document,
+    reader: &mut Reader,
+    line: &[u8],
+) -> Result<bool, Memory>
+    ensures head { IfOk result (λ head.
+        head ≡ is_head (step net.now doc.now [] (standing reader.old) line.now).1) }
+    ensures reader { IfOk result (λ head. IsTrue head →
+        standing reader.new ≡ (step net.now doc.now [] (standing reader.old) line.now).0) }
+{
+    match reader.report_line(net, doc, line) {
+        Ok(Got::Head(CertForm::Report)) => Ok(true),
+        Ok(Got::Head(CertForm::Repaired(_, _) | CertForm::NoRepair(_))) => Ok(false),
+        Ok(Got::Verdict(_, _verdict)) => Ok(false),
+        Ok(Got::Step(_step)) => Ok(false),
+        Ok(Got::More | Got::Edit(_) | Got::End) => Ok(false),
+        Err(fault) => {
+            if fault.kind == CertKind::Memory {
+                return Err(Memory);
+            }
+            Ok(false)
+        }
+    }
 }
 
 /// Takes the next line.
