@@ -18,8 +18,7 @@ pub const POLICY_LIMIT: u64 = 256;
 /// asks for one disjoint path more, each found by one search.
 pub const FAILURE_LIMIT: u64 = 16;
 
-/// The weight of a link or router for edits. Edits of the greatest weight still come to 32 within
-/// the highest price.
+/// What an edit of one kind may cost at most: 32 of the greatest weight come to the highest price.
 pub const WEIGHT_LIMIT: u64 = 16;
 
 /// Entries of a list of a router file.
@@ -39,8 +38,8 @@ pub const EDIT_LIMIT: u64 = 8_192;
 /// Variables of a formula. A search keeps several words of each.
 pub const VARIABLE_LIMIT: u64 = 16_777_216;
 
-/// Literals of a formula, each counted as often as it stands there. A search keeps them all, at
-/// four bytes or eight each.
+/// Literals of a formula, each counted as often as it stands there. A search keeps them all, in
+/// some 32 bytes each.
 pub const LITERAL_LIMIT: u64 = 32_000_000;
 
 /// Nodes of a network of conditions.
