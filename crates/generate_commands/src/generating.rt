@@ -12,7 +12,7 @@ ghost use Rattle.generate_commands.specs.Generates.{default_bound, document_name
 ghost use Rattle.generate_commands.specs.Generates.{IsGenerateRefusal, IsSummary};
 ghost use Rattle.generate_commands.specs.Steps.{IsFound, IsSomeGenerated};
 
-use crate::answers::{DEFAULT_CONFLICTS, DEFAULT_PRICE, answer_done};
+use crate::answers::answer_done;
 use crate::tallies::judge_all;
 use arc_base::limits::{
     DEFAULT_CONFLICTS, DEFAULT_PRICE, EDITED_ENTRY_LIMIT, FEWEST_GENERATED, LINK_LIMIT,
