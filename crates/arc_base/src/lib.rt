@@ -17,8 +17,6 @@ mod prefix_text;
 mod reason_words;
 mod refusal;
 mod span;
-#[cfg(test)]
-mod tests;
 
 pub use certificate::CertKind;
 pub use cut::cut_at;

@@ -19,6 +19,3 @@ pub use header::is_comment;
 pub use literal::Lit;
 pub use numbers::{natural, number};
 pub use words::{first_line, next_word, without_return};
-
-#[cfg(test)]
-mod tests;

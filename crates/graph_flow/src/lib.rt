@@ -24,6 +24,3 @@ pub use closure::Closure;
 pub use disjoint_paths::disjoint;
 pub use flow::Flow;
 pub use graph::Graph;
-
-#[cfg(test)]
-mod tests;

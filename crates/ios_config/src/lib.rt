@@ -14,8 +14,6 @@ mod parts;
 mod processes;
 mod rising;
 mod settings;
-#[cfg(test)]
-mod tests;
 mod twice;
 
 pub use commands::opened_by;

@@ -11,8 +11,6 @@ mod kind;
 pub mod laws;
 mod line;
 mod reading;
-#[cfg(test)]
-mod tests;
 mod words;
 
 pub use cutting::{LineFault, cut};

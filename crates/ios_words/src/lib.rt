@@ -21,8 +21,6 @@ mod protocols;
 mod reading;
 mod rows;
 mod services;
-#[cfg(test)]
-mod tests;
 mod top_rows;
 mod trying;
 mod words;

@@ -10,8 +10,6 @@ pub mod laws;
 mod limits;
 mod members;
 mod services;
-#[cfg(test)]
-mod tests;
 mod weights;
 
 pub use document_text::document;

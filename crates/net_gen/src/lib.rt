@@ -8,7 +8,5 @@ mod documents;
 mod generating;
 mod plans;
 mod router_files;
-#[cfg(test)]
-mod tests;
 
 pub use generating::{Generated, generate};

@@ -26,8 +26,8 @@ impl Network {
         }
     }
 
-    /// Whether no session stands before one of an earlier router, as in each network that is built
-    /// from files.
+    /// Whether no session stands before one of an earlier router. A router's sessions then stand
+    /// together, and are found by halving.
     pub fn has_sessions_by_router(&self) -> bool
         ensures { IsTrue result ↔ StandByRouter self.now }
     {

@@ -18,6 +18,3 @@ pub use checker::Checker;
 pub use faults::StepFault;
 pub use judging::{check_log, fault_kind, judge_line};
 pub use rejections::{Outcome, Rejection};
-
-#[cfg(test)]
-mod tests;

@@ -15,6 +15,3 @@ pub use numbers::Sign;
 pub use printing::text;
 pub use reading::{LineKind, line_numbers, step};
 pub use steps::{Log, Step};
-
-#[cfg(test)]
-mod tests;

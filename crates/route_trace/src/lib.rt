@@ -9,8 +9,6 @@ mod groups;
 mod hops;
 mod routes;
 mod steps;
-#[cfg(test)]
-mod tests;
 mod trace;
 
 pub use hops::next_hops;

@@ -12,8 +12,6 @@ pub mod laws;
 mod marks;
 mod policy_leaves;
 mod service_leaves;
-#[cfg(test)]
-mod tests;
 
 pub use classing::{all_classes, classes};
 pub use fault::ClassFault;
