@@ -38,15 +38,11 @@ lrat =
     with_rule (with_rule (new_app (codes "lrat")) (positional (codes "formula")))
     (positional (codes "proof"))
 
-abbrev pub repair_names : App
-repair_names =
-    with_rule (with_rule (with_rule (new_app (codes "repair")) (positional (codes "document")))
-    (required_option (codes "out")))
-    (required_option (codes "proof"))
-
 abbrev pub repair : App
-repair =
-    with_rule (with_rule repair_names (option (codes "max-price"))) (option (codes "conflicts"))
+repair = with_rule
+    (with_rule (with_rule (with_rule (with_rule (new_app (codes "repair"))
+    (positional (codes "document"))) (required_option (codes "out")))
+    (required_option (codes "proof"))) (option (codes "max-price"))) (option (codes "conflicts"))
 
 abbrev pub apply : App
 apply =
