@@ -4,7 +4,7 @@ use Rattle.std.proofs.lemmas.Option.{slice_get_within, get_or_from_slice_get}
 use Rattle.std.specs.List.{slice_get}
 use Rattle.ios_lines.specs.declared.line.Line.{Line}
 use Rattle.ios_lines.specs.Texts.{HasWordsIn}
-use Rattle.ios_words.proofs.tests.said.Goals as goal
+use Rattle.reading_examples.proofs.commands.said.Goals as goal
 
 row_words : (text : List ℕ) (rows : List Line) (n : ℕ) (line : Line) → All (HasWordsIn text) rows → slice_get rows n ≡ Some line → HasWordsIn text line
 row_words text rows n line all at = subst (HasWordsIn text) (get_or_from_slice_get rows n line line at) (All-get_or (HasWordsIn text) rows n line (slice_get_within rows n line at) all)
