@@ -1,5 +1,5 @@
 -- The clauses of a formula under their ids, one by one.
-use Rattle.std.proofs.Common.{◌≡◌, ◌≢◌, ℕ, suc, zero, ◌+◌, ◌<◌, Bool, true, false, cond, eqb, List, [], ◌∷◌, ◌++◌, length, take, get_or, slice_get, refl, ap, sym, ◌∙◌, arith, Option, Some, option_map, ⊎_elim, length-take-le, add-one}
+use Rattle.std.proofs.Common.{◌≡◌, ◌≢◌, ℕ, suc, zero, ◌+◌, ◌<◌, cond, eqb, List, [], ◌∷◌, ◌++◌, length, take, get_or, slice_get, refl, ap, sym, ◌∙◌, arith, Option, Some, option_map, ⊎_elim, length-take-le, add-one}
 use Rattle.std.proofs.lemmas.Bool.{cases_eq, eq-eqb, ne_eqb, cond-true, cond-false}
 use Rattle.std.proofs.lemmas.List.{take_more}
 use Rattle.cnf_types.specs.declared.literal.Lit.{Lit}
@@ -32,7 +32,3 @@ push_clause clauses i c lits id before now within c_is lits_is before_is now_is 
     (λ (here : i + 1 ≡ id). now_is ∙ cond-true _ _ _ (eq-eqb (i + 1) id here) ∙ ap Some lits_is ∙ sym (at_next_id (take i clauses) c) ∙ ap (formula_clause (take i clauses ++ c ∷ [])) (ap suc size ∙ sym (add-one i) ∙ here) ∙ sym (ap (λ cs. formula_clause cs id) grown))
     (λ (apart : i + 1 ≡ id → ⊥). now_is ∙ cond-false _ _ _ (ne_eqb (i + 1) id apart) ∙ before_is ∙ sym (at_other_id (take i clauses) c id (λ e. apart (add-one i ∙ sym (ap suc size) ∙ sym e))) ∙ sym (ap (λ cs. formula_clause cs id) grown))
     (cases_eq (i + 1) id)
-
-pub mapped_cond : {A B : Type 0} (f : A → B) (b : Bool) (x : A) (o p : Option A) → p ≡ cond b (Some x) o → option_map f p ≡ cond b (Some (f x)) (option_map f o)
-mapped_cond f true x o p e = ap (option_map f) e
-mapped_cond f false x o p e = ap (option_map f) e

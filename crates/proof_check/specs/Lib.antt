@@ -2,5 +2,6 @@ pub mod Knowledge
 pub mod Logs
 pub mod Marks
 pub mod Outcomes
+pub mod Places
 pub mod Propagation
 pub mod View

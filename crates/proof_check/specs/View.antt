@@ -8,16 +8,16 @@ use Rattle.proof_check.specs.declared.live.Live.{Live}
 use Rattle.proof_check.specs.declared.checker.Checker.{Checker}
 use Rattle.proof_check.specs.Knowledge.{Knowledge}
 
--- what stands at a place of a vector, or else what a map has
+-- what stands in a row of a table, or else what a map has
 abbrev pub near_or : {X : Type 0} → Option (Option X) → Option X → Option X
-near_or (Some slot) far = slot
+near_or (Some row) far = row
 near_or None far = far
 
--- the live clause under an id: in the vector, or past its end in the map
+-- the live clause under an id: in the row of that number, or past the rows in the map
 abbrev pub clause_in : Live → ℕ → Option (List Lit)
 clause_in live id =
-    option_map (λ (v : Vec Lit Global). v.items)
-    (near_or (slice_get live.near.items id) (get nat_eq live.far id))
+    near_or (slice_get live.near id)
+    (option_map (λ (v : Vec Lit Global). v.items) (get nat_eq live.far id))
 
 -- what the checker knows
 abbrev pub known : Checker → Knowledge

@@ -1,5 +1,6 @@
 //! The checker of proof logs.
-ghost use Rattle.std.specs.Prelude.{◌≡◌, ◌<◌, ◌^◌, All, OnOk, false, map, unsigned_abs};
+ghost use Rattle.std.specs.Prelude.{◌≡◌, ◌+◌, ◌<◌, ◌≤◌, ◌^◌, All, OnOk, false, length, map};
+ghost use Rattle.std.specs.Prelude.{unsigned_abs};
 ghost use Rattle.cnf_types.specs.Dimacs.{is_zero, literal_of};
 
 use crate::faults::StepFault;
@@ -25,6 +26,8 @@ pub struct Checker {
     // Room that is used again for each line: for its numbers and its literals.
     numbers: Vec<i64>,
     lits: Vec<Lit>,
+    // An id above the last one has no row yet.
+    ghost rows: { length live.near ≤ last + 1 },
 }
 
 /// Puts the literals that numbers stand for in place of those that are there.

@@ -13,6 +13,7 @@ pub mod laws;
 mod left;
 mod live;
 mod rejections;
+mod tables;
 
 pub use checker::Checker;
 pub use faults::StepFault;

@@ -1,19 +1,20 @@
 //! Live clauses under their ids.
-ghost use Rattle.std.specs.Prelude.{◌≡◌, [], ◌∷◌, ℕ, ◌<◌, ◌^◌, length, position, is_none};
-ghost use Rattle.std.specs.Prelude.{option_map, IfOk, OnOk, OnErr};
+ghost use Rattle.std.specs.Prelude.{◌≡◌, [], ◌∷◌, ℕ, ◌+◌, ◌<◌, ◌≤◌, ◌^◌, length, position};
+ghost use Rattle.std.specs.Prelude.{is_none, option_map, IfOk, OnOk, OnErr};
 ghost use Rattle.proof_check.specs.Knowledge.{formula_clause, with_clause, without_clauses};
 ghost use Rattle.proof_check.specs.View.{clause_in};
 
+use crate::tables::Table;
 use arc_base::Memory;
 use cnf_types::{Clause, Lit};
 use std::alloc::Global;
 use std::collections::HashMap;
 
-/// The live clauses: each in a vector at the place of its id, as long as the ids follow one another
-/// from 0 on, and the others in a map.
+/// The live clauses: each in the row of its id, as long as the ids follow one another from 0 on, and
+/// the others in a map.
 #[derive(Drop)]
 pub(crate) struct Live {
-    near: Vec<Option<Vec<Lit>>>,
+    near: Table,
     far: HashMap<u64, Vec<Lit>>,
 }
 
@@ -21,13 +22,14 @@ impl Live {
     /// The clauses of a formula, under the ids from 1 on.
     pub fn of(alloc: Global, clauses: &[Clause]) -> Result<Live, Memory>
         requires { length clauses.now < 2 ^ 32 }
-        ensures { IfOk result (λ live. (id : ℕ) →
+        ensures clauses { IfOk result (λ live. (id : ℕ) →
             clause_in live id ≡ formula_clause clauses.now id) }
+        ensures rows { IfOk result (λ live. length live.near ≡ length clauses.now + 1) }
     {
-        let mut near = Vec::with_capacity(alloc, clauses.len() + 1)?;
-        near.push(None)?;
+        let mut near = Table::make(alloc, clauses.len() + 1)?;
+        near.push_none()?;
         for clause in clauses {
-            near.push(Some(Vec::from_slice(alloc, clause.lits.slice())?))?;
+            near.push(clause.lits.slice())?;
         }
         Ok(Live {
             near,
@@ -39,20 +41,20 @@ impl Live {
     pub fn get(&self, id: u64) -> Option<&[Lit]>
         ensures { option_map (λ lits. lits.now) result ≡ clause_in self.now id }
     {
-        let clause = match self.near.get(id as usize) {
-            Some(slot) => slot.as_ref()?,
-            None => self.far.get(&id)?,
-        };
-        Some(clause.as_slice())
+        match self.near.get(id as usize) {
+            Some(clause) => clause,
+            None => Some(self.far.get(&id)?.as_slice()),
+        }
     }
 
     /// Takes out the clause of an id.
     fn remove(&mut self, id: u64)
-        ensures { (j : ℕ) →
+        ensures clauses { (j : ℕ) →
             clause_in self.new j ≡ without_clauses (clause_in self.old) (id ∷ []) j }
+        ensures rows { length self.new.near ≡ length self.old.near }
     {
         if id < self.near.len() as u64 {
-            self.near[id as usize] = None;
+            self.near.remove(id as usize);
         } else {
             self.far.remove(&id);
         }
@@ -60,7 +62,9 @@ impl Live {
 
     /// Takes out the clauses of these ids.
     pub fn remove_all(&mut self, ids: &[u64])
-        ensures { (j : ℕ) → clause_in self.new j ≡ without_clauses (clause_in self.old) ids.now j }
+        ensures clauses { (j : ℕ) →
+            clause_in self.new j ≡ without_clauses (clause_in self.old) ids.now j }
+        ensures rows { length self.new.near ≡ length self.old.near }
     {
         for id in ids {
             self.remove(*id);
@@ -74,19 +78,19 @@ impl Live {
         ids.iter().position(|id| self.get(*id).is_none())
     }
 
-    /// Puts a clause under an id.
+    /// Puts a clause under an id that has no row.
     pub fn put(&mut self, alloc: Global, id: u64, lits: &[Lit]) -> Result<(), Memory>
+        requires { length self.old.near ≤ id }
         ensures ok { OnOk result ((j : ℕ) →
             clause_in self.new j ≡ with_clause (clause_in self.old) id lits.now j) }
         ensures err { OnErr result ((j : ℕ) → clause_in self.new j ≡ clause_in self.old j) }
+        ensures rows { OnOk result (length self.new.near ≤ id + 1) }
+        ensures same_rows { OnErr result (length self.new.near ≡ length self.old.near) }
     {
-        let clause = Vec::from_slice(alloc, lits)?;
-        let end = self.near.len() as u64;
-        if id < end {
-            self.near[id as usize] = Some(clause);
-        } else if id == end {
-            self.near.push(Some(clause))?;
+        if id == self.near.len() as u64 {
+            self.near.push(lits)?;
         } else {
+            let clause = Vec::from_slice(alloc, lits)?;
             self.far.insert(id, clause)?;
         }
         Ok(())
