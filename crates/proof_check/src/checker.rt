@@ -55,6 +55,7 @@ impl Checker {
 
     /// A checker that knows the formula. `least` is the lowest bound that is allowed, where there
     /// is one. `tops` has, at place j - 1, the literal "the price is at least j".
+    #[inline(never)]
     pub fn make(
         alloc: Global,
         f: &Formula,

@@ -38,6 +38,7 @@ impl Live {
     }
 
     /// The clause of an id.
+    #[inline]
     pub fn get(&self, id: u64) -> Option<&[Lit]>
         ensures { option_map (λ lits. lits.now) result ≡ clause_in self.now id }
     {

@@ -139,6 +139,7 @@ impl Table {
     }
 
     /// The row of this number, if there is one: its clause, if it has one.
+    #[inline]
     pub fn get(&self, row: usize) -> Option<Option<&[Lit]>>
         ensures { option_map (λ clause. option_map (λ lits. lits.now) clause) result
             ≡ slice_get self.now row }
