@@ -2,3 +2,4 @@ pub mod Added
 pub mod Nodes
 pub mod PreferRuns
 pub mod RecheckRuns
+pub mod ReportLines

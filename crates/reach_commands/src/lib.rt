@@ -7,6 +7,7 @@ mod added;
 pub mod laws;
 mod preferring;
 mod rechecked;
+mod report_lines;
 mod router_failures;
 mod routers;
 

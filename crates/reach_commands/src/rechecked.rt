@@ -10,13 +10,14 @@ ghost use Rattle.run_files.specs.Limits.{least_limit};
 ghost use Rattle.reach_commands.specs.RecheckRuns.{AreRechecked, rechecked_status};
 ghost use Rattle.reach_commands.specs.RecheckRuns.{IsRecheckRefusal, IsRecheckAnswer};
 
+use crate::report_lines::read_held;
 use arc_base::limits::PROOF_LIMIT;
 use arc_base::{Link, List, Memory, Name};
 use arc_outside::Store;
-use arc_recheck::{Rechecked, alone, held_verdicts, recheck_text};
+use arc_recheck::{Rechecked, alone, recheck_text};
 use command_words::RecheckWords;
 use net_model::Verdict;
-use run_files::{Done, Limits, Stop, read_file};
+use run_files::{Done, Limits, Stop, try_file};
 use run_inputs::{Input, count_classes, read_document, read_files};
 use std::alloc::Global;
 use verdicts::JudgeFault;
@@ -85,7 +86,8 @@ fn are_all_yes(rechecked: &[Rechecked]) -> bool
 
 /// Rechecks an old report over the document and the router files as they are now: keeps each
 /// verdict whose witness is still right, gives the others anew, and tells for each reach policy
-/// that holds the links whose failure alone breaks it.
+/// that holds the links whose failure alone breaks it. The old report is read twice: for its size,
+/// and, after the router files, line by line for its blocks.
 pub fn recheck<S: Store>(alloc: Global, words: &RecheckWords, store: &mut S) -> Result<Done, Stop>
     ensures answer { Answers IsJudging (IsRecheckRefusal words.now) (IsRecheckAnswer words.now)
         (S.held store.old) result }
@@ -93,10 +95,17 @@ pub fn recheck<S: Store>(alloc: Global, words: &RecheckWords, store: &mut S) -> 
         store.old store.new result }
 {
     let doc = read_document(alloc, &words.document, store)?;
-    let bytes = read_file(alloc, store, &words.report, PROOF_LIMIT)?;
+    try_file(alloc, store, &words.report, PROOF_LIMIT)?;
     let input = read_files(alloc, &words.document, doc, &[], Limits::Judging, store)?;
     count_classes(alloc, &words.document, &input.net, &input.doc.policies)?;
-    let held = held_verdicts(alloc, &input.net, &input.doc, bytes.as_slice())?;
+    let held = read_held(
+        alloc,
+        &input.net,
+        &input.doc,
+        &words.report,
+        PROOF_LIMIT,
+        store,
+    )?;
     let rechecked = recheck_all(alloc, &input, &held)?;
     let found = alone_all(alloc, &input)?;
     let text = recheck_text(alloc, &input.net, &input.doc.policies, &rechecked, &found)?;

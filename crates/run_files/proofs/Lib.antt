@@ -1,5 +1,6 @@
 pub mod LinesHanded
 pub mod WhereTold
+pub mod LineByLine
 pub mod ReadPast
 pub mod RoutersRead
 pub mod Answering

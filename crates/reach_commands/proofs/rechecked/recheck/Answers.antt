@@ -1,24 +1,32 @@
 use Rattle.std.proofs.Common.{◌∙◌, ap}
 use Rattle.std.proofs.lemmas.Result.{err_from_is_err_and}
 use Rattle.reach_commands.specs.RecheckRuns.{rechecked_status}
-use Rattle.reach_commands.proofs.RecheckAnswered.{classes_stopped, answered}
+use Rattle.reach_commands.proofs.RecheckAnswered.{answered, classes_stopped, reading_stopped}
 use Rattle.reach_commands.proofs.rechecked.recheck.Goals as goal
 
 pub returns-in_err-count_classes-clause-answer : goal.returns-in_err-count_classes-clause-answer
 returns-in_err-count_classes-clause-answer g c =
     let p = err_from_is_err_and c.from_residual-in_err-count_classes.result c.from_residual-in_err-count_classes.ensures.1 in
-    rw (p.1, p.2) (classes_stopped (g.S.Store.held c.args.store.now) (g.S.Store.held c.read_document.new.store) (g.S.Store.held c.read_file.new.store) c.in_ok-doc.ensures.reads.same c.in_ok-bytes.ensures.reads.same
-    c.args.words.now c.in_ok-doc.doc c.in_ok-bytes.bytes c.in_ok-input.input c.in_err-count_classes.field-0.0
-    c.in_ok-doc.ensures.told c.in_ok-bytes.ensures.told c.in_ok-input.ensures.told c.in_err-count_classes.ensures)
+    rw (p.1, p.2) (classes_stopped (g.S.Store.held c.args.store.now) (g.S.Store.held c.read_document.new.store) (g.S.Store.held c.try_file.new.store) c.in_ok-doc.ensures.reads.same c.in_ok-try_file.ensures.reads.same
+    c.args.words.now c.in_ok-doc.doc c.in_ok-input.input c.in_err-count_classes.field-0.0
+    c.in_ok-doc.ensures.told c.in_ok-try_file.ensures.told c.in_ok-input.ensures.told c.in_err-count_classes.ensures)
+
+pub returns-in_err-held-clause-answer : goal.returns-in_err-held-clause-answer
+returns-in_err-held-clause-answer g c =
+    let p = err_from_is_err_and c.from_residual-in_err-held.result c.from_residual-in_err-held.ensures.1 in
+    rw (p.1, p.2) (reading_stopped (g.S.Store.held c.args.store.now) (g.S.Store.held c.read_document.new.store) (g.S.Store.held c.try_file.new.store) (g.S.Store.held c.read_files.new.store)
+    c.in_ok-doc.ensures.reads.same c.in_ok-try_file.ensures.reads.same c.in_ok-input.ensures.reads.same
+    c.args.words.now c.in_ok-input.input c.in_err-held.field-0.0 c.in_ok-try_file.ensures.told c.in_err-held.ensures.told)
 
 pub recheck_text-requires : goal.recheck_text-requires
 recheck_text-requires g c = c.in_ok-rechecked.ensures.count
 
 pub returns-clause-answer : goal.returns-clause-answer
 returns-clause-answer g c =
-    answered (g.S.Store.held c.args.store.now) (g.S.Store.held c.read_document.new.store) (g.S.Store.held c.read_file.new.store) c.in_ok-doc.ensures.reads.same c.in_ok-bytes.ensures.reads.same
-    c.args.words.now c.as_slice.result.now c.in_ok-doc.doc c.in_ok-bytes.bytes c.in_ok-input.input c.in_ok-held.held c.in_ok-rechecked.rechecked c.in_ok-found.found
+    answered (g.S.Store.held c.args.store.now) (g.S.Store.held c.read_document.new.store) (g.S.Store.held c.try_file.new.store) (g.S.Store.held c.read_files.new.store)
+    c.in_ok-doc.ensures.reads.same c.in_ok-try_file.ensures.reads.same c.in_ok-input.ensures.reads.same
+    c.args.words.now c.in_ok-doc.doc c.in_ok-input.input c.in_ok-held.held c.in_ok-rechecked.rechecked c.in_ok-found.found
     (record { text = c.of.result; writes = c.make.result; status = c.status_of.result })
-    c.in_ok-doc.ensures.told c.in_ok-bytes.ensures.told c.in_ok-input.ensures.told c.in_ok-input.ensures.fit c.in_ok-count_classes.ensures c.as_slice.ensures.value
-    c.in_ok-held.ensures c.in_ok-rechecked.ensures c.in_ok-found.ensures
+    c.in_ok-doc.ensures.told c.in_ok-try_file.ensures.told c.in_ok-input.ensures.told c.in_ok-input.ensures.fit c.in_ok-count_classes.ensures
+    c.in_ok-held.ensures.told c.in_ok-rechecked.ensures c.in_ok-found.ensures
     (c.of.ensures ∙ c.in_ok-text.ensures) c.make.ensures (c.status_of.ensures.value ∙ ap rechecked_status c.slice.ensures.items) c.status_of.ensures.small
