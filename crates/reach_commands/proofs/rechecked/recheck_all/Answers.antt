@@ -1,4 +1,4 @@
-use Rattle.std.proofs.Common.{ap, subst, arith}
+use Rattle.std.proofs.Common.{subst, arith}
 use Rattle.std.specs.Prelude.{Option, IfSome, slice_get}
 use Rattle.net_model.specs.declared.verdicts.Verdict.{Verdict}
 use Rattle.arc_recheck.specs.Rechecks.{IsRechecked}

@@ -2,7 +2,6 @@ use Rattle.std.proofs.Common.{subst, ◌∙◌}
 use Rattle.std.specs.Prelude.{Ok, Err}
 use Rattle.std.proofs.lemmas.Result.{err_from_is_err_and}
 use Rattle.net_model.specs.declared.policies.Policy.{Policy}
-use Rattle.net_model.specs.Packets.{subject}
 use Rattle.arc_nodecut.specs.NodeWitnesses.{IsRight}
 use Rattle.arc_nodecut.specs.Given.{IsGiven}
 use Rattle.reach_commands.specs.Added.{AddsPolicy}
