@@ -1,8 +1,7 @@
 -- The line of the answer, and the formula that is counted there.
-use Rattle.std.proofs.Common.{◌≡◌, ◌⊎◌, ℕ, ◌+◌, ◌≤◌, ◌<◌, Bool, false, refl, inl, inr, Option, Some, None, List, [], ◌∷◌, length, sym, ◌∙◌, ap, subst, arith}
-use Rattle.std.specs.Prelude.{Ok, MatchOption, Vec}
+use Rattle.std.proofs.Common.{◌≡◌, ℕ, ◌+◌, ◌≤◌, Bool, false, refl, inl, inr, Option, Some, List, [], ◌∷◌, length, sym, ◌∙◌, ap, subst}
+use Rattle.std.specs.Prelude.{Ok, Vec}
 use Rattle.std.specs.declared.alloc.Global.{Global}
-use Rattle.arc_base.specs.declared.refusal.LimitKind.{LimitKind}
 use Rattle.net_model.specs.declared.policies.Document.{Document}
 use Rattle.net_model.specs.declared.rows.Network.{Network}
 use Rattle.edit_space.specs.declared.edit_kinds.Edit.{Edit}
@@ -11,7 +10,6 @@ use Rattle.edit_space.specs.declared.edit_kinds.EditFault.TheVariants.{Limit, Me
 use Rattle.policy_encode.specs.Formulas.{IsFaultOf, IsWithin}
 use Rattle.proof_check.specs.declared.checker.Checker.{Checker}
 use Rattle.proof_check.specs.Knowledge.{Knowledge}
-use Rattle.proof_check.specs.View.{known}
 use Rattle.policy_report.specs.declared.got.Got.TheVariants.{Head, More}
 use Rattle.policy_report.specs.declared.got.CertForm.{CertForm}
 use Rattle.policy_report.specs.declared.got.CertForm.TheVariants.{Repaired, NoRepair}
@@ -19,7 +17,7 @@ use Rattle.std.proofs.lemmas.List.{length-map}
 use Rattle.arc_repair.specs.Repairs.{none_of}
 use Rattle.repair_check.specs.declared.phases.Phase.{Phase}
 use Rattle.repair_check.specs.declared.phases.Phase.TheVariants as phases
-use Rattle.repair_check.specs.Certifies.{CountsBound, HasBound, IsCounted, IsCountFault}
+use Rattle.repair_check.specs.Certifies.{HasBound, IsCounted}
 use Rattle.repair_check.specs.Outcomes.{Answers, IsEditsOutcome, IsReadyOutcome}
 use Rattle.repair_check.specs.Phases.{Goes, IsAt, IsFaultAt, IsReady, IsReadyWithin}
 

@@ -1,6 +1,6 @@
 -- A text is accepted exactly where it is the certificate of a claim.
-use Rattle.std.proofs.Common.{◌≡◌, ◌≢◌, ℕ, suc, ◌+◌, ◌<◌, ◌≤◌, ◌⊎◌, Bool, true, false, inl, inr, Option, List, [], ◌∷◌, length, refl, sym, ◌∙◌, subst, arith}
-use Rattle.std.specs.Prelude.{All, IsTrue, Some}
+use Rattle.std.proofs.Common.{◌≡◌, ◌≢◌, ℕ, suc, ◌+◌, ◌<◌, ◌≤◌, Bool, true, inl, inr, Option, List, [], ◌∷◌, length, refl, subst, arith}
+use Rattle.std.specs.Prelude.{All, Some}
 use Rattle.std.specs.List.{AllZip}
 use Rattle.std.proofs.lemmas.Bool.{cases_eq}
 use Rattle.arc_base.specs.declared.certificate.CertKind.TheVariants as kinds
@@ -17,23 +17,21 @@ use Rattle.edit_space.specs.declared.claims.Claim.{Claim}
 use Rattle.edit_space.specs.declared.claims.Claim.TheVariants as claims
 use Rattle.edit_space.specs.declared.edit_kinds.Edit as edits
 use Rattle.edit_space.specs.Determined.{AfterIsOne, IsCountable}
-use Rattle.edit_space.specs.EditLists.{AreEdits}
 use Rattle.edit_space.specs.Prices.{chosen_of}
 use Rattle.policy_encode.specs.Laws.{HaveOneFormula}
 use Rattle.price_descent.specs.Outcomes.{least_below}
 use Rattle.proof_check.specs.Knowledge.{Knowledge, start}
-use Rattle.policy_report.specs.Edits.{EditsAreToldApart, HasAddresses}
+use Rattle.policy_report.specs.Edits.{EditsAreToldApart}
 use Rattle.policy_report.specs.Recertifying.{CertificatesAreReadAgain, IsToldClaim, IsYes, OnlyCertificatesAreTaken, Told, certificate_answers, chosen_from, edits_answers, log_answers}
 use Rattle.policy_report.specs.Rereading.{IsReadable, answers, blocks_answers}
 use Rattle.policy_report.specs.Steps.{start as before}
 use Rattle.report_check.specs.declared.outcome.Outcome.{Outcome}
-use Rattle.report_check.specs.declared.outcome.Outcome.TheVariants.{Accepted}
 use Rattle.report_check.proofs.Zipped.{right_places, right_zip}
 use Rattle.arc_repair.specs.Checks.{IsMispriced}
 use Rattle.arc_repair.specs.Claims.{IsCertificate, IsRightYes, is_above_zero}
 use Rattle.arc_repair.specs.Laws.{CertificatesAreTrue}
 use Rattle.arc_repair.specs.Repairs.{cost, none_of}
-use Rattle.repair_check.specs.Certifies.{CertificatesAreAccepted, CertifiedClaimsAreTrue, IsCertified}
+use Rattle.repair_check.specs.Certifies.{CertificatesAreAccepted, CertifiedClaimsAreTrue}
 use Rattle.repair_check.specs.Outcomes.{AfterEdits, AfterNone, IsEditsEnd, IsEditsOutcome, IsHeadOutcome, IsOutcome}
 use Rattle.repair_check.proofs.Logs.{AcceptsIf, Passes, log_exact, never, passes_shows, shows_passes, steps_told}
 use Rattle.repair_check.proofs.BlocksJudged.{AreYes, blocks_exact, right_yeses, yeses_right}

@@ -1,54 +1,67 @@
--- The answers to the lines that are left, the first of them apart.
-use Rattle.std.proofs.Common.{◌≡◌, ℕ, ◌==◌, List, [], ◌∷◌, length, refl, sym, ◌∙◌, ap, subst, arith}
-use Rattle.std.specs.Prelude.{IsTrue, Result}
-use Rattle.std.proofs.lemmas.Bool.{eqb-true}
-use Rattle.cnf_types.specs.Words.{lines}
+-- What a line that comes to a judge leads to, and what the end of the text.
+use Rattle.std.proofs.Common.{◌≡◌, ℕ, ◌+◌, List, [], ◌∷◌, refl, sym, ap, subst}
+use Rattle.std.specs.Prelude.{Result}
 use Rattle.net_model.specs.declared.policies.Document.{Document}
 use Rattle.net_model.specs.declared.rows.Network.{Network}
 use Rattle.edit_space.specs.declared.edit_kinds.Edit.{Edit}
+use Rattle.edit_space.specs.declared.edit_kinds.EditFault.{EditFault}
 use Rattle.policy_report.specs.declared.got.Got.{Got}
 use Rattle.policy_report.specs.declared.got.CertFault.{CertFault}
+use Rattle.policy_report.specs.declared.reader.Reader.{Reader}
 use Rattle.policy_report.specs.Rereading.{answers}
-use Rattle.policy_report.specs.Steps.{Standing, step}
+use Rattle.policy_report.specs.Steps.{Standing, standing, step}
 use Rattle.report_check.specs.declared.outcome.Outcome.{Outcome}
+use Rattle.repair_check.specs.declared.judge.RepairJudge.{RepairJudge}
 use Rattle.repair_check.specs.declared.phases.Next.{Next}
-use Rattle.repair_check.specs.declared.phases.Next.TheVariants.{Done}
+use Rattle.repair_check.specs.declared.phases.Next.TheVariants.{Line, Done}
 use Rattle.repair_check.specs.declared.phases.Phase.{Phase}
-use Rattle.repair_check.specs.Certifies.{IsCounted}
+use Rattle.repair_check.specs.Certifies.{IsCountFault, text_answers}
+use Rattle.repair_check.specs.LineByLine.{HasComeTo, Judges}
 use Rattle.repair_check.specs.Outcomes.{Answers}
-use Rattle.repair_check.specs.Phases.{IsAt, IsPhaseOutcome, LeadsTo, Settles}
+use Rattle.repair_check.specs.Phases.{Goes, IsAt, IsFaultAt, IsPhaseOutcome, LeadsTo, Settles}
 use Rattle.repair_check.proofs.Counted.{ends_counted}
 
--- an empty text has no lines
-no_lines : (text : List ℕ) → IsTrue (length text == 0) → lines text ≡ []
-no_lines [] h = refl
-no_lines (b ∷ bytes) h = let none : length (b ∷ bytes) ≡ 0 = eqb-true (length (b ∷ bytes)) 0 h in absurd (omega (arith, none))
+module _ (net : Network) (doc : Document) (list : List Edit) (text : List ℕ) where
+  -- no other line comes
+  pub ended : (judge : RepairJudge) (o : Outcome) → HasComeTo net doc list text [] judge → IsPhaseOutcome net doc list judge.phase judge.number [] o → Judges net doc list text o
+  ended judge o come is = record { outcome = come.outcome o is; counted = ends_counted net doc list judge.phase (text_answers net doc list text) come.at }
 
-module _ (net : Network) (doc : Document) (list : List Edit) (s : Standing) (text : List ℕ) where
-  no_answers : IsTrue (length text == 0) → answers net doc list s (lines text) ≡ []
-  no_answers h = ap (answers net doc list s) (no_lines text h)
+  module _ (judge : RepairJudge) (line : List ℕ) (rest : List (List ℕ)) (told : Result Got CertFault) (reads : told ≡ (step net doc list (standing judge.reader) line).1) (come : HasComeTo net doc list text (line ∷ rest) judge) where
+    -- the answers to the lines behind it
+    abbrev behind : Answers
+    behind = answers net doc list (step net doc list (standing judge.reader) line).0 rest
 
-  -- the text ends in this phase
-  pub end_outcome : (phase : Phase) (number : ℕ) (o : Outcome) → IsTrue (length text == 0) → IsPhaseOutcome net doc list phase number [] o → IsPhaseOutcome net doc list phase number (answers net doc list s (lines text)) o
-  end_outcome phase number o h is = subst (λ (told : Answers). IsPhaseOutcome net doc list phase number told o) (sym (no_answers h)) is
+    here : IsAt net doc list (text_answers net doc list text) judge.phase (told ∷ behind)
+    here = subst (λ (t : Result Got CertFault). IsAt net doc list (text_answers net doc list text) judge.phase (t ∷ behind)) (sym reads) come.at
 
-  pub end_counted : (phase : Phase) (all : Answers) → IsTrue (length text == 0) → IsAt net doc list all phase (answers net doc list s (lines text)) → IsCounted net doc list all
-  end_counted phase all h at = ends_counted net doc list phase all (subst (λ (told : Answers). IsAt net doc list all phase told) (no_answers h) at)
+    leads : (o : Outcome) → IsPhaseOutcome net doc list judge.phase judge.number (told ∷ behind) o → IsPhaseOutcome net doc list judge.phase judge.number ((step net doc list (standing judge.reader) line).1 ∷ behind) o
+    leads o h = subst (λ (t : Result Got CertFault). IsPhaseOutcome net doc list judge.phase judge.number (t ∷ behind) o) reads h
 
-  module _ (line after : List ℕ) (told : Result Got CertFault) (is : lines text ≡ line ∷ lines after) (reads : told ≡ (step net doc list s line).1) where
-    one_apart : answers net doc list s (lines text) ≡ told ∷ answers net doc list (step net doc list s line).0 (lines after)
-    one_apart = ap (answers net doc list s) is ∙ ap (λ (t : Result Got CertFault). t ∷ answers net doc list (step net doc list s line).0 (lines after)) (sym reads)
+    gone_on : (next : RepairJudge) → standing next.reader ≡ (step net doc list (standing judge.reader) line).0 → next.number ≡ judge.number + 1 →
+        Goes net doc list judge.phase judge.number told next.phase → HasComeTo net doc list text rest next
+    gone_on next stands number goes =
+        let same : answers net doc list (standing next.reader) rest ≡ behind = ap (λ (s : Standing). answers net doc list s rest) stands in
+        record {
+          outcome = λ o h. come.outcome o (leads o (goes.outcome behind o
+              (subst (λ (n : ℕ). IsPhaseOutcome net doc list next.phase n behind o) number (subst (λ (a : Answers). IsPhaseOutcome net doc list next.phase next.number a o) same h))));
+          at = subst (λ (a : Answers). IsAt net doc list (text_answers net doc list text) next.phase a) (sym same) (goes.at (text_answers net doc list text) behind here);
+        }
 
-    settled : (phase : Phase) (number : ℕ) (next : Next) (o : Outcome) → next ≡ Done o → LeadsTo net doc list phase number told next → Settles net doc list phase number told o
-    settled phase number next o e h = subst (LeadsTo net doc list phase number told) e h
+    -- another line may come
+    pub line_came : (next : Next) (phase : Phase) → next ≡ Line phase → LeadsTo net doc list judge.phase judge.number told next → (reader : Reader) → standing reader ≡ (step net doc list (standing judge.reader) line).0 →
+        HasComeTo net doc list text rest (record { reader = reader; phase = phase; number = judge.number + 1 })
+    line_came next phase is there reader stands =
+        gone_on (record { reader = reader; phase = phase; number = judge.number + 1 }) stands refl (subst (LeadsTo net doc list judge.phase judge.number told) is there)
 
-    -- a line that settles the outcome
-    pub done_outcome : (phase : Phase) (number : ℕ) (next : Next) (o : Outcome) → next ≡ Done o → LeadsTo net doc list phase number told next → IsPhaseOutcome net doc list phase number (answers net doc list s (lines text)) o
-    done_outcome phase number next o e h =
-        subst (λ (a : Answers). IsPhaseOutcome net doc list phase number a o) (sym one_apart)
-        ((settled phase number next o e h).outcome (answers net doc list (step net doc list s line).0 (lines after)))
+    -- the line settles the outcome
+    pub settled : (next : Next) (o : Outcome) → next ≡ Done o → LeadsTo net doc list judge.phase judge.number told next → Judges net doc list text o
+    settled next o is there =
+        let settles : Settles net doc list judge.phase judge.number told o = subst (LeadsTo net doc list judge.phase judge.number told) is there in
+        record {
+          outcome = come.outcome o (leads o (settles.outcome behind));
+          counted = settles.at (text_answers net doc list text) behind here;
+        }
 
-    pub done_counted : (phase : Phase) (number : ℕ) (next : Next) (o : Outcome) (all : Answers) → next ≡ Done o → LeadsTo net doc list phase number told next →
-        IsAt net doc list all phase (answers net doc list s (lines text)) → IsCounted net doc list all
-    done_counted phase number next o all e h at =
-        (settled phase number next o e h).at all (answers net doc list (step net doc list s line).0 (lines after)) (subst (λ (a : Answers). IsAt net doc list all phase a) one_apart at)
+    -- the formula passes a limit
+    pub stopped : (fault : EditFault) → IsFaultAt net doc list judge.phase told fault → IsCountFault net doc list (text_answers net doc list text) fault
+    stopped fault there = there (text_answers net doc list text) behind here

@@ -1,6 +1,6 @@
 -- What the lines of a repair lead to.
-use Rattle.std.proofs.Common.{◌≡◌, ℕ, ◌+◌, Bool, true, false, inl, inr, Option, List, [], ◌∷◌, length, refl, sym, subst}
-use Rattle.std.specs.Prelude.{IsFalse, MatchBool, Result, Ok, Err, Vec}
+use Rattle.std.proofs.Common.{◌≡◌, ℕ, Bool, inl, inr, Option, List, ◌∷◌, refl, sym, subst}
+use Rattle.std.specs.Prelude.{MatchBool, Result, Ok, Err, Vec}
 use Rattle.std.specs.declared.alloc.Global.{Global}
 use Rattle.arc_base.specs.declared.certificate.CertKind.TheVariants as kinds
 use Rattle.net_model.specs.declared.policies.Document.{Document}
@@ -24,7 +24,7 @@ use Rattle.repair_check.specs.declared.phases.Next.{Next}
 use Rattle.repair_check.specs.declared.phases.Next.TheVariants.{Line, Done}
 use Rattle.repair_check.specs.declared.phases.Phase.{Phase}
 use Rattle.repair_check.specs.declared.phases.Phase.TheVariants as phases
-use Rattle.repair_check.specs.Outcomes.{AfterEdits, Answers, IsBlocksOutcome, IsEditsEnd, IsEditsOutcome, is_edit_kind, rejected}
+use Rattle.repair_check.specs.Outcomes.{Answers, IsBlocksOutcome, IsEditsEnd, IsEditsOutcome, rejected}
 use Rattle.repair_check.specs.Phases.{EndsEdits, IsBlocksLeft, IsOpened, LeadsTo}
 
 module _ (net : Network) (doc : Document) (list : List edits.Edit) where

@@ -1,6 +1,6 @@
 -- The log of a certificate is judged to be accepted exactly where it shows the claim.
 use Rattle.std.proofs.Common.{◌≡◌, ℕ, ◌+◌, Bool, true, false, not, ◌||◌, List, [], ◌∷◌, ◌++◌, map, refl, sym, ◌∙◌, ap, subst}
-use Rattle.std.specs.Prelude.{◌↔◌, IsTrue, MatchBool, MatchOption, Option, Some, None, Ok}
+use Rattle.std.specs.Prelude.{IsTrue, MatchBool, MatchOption, Option, Some, None, Ok}
 use Rattle.std.specs.List.{filter_map, list_any}
 use Rattle.std.proofs.lemmas.Bool.{false≢true}
 use Rattle.arc_base.specs.declared.certificate.CertKind.{CertKind}
@@ -13,8 +13,8 @@ use Rattle.proof_log.specs.declared.steps.Step.{Step}
 use Rattle.policy_report.specs.declared.got.Got.TheVariants.{End}
 use Rattle.policy_report.specs.Recertifying.{Told, told_answer}
 use Rattle.report_check.specs.declared.outcome.Outcome.{Outcome}
-use Rattle.report_check.specs.declared.outcome.Outcome.TheVariants.{Accepted, Rejected}
-use Rattle.repair_check.specs.Outcomes.{Answers, IsEnded, IsLogOutcome, rejected}
+use Rattle.report_check.specs.declared.outcome.Outcome.TheVariants.{Accepted}
+use Rattle.repair_check.specs.Outcomes.{IsEnded, IsLogOutcome, rejected}
 use Rattle.proof_check.specs.Outcomes.{fault_kind}
 
 -- the outcome is to accept exactly where this holds

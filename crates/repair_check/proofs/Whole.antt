@@ -1,7 +1,6 @@
 -- What is accepted is taken whole: each line, the first one as the head of a repair and the last one as the end.
-use Rattle.std.proofs.Common.{◌≡◌, ℕ, ◌+◌, ◌==◌, ◌||◌, Bool, true, false, not, inl, inr, List, [], ◌∷◌, length, set, subst}
-use Rattle.std.specs.Prelude.{MatchBool, MatchOption, Option, Some, None, Result, Ok, Err}
-use Rattle.arc_base.specs.declared.certificate.CertKind.{CertKind}
+use Rattle.std.proofs.Common.{◌≡◌, ℕ, ◌+◌, ◌==◌, ◌||◌, Bool, true, false, not, inl, inr, List, [], ◌∷◌, length, set}
+use Rattle.std.specs.Prelude.{MatchBool, MatchOption, Option, Some, None, Ok, Err}
 use Rattle.arc_base.specs.declared.certificate.CertKind.TheVariants as kinds
 use Rattle.net_model.specs.declared.policies.Document.{Document}
 use Rattle.net_model.specs.declared.policies.Policy.{Policy}
@@ -9,13 +8,11 @@ use Rattle.net_model.specs.declared.rows.Network.{Network}
 use Rattle.edit_space.specs.declared.edit_kinds.Edit as edits
 use Rattle.proof_check.specs.declared.faults.StepFault.{StepFault}
 use Rattle.proof_check.specs.Knowledge.{Knowledge, after, step_fault}
-use Rattle.policy_report.specs.declared.got.Got.{Got}
 use Rattle.policy_report.specs.declared.got.Got.TheVariants.{More, Head, Verdict, Edit, Step, End}
 use Rattle.policy_report.specs.declared.got.CertForm.TheVariants.{Report, Repaired, NoRepair}
 use Rattle.policy_report.specs.declared.got.CertFault.{CertFault}
 use Rattle.policy_report.specs.Recertifying.{IsWholeRepair}
 use Rattle.policy_report.specs.Rereading.{IsWhole}
-use Rattle.report_check.specs.declared.outcome.Outcome.{Outcome}
 use Rattle.report_check.specs.declared.outcome.Outcome.TheVariants.{Accepted, Rejected}
 use Rattle.arc_repair.specs.Repairs.{none_of}
 use Rattle.repair_check.specs.Outcomes.{Answers, IsAnswerOutcome, IsBlocksOutcome, IsEditsEnd, IsEditsOutcome, IsEnded, IsHeadOutcome, IsLogOutcome, IsReadyOutcome, is_edit_kind, rejected}

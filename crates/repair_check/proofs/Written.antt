@@ -23,7 +23,7 @@ use Rattle.edit_space.specs.declared.claims.Claim.{Claim}
 use Rattle.edit_space.specs.declared.claims.Claim.TheVariants.{Repaired, NoRepair}
 use Rattle.edit_space.specs.declared.edit_kinds.Edit as edits
 use Rattle.proof_log.specs.declared.steps.Step.{Step}
-use Rattle.policy_report.specs.Recertifying.{CertificatesAreWritten, IsToldClaim, IsYes, Told}
+use Rattle.policy_report.specs.Recertifying.{CertificatesAreWritten, IsToldClaim, IsYes}
 use Rattle.policy_report.specs.Rereading.{AreLinks, IsAnswer, IsReadable, IsTold}
 use Rattle.arc_repair.specs.Answers.{ClaimsFew, ShowsFew}
 use Rattle.arc_repair.specs.Claims.{IsCertificate, IsRightClaim, IsRightYes}

@@ -1,5 +1,5 @@
 -- The judgement line by line: what the lines so far leave to be judged.
-use Rattle.std.specs.Prelude.{◌≡◌, ℕ, ◌+◌, ◌<◌, ◌≤◌, Bool, true, Option, Some, List, [], ◌∷◌}
+use Rattle.std.specs.Prelude.{◌≡◌, ℕ, ◌+◌, ◌<◌, ◌≤◌, Bool, Option, List, ◌∷◌}
 use Rattle.std.specs.Prelude.{length, All, MatchOption, Result, Ok, Err, IsFalse}
 use Rattle.arc_base.specs.declared.limits.TheConstants.{PRICE_LIMIT}
 use Rattle.cnf_types.specs.declared.clauses.Formula.{Formula}

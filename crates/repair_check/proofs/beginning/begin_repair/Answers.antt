@@ -1,10 +1,7 @@
-use Rattle.std.proofs.Common.{◌≡◌, ◌∙◌, ◌≤◌, ◌<◌, ℕ, Option, inl, refl, ap, sym, subst, arith}
-use Rattle.std.specs.Prelude.{Some, None}
+use Rattle.std.proofs.Common.{◌≡◌, ◌∙◌, ℕ, Option, inl, refl, ap, sym, subst, arith}
 use Rattle.std.proofs.lemmas.Result.{err_from_is_err_and}
 use Rattle.proof_check.specs.declared.checker.Checker.{Checker}
 use Rattle.policy_report.specs.declared.got.CertForm.TheVariants.{Repaired}
-use Rattle.policy_encode.specs.Formulas.{IsWithin}
-use Rattle.price_descent.specs.Outcomes.{least_below}
 use Rattle.arc_repair.specs.Repairs.{none_of}
 use Rattle.repair_check.specs.Phases.{IsReady, IsReadyWithin}
 use Rattle.repair_check.proofs.Counted.{fault_there, repair_begun}

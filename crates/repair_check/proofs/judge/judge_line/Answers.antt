@@ -1,6 +1,6 @@
 use Rattle.repair_check.specs.declared.phases.Phase.TheVariants as phases
 use Rattle.repair_check.proofs.Leading.{phase_so}
-use Rattle.repair_check.proofs.checking.judge_line.Goals as goal
+use Rattle.repair_check.proofs.judge.judge_line.Goals as goal
 
 pub returns-in-Head-clause-leads : goal.returns-in-Head-clause-leads
 returns-in-Head-clause-leads c =

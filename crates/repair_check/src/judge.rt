@@ -1,0 +1,217 @@
+//! The judgement of a text whose lines come one by one.
+ghost use Rattle.std.specs.Prelude.{◌≡◌, ◌+◌, ◌<◌, ◌≤◌, ◌∷◌, ℕ, [], List as Items, length, All};
+ghost use Rattle.std.specs.Prelude.{IfOk, IfErr, IfSome};
+ghost use Rattle.std.specs.ControlFlow.{continue_value, MatchControlFlow};
+ghost use Rattle.cnf_types.specs.Words.{lines};
+ghost use Rattle.net_model.specs.Forwarding.{HasEnds};
+ghost use Rattle.net_model.specs.Packets.{subject};
+ghost use Rattle.net_model.specs.Policies.{HasFewFailures};
+ghost use Rattle.net_model.specs.Validity.{IsValid};
+ghost use Rattle.edit_space.specs.EditLists.{AreEdits, HasFewClasses};
+ghost use Rattle.policy_report.specs.Steps.{standing, step};
+ghost use Rattle.repair_check.specs.Certifies.{IsCountFault, text_answers};
+ghost use Rattle.repair_check.specs.Outcomes.{rejected};
+ghost use Rattle.repair_check.specs.Phases.{IsFaultAt, IsGoing, IsPhaseOutcome, LeadsTo};
+
+use crate::beginning::{end_edits, judge_answer, judge_head};
+use crate::judging::{judge_block, judge_edits, judge_log, judge_ready};
+use crate::phases::{Next, Phase};
+use arc_base::limits::{EDIT_LIMIT, POLICY_LIMIT};
+use arc_base::{CertKind, List, Memory};
+use edit_space::{Edit, EditFault};
+use net_model::{Document, Network};
+use policy_report::{CertFault, Got, Reader};
+use report_check::Outcome;
+use std::alloc::Global;
+use std::ops::ControlFlow;
+
+fn rejected(number: u64, kind: CertKind) -> Outcome
+    ensures { result ≡ rejected number kind }
+{
+    Outcome::Rejected(CertFault { line: number, kind })
+}
+
+// Judges a line, which has this number.
+fn judge_line(
+    alloc: Global,
+    net: &Network,
+    doc: &Document,
+    list: &List<Edit>,
+    phase: Phase,
+    number: u64,
+    told: Result<Got, CertFault>,
+) -> Result<Next, EditFault>
+    requires valid { IsValid net.now }
+    requires policies { length doc.now.policies ≤ POLICY_LIMIT }
+    requires ends { All (λ policy. HasEnds net.now (subject policy)) doc.now.policies }
+    requires failures { All (λ policy. HasFewFailures policy.kind) doc.now.policies }
+    requires edits { AreEdits net.now doc.now list.now }
+    requires few { length list.now ≤ EDIT_LIMIT }
+    requires few_classes { HasFewClasses net.now doc.now }
+    requires number { number < 18446744073709551615 }
+    requires going { IsGoing net.now doc.now list.now phase }
+    ensures leads { IfOk result (LeadsTo net.now doc.now list.now phase number told) }
+    ensures fault { IfErr result (IsFaultAt net.now doc.now list.now phase told) }
+{
+    match phase {
+        Phase::Head => Ok(judge_head(number, told)),
+        Phase::Answer => judge_answer(alloc, net, doc, list, number, told),
+        Phase::Edits(price, bound, chosen, log) => {
+            Ok(judge_edits(
+                alloc, net, doc, list, price, bound, chosen, log, number, told,
+            )?)
+        }
+        Phase::Blocks(blocks) => Ok(judge_block(doc, blocks, number, told)),
+        Phase::Ready(checker) => Ok(judge_ready(checker, number, told)),
+        Phase::Log(needs, checker) => Ok(judge_log(needs, checker, number, told)?),
+        Phase::Ended => Ok(Next::Done(rejected(number, CertKind::NoEnd))),
+    }
+}
+
+// The outcome where the text ends before a line of this number.
+fn judge_end(
+    alloc: Global,
+    net: &Network,
+    doc: &Document,
+    list: &List<Edit>,
+    phase: Phase,
+    number: u64,
+) -> Result<Outcome, Memory>
+    requires valid { IsValid net.now }
+    requires ends { All (λ policy. HasEnds net.now (subject policy)) doc.now.policies }
+    requires going { IsGoing net.now doc.now list.now phase }
+    ensures { IfOk result (IsPhaseOutcome net.now doc.now list.now phase number []) }
+{
+    match phase {
+        Phase::Edits(price, bound, chosen, log) => {
+            match end_edits(alloc, net, doc, list, price, bound, chosen, log, number)? {
+                Some(_blocks) => Ok(rejected(number, CertKind::NoEnd)),
+                None => Ok(rejected(2, CertKind::Price)),
+            }
+        }
+        Phase::Ended => Ok(Outcome::Accepted),
+        Phase::Head => Ok(rejected(number, CertKind::NoEnd)),
+        Phase::Answer => Ok(rejected(number, CertKind::NoEnd)),
+        Phase::Blocks(_blocks) => Ok(rejected(number, CertKind::NoEnd)),
+        Phase::Ready(_checker) => Ok(rejected(number, CertKind::NoEnd)),
+        Phase::Log(_needs, _checker) => Ok(rejected(number, CertKind::NoEnd)),
+    }
+}
+
+// What a reader answers to the next line, except for want of memory.
+fn read_line(
+    reader: &mut Reader,
+    net: &Network,
+    doc: &Document,
+    list: &List<Edit>,
+    line: &[u8],
+) -> Result<Result<Got, CertFault>, Memory>
+    ensures reader { IfOk result (λ told.
+        standing reader.new ≡ (step net.now doc.now list.now (standing reader.old) line.now).0) }
+    ensures told { IfOk result (λ told.
+        told ≡ (step net.now doc.now list.now (standing reader.old) line.now).1) }
+{
+    match reader.line(net, doc, list, line) {
+        Ok(got) => Ok(Ok(got)),
+        Err(fault) => {
+            if fault.kind == CertKind::Memory {
+                return Err(Memory);
+            }
+            Ok(Err(fault))
+        }
+    }
+}
+
+/// The judgement of the certificate of a repair, up to the line that comes next. It holds the
+/// edits that are chosen so far, the block that is not at its end, and what the log is judged by,
+/// but no line. All calls are made with the same network, document and list of edits.
+#[derive(Drop)]
+pub struct RepairJudge {
+    reader: Reader,
+    phase: Phase,
+    number: u64,
+}
+
+impl RepairJudge {
+    ghost use Rattle.repair_check.specs.LineByLine.{CanGoOn, HasComeTo, Judges};
+
+    /// A judge to whom no line came.
+    pub fn make(alloc: Global) -> RepairJudge
+        ensures come { (net : Network) (doc : Document) (list : Items Edit) (text : Items ℕ) →
+            HasComeTo net doc list text (lines text) result }
+        ensures going { (net : Network) (doc : Document) (list : Items Edit) →
+            CanGoOn net doc list result }
+        ensures number { result.number ≡ 1 }
+    {
+        RepairJudge {
+            reader: Reader::make(alloc),
+            phase: Phase::Head,
+            number: 1,
+        }
+    }
+
+    /// Judges the next line, without its line feed: another may come, or this is the outcome,
+    /// whatever follows. The formula is counted at the line of the answer, where that is in its
+    /// form with a bound of at most `PRICE_LIMIT`, and made once. A line takes time linear in its
+    /// bytes, the lines of edits also in the edits, all together, and a step of the log in the
+    /// clauses that its hints name.
+    pub fn line(
+        self,
+        alloc: Global,
+        net: &Network,
+        doc: &Document,
+        list: &List<Edit>,
+        line: &[u8],
+    ) -> Result<ControlFlow<Outcome, RepairJudge>, EditFault>
+        requires valid { IsValid net.now }
+        requires policies { length doc.now.policies ≤ POLICY_LIMIT }
+        requires ends { All (λ policy. HasEnds net.now (subject policy)) doc.now.policies }
+        requires failures { All (λ policy. HasFewFailures policy.kind) doc.now.policies }
+        requires edits { AreEdits net.now doc.now list.now }
+        requires few { length list.now ≤ EDIT_LIMIT }
+        requires few_classes { HasFewClasses net.now doc.now }
+        requires number { self.number < 18446744073709551615 }
+        requires going { CanGoOn net.now doc.now list.now self }
+        ensures judged { (text : Items ℕ) (rest : Items (Items ℕ)) →
+            HasComeTo net.now doc.now list.now text (line.now ∷ rest) self →
+            IfOk result (λ flow. MatchControlFlow flow
+            (HasComeTo net.now doc.now list.now text rest)
+            (Judges net.now doc.now list.now text)) }
+        ensures fault { (text : Items ℕ) (rest : Items (Items ℕ)) →
+            HasComeTo net.now doc.now list.now text (line.now ∷ rest) self →
+            IfErr result (IsCountFault net.now doc.now list.now
+            (text_answers net.now doc.now list.now text)) }
+        ensures going { IfOk result (λ flow. IfSome (continue_value flow)
+            (CanGoOn net.now doc.now list.now)) }
+        ensures number { IfOk result (λ flow. IfSome (continue_value flow)
+            (λ next. next.number ≡ self.number + 1)) }
+    {
+        let mut reader = self.reader;
+        let told = read_line(&mut reader, net, doc, list, line)?;
+        match judge_line(alloc, net, doc, list, self.phase, self.number, told)? {
+            Next::Line(phase) => Ok(ControlFlow::Continue(RepairJudge {
+                reader,
+                phase,
+                number: self.number + 1,
+            })),
+            Next::Done(outcome) => Ok(ControlFlow::Break(outcome)),
+        }
+    }
+
+    /// The outcome where no other line comes.
+    pub fn end(
+        self,
+        alloc: Global,
+        net: &Network,
+        doc: &Document,
+        list: &List<Edit>,
+    ) -> Result<Outcome, Memory>
+        requires valid { IsValid net.now }
+        requires ends { All (λ policy. HasEnds net.now (subject policy)) doc.now.policies }
+        requires going { CanGoOn net.now doc.now list.now self }
+        ensures { (text : Items ℕ) → HasComeTo net.now doc.now list.now text [] self →
+            IfOk result (Judges net.now doc.now list.now text) }
+    {
+        judge_end(alloc, net, doc, list, self.phase, self.number)
+    }
+}
