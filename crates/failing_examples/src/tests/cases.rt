@@ -1,6 +1,6 @@
 //! Commands over small files: what each puts, and how many calls of the store it needs. A file is
 //! read by two calls, of which the second finds its end, and written by one; the proof of `lrat` is
-//! gone through twice.
+//! gone through twice, and so is the old report of `recheck`.
 
 use super::Case;
 
@@ -105,7 +105,7 @@ pub const CASES: [Case; 11] = [
         words: &[b"recheck", b"net.json", b"old"],
         text: b"arc-recheck 1\n1 blocked no 1 kept\nwalk 10.1.0.0/24 10.2.0.0/24 1\nend\n",
         code: 1,
-        calls: 8,
+        calls: 10,
         outputs: &[],
     },
     Case {
