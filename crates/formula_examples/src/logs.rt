@@ -16,11 +16,12 @@ fn written_again(alloc: Global, line: &[u8]) -> Result<Vec<u8>, Memory> {
     text(alloc, &Log { steps })
 }
 
-// A line, and what is written for it.
+// A line, and what is written for it. The number of a line that drops clauses is that of the clause
+// that was added last, here of none.
 const LINES: &[(&str, &str)] = &[
     ("3  1 -20 0 2 -7 0\r", "3 1 -20 0 2 -7 0\n"),
     ("9223372036854775807 0 1 0", "9223372036854775807 0 1 0\n"),
-    ("3 d 2 4 0", "3 d 2 4 0\n"),
+    ("3 d 2 4 0", "0 d 2 4 0\n"),
     ("4 b 9 0", "4 b 9 0\n"),
     ("c 5 d 1 2 0", ""),
     (" ", ""),
