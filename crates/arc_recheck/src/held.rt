@@ -7,7 +7,6 @@ ghost use Rattle.policy_report.specs.Rereading.{answers};
 ghost use Rattle.arc_recheck.specs.Held.{held_verdicts, is_head, told_by, IsTaken};
 
 use arc_base::{CertKind, List, Memory};
-use cnf_types::first_line;
 use net_model::{Document, Network, Verdict};
 use policy_report::{CertForm, Got, Reader};
 use std::alloc::Global;
@@ -103,30 +102,6 @@ impl HeldBlocks {
     {
         self.held
     }
-}
-
-/// The verdicts of the blocks that a report holds whose text is at hand whole: line by line, as
-/// `HeldBlocks` takes them.
-pub fn held_verdicts(
-    alloc: Global,
-    net: &Network,
-    doc: &Document,
-    text: &[u8],
-) -> Result<List<Verdict>, Memory>
-    ensures { IfOk result (λ held.
-        held ≡ held_verdicts (answers net.now doc.now [] start (lines text.now))) }
-{
-    let mut blocks = HeldBlocks::make(alloc);
-    let mut rest = text;
-    while !rest.is_empty() {
-        let (line, after) = first_line(rest);
-        match blocks.line(net, doc, line)? {
-            ControlFlow::Continue(next) => blocks = next,
-            ControlFlow::Break(held) => return Ok(held),
-        }
-        rest = after;
-    }
-    Ok(blocks.end())
 }
 
 /// Takes the first line, and says whether it is the head of a report.

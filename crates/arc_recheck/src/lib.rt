@@ -12,7 +12,7 @@ mod rechecking;
 mod singles;
 mod texts;
 
-pub use held::{HeldBlocks, held_verdicts};
+pub use held::HeldBlocks;
 pub use rechecking::{Rechecked, recheck};
 pub use singles::alone;
 pub use texts::recheck_text;
