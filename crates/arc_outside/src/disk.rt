@@ -24,12 +24,13 @@ pub struct Failure {
     pub error: io::Error,
 }
 
-// A file that is being read, and how many of its bytes were.
+// A file that is being read, how many of its bytes were, and whether it is a plain one.
 #[derive(Drop)]
 struct Reading<F: Drop> {
     name: Name,
     file: F,
     place: u64,
+    is_plain: bool,
 }
 
 /// The files of the system, named by paths in UTF-8. A file to be read that is not there is Missing
@@ -38,7 +39,8 @@ struct Reading<F: Drop> {
 /// faults, also a name that is no path.
 ///
 /// A file stays open from its first piece to its last, so that one that is replaced meanwhile is
-/// read as it was, and a pipe can be read once. A plain file is written beside its name, as
+/// read as it was, and a pipe can be read once: to read it from its start again is an error, and not
+/// the end of a file. A plain file is written beside its name, as
 /// NAME.part, and then renamed, so that it is whole or as it was; where no such file can be made,
 /// and at a link, a pipe or a device, the bytes are written in its place.
 /// Where there is no memory for the name NAME.part nothing is written.
@@ -47,6 +49,7 @@ pub struct DiskStore<R: Files> {
     rt: R,
     alloc: Global,
     reading: Option<Reading<R::File>>,
+    emptied: Vec<Name>,
     failure: Option<Failure>,
     faults: u64,
     absences: u64,
@@ -64,6 +67,7 @@ impl<R: Files> DiskStore<R> {
             rt,
             alloc,
             reading: None,
+            emptied: Vec::new(alloc),
             failure: None,
             faults: 0,
             absences: 0,
@@ -121,31 +125,56 @@ fn opened<R: Files>(
     if place > 0 {
         file.seek(SeekFrom::Start(place))?;
     }
+    let is_plain = file.metadata()?.is_file();
     Ok(Reading {
         name: copy_of(alloc, name)?,
         file,
         place,
+        is_plain,
     })
 }
 
+// The open file, where it stands at this place, and else the file opened there. What was emptied
+// has nothing more to give.
+fn reading_at<R: Files>(
+    rt: &R,
+    alloc: Global,
+    open: Option<Reading<R::File>>,
+    emptied: &[Name],
+    name: &Name,
+    place: u64,
+) -> io::Result<Reading<R::File>> {
+    match open {
+        Some(open) if place > 0 && open.place == place && open.name.bytes() == name.bytes() => {
+            Ok(open)
+        }
+        _ if emptied.iter().any(|it| it.bytes() == name.bytes()) => Err(io::Error::new(
+            io::ErrorKind::NotSeekable,
+            "it has to be read twice, and a pipe can be read once",
+        )),
+        _ => opened(rt, alloc, name, place),
+    }
+}
+
 // Reads on where the file stands open at this place, and else opens it there. At its end it is
-// closed.
+// closed. One that is no plain file and gave bytes is noted, since it does not give them again.
 fn read_on<R: Files>(
     rt: &R,
     alloc: Global,
     reading: &mut Option<Reading<R::File>>,
+    emptied: &mut Vec<Name>,
     name: &Name,
     place: u64,
     buf: &mut [u8],
 ) -> io::Result<usize>
     ensures { IfOk result (λ n. n ≤ length buf.new) }
 {
-    let mut current = match reading.take() {
-        Some(open) if place > 0 && open.place == place && open.name.bytes() == name.bytes() => open,
-        _ => opened(rt, alloc, name, place)?,
-    };
+    let mut current = reading_at(rt, alloc, reading.take(), emptied, name, place)?;
     let n = current.file.read(buf)?;
     if n > 0 {
+        if place == 0 && !current.is_plain {
+            emptied.push(copy_of(alloc, name)?)?;
+        }
         current.place = current.place.saturating_add(n as u64);
         *reading = Some(current);
     }
@@ -211,7 +240,15 @@ impl<R: Files> Store for DiskStore<R> {
     ghost taken = { λ s. s.taken };
 
     fn read_at(&mut self, name: &Name, place: u64, buf: &mut [u8]) -> Result<usize, Fault> {
-        match read_on(&self.rt, self.alloc, &mut self.reading, name, place, buf) {
+        match read_on(
+            &self.rt,
+            self.alloc,
+            &mut self.reading,
+            &mut self.emptied,
+            name,
+            place,
+            buf,
+        ) {
             Ok(n) => {
                 self.taken = self.taken.saturating_add(n as u64);
                 Ok(n)
