@@ -14,12 +14,12 @@ use std::test::Fail;
 // A command: the files, the words, the text that is put, the status, how often the store is called,
 // and which files are written by the last of these calls.
 struct Case {
-    files: &'static [(&'static [u8], &'static [u8])],
-    words: &'static [&'static [u8]],
-    text: &'static [u8],
+    files: &'static [(&'static str, &'static str)],
+    words: &'static [&'static str],
+    text: &'static str,
     code: u8,
     calls: u64,
-    outputs: &'static [&'static [u8]],
+    outputs: &'static [&'static str],
 }
 
 // The end of a run.
@@ -42,7 +42,10 @@ fn files(alloc: Global, case: &Case) -> Result<List<(Name, Name)>, Memory> {
     for (name, text) in case.files {
         push(
             &mut files,
-            (Name::make(alloc, name)?, Name::make(alloc, text)?),
+            (
+                Name::make(alloc, name.as_bytes())?,
+                Name::make(alloc, text.as_bytes())?,
+            ),
         )?;
     }
     Ok(files)
@@ -63,7 +66,7 @@ fn run_case(
 ) -> Result<Ended, Memory> {
     let mut words = List::make(alloc);
     for word in case.words {
-        push(&mut words, Name::make(alloc, word)?)?;
+        push(&mut words, Name::make(alloc, word.as_bytes())?)?;
     }
     let code = run(alloc, words.slice(), &mut store, &mut out).code;
     Ok(Ended { store, out, code })
@@ -103,7 +106,7 @@ fn ended_in_steps(alloc: Global, case: &Case) -> Result<Ended, Memory> {
 // Whether each file of the case is as it was.
 fn keeps_files(alloc: Global, case: &Case, store: &MemStore) -> Result<bool, Memory> {
     for (name, text) in case.files {
-        if store.bytes(&Name::make(alloc, name)?) != Some(text) {
+        if store.bytes(&Name::make(alloc, name.as_bytes())?) != Some(text.as_bytes()) {
             return Ok(false);
         }
     }
@@ -121,7 +124,7 @@ fn holds_front(
 ) -> Result<bool, Memory> {
     let mut left = count;
     for name in case.outputs {
-        let name = Name::make(alloc, name)?;
+        let name = Name::make(alloc, name.as_bytes())?;
         let text = match whole.bytes(&name) {
             Some(text) if left > 1 => Some(text),
             Some(text) if left == 1 => Some(&text[..text.len() / 2]),
@@ -145,7 +148,7 @@ fn is_whole(alloc: Global, case: &Case, it: &Ended, other: &Ended) -> Result<boo
 
 // Whether a run ends as the case says.
 fn is_answered(alloc: Global, case: &Case, it: &Ended) -> Result<bool, Memory> {
-    let is_put = it.code == case.code && it.out.bytes() == case.text;
+    let is_put = it.code == case.code && it.out.bytes() == case.text.as_bytes();
     Ok(is_put && keeps_files(alloc, case, &it.store)?)
 }
 
@@ -187,7 +190,7 @@ fn wrong_put(alloc: Global, case: &Case, whole: &Ended, step: u32) -> Result<Opt
             let is_right = is_answered(alloc, case, &it)?;
             return Ok(if is_right { None } else { Some(call) });
         }
-        if it.code != 7 || it.out.bytes() != &case.text[..count] {
+        if it.code != 7 || it.out.bytes() != &case.text.as_bytes()[..count] {
             return Ok(Some(call));
         }
         count = count.saturating_add(step as usize);

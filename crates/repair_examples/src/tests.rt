@@ -82,14 +82,14 @@ fn edits_under_ospf(rt: HostRuntime) -> Result<(), Fail> {
     let alloc = rt.alloc();
     let pair = ospf(alloc, BLOCKED)?;
     let texts = edit_texts(alloc, &pair)?;
-    let expected: &[u8] = b"edit session r1 GigabitEthernet0/1
+    let expected = "edit session r1 GigabitEthernet0/1
 edit session r2 GigabitEthernet0/1
 edit packet r1 interface GigabitEthernet0/0 10.1.0.0/24 10.2.0.0/24
 edit packet r1 interface GigabitEthernet0/1 10.1.0.0/24 10.2.0.0/24
 edit packet r2 interface GigabitEthernet0/0 10.1.0.0/24 10.2.0.0/24
 edit packet r2 interface GigabitEthernet0/1 10.1.0.0/24 10.2.0.0/24
 ";
-    assert_eq!(rt; texts.as_slice(), expected);
+    assert_eq!(rt; texts.as_slice(), expected.as_bytes());
     Ok(())
 }
 
@@ -99,7 +99,7 @@ fn edits_under_bgp(rt: HostRuntime) -> Result<(), Fail> {
     let alloc = rt.alloc();
     let pair = bgp(alloc, BLOCKED)?;
     let texts = edit_texts(alloc, &pair)?;
-    let expected: &[u8] = b"edit session r1 GigabitEthernet0/1
+    let expected = "edit session r1 GigabitEthernet0/1
 edit session r2 GigabitEthernet0/1
 edit route r1 neighbor 10.0.1.2 10.2.0.0/24
 edit route r2 neighbor 10.0.1.1 10.2.0.0/24
@@ -108,7 +108,7 @@ edit packet r1 interface GigabitEthernet0/1 10.1.0.0/24 10.2.0.0/24
 edit packet r2 interface GigabitEthernet0/0 10.1.0.0/24 10.2.0.0/24
 edit packet r2 interface GigabitEthernet0/1 10.1.0.0/24 10.2.0.0/24
 ";
-    assert_eq!(rt; texts.as_slice(), expected);
+    assert_eq!(rt; texts.as_slice(), expected.as_bytes());
     Ok(())
 }
 

@@ -11,8 +11,8 @@ use std::alloc::Global;
 use std::test::Fail;
 
 /// A report with a right verdict on each policy.
-const REPORT: &[u8] =
-    b"arc-report 1\n1 blocked no 1\nwalk 10.1.0.0/24 10.2.0.0/24 1\n2 reach yes 1\npath 1\n\
+const REPORT: &str =
+    "arc-report 1\n1 blocked no 1\nwalk 10.1.0.0/24 10.2.0.0/24 1\n2 reach yes 1\npath 1\n\
 3 reach no 2\ncut 1\nside r1\nend\n";
 
 /// A document that asks these policies of no files.
@@ -62,90 +62,90 @@ fn document_of_services(
 }
 
 /// What a text is judged to.
-fn judged(alloc: Global, text: &[u8]) -> Result<Outcome, Memory> {
+fn judged(alloc: Global, text: &str) -> Result<Outcome, Memory> {
     let net = two_routers(alloc, true)?;
     let doc = document(alloc)?;
-    check_report(alloc, &net, &doc, text)
+    check_report(alloc, &net, &doc, text.as_bytes())
 }
 
 #[test]
 fn a_report_is_accepted(rt: HostRuntime) -> Result<(), Fail> {
     let alloc = rt.alloc();
     assert_eq!(rt; judged(alloc, REPORT)?, Outcome::Accepted);
-    let without_last_feed = &REPORT[..REPORT.len() - 1];
+    let without_last_feed = REPORT.trim_end();
     assert_eq!(rt; judged(alloc, without_last_feed)?, Outcome::Accepted);
     Ok(())
 }
 
 /// A text, and the line that is rejected.
-type Changed = (&'static [u8], u64, CertKind);
+type Changed = (&'static str, u64, CertKind);
 
 const CHANGED: [Changed; 13] = [
     // of another form
-    (b"", 1, CertKind::NoEnd),
-    (b"arc-report 2\n", 1, CertKind::Form),
+    ("", 1, CertKind::NoEnd),
+    ("arc-report 2\n", 1, CertKind::Form),
     // a walk that comes back, a closed side that is open, a path that leads nowhere, and the side
     // of the target
     (
-        b"arc-report 1\n1 blocked no 1\nwalk 10.1.0.0/24 10.2.0.0/24 1 1 1\n2 reach yes 1\npath 1\n3 reach no 2\ncut 1\n\
+        "arc-report 1\n1 blocked no 1\nwalk 10.1.0.0/24 10.2.0.0/24 1 1 1\n2 reach yes 1\npath 1\n3 reach no 2\ncut 1\n\
 side r1\nend\n",
         2,
         CertKind::Witness,
     ),
     (
-        b"arc-report 1\n1 blocked yes 1\nclosed 10.1.0.0/24 10.2.0.0/24 r1\n2 reach yes 1\npath 1\n3 reach no 2\ncut 1\n\
+        "arc-report 1\n1 blocked yes 1\nclosed 10.1.0.0/24 10.2.0.0/24 r1\n2 reach yes 1\npath 1\n3 reach no 2\ncut 1\n\
 side r1\nend\n",
         2,
         CertKind::Witness,
     ),
     (
-        b"arc-report 1\n1 blocked no 1\nwalk 10.1.0.0/24 10.2.0.0/24 1\n2 reach yes 1\npath\n3 reach no 2\ncut 1\n\
+        "arc-report 1\n1 blocked no 1\nwalk 10.1.0.0/24 10.2.0.0/24 1\n2 reach yes 1\npath\n3 reach no 2\ncut 1\n\
 side r1\nend\n",
         4,
         CertKind::Witness,
     ),
     (
-        b"arc-report 1\n1 blocked no 1\nwalk 10.1.0.0/24 10.2.0.0/24 1\n2 reach yes 1\npath 1\n3 reach no 2\ncut 1\n\
+        "arc-report 1\n1 blocked no 1\nwalk 10.1.0.0/24 10.2.0.0/24 1\n2 reach yes 1\npath 1\n3 reach no 2\ncut 1\n\
 side r2\nend\n",
         6,
         CertKind::Witness,
     ),
     // the first wrong block counts, and nothing behind it
     (
-        b"arc-report 1\n1 blocked no 1\nwalk 10.1.0.0/24 10.2.0.0/24\n2 reach yes 1\npath\nno line\n",
+        "arc-report 1\n1 blocked no 1\nwalk 10.1.0.0/24 10.2.0.0/24\n2 reach yes 1\npath\nno line\n",
         2,
         CertKind::Witness,
     ),
     // no end, a block that is cut off, a block that is missing, and lines after the end
     (
-        b"arc-report 1\n1 blocked no 1\nwalk 10.1.0.0/24 10.2.0.0/24 1\n2 reach yes 1\npath 1\n3 reach no 2\ncut 1\n\
+        "arc-report 1\n1 blocked no 1\nwalk 10.1.0.0/24 10.2.0.0/24 1\n2 reach yes 1\npath 1\n3 reach no 2\ncut 1\n\
 side r1\n",
         9,
         CertKind::NoEnd,
     ),
     (
-        b"arc-report 1\n1 blocked no 1\nwalk 10.1.0.0/24 10.2.0.0/24 1\n2 reach yes 1\npath 1\n3 reach no 2\ncut 1\n",
+        "arc-report 1\n1 blocked no 1\nwalk 10.1.0.0/24 10.2.0.0/24 1\n2 reach yes 1\npath 1\n3 reach no 2\ncut 1\n",
         8,
         CertKind::NoEnd,
     ),
     (
-        b"arc-report 1\n1 blocked no 1\nwalk 10.1.0.0/24 10.2.0.0/24 1\n3 reach no 2\ncut 1\nside r1\nend\n",
+        "arc-report 1\n1 blocked no 1\nwalk 10.1.0.0/24 10.2.0.0/24 1\n3 reach no 2\ncut 1\nside r1\nend\n",
         4,
         CertKind::Policy,
     ),
     (
-        b"arc-report 1\n1 blocked no 1\nwalk 10.1.0.0/24 10.2.0.0/24 1\n2 reach yes 1\npath 1\nend\n",
+        "arc-report 1\n1 blocked no 1\nwalk 10.1.0.0/24 10.2.0.0/24 1\n2 reach yes 1\npath 1\nend\n",
         6,
         CertKind::Policy,
     ),
     (
-        b"arc-report 1\n1 blocked no 1\nwalk 10.1.0.0/24 10.2.0.0/24 1\n2 reach yes 1\npath 1\n3 reach no 2\ncut 1\n\
+        "arc-report 1\n1 blocked no 1\nwalk 10.1.0.0/24 10.2.0.0/24 1\n2 reach yes 1\npath 1\n3 reach no 2\ncut 1\n\
 side r1\nend\nend\n",
         10,
         CertKind::NoEnd,
     ),
     (
-        b"arc-report 1\n1 blocked no 1\nwalk 10.1.0.0/24 10.2.0.0/24 1\n2 reach yes 1\npath 1\n3 reach no 2\ncut 1\n\
+        "arc-report 1\n1 blocked no 1\nwalk 10.1.0.0/24 10.2.0.0/24 1\n2 reach yes 1\npath 1\n3 reach no 2\ncut 1\n\
 side r1\nend\n\n",
         10,
         CertKind::NoEnd,
@@ -171,54 +171,51 @@ fn judged_on_services(
     alloc: Global,
     allowed: Service,
     blocked: Service,
-    text: &[u8],
+    text: &str,
 ) -> Result<Outcome, Memory> {
     let net = two_routers(alloc, true)?;
     let doc = document_of_services(alloc, allowed, blocked)?;
-    check_report(alloc, &net, &doc, text)
+    check_report(alloc, &net, &doc, text.as_bytes())
 }
 
 /// A report on TCP's port 22 and on UDP, up to its walk.
-const BEFORE_WALK: &[u8] = b"arc-report 1\n1 reach yes 1\npath 1\n2 blocked no 1\n";
+const BEFORE_WALK: &str = "arc-report 1\n1 reach yes 1\npath 1\n2 blocked no 1\n";
 
 /// A walk, and what is wrong with a report that has it.
-type Walk = (&'static [u8], Option<(u64, CertKind)>);
+type Walk = (&'static str, Option<(u64, CertKind)>);
 
 /// The walk of such a report, and what is wrong with it: the class is no part of the policy, or it
 /// is written in another form.
 const WALKS: [Walk; 6] = [
     (
-        b"walk 10.1.0.0/24 10.2.0.0/24 service:17.0-17.65535 1\n",
+        "walk 10.1.0.0/24 10.2.0.0/24 service:17.0-17.65535 1\n",
         None,
     ),
+    ("walk 10.1.0.0/24 10.2.0.0/24 service:17.53-17.53 1\n", None),
     (
-        b"walk 10.1.0.0/24 10.2.0.0/24 service:17.53-17.53 1\n",
-        None,
-    ),
-    (
-        b"walk 10.1.0.0/24 10.2.0.0/24 1\n",
+        "walk 10.1.0.0/24 10.2.0.0/24 1\n",
         Some((4, CertKind::Witness)),
     ),
     (
-        b"walk 10.1.0.0/24 10.2.0.0/24 service:6.22-17.53 1\n",
+        "walk 10.1.0.0/24 10.2.0.0/24 service:6.22-17.53 1\n",
         Some((4, CertKind::Witness)),
     ),
     (
-        b"walk 10.1.0.0/24 10.2.0.0/24 service:0.0-255.65535 1\n",
+        "walk 10.1.0.0/24 10.2.0.0/24 service:0.0-255.65535 1\n",
         Some((5, CertKind::Form)),
     ),
     (
-        b"walk 10.1.0.0/24 10.2.0.0/24 service:17.0-17.65536 1\n",
+        "walk 10.1.0.0/24 10.2.0.0/24 service:17.0-17.65536 1\n",
         Some((5, CertKind::Form)),
     ),
 ];
 
 /// The report with this walk.
-fn report_with(alloc: Global, walk: &[u8]) -> Result<Vec<u8>, Memory> {
-    let mut text = Vec::new(alloc);
-    text.extend_from_slice(BEFORE_WALK)?;
-    text.extend_from_slice(walk)?;
-    text.extend_from_slice(b"end\n")?;
+fn report_with(alloc: Global, walk: &str) -> Result<String, Memory> {
+    let mut text = String::new(alloc);
+    text.push_str(BEFORE_WALK)?;
+    text.push_str(walk)?;
+    text.push_str("end\n")?;
     Ok(text)
 }
 
