@@ -7,8 +7,6 @@ use Rattle.std.proofs.lemmas.List.Elements.{Contains-append_left, Contains-appen
 use Rattle.std.proofs.lemmas.Option.{slice_get-map, slice_get_within, slice_get-get_or, same_Some}
 use Rattle.arc_base.specs.declared.place.Face.{Face}
 use Rattle.arc_base.specs.declared.place.ListId.{ListId}
-use Rattle.net_model.specs.declared.lists.PacketList.{PacketList}
-use Rattle.net_model.specs.declared.lists.RouteList.{RouteList}
 use Rattle.net_model.specs.declared.rows.FaceRow.{FaceRow}
 use Rattle.net_model.specs.declared.rows.SessionRow.{SessionRow}
 use Rattle.net_model.specs.declared.rows.Network.{Network}
@@ -19,7 +17,7 @@ use Rattle.edit_space.specs.declared.list_kinds.NewList.{NewList}
 use Rattle.edit_space.specs.declared.list_kinds.NewList.TheVariants.{Route, Packet}
 use Rattle.edited_networks.specs.declared.new_lists.Named.{Named}
 use Rattle.edited_networks.specs.declared.order.Places.{Places}
-use Rattle.edit_space.specs.After.{edited_packet_list, edited_route_list, IsNewPacketList, IsNewRouteList, PacketListMoves, RouteListMoves, StaysBound, IsInboundAfter, IsFilterAfter, IsFaceAfter, IsSessionAfter}
+use Rattle.edit_space.specs.After.{IsNewPacketList, IsNewRouteList, PacketListMoves, RouteListMoves, StaysBound, IsInboundAfter, IsFilterAfter, IsFaceAfter, IsSessionAfter}
 use Rattle.edit_space.specs.Changes.{new_classes, new_prefixes}
 use Rattle.edit_space.specs.NewLists.{new_lists, new_lists_of, new_names_of, new_packet_list, new_route_list, IsNewList}
 use Rattle.edit_space.specs.Numbered.{placed, if_number, is_empty, EachRow}
@@ -66,19 +64,9 @@ module _ (net : Network) (valid : IsValid net) (chosen : List Edit) (names : Lis
       (picks (new_route_list net chosen) net.sessions session (face.router.0, Route session.face) there made))
 
   module _ (after : Network) (places : Places)
-      (old_told : (id : ℕ) (was : PacketList) → slice_get net.packet_lists id ≡ Some was → (k : ℕ) × (slice_get places.bound.items id ≡ Some k) × (slice_get after.packet_lists k ≡ Some (edited_packet_list chosen id was)))
-      (new_told : (router : ℕ) (face : Face) (name : List ℕ) → IsNewList net chosen router (Packet face) name →
-      (k : ℕ) × (slice_get places.new.items face.0 ≡ Some k) × ((list : PacketList) × (slice_get after.packet_lists k ≡ Some list) × IsNewPacketList net chosen face list)) where
-    packet_list_stays : (o : Option ListId) → IfSome o (λ id. id.0 < length net.packet_lists) → StaysBound (PacketListMoves net chosen after) o (moved places o)
-    packet_list_stays None within = refl
-    packet_list_stays (Some id) within =
-        let empty : PacketList = record { router = record { 0 = 0 }; name = []; extended = false; entries = [] } in
-        let was : PacketList = get_or net.packet_lists id.0 empty in
-        let at : slice_get net.packet_lists id.0 ≡ Some was = slice_get-get_or net.packet_lists id.0 empty within in
-        let told = old_told id.0 was at in
-        let moves : PacketListMoves net chosen after id (list_at told.0) = subst (λ (o : Option PacketList). IsSomeAnd o (λ (l : PacketList). slice_get after.packet_lists told.0 ≡ Some (edited_packet_list chosen id.0 l))) (sym at) told.2 in
-        subst (λ (o : Option ℕ). IsSomeAnd (option_map list_at o) (PacketListMoves net chosen after id)) (sym told.1) moves
-
+      (stays : (o : Option ListId) → IfSome o (λ id. id.0 < length net.packet_lists) → StaysBound (PacketListMoves net chosen after) o (moved places o))
+      (new_bound : (router : ℕ) (face : Face) (name : List ℕ) → IsNewList net chosen router (Packet face) name →
+      IsSomeAnd (option_map list_at (slice_get places.new.items face.0)) (λ id. IsSomeAnd (slice_get after.packet_lists id.0) (IsNewPacketList net chosen face))) where
     inbound : (place : ℕ) (was : FaceRow) → slice_get net.faces place ≡ Some was → IfSome was.list_in (λ id. id.0 < length net.packet_lists) →
         IsInboundAfter net chosen after place was.list_in (bound_at places (not (is_empty (new_classes chosen place))) place was.list_in)
     inbound place was at within = by (is_empty (new_classes chosen place)) refl
@@ -86,18 +74,13 @@ module _ (net : Network) (valid : IsValid net) (chosen : List Edit) (names : Lis
         by : (b : Bool) → is_empty (new_classes chosen place) ≡ b →
             MatchBool b (StaysBound (PacketListMoves net chosen after) was.list_in (bound_at places (not b) place was.list_in))
             (IsSomeAnd (bound_at places (not b) place was.list_in) (λ id. IsSomeAnd (slice_get after.packet_lists id.0) (IsNewPacketList net chosen (record { 0 = place }))))
-        by true e = packet_list_stays was.list_in within
-        by false e =
-            let name = packet_name place was at e in
-            let told = new_told was.router.0 (record { 0 = place }) name.0 name.1 in
-            let stands : IsSomeAnd (slice_get after.packet_lists told.0) (IsNewPacketList net chosen (record { 0 = place })) =
-            subst (λ (o : Option PacketList). IsSomeAnd o (IsNewPacketList net chosen (record { 0 = place }))) (sym told.2.1) told.2.2 in
-            subst (λ (o : Option ℕ). IsSomeAnd (option_map list_at o) (λ id. IsSomeAnd (slice_get after.packet_lists id.0) (IsNewPacketList net chosen (record { 0 = place })))) (sym told.1) stands
+        by true e = stays was.list_in within
+        by false e = let name = packet_name place was at e in new_bound was.router.0 (record { 0 = place }) name.0 name.1
 
     is_face_after : (place : ℕ) (was : FaceRow) → slice_get net.faces place ≡ Some was → IsFaceAfter net chosen after place was (face_after net.protocol chosen places (place, was))
     is_face_after place was at =
         let v : IsValidFace net place was = valid.faces place was at in
-        record { same = refl; passive = refl; bound_in = refl; list_in = inbound place was at (bound (λ id. IsTrue was.bound_in) was.list_in v.list_in); list_out = packet_list_stays was.list_out v.list_out }
+        record { same = refl; passive = refl; bound_in = refl; list_in = inbound place was at (bound (λ id. IsTrue was.bound_in) was.list_in v.list_in); list_out = stays was.list_out v.list_out }
       where
         bound : (P : ListId → Type 0) (o : Option ListId) → IfSome o (λ id. (id.0 < length net.packet_lists) × P id) → IfSome o (λ id. id.0 < length net.packet_lists)
         bound P None h = tt
@@ -113,19 +96,9 @@ module _ (net : Network) (valid : IsValid net) (chosen : List Edit) (names : Lis
             subst (IsFaceAfter net chosen after place was) (same_Some (face_after net.protocol chosen places (place, was)) now (sym made ∙ here)) (is_face_after place was at)
 
   module _ (after : Network) (places : Places)
-      (old_told : (id : ℕ) (was : RouteList) → slice_get net.route_lists id ≡ Some was → (k : ℕ) × (slice_get places.bound.items id ≡ Some k) × (slice_get after.route_lists k ≡ Some (edited_route_list chosen id was)))
-      (new_told : (router : ℕ) (face : Face) (name : List ℕ) → IsNewList net chosen router (Route face) name →
-      (k : ℕ) × (slice_get places.new.items face.0 ≡ Some k) × ((list : RouteList) × (slice_get after.route_lists k ≡ Some list) × IsNewRouteList net chosen face list)) where
-    route_list_stays : (o : Option ListId) → IfSome o (λ id. id.0 < length net.route_lists) → StaysBound (RouteListMoves net chosen after) o (moved places o)
-    route_list_stays None within = refl
-    route_list_stays (Some id) within =
-        let empty : RouteList = record { router = record { 0 = 0 }; name = []; entries = [] } in
-        let was : RouteList = get_or net.route_lists id.0 empty in
-        let at : slice_get net.route_lists id.0 ≡ Some was = slice_get-get_or net.route_lists id.0 empty within in
-        let told = old_told id.0 was at in
-        let moves : RouteListMoves net chosen after id (list_at told.0) = subst (λ (o : Option RouteList). IsSomeAnd o (λ (l : RouteList). slice_get after.route_lists told.0 ≡ Some (edited_route_list chosen id.0 l))) (sym at) told.2 in
-        subst (λ (o : Option ℕ). IsSomeAnd (option_map list_at o) (RouteListMoves net chosen after id)) (sym told.1) moves
-
+      (stays : (o : Option ListId) → IfSome o (λ id. id.0 < length net.route_lists) → StaysBound (RouteListMoves net chosen after) o (moved places o))
+      (new_bound : (router : ℕ) (face : Face) (name : List ℕ) → IsNewList net chosen router (Route face) name →
+      IsSomeAnd (option_map list_at (slice_get places.new.items face.0)) (λ id. IsSomeAnd (slice_get after.route_lists id.0) (IsNewRouteList net chosen face))) where
     filtered : (was : SessionRow) (face : FaceRow) → Contains net.sessions was → slice_get net.faces was.face.0 ≡ Some face → IfSome was.filter (λ id. id.0 < length net.route_lists) →
         IsFilterAfter net chosen after was.face was.filter (bound_at places (not (is_empty (new_prefixes chosen was.face.0))) was.face.0 was.filter)
     filtered was face there at within = by (is_empty (new_prefixes chosen was.face.0)) refl
@@ -133,13 +106,8 @@ module _ (net : Network) (valid : IsValid net) (chosen : List Edit) (names : Lis
         by : (b : Bool) → is_empty (new_prefixes chosen was.face.0) ≡ b →
             MatchBool b (StaysBound (RouteListMoves net chosen after) was.filter (bound_at places (not b) was.face.0 was.filter))
             (IsSomeAnd (bound_at places (not b) was.face.0 was.filter) (λ id. IsSomeAnd (slice_get after.route_lists id.0) (IsNewRouteList net chosen was.face)))
-        by true e = route_list_stays was.filter within
-        by false e =
-            let name = route_name was face there at e in
-            let told = new_told face.router.0 was.face name.0 name.1 in
-            let stands : IsSomeAnd (slice_get after.route_lists told.0) (IsNewRouteList net chosen was.face) =
-            subst (λ (o : Option RouteList). IsSomeAnd o (IsNewRouteList net chosen was.face)) (sym told.2.1) told.2.2 in
-            subst (λ (o : Option ℕ). IsSomeAnd (option_map list_at o) (λ id. IsSomeAnd (slice_get after.route_lists id.0) (IsNewRouteList net chosen was.face))) (sym told.1) stands
+        by true e = stays was.filter within
+        by false e = let name = route_name was face there at e in new_bound face.router.0 was.face name.0 name.1
 
     is_session_after : (place : ℕ) (was : SessionRow) → Contains net.sessions was → IsSessionAfter net chosen after place was (session_after chosen places was)
     is_session_after place was there =

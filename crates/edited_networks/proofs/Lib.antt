@@ -5,9 +5,9 @@ mod PlacesFound
 pub mod Naming
 mod Picking
 pub mod NamedFacts
-mod PacketPlaces
-mod RoutePlaces
 mod Made
+pub mod ListKinds
+mod ListPlaces
 mod Bound
 mod Whole
 mod AfterValid

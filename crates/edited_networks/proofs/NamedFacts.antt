@@ -95,25 +95,6 @@ module _ (net : Network) (valid : IsValid net) (chosen : List Edit) where
     | inr r ↦ absurd (other_kind face (record { 0 = r.place }) (ap (λ (l : ℕ × NewList). l.1) r.is))
   ]
 
-  pub packet_face_within : (router : ℕ) (face : Face) (name : List ℕ) → IsNewList net chosen router (Packet face) name → face.0 < length net.faces
-  packet_face_within router face name new = let o = of_packet_face router face name new in slice_get_within net.faces face.0 o.row o.at
-
-  pub route_face_within : (router : ℕ) (face : Face) (name : List ℕ) → IsNewList net chosen router (Route face) name → face.0 < length net.faces
-  route_face_within router face name new = let o = of_route_face router face name new in slice_get_within net.faces face.0 o.row o.at
-
-  -- the new lists of an interface are of one router
-  pub packet_router : (r s : ℕ) (face : Face) (m n : List ℕ) → IsNewList net chosen r (Packet face) m → IsNewList net chosen s (Packet face) n → r ≡ s
-  packet_router r s face m n this that =
-      let a = of_packet_face r face m this in
-      let b = of_packet_face s face n that in
-      a.router_is ∙ ap (λ (f : FaceRow). f.router.0) (one_item net.faces face.0 a.row b.row a.at b.at) ∙ sym b.router_is
-
-  pub route_router : (r s : ℕ) (face : Face) (m n : List ℕ) → IsNewList net chosen r (Route face) m → IsNewList net chosen s (Route face) n → r ≡ s
-  route_router r s face m n this that =
-      let a = of_route_face r face m this in
-      let b = of_route_face s face n that in
-      a.router_is ∙ ap (λ (f : FaceRow). f.router.0) (one_item net.faces face.0 a.row b.row a.at b.at) ∙ sym b.router_is
-
 module _ (net : Network) (valid : IsValid net) (chosen : List Edit) (names : List (List (List ℕ))) (named : List Named) (new_names : AreNewNames net (new_lists net chosen) names) (are_named : AreNamed (new_lists net chosen) names named) where
   -- no two new lists of a router are the same
   lists_of_apart : (router : ℕ) → AllPairs (λ x y. x ≢ y) (new_lists_of net chosen router)

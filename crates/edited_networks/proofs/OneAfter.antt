@@ -1,5 +1,5 @@
 -- The network after edits is one.
-use Rattle.std.proofs.Common.{◌≡◌, ◌≢◌, ℕ, suc, ◌⊎◌, inl, inr, Bool, true, false, Option, Some, None, List, [], ◌∷◌, refl, sym, ◌∙◌, ap, subst, arith}
+use Rattle.std.proofs.Common.{◌≡◌, ◌≢◌, ℕ, suc, ◌⊎◌, ◌↔◌, inl, inr, Bool, true, false, Option, Some, None, List, [], ◌∷◌, refl, sym, ◌∙◌, ap, subst, arith}
 use Rattle.std.specs.Prelude.{AllPairs, Contains, IsSomeAnd, MatchBool, slice_get}
 use Rattle.std.specs.Cmp.Lexicographic.{on_texts}
 use Rattle.std.specs.Ordering.{ordering_reverse}
@@ -15,8 +15,9 @@ use Rattle.net_model.specs.declared.rows.SessionRow.{SessionRow}
 use Rattle.net_model.specs.declared.rows.Network.{Network}
 use Rattle.net_model.specs.Validity.{IsValid}
 use Rattle.edit_space.specs.declared.edit_kinds.Edit.{Edit}
-use Rattle.edit_space.specs.declared.list_kinds.NewList.TheVariants.{Route, Packet}
-use Rattle.edit_space.specs.After.{edited_packet_list, edited_route_list, IsNewPacketList, IsNewRouteList, StaysBound, IsRouterAfter, IsFaceAfter, IsSessionAfter, IsAfter}
+use Rattle.edit_space.specs.declared.sites.Site.TheVariants.{New}
+use Rattle.edited_networks.specs.declared.order.Keyed.{Keyed}
+use Rattle.edit_space.specs.After.{edited_packet_list, edited_route_list, IsNewPacketList, IsNewRouteList, IsPacketListAfter, IsRouteListAfter, StaysBound, IsRouterAfter, IsFaceAfter, IsSessionAfter, IsAfter}
 use Rattle.edit_space.specs.Changes.{new_classes, new_prefixes}
 use Rattle.edit_space.specs.Determined.{IsCountable, AfterIsOne}
 use Rattle.edit_space.specs.NewLists.{IsNewList}
@@ -25,7 +26,8 @@ use Rattle.edit_space.specs.Ordered.{Key, IsKeyBefore}
 use Rattle.arc_base.specs.NameForms.{IsNameBefore}
 use Rattle.edited_networks.proofs.Keys.{not_before_itself}
 use Rattle.edit_space.proofs.RowFacts.{one_place}
-use Rattle.edited_networks.proofs.NamedFacts.{one_name, packet_router, route_router}
+use Rattle.edited_networks.proofs.ListKinds.{ListKind, one_router, packets, routes}
+use Rattle.edited_networks.proofs.NamedFacts.{one_name}
 use Rattle.edited_networks.proofs.SomeNames.{names_made, named_made}
 
 -- lists in a strict order with the same items are the same
@@ -77,6 +79,17 @@ keys_not_both x y (inl l) (inr m) = omega (arith, l, m.0)
 keys_not_both x y (inr l) (inl m) = omega (arith, l.0, m)
 keys_not_both x y (inr l) (inr m) = names_not_both x.1 y.1 l.1 m.1
 
+-- lists in the order of their keys are one list where the same are among them, and no two are the same
+module _ {L : Type 0} (key : L → Key) where
+  abbrev Before : L → L → Type 0
+  Before l m = IsKeyBefore (key l) (key m)
+
+  same_lists : (P : L → Type 0) (xs ys : List L) → AllPairs Before xs → ((l : L) → Contains xs l ↔ P l) → AllPairs Before ys → ((l : L) → Contains ys l ↔ P l) → xs ≡ ys
+  same_lists P xs ys up_x just_x up_y just_y = same_ordered Before (λ l m. keys_not_both (key l) (key m)) xs ys up_x up_y (λ l there. (just_y l).1 ((just_x l).0 there)) (λ l there. (just_x l).1 ((just_y l).0 there))
+
+  lists_apart : (xs : List L) → AllPairs Before xs → AllPairs (λ l m. l ≢ m) xs
+  lists_apart xs up = AllPairs-among Before (λ (l : L) (m : L). l ≢ m) xs (λ l m in_l in_m before same. not_before_itself (key m) (subst (λ (k : L). Before k m) same before)) up
+
 -- where lists stand, one after the other
 module _ {L : Type 0} (before lists : List L) (edited : ℕ → L → L) (apart : AllPairs (λ l m. l ≢ m) lists) where
   abbrev Moves : ListId → ListId → Type 0
@@ -110,55 +123,26 @@ module _ {L : Type 0} (before lists : List L) (edited : ℕ → L → L) (apart 
     one_bound false o n m is_n is_m = one_new n m is_n is_m
 
 module _ (net : Network) (valid : IsValid net) (countable : IsCountable net) (chosen : List Edit) where
-  same_name : (r s : ℕ) (x : Face) (m n : List ℕ) → IsNewList net chosen r (Packet x) m → IsNewList net chosen s (Packet x) n → m ≡ n
-  same_name r s x m n this that =
+  pub one_new_list : (K : ListKind net chosen) (x : Face) (l m : K.Row) → K.IsNew x l → K.IsNew x m → l ≡ m
+  one_new_list K x l m this that =
       let made = named_made net valid countable chosen in
-      one_name net valid chosen (names_made net valid countable chosen) made.0 made.1.new_names made.1.are_named s (Packet x) m n
-      (subst (λ (k : ℕ). IsNewList net chosen k (Packet x) m) (packet_router net valid chosen r s x m n this that) this) that
-
-  same_route_name : (r s : ℕ) (x : Face) (m n : List ℕ) → IsNewList net chosen r (Route x) m → IsNewList net chosen s (Route x) n → m ≡ n
-  same_route_name r s x m n this that =
-      let made = named_made net valid countable chosen in
-      one_name net valid chosen (names_made net valid countable chosen) made.0 made.1.new_names made.1.are_named s (Route x) m n
-      (subst (λ (k : ℕ). IsNewList net chosen k (Route x) m) (route_router net valid chosen r s x m n this that) this) that
-
-  pub one_new_packet_list : (x : Face) (l m : PacketList) → IsNewPacketList net chosen x l → IsNewPacketList net chosen x m → l ≡ m
-  one_new_packet_list x l m this that =
-      let router : l.router.0 ≡ m.router.0 = packet_router net valid chosen l.router.0 m.router.0 x l.name m.name this.named that.named in
-      let name : l.name ≡ m.name = same_name l.router.0 m.router.0 x l.name m.name this.named that.named in
-      let extended : l.extended ≡ m.extended = this.extended ∙ sym that.extended in
-      let entries = this.entries ∙ sym that.entries in
-      λ t. record { router = record { 0 = router t }; name = name t; extended = extended t; entries = entries t }
-
-  pub one_new_route_list : (x : Face) (l m : RouteList) → IsNewRouteList net chosen x l → IsNewRouteList net chosen x m → l ≡ m
-  one_new_route_list x l m this that =
-      let router : l.router.0 ≡ m.router.0 = route_router net valid chosen l.router.0 m.router.0 x l.name m.name this.named that.named in
-      let name : l.name ≡ m.name = same_route_name l.router.0 m.router.0 x l.name m.name this.named that.named in
-      let entries = this.entries ∙ sym that.entries in
-      λ t. record { router = record { 0 = router t }; name = name t; entries = entries t }
+      let router : K.router l ≡ K.router m = one_router K (K.router l) (K.router m) x (K.name l) (K.name m) (K.named x l this) (K.named x m that) in
+      let name : K.name l ≡ K.name m = one_name net valid chosen (names_made net valid countable chosen) made.0 made.1.new_names made.1.are_named (K.router m) (K.new x) (K.name l) (K.name m)
+      (subst (λ (k : ℕ). IsNewList net chosen k (K.new x) (K.name l)) router (K.named x l this)) (K.named x m that) in
+      K.one_for (record { router = K.router m; name = K.name m; site = New x }) l m (subst (λ (k : Keyed). K.IsFor k l) (λ t. record { router = router t; name = name t; site = New x }) (K.new_for x l this)) (K.new_for x m that)
 
   module _ (after other : Network) (is : IsAfter net chosen after) (also : IsAfter net chosen other) where
-    abbrev PacketBefore : PacketList → PacketList → Type 0
-    PacketBefore l m = IsKeyBefore (l.router.0, l.name) (m.router.0, m.name)
-
-    abbrev RouteBefore : RouteList → RouteList → Type 0
-    RouteBefore l m = IsKeyBefore (l.router.0, l.name) (m.router.0, m.name)
-
     same_packet_lists : after.packet_lists ≡ other.packet_lists
-    same_packet_lists = same_ordered PacketBefore (λ l m. keys_not_both (l.router.0, l.name) (m.router.0, m.name)) after.packet_lists other.packet_lists is.packet_order also.packet_order
-        (λ l there. (also.packet_lists l).1 ((is.packet_lists l).0 there)) (λ l there. (is.packet_lists l).1 ((also.packet_lists l).0 there))
+    same_packet_lists = same_lists (λ l. (l.router.0, l.name)) (IsPacketListAfter net chosen) after.packet_lists other.packet_lists is.packet_order is.packet_lists also.packet_order also.packet_lists
 
     same_route_lists : after.route_lists ≡ other.route_lists
-    same_route_lists = same_ordered RouteBefore (λ l m. keys_not_both (l.router.0, l.name) (m.router.0, m.name)) after.route_lists other.route_lists is.route_order also.route_order
-        (λ l there. (also.route_lists l).1 ((is.route_lists l).0 there)) (λ l there. (is.route_lists l).1 ((also.route_lists l).0 there))
+    same_route_lists = same_lists (λ l. (l.router.0, l.name)) (IsRouteListAfter net chosen) after.route_lists other.route_lists is.route_order is.route_lists also.route_order also.route_lists
 
     packets_apart : AllPairs (λ l m. l ≢ m) after.packet_lists
-    packets_apart = AllPairs-among PacketBefore (λ (l : PacketList) (m : PacketList). l ≢ m) after.packet_lists
-        (λ l m in_l in_m before same. not_before_itself (m.router.0, m.name) (subst (λ (k : PacketList). PacketBefore k m) same before)) is.packet_order
+    packets_apart = lists_apart (λ l. (l.router.0, l.name)) after.packet_lists is.packet_order
 
     routes_apart : AllPairs (λ l m. l ≢ m) after.route_lists
-    routes_apart = AllPairs-among RouteBefore (λ (l : RouteList) (m : RouteList). l ≢ m) after.route_lists
-        (λ l m in_l in_m before same. not_before_itself (m.router.0, m.name) (subst (λ (k : RouteList). RouteBefore k m) same before)) is.route_order
+    routes_apart = lists_apart (λ l. (l.router.0, l.name)) after.route_lists is.route_order
 
     same_router : (k : ℕ) (was x y : RouterRow) → slice_get net.routers k ≡ Some was → IsRouterAfter net chosen k was x → IsRouterAfter net chosen k was y → x ≡ y
     same_router k was x y at this that =
@@ -172,7 +156,7 @@ module _ (net : Network) (valid : IsValid net) (countable : IsCountable net) (ch
         let passive : x.passive ≡ y.passive = this.passive ∙ sym that.passive in
         let bound_in : x.bound_in ≡ y.bound_in = this.bound_in ∙ sym that.bound_in in
         let list_in : x.list_in ≡ y.list_in =
-        one_bound net.packet_lists after.packet_lists (edited_packet_list chosen) packets_apart (IsNewPacketList net chosen (record { 0 = k })) (one_new_packet_list (record { 0 = k })) (is_empty (new_classes chosen k)) was.list_in x.list_in y.list_in this.list_in
+        one_bound net.packet_lists after.packet_lists (edited_packet_list chosen) packets_apart (IsNewPacketList net chosen (record { 0 = k })) (one_new_list (packets net chosen valid) (record { 0 = k })) (is_empty (new_classes chosen k)) was.list_in x.list_in y.list_in this.list_in
         (subst (λ (lists : List PacketList). MatchBool (is_empty (new_classes chosen k)) (StaysBound (λ w n. IsSomeAnd (slice_get net.packet_lists w.0) (λ list. slice_get lists n.0 ≡ Some (edited_packet_list chosen w.0 list))) was.list_in y.list_in)
         (IsSomeAnd y.list_in (λ id. IsSomeAnd (slice_get lists id.0) (IsNewPacketList net chosen (record { 0 = k }))))) (sym same_packet_lists) that.list_in) in
         let list_out : x.list_out ≡ y.list_out =
@@ -185,7 +169,7 @@ module _ (net : Network) (valid : IsValid net) (countable : IsCountable net) (ch
         let down : x.down ≡ y.down = this.down ∙ sym that.down in
         let bound : x.bound ≡ y.bound = this.bound ∙ sym that.bound in
         let filter : x.filter ≡ y.filter =
-        one_bound net.route_lists after.route_lists (edited_route_list chosen) routes_apart (IsNewRouteList net chosen was.face) (one_new_route_list was.face) (is_empty (new_prefixes chosen was.face.0)) was.filter x.filter y.filter this.filter
+        one_bound net.route_lists after.route_lists (edited_route_list chosen) routes_apart (IsNewRouteList net chosen was.face) (one_new_list (routes net chosen valid) was.face) (is_empty (new_prefixes chosen was.face.0)) was.filter x.filter y.filter this.filter
         (subst (λ (lists : List RouteList). MatchBool (is_empty (new_prefixes chosen was.face.0)) (StaysBound (λ w n. IsSomeAnd (slice_get net.route_lists w.0) (λ list. slice_get lists n.0 ≡ Some (edited_route_list chosen w.0 list))) was.filter y.filter)
         (IsSomeAnd y.filter (λ id. IsSomeAnd (slice_get lists id.0) (IsNewRouteList net chosen was.face)))) (sym same_route_lists) that.filter) in
         this.same ∙ (λ t. record was { down = down t; bound = bound t; filter = filter t }) ∙ sym that.same

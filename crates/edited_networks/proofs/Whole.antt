@@ -20,8 +20,8 @@ use Rattle.edited_networks.proofs.AfterValid.{is_valid}
 use Rattle.edited_networks.proofs.NamedFacts.{router_within, name_is_new}
 use Rattle.edited_networks.proofs.Bound.{faces_are, sessions_are}
 use Rattle.edited_networks.proofs.Made.{AreMade}
-use Rattle.edited_networks.proofs.PacketPlaces as packet_facts
-use Rattle.edited_networks.proofs.RoutePlaces as route_facts
+use Rattle.edited_networks.proofs.ListKinds.{packets, routes}
+use Rattle.edited_networks.proofs.ListPlaces.{stays_bound, new_bound, lists_in_order, just_lists}
 
 -- what is known of the lists in their order, and of where they stand
 pub record AreInPlace (keys sorted : List Keyed) (places : Places) : Type 0 where
@@ -38,10 +38,10 @@ in_place keyed keys sorted d places is order same d_is are = record {
 }
 
 module _ (net : Network) (valid : IsValid net) (chosen : List Edit) (names : List (List (List ℕ))) (named : List Named) (m : AreMade net chosen names named)
-    (packets routes : List Keyed) (packet_places route_places : Places) (p : AreInPlace (packet_keys net named) packets packet_places) (r : AreInPlace (route_keys net named) routes route_places)
+    (packets_sorted routes_sorted : List Keyed) (packet_places route_places : Places) (p : AreInPlace (packet_keys net named) packets_sorted packet_places) (r : AreInPlace (route_keys net named) routes_sorted route_places)
     (after : Network) (protocol : after.protocol ≡ net.protocol) (links : after.links ≡ net.links) (routers : EachRow (IsRouterAfter net chosen) net.routers after.routers)
     (faces : after.faces ≡ map (face_after net.protocol chosen packet_places) (placed net.faces)) (sessions : after.sessions ≡ map (session_after chosen route_places) net.sessions)
-    (packet_rows : EachRow (λ place. IsPacketListFor net chosen) packets after.packet_lists) (route_rows : EachRow (λ place. IsRouteListFor net chosen) routes after.route_lists) where
+    (packet_rows : EachRow (λ place. IsPacketListFor net chosen) packets_sorted after.packet_lists) (route_rows : EachRow (λ place. IsRouteListFor net chosen) routes_sorted after.route_lists) where
   pub is_after : IsAfter net chosen after
   is_after = record {
     protocol = protocol;
@@ -49,16 +49,16 @@ module _ (net : Network) (valid : IsValid net) (chosen : List Edit) (names : Lis
     routers = routers;
     faces = subst (λ (l : List FaceRow). EachRow (IsFaceAfter net chosen after) net.faces l) (sym faces)
         (faces_are net valid chosen names named m.new_names m.are_named after packet_places
-        (packet_facts.old_told net valid chosen names named m.new_names m.are_named m.few packets p.order p.same after.packet_lists packet_rows packet_places p.are)
-        (packet_facts.new_told net valid chosen names named m.new_names m.are_named m.few packets p.order p.same after.packet_lists packet_rows packet_places p.are));
+        (stays_bound (packets net chosen valid) valid m packets_sorted p.order p.same after.packet_lists packet_rows packet_places p.are)
+        (new_bound (packets net chosen valid) valid m packets_sorted p.order p.same after.packet_lists packet_rows packet_places p.are));
     sessions = subst (λ (l : List SessionRow). EachRow (IsSessionAfter net chosen after) net.sessions l) (sym sessions)
         (sessions_are net valid chosen names named m.new_names m.are_named after route_places
-        (route_facts.old_told net valid chosen names named m.new_names m.are_named m.few routes r.order r.same after.route_lists route_rows route_places r.are)
-        (route_facts.new_told net valid chosen names named m.new_names m.are_named m.few routes r.order r.same after.route_lists route_rows route_places r.are));
-    packet_order = packet_facts.lists_in_order net valid chosen names named m.new_names m.are_named m.few packets p.order p.same after.packet_lists packet_rows;
-    packet_lists = packet_facts.just_lists net valid chosen names named m.new_names m.are_named m.few packets p.order p.same after.packet_lists packet_rows;
-    route_order = route_facts.lists_in_order net valid chosen names named m.new_names m.are_named m.few routes r.order r.same after.route_lists route_rows;
-    route_lists = route_facts.just_lists net valid chosen names named m.new_names m.are_named m.few routes r.order r.same after.route_lists route_rows;
+        (stays_bound (routes net chosen valid) valid m routes_sorted r.order r.same after.route_lists route_rows route_places r.are)
+        (new_bound (routes net chosen valid) valid m routes_sorted r.order r.same after.route_lists route_rows route_places r.are));
+    packet_order = lists_in_order (packets net chosen valid) valid m packets_sorted p.order p.same after.packet_lists packet_rows;
+    packet_lists = just_lists (packets net chosen valid) valid m packets_sorted p.order p.same after.packet_lists packet_rows;
+    route_order = lists_in_order (routes net chosen valid) valid m routes_sorted r.order r.same after.route_lists route_rows;
+    route_lists = just_lists (routes net chosen valid) valid m routes_sorted r.order r.same after.route_lists route_rows;
   }
 
   good_names : (router : ℕ) (list : NewList) (name : List ℕ) → IsNewList net chosen router list name → (router < length net.routers) × IsName name

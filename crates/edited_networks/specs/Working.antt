@@ -88,15 +88,10 @@ pub record IsNamed (lists : List (ℕ × NewList)) (names : List (List (List ℕ
 abbrev pub AreNamed : List (ℕ × NewList) → List (List (List ℕ)) → List Named → Type 0
 AreNamed lists names named = EachRow (λ place. IsNamed lists names) lists named
 
--- the packet list at this place, as it is put in order
-abbrev pub old_packet_key : ℕ × PacketList → Keyed
-old_packet_key list =
-    record { router = list.1.router.0; name = list.1.name; site = Bound (record { 0 = list.0 }) }
-
--- the route list at this place, as it is put in order
-abbrev pub old_route_key : ℕ × RouteList → Keyed
-old_route_key list =
-    record { router = list.1.router.0; name = list.1.name; site = Bound (record { 0 = list.0 }) }
+-- the list that stood at this place, with its router and name, as it is put in order
+abbrev pub old_key : ℕ → ℕ → List ℕ → Keyed
+old_key place router name =
+    record { router = router; name = name; site = Bound (record { 0 = place }) }
 
 -- the interface of a new packet list
 abbrev pub packet_face : NewList → Option Face
@@ -112,22 +107,21 @@ route_face (Route face) = Some face
 abbrev pub new_key : Named → Face → Keyed
 new_key named face = record { router = named.router; name = named.name; site = New face }
 
--- the new packet list, as it is put in order
-abbrev pub new_packet_key : Named → Option Keyed
-new_packet_key named = option_map (new_key named) (packet_face named.list)
-
--- the new route list, as it is put in order
-abbrev pub new_route_key : Named → Option Keyed
-new_route_key named = option_map (new_key named) (route_face named.list)
+-- the new list, as it is put in order, where it is of the kind with this interface
+abbrev pub new_key_by : (NewList → Option Face) → Named → Option Keyed
+new_key_by face named = option_map (new_key named) (face named.list)
 
 -- all packet lists after the edits, before they are put in order
 abbrev pub packet_keys : Network → List Named → List Keyed
 packet_keys net named =
-    map old_packet_key (placed net.packet_lists) ++ filter_map new_packet_key named
+    map (λ list. old_key list.0 list.1.router.0 list.1.name) (placed net.packet_lists) ++
+    filter_map (new_key_by packet_face) named
 
 -- all route lists after the edits, before they are put in order
 abbrev pub route_keys : Network → List Named → List Keyed
-route_keys net named = map old_route_key (placed net.route_lists) ++ filter_map new_route_key named
+route_keys net named =
+    map (λ list. old_key list.0 list.1.router.0 list.1.name) (placed net.route_lists) ++
+    filter_map (new_key_by route_face) named
 
 -- the site is one of so many lists that there were, or one of so many interfaces
 abbrev pub IsWithin : ℕ → ℕ → Site → Type 0

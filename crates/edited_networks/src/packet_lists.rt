@@ -2,7 +2,7 @@
 ghost use Rattle.std.specs.Prelude.{◌≡◌, ◌++◌, All, length, map, IfOk, OnOk};
 ghost use Rattle.std.specs.List.{filter_map};
 ghost use Rattle.edit_space.specs.Numbered.{EachRow};
-ghost use Rattle.edited_networks.specs.Working.{AreChanges, IsWithin, packet_keys, new_packet_key};
+ghost use Rattle.edited_networks.specs.Working.{AreChanges, IsWithin, packet_keys, new_key_by, packet_face};
 ghost use Rattle.edited_networks.specs.Working.{IsPacketListFor};
 
 use crate::changes::Changes;
@@ -41,7 +41,7 @@ fn add_new_packet_lists(
     named: &[Named],
 ) -> Result<(), Memory>
     ensures { OnOk result
-        (keyed.new.items ≡ keyed.old.items ++ filter_map new_packet_key named.now) }
+        (keyed.new.items ≡ keyed.old.items ++ filter_map (new_key_by packet_face) named.now) }
 {
     for new in named {
         if let NewList::Packet(face) = new.list {

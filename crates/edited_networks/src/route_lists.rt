@@ -2,7 +2,7 @@
 ghost use Rattle.std.specs.Prelude.{◌≡◌, ◌++◌, All, length, map, IfOk, OnOk};
 ghost use Rattle.std.specs.List.{filter_map};
 ghost use Rattle.edit_space.specs.Numbered.{EachRow};
-ghost use Rattle.edited_networks.specs.Working.{AreChanges, IsWithin, route_keys, new_route_key};
+ghost use Rattle.edited_networks.specs.Working.{AreChanges, IsWithin, route_keys, new_key_by, route_face};
 ghost use Rattle.edited_networks.specs.Working.{IsRouteListFor};
 
 use crate::changes::Changes;
@@ -36,7 +36,7 @@ pub fn keyed_route_lists(
 
 fn add_new_route_lists(alloc: Global, keyed: &mut Vec<Keyed>, named: &[Named]) -> Result<(), Memory>
     ensures { OnOk result
-        (keyed.new.items ≡ keyed.old.items ++ filter_map new_route_key named.now) }
+        (keyed.new.items ≡ keyed.old.items ++ filter_map (new_key_by route_face) named.now) }
 {
     for new in named {
         if let NewList::Route(face) = new.list {

@@ -12,8 +12,8 @@ use Rattle.edited_networks.specs.Working.{key_of, packet_keys, route_keys, IsWit
 use Rattle.edited_networks.proofs.Made.{AreMade, made, same_keys}
 use Rattle.edited_networks.proofs.Whole.{AreInPlace, in_place, is_after, is_valid_after}
 use Rattle.edit_space.proofs.NewListFacts.{new_lists_within}
-use Rattle.edited_networks.proofs.PacketPlaces as packets
-use Rattle.edited_networks.proofs.RoutePlaces as routes
+use Rattle.edited_networks.proofs.ListKinds.{packets, routes}
+use Rattle.edited_networks.proofs.ListPlaces.{keys_apart, sites_within, sites_apart}
 use Rattle.edited_networks.proofs.network_after.after.Goals as goal
 
 pub named_lists-requires-clause-within : goal.named_lists-requires-clause-within
@@ -26,14 +26,14 @@ in_order-requires c =
     let net = c.args.net.now in
     let m : AreMade c.args.net.now c.in_ok-changes.changes.edits.items c.in_ok-names.names.items c.in_ok-named.named.items = made c.in_ok-lists.ensures.lists c.in_ok-lists.ensures.few c.deref.ensures.value c.in_ok-names.ensures c.deref-2.ensures.value c.deref-3.ensures.value c.in_ok-named.ensures in
     subst (λ (l : List Keyed). AllPairs (λ (x : Keyed) (y : Keyed). key_of x ≢ key_of y) l) (sym (c.in_ok-keyed_packet_lists.ensures ∙ ap (packet_keys net) c.deref-4.ensures.value))
-    (packets.keys_apart net c.requires.valid c.in_ok-changes.changes.edits.items c.in_ok-names.names.items c.in_ok-named.named.items m.new_names m.are_named m.few)
+    (keys_apart (packets net c.in_ok-changes.changes.edits.items c.requires.valid) c.requires.valid m)
 
 pub in_order-requires-2 : goal.in_order-requires-2
 in_order-requires-2 c =
     let net = c.args.net.now in
     let m : AreMade c.args.net.now c.in_ok-changes.changes.edits.items c.in_ok-names.names.items c.in_ok-named.named.items = made c.in_ok-lists.ensures.lists c.in_ok-lists.ensures.few c.deref.ensures.value c.in_ok-names.ensures c.deref-2.ensures.value c.deref-3.ensures.value c.in_ok-named.ensures in
     subst (λ (l : List Keyed). AllPairs (λ (x : Keyed) (y : Keyed). key_of x ≢ key_of y) l) (sym (c.in_ok-keyed_route_lists.ensures ∙ ap (route_keys net) c.deref-5.ensures.value))
-    (routes.keys_apart net c.requires.valid c.in_ok-changes.changes.edits.items c.in_ok-names.names.items c.in_ok-named.named.items m.new_names m.are_named m.few)
+    (keys_apart (routes net c.in_ok-changes.changes.edits.items c.requires.valid) c.requires.valid m)
 
 pub routers_after-requires : goal.routers_after-requires
 routers_after-requires c =
@@ -46,7 +46,7 @@ packet_lists_after-requires-clause-within c =
     let net = c.args.net.now in
     let m : AreMade c.args.net.now c.in_ok-changes.changes.edits.items c.in_ok-names.names.items c.in_ok-named.named.items = made c.in_ok-lists.ensures.lists c.in_ok-lists.ensures.few c.deref.ensures.value c.in_ok-names.ensures c.deref-2.ensures.value c.deref-3.ensures.value c.in_ok-named.ensures in
     subst (λ (l : List Keyed). All (λ (x : Keyed). IsWithin (length net.packet_lists) (length net.faces) x.site) l) (sym c.slice-4.ensures.items)
-    (packets.sites_within net c.requires.valid c.in_ok-changes.changes.edits.items c.in_ok-names.names.items c.in_ok-named.named.items m.new_names m.are_named m.few c.in_ok-packets.packets c.in_ok-packets.ensures.order
+    (sites_within (packets net c.in_ok-changes.changes.edits.items c.requires.valid) c.requires.valid m c.in_ok-packets.packets c.in_ok-packets.ensures.order
     (same_keys c.in_ok-keyed_packet_lists.field-0.items (packet_keys net c.in_ok-named.named.items) c.in_ok-packets.packets (c.in_ok-keyed_packet_lists.ensures ∙ ap (packet_keys net) c.deref-4.ensures.value) c.in_ok-packets.ensures.same))
 
 pub route_lists_after-requires-clause-within : goal.route_lists_after-requires-clause-within
@@ -54,14 +54,14 @@ route_lists_after-requires-clause-within c =
     let net = c.args.net.now in
     let m : AreMade c.args.net.now c.in_ok-changes.changes.edits.items c.in_ok-names.names.items c.in_ok-named.named.items = made c.in_ok-lists.ensures.lists c.in_ok-lists.ensures.few c.deref.ensures.value c.in_ok-names.ensures c.deref-2.ensures.value c.deref-3.ensures.value c.in_ok-named.ensures in
     subst (λ (l : List Keyed). All (λ (x : Keyed). IsWithin (length net.route_lists) (length net.faces) x.site) l) (sym c.slice-5.ensures.items)
-    (routes.sites_within net c.requires.valid c.in_ok-changes.changes.edits.items c.in_ok-names.names.items c.in_ok-named.named.items m.new_names m.are_named m.few c.in_ok-routes.routes c.in_ok-routes.ensures.order
+    (sites_within (routes net c.in_ok-changes.changes.edits.items c.requires.valid) c.requires.valid m c.in_ok-routes.routes c.in_ok-routes.ensures.order
     (same_keys c.in_ok-keyed_route_lists.field-0.items (route_keys net c.in_ok-named.named.items) c.in_ok-routes.routes (c.in_ok-keyed_route_lists.ensures ∙ ap (route_keys net) c.deref-5.ensures.value) c.in_ok-routes.ensures.same))
 
 pub find_places-requires-clause-within : goal.find_places-requires-clause-within
 find_places-requires-clause-within c =
     let net = c.args.net.now in
     let m : AreMade c.args.net.now c.in_ok-changes.changes.edits.items c.in_ok-names.names.items c.in_ok-named.named.items = made c.in_ok-lists.ensures.lists c.in_ok-lists.ensures.few c.deref.ensures.value c.in_ok-names.ensures c.deref-2.ensures.value c.deref-3.ensures.value c.in_ok-named.ensures in
-    let all : All (λ (x : Keyed). IsWithin (length net.packet_lists) (length net.faces) x.site) c.in_ok-packets.packets = packets.sites_within net c.requires.valid c.in_ok-changes.changes.edits.items c.in_ok-names.names.items c.in_ok-named.named.items m.new_names m.are_named m.few c.in_ok-packets.packets c.in_ok-packets.ensures.order
+    let all : All (λ (x : Keyed). IsWithin (length net.packet_lists) (length net.faces) x.site) c.in_ok-packets.packets = sites_within (packets net c.in_ok-changes.changes.edits.items c.requires.valid) c.requires.valid m c.in_ok-packets.packets c.in_ok-packets.ensures.order
     (same_keys c.in_ok-keyed_packet_lists.field-0.items (packet_keys net c.in_ok-named.named.items) c.in_ok-packets.packets (c.in_ok-keyed_packet_lists.ensures ∙ ap (packet_keys net) c.deref-4.ensures.value) c.in_ok-packets.ensures.same) in
     subst (λ (l : List Keyed). All (λ (x : Keyed). IsWithin c.len.result c.len-faces.result x.site) l) (sym c.slice-2.ensures.items)
     (subst (λ (n : ℕ). All (λ (x : Keyed). IsWithin n c.len-faces.result x.site) c.in_ok-packets.packets) (sym c.len.ensures)
@@ -71,7 +71,7 @@ pub find_places-requires-2-clause-within : goal.find_places-requires-2-clause-wi
 find_places-requires-2-clause-within c =
     let net = c.args.net.now in
     let m : AreMade c.args.net.now c.in_ok-changes.changes.edits.items c.in_ok-names.names.items c.in_ok-named.named.items = made c.in_ok-lists.ensures.lists c.in_ok-lists.ensures.few c.deref.ensures.value c.in_ok-names.ensures c.deref-2.ensures.value c.deref-3.ensures.value c.in_ok-named.ensures in
-    let all : All (λ (x : Keyed). IsWithin (length net.route_lists) (length net.faces) x.site) c.in_ok-routes.routes = routes.sites_within net c.requires.valid c.in_ok-changes.changes.edits.items c.in_ok-names.names.items c.in_ok-named.named.items m.new_names m.are_named m.few c.in_ok-routes.routes c.in_ok-routes.ensures.order
+    let all : All (λ (x : Keyed). IsWithin (length net.route_lists) (length net.faces) x.site) c.in_ok-routes.routes = sites_within (routes net c.in_ok-changes.changes.edits.items c.requires.valid) c.requires.valid m c.in_ok-routes.routes c.in_ok-routes.ensures.order
     (same_keys c.in_ok-keyed_route_lists.field-0.items (route_keys net c.in_ok-named.named.items) c.in_ok-routes.routes (c.in_ok-keyed_route_lists.ensures ∙ ap (route_keys net) c.deref-5.ensures.value) c.in_ok-routes.ensures.same) in
     subst (λ (l : List Keyed). All (λ (x : Keyed). IsWithin c.len-2.result c.len-faces.result x.site) l) (sym c.slice-3.ensures.items)
     (subst (λ (n : ℕ). All (λ (x : Keyed). IsWithin n c.len-faces.result x.site) c.in_ok-routes.routes) (sym c.len-2.ensures)
@@ -82,7 +82,7 @@ find_places-requires-clause-apart c =
     let net = c.args.net.now in
     let m : AreMade c.args.net.now c.in_ok-changes.changes.edits.items c.in_ok-names.names.items c.in_ok-named.named.items = made c.in_ok-lists.ensures.lists c.in_ok-lists.ensures.few c.deref.ensures.value c.in_ok-names.ensures c.deref-2.ensures.value c.deref-3.ensures.value c.in_ok-named.ensures in
     subst (λ (l : List Keyed). AllPairs (λ (x : Keyed) (y : Keyed). x.site ≢ y.site) l) (sym c.slice-2.ensures.items)
-    (packets.sites_apart net c.requires.valid c.in_ok-changes.changes.edits.items c.in_ok-names.names.items c.in_ok-named.named.items m.new_names m.are_named m.few c.in_ok-packets.packets c.in_ok-packets.ensures.order
+    (sites_apart (packets net c.in_ok-changes.changes.edits.items c.requires.valid) c.requires.valid m c.in_ok-packets.packets c.in_ok-packets.ensures.order
     (same_keys c.in_ok-keyed_packet_lists.field-0.items (packet_keys net c.in_ok-named.named.items) c.in_ok-packets.packets (c.in_ok-keyed_packet_lists.ensures ∙ ap (packet_keys net) c.deref-4.ensures.value) c.in_ok-packets.ensures.same))
 
 pub find_places-requires-2-clause-apart : goal.find_places-requires-2-clause-apart
@@ -90,7 +90,7 @@ find_places-requires-2-clause-apart c =
     let net = c.args.net.now in
     let m : AreMade c.args.net.now c.in_ok-changes.changes.edits.items c.in_ok-names.names.items c.in_ok-named.named.items = made c.in_ok-lists.ensures.lists c.in_ok-lists.ensures.few c.deref.ensures.value c.in_ok-names.ensures c.deref-2.ensures.value c.deref-3.ensures.value c.in_ok-named.ensures in
     subst (λ (l : List Keyed). AllPairs (λ (x : Keyed) (y : Keyed). x.site ≢ y.site) l) (sym c.slice-3.ensures.items)
-    (routes.sites_apart net c.requires.valid c.in_ok-changes.changes.edits.items c.in_ok-names.names.items c.in_ok-named.named.items m.new_names m.are_named m.few c.in_ok-routes.routes c.in_ok-routes.ensures.order
+    (sites_apart (routes net c.in_ok-changes.changes.edits.items c.requires.valid) c.requires.valid m c.in_ok-routes.routes c.in_ok-routes.ensures.order
     (same_keys c.in_ok-keyed_route_lists.field-0.items (route_keys net c.in_ok-named.named.items) c.in_ok-routes.routes (c.in_ok-keyed_route_lists.ensures ∙ ap (route_keys net) c.deref-5.ensures.value) c.in_ok-routes.ensures.same))
 
 pub returns-clause-after : goal.returns-clause-after
