@@ -1,5 +1,5 @@
 -- What packet lists and route lists have in common: a kind of lists, and the two of them.
-use Rattle.std.proofs.Common.{◌≡◌, ◌≢◌, ℕ, true, Option, Some, None, List, [], refl, sym, ◌∙◌, ap, subst}
+use Rattle.std.proofs.Common.{◌≡◌, ◌≢◌, ℕ, ◌⊎◌, true, Option, Some, None, List, [], refl, sym, ◌∙◌, ap, subst}
 use Rattle.std.specs.Prelude.{AllPairs, Contains, slice_get, IsSomeAnd}
 use Rattle.std.specs.Option.{option_map_or}
 use Rattle.std.proofs.lemmas.List.Elements.{All-contains}
@@ -26,7 +26,7 @@ use Rattle.edited_networks.specs.Working.{old_key, packet_face, route_face, HasP
 use Rattle.edited_networks.proofs.NamedFacts.{of_packet_face, of_route_face}
 
 -- a kind of lists of the network, and how the edits change them
-pub record ListKind (net : Network) (chosen : List Edit) : Type 1 where
+pub record ListsOfKind (net : Network) (chosen : List Edit) : Type 1 where
   pub Row : Type 0
   pub router : Row → ℕ
   pub name : Row → List ℕ
@@ -52,15 +52,19 @@ pub record ListKind (net : Network) (chosen : List Edit) : Type 1 where
   pub new_for : (f : Face) (list : Row) → IsNew f list → IsFor (record { router = router list; name = name list; site = New f }) list
   pub made : (owner : ℕ) (f : Face) (called : List ℕ) → IsNewList net chosen owner (new f) called → (list : Row) × IsNew f list × (router list ≡ owner) × (name list ≡ called)
 
+-- the list is one after the edits: one that there was, edited, or a new one
+abbrev pub IsListAfter : {net : Network} {chosen : List Edit} (K : ListsOfKind net chosen) → K.Row → Type 0
+IsListAfter K list = ((place : ℕ) × (was : K.Row) × (slice_get K.lists place ≡ Some was) × (list ≡ K.edited place was)) ⊎ ((face : Face) × K.IsNew face list)
+
 -- the new lists of an interface are of one router
-pub one_router : {net : Network} {chosen : List Edit} (K : ListKind net chosen) (r s : ℕ) (f : Face) (m n : List ℕ) → IsNewList net chosen r (K.new f) m → IsNewList net chosen s (K.new f) n → r ≡ s
+pub one_router : {net : Network} {chosen : List Edit} (K : ListsOfKind net chosen) (r s : ℕ) (f : Face) (m n : List ℕ) → IsNewList net chosen r (K.new f) m → IsNewList net chosen s (K.new f) n → r ≡ s
 one_router {net} K r s f m n this that =
     let a = K.of_face r f m this in
     let b = K.of_face s f n that in
     a.2 ∙ ap (λ (row : FaceRow). row.router.0) (one_item net.faces f.0 a.0 b.0 a.1 b.1) ∙ sym b.2
 
 -- a new list stands where its key is to stand
-pub made_for : {net : Network} {chosen : List Edit} (K : ListKind net chosen) (key : Keyed) (f : Face) → key.site ≡ New f → IsNewList net chosen key.router (K.new f) key.name → (list : K.Row) × K.IsNew f list × K.IsFor key list
+pub made_for : {net : Network} {chosen : List Edit} (K : ListsOfKind net chosen) (key : Keyed) (f : Face) → key.site ≡ New f → IsNewList net chosen key.router (K.new f) key.name → (list : K.Row) × K.IsNew f list × K.IsFor key list
 made_for K key f site new =
     let one = K.made key.router f key.name new in
     (one.0, one.1, subst (λ (k : Keyed). K.IsFor k one.0) (λ j. record { router = one.2 j; name = one.3 j; site = sym site j }) (K.new_for f one.0 one.1))
@@ -99,7 +103,7 @@ module _ (net : Network) (chosen : List Edit) where
       by (Bound id) x y = both ((l.extended ≡ m.extended) × (l.entries ≡ m.entries)) (slice_get net.packet_lists id.0) x y (λ was a b. (a.0 ∙ sym b.0, a.1 ∙ sym b.1))
       by (New f) x y = (x.0 ∙ sym y.0, x.1 ∙ sym y.1)
 
-  abbrev pub packets : IsValid net → ListKind net chosen
+  abbrev pub packets : IsValid net → ListsOfKind net chosen
   packets valid = record {
     Row = PacketList;
     router = λ l. l.router.0;
@@ -153,7 +157,7 @@ module _ (net : Network) (chosen : List Edit) where
       by (Bound id) x y = both (l.entries ≡ m.entries) (slice_get net.route_lists id.0) x y (λ was a b. a ∙ sym b)
       by (New f) x y = x ∙ sym y
 
-  abbrev pub routes : IsValid net → ListKind net chosen
+  abbrev pub routes : IsValid net → ListsOfKind net chosen
   routes valid = record {
     Row = RouteList;
     router = λ l. l.router.0;

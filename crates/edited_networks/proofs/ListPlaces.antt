@@ -23,13 +23,13 @@ use Rattle.edit_space.specs.Numbered.{placed, EachRow}
 use Rattle.edit_space.specs.Ordered.{Key, IsKeyBefore}
 use Rattle.edited_networks.specs.Working.{key_of, old_key, new_key, new_key_by, IsWithin, ArePlaces, list_at, moved}
 use Rattle.edited_networks.proofs.Keys.{not_before_itself}
-use Rattle.edited_networks.proofs.ListKinds.{ListKind, one_router, made_for, of_some}
+use Rattle.edited_networks.proofs.ListKinds.{ListsOfKind, IsListAfter, one_router, made_for, of_some}
 use Rattle.edited_networks.proofs.Made.{AreMade}
 use Rattle.edit_space.proofs.NewListFacts.{picks, picked_from, pairs_picked, placed_is, placed_there, placed_pairs}
 use Rattle.edit_space.proofs.RowFacts.{one_item, item_of, row_was, row_now}
 use Rattle.edited_networks.proofs.NamedFacts.{one_name, named_is_new, new_is_named, name_is_new, one_list, named_apart}
 
-module _ {net : Network} {chosen : List Edit} (K : ListKind net chosen) where
+module _ {net : Network} {chosen : List Edit} (K : ListsOfKind net chosen) where
   abbrev pub old_key_of : ℕ × K.Row → Keyed
   old_key_of list = old_key list.0 (K.router list.1) (K.name list.1)
 
@@ -70,7 +70,7 @@ new_faces f g e = cc
 other_site : (i : ListId) (f : Face) → Bound i ≡ New f → ⊥
 other_site i f e = cc
 
-module _ {net : Network} {chosen : List Edit} (K : ListKind net chosen) (valid : IsValid net) {names : List (List (List ℕ))} {named : List Named} (m : AreMade net chosen names named) where
+module _ {net : Network} {chosen : List Edit} (K : ListsOfKind net chosen) (valid : IsValid net) {names : List (List (List ℕ))} {named : List Named} (m : AreMade net chosen names named) where
   is_new : (one : Named) → Contains named one → IsNewList net chosen one.router one.list one.name
   is_new one there = let p : (k : ℕ) × (slice_get named k ≡ Some one) = place_of_item named one there in named_is_new net valid chosen names named m.new_names m.are_named p.0 one p.1
 
@@ -213,10 +213,10 @@ module _ {net : Network} {chosen : List Edit} (K : ListKind net chosen) (valid :
           (p.0, p.1, row_at p.0 key p.1)
 
       -- these are just the lists after the edits
-      pub just_lists : (list : K.Row) → Contains lists list ↔ (((place : ℕ) × (was : K.Row) × (slice_get K.lists place ≡ Some was) × (list ≡ K.edited place was)) ⊎ ((face : Face) × K.IsNew face list))
+      pub just_lists : (list : K.Row) → Contains lists list ↔ IsListAfter K list
       just_lists list = (to, from)
         where
-          to : Contains lists list → ((place : ℕ) × (was : K.Row) × (slice_get K.lists place ≡ Some was) × (list ≡ K.edited place was)) ⊎ ((face : Face) × K.IsNew face list)
+          to : Contains lists list → IsListAfter K list
           to there =
               let p : (k : ℕ) × (slice_get lists k ≡ Some list) = place_of_item lists list there in
               let q = key_at p.0 list p.1 in
@@ -225,7 +225,7 @@ module _ {net : Network} {chosen : List Edit} (K : ListKind net chosen) (valid :
                 | inr new ↦ inr (new.face, new_is q.0 new.face list new.site new.new q.2)
               ]
 
-          from : ((place : ℕ) × (was : K.Row) × (slice_get K.lists place ≡ Some was) × (list ≡ K.edited place was)) ⊎ ((face : Face) × K.IsNew face list) → Contains lists list
+          from : IsListAfter K list → Contains lists list
           from (inl (id, was, at, is)) =
               let s = old_stands id was at in
               subst (λ (l : K.Row). Contains lists l) (sym is) (item_at_place lists s.0 (K.edited id was) s.2)

@@ -26,7 +26,7 @@ use Rattle.edit_space.specs.Ordered.{Key, IsKeyBefore}
 use Rattle.arc_base.specs.NameForms.{IsNameBefore}
 use Rattle.edited_networks.proofs.Keys.{not_before_itself}
 use Rattle.edit_space.proofs.RowFacts.{one_place}
-use Rattle.edited_networks.proofs.ListKinds.{ListKind, one_router, packets, routes}
+use Rattle.edited_networks.proofs.ListKinds.{ListsOfKind, one_router, packets, routes}
 use Rattle.edited_networks.proofs.NamedFacts.{one_name}
 use Rattle.edited_networks.proofs.SomeNames.{names_made, named_made}
 
@@ -123,7 +123,7 @@ module _ {L : Type 0} (before lists : List L) (edited : ℕ → L → L) (apart 
     one_bound false o n m is_n is_m = one_new n m is_n is_m
 
 module _ (net : Network) (valid : IsValid net) (countable : IsCountable net) (chosen : List Edit) where
-  pub one_new_list : (K : ListKind net chosen) (x : Face) (l m : K.Row) → K.IsNew x l → K.IsNew x m → l ≡ m
+  pub one_new_list : (K : ListsOfKind net chosen) (x : Face) (l m : K.Row) → K.IsNew x l → K.IsNew x m → l ≡ m
   one_new_list K x l m this that =
       let made = named_made net valid countable chosen in
       let router : K.router l ≡ K.router m = one_router K (K.router l) (K.router m) x (K.name l) (K.name m) (K.named x l this) (K.named x m that) in

@@ -1,5 +1,5 @@
 -- There is a network after any edits.
-use Rattle.std.proofs.Common.{◌≡◌, ◌≢◌, ℕ, zero, suc, ◌<◌, ◌⊎◌, ◌↔◌, inl, inr, Bool, true, false, not, ◌||◌, Option, Some, None, List, [], ◌∷◌, ◌++◌, length, IsTrue, refl, sym, subst, arith}
+use Rattle.std.proofs.Common.{◌≡◌, ◌≢◌, ℕ, zero, suc, ◌<◌, ◌↔◌, inl, inr, Bool, true, false, not, ◌||◌, Option, Some, None, List, [], ◌∷◌, ◌++◌, length, IsTrue, refl, sym, subst, arith}
 use Rattle.std.specs.Prelude.{AllPairs, Contains, IfSome, IsSomeAnd, MatchBool, slice_get}
 use Rattle.std.specs.Cmp.Lexicographic.{slice_cmp, on_texts}
 use Rattle.std.specs.Ordering.{nat_cmp}
@@ -32,7 +32,7 @@ use Rattle.edited_networks.proofs.Bound.{packet_name, route_name}
 use Rattle.edited_networks.proofs.Keys.{keys_total, before_from_less, same_from_equal}
 use Rattle.edited_networks.proofs.Made.{AreMade}
 use Rattle.edited_networks.proofs.Naming.{no_rows}
-use Rattle.edited_networks.proofs.ListKinds.{ListKind, made_for, of_some, packets, routes}
+use Rattle.edited_networks.proofs.ListKinds.{ListsOfKind, IsListAfter, made_for, of_some, packets, routes}
 use Rattle.edited_networks.proofs.ListPlaces.{keys, key_from, keys_apart, lists_in_order, just_lists}
 use Rattle.edit_space.proofs.RowFacts.{item_of}
 use Rattle.edited_networks.proofs.SomeNames.{names_made, named_made, after_is_valid}
@@ -64,7 +64,7 @@ first_of A B None h = h
 first_of A B (Some x) h = h.0
 
 -- the lists of a kind after the edits
-module _ {net : Network} {chosen : List Edit} (K : ListKind net chosen) (valid : IsValid net) {names : List (List (List ℕ))} {named : List Named} (m : AreMade net chosen names named) where
+module _ {net : Network} {chosen : List Edit} (K : ListsOfKind net chosen) (valid : IsValid net) {names : List (List (List ℕ))} {named : List Named} (m : AreMade net chosen names named) where
   abbrev in_order : List Keyed
   in_order = sort key_of compare_keys keys_total (keys K named)
 
@@ -80,7 +80,7 @@ module _ {net : Network} {chosen : List Edit} (K : ListKind net chosen) (valid :
   rows : (lists : List K.Row) × EachRow (λ place. K.IsFor) in_order lists
   rows = choose_rows (λ place. K.IsFor) in_order (λ k key at. row key ((order.1 key).0 (item_at_place in_order k key at)))
 
-  just : (list : K.Row) → Contains rows.0 list ↔ (((place : ℕ) × (was : K.Row) × (slice_get K.lists place ≡ Some was) × (list ≡ K.edited place was)) ⊎ ((face : Face) × K.IsNew face list))
+  just : (list : K.Row) → Contains rows.0 list ↔ IsListAfter K list
   just = just_lists K valid m in_order order.0 order.1 rows.0 rows.1
 
   listed_in_order : AllPairs (λ l n. IsKeyBefore (K.router l, K.name l) (K.router n, K.name n)) rows.0

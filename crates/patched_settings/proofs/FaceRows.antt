@@ -30,7 +30,7 @@ use Rattle.edit_space.specs.Changes.{new_classes}
 use Rattle.edit_space.specs.NewLists.{IsNewList}
 use Rattle.edit_space.specs.Numbered.{is_empty}
 use Rattle.edit_space.specs.After.{IsAfter, IsFaceAfter, StaysBound, PacketListMoves, IsNewPacketList, edited_packet_list}
-use Rattle.edited_networks.proofs.NamedFacts.{packet_router}
+use Rattle.edited_networks.proofs.ListKinds.{one_router, packets}
 use Rattle.edit_space.proofs.RowFacts.{row_was}
 use Rattle.patched_settings.specs.Additions.{new_inbound}
 use Rattle.patched_settings.specs.SettingsAfter.{AreSettingsAfter}
@@ -39,7 +39,7 @@ use Rattle.patched_settings.proofs.Edited.{AreEdited, not_new, face_row}
 use Rattle.patched_settings.proofs.Inbound.{inbound_none, inbound_new}
 use Rattle.patched_settings.proofs.Lines.{IsAdded, commands_of, same_said, command_was, command_stays}
 use Rattle.patched_settings.proofs.NewNames.{one_name}
-use Rattle.patched_settings.proofs.PacketLists.{any_of, of_any}
+use Rattle.patched_settings.proofs.Pairs.{any_of, of_any}
 use Rattle.patched_settings.proofs.Pairs.{zip_from, zip_length}
 use Rattle.patched_settings.proofs.Said.{passive_now}
 use Rattle.patched_settings.proofs.Sites.{IsSiteAfter, address_stays, sites_after, site_was, full_name_stays, is_some_value}
@@ -200,7 +200,7 @@ module _ (doc : Document) (net : Network) (old new : List Config) (chosen : List
             inner : (o : Option PacketList) → slice_get after.packet_lists id.0 ≡ o → IsSomeAnd o (IsNewPacketList net chosen (record { 0 = k })) → slice_get keys id.0 ≡ Some (s.router, given)
             inner None e h = absurd h
             inner (Some l) e h =
-                let router_is : l.router.0 ≡ s.router = packet_router net g.valid chosen l.router.0 s.router (record { 0 = k }) l.name given h.named made in
+                let router_is : l.router.0 ≡ s.router = one_router (packets net chosen g.valid) l.router.0 s.router (record { 0 = k }) l.name given h.named made in
                 let name_is : l.name ≡ given =
                 one_name net g.valid g.small chosen s.router (lists.Packet (record { 0 = k })) l.name given (subst (λ (r : ℕ). IsNewList net chosen r (lists.Packet (record { 0 = k })) l.name) router_is h.named) made in
                 key_at packet_list_key net.packet_lists after.packet_lists (edited_packet_list chosen) (λ j m. refl) after.packet_lists id.0 l (s.router, given) e (λ i. (router_is i, name_is i))

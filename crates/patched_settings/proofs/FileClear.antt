@@ -36,7 +36,7 @@ use Rattle.patched_settings.specs.SettingsAfter.{process_with, AreSettingsAfter}
 use Rattle.patched_settings.proofs.Edited.{AreEdited, FileWas, file_was, face_text_was}
 use Rattle.patched_settings.proofs.FaceRows.{any_was}
 use Rattle.patched_settings.proofs.Lines.{IsAdded, ProcessAfter, process_after, host_stays, same_said}
-use Rattle.patched_settings.proofs.PacketLists.{any_of, of_any}
+use Rattle.patched_settings.proofs.Pairs.{any_of, of_any}
 use Rattle.patched_settings.proofs.Pairs.{maps_agree}
 use Rattle.arc_base.proofs.Zips.{AllZip-left}
 use Rattle.patched_settings.proofs.SessionFacts.{pair_at}

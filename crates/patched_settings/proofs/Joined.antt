@@ -51,13 +51,13 @@ module _ (doc : Document) (net : Network) (old new : List Config) (chosen : List
   packet_lists_are : ArePacketLists new after.packet_lists
   packet_lists_are = record {
     order = is.packet_order;
-    just = λ row. (λ there. packets.list_is_row doc net old new chosen g row ((is.packet_lists row).0 there), λ r. (is.packet_lists row).1 (packets.list_is_after doc net old new chosen g row r));
+    just = λ row. (λ there. (packets.same_packet_lists doc net old new chosen g row).0 ((is.packet_lists row).0 there), λ r. (is.packet_lists row).1 ((packets.same_packet_lists doc net old new chosen g row).1 r));
   }
 
   route_lists_are : AreRouteLists new after.route_lists
   route_lists_are = record {
     order = is.route_order;
-    just = λ row. (λ there. routes.list_is_row doc net old new chosen g row ((is.route_lists row).0 there), λ r. (is.route_lists row).1 (routes.list_is_after doc net old new chosen g row r));
+    just = λ row. (λ there. (routes.same_route_lists doc net old new chosen g row).0 ((is.route_lists row).0 there), λ r. (is.route_lists row).1 ((routes.same_route_lists doc net old new chosen g row).1 r));
   }
 
   sessions_are : (p : Protocol) → net.protocol ≡ p → AreSessions p new after.links (map route_list_key after.route_lists) after.sessions

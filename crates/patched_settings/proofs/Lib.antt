@@ -6,12 +6,13 @@ pub mod SessionFacts
 pub mod Said
 pub mod Inbound
 pub mod Tables
-pub mod PacketRows
+pub mod TextKinds
+pub mod ListRows
 pub mod Edited
+pub mod FileLists
 pub mod PacketLists
 pub mod Bound
 pub mod FaceRows
-pub mod RouteRows
 pub mod RouteLists
 pub mod RouterRows
 pub mod SessionRows

@@ -1,6 +1,6 @@
 -- Lists that go together, and the last things that are picked of a list.
-use Rattle.std.proofs.Common.{◌≡◌, ℕ, zero, suc, ◌⊎◌, inl, inr, Option, Some, None, List, [], ◌∷◌, ◌++◌, length, map, refl, sym, ◌∙◌, ap, subst, arith}
-use Rattle.std.specs.Prelude.{Contains, slice_get}
+use Rattle.std.proofs.Common.{◌≡◌, ℕ, zero, suc, ◌⊎◌, inl, inr, true, Option, Some, None, List, [], ◌∷◌, ◌++◌, length, map, refl, sym, ◌∙◌, ap, subst, arith}
+use Rattle.std.specs.Prelude.{Any, Contains, slice_get, is_some}
 use Rattle.std.specs.List.{AllZip, filter_map, last_or, cons_option}
 use Rattle.std.proofs.lemmas.Option.{none-some, same_Some}
 use Rattle.arc_base.proofs.Items.{Contains-head, Contains-tail, Contains-none}
@@ -46,11 +46,6 @@ zip_from R [] (y ∷ ys) e h = absurd (omega (arith, e))
 zip_from R (x ∷ xs) [] e h = absurd (omega (arith, e))
 zip_from R (x ∷ xs) (y ∷ ys) e h = (h zero x y refl refl, zip_from R xs ys (omega (arith, e)) (λ k z w a b. h (suc k) z w a b))
 
-pub zip_at : {X Y : Type 0} (R : X → Y → Type 0) (xs : List X) (ys : List Y) → AllZip R xs ys → (k : ℕ) (x : X) (y : Y) → slice_get xs k ≡ Some x → slice_get ys k ≡ Some y → R x y
-zip_at R xs ys h k x y a b =
-    let r = AllZip-right R xs ys h k x a in
-    subst (λ w. R x w) (same_Some r.0 y (sym r.1 ∙ b)) r.2
-
 -- the last item of two lists
 pub last_append : {X : Type 0} (o : Option X) (xs ys : List X) → last_or o (xs ++ ys) ≡ last_or (last_or o xs) ys
 last_append o [] ys = refl
@@ -81,3 +76,13 @@ last_is_one o [] x there one = absurd (Contains-none x there)
 last_is_one o (y ∷ []) x there one = ap Some (one y (Contains-head y []))
 last_is_one o (y ∷ z ∷ xs) x there one =
     last_is_one (Some y) (z ∷ xs) x (subst (λ w. Contains (z ∷ xs) w) (one z (Contains-tail y z (z ∷ xs) (Contains-head z xs))) (Contains-head z xs)) (λ w later. one w (Contains-tail y w (z ∷ xs) later))
+
+pub any_of : {X : Type 0} (P : X → Type 0) (xs : List X) (x : X) → Contains xs x → P x → Any P xs
+any_of P xs x (k, l, e) p = (k, x, l, e, p)
+
+pub of_any : {X : Type 0} (P : X → Type 0) (xs : List X) → Any P xs → (x : X) × Contains xs x × P x
+of_any P xs (k, x, l, e, p) = (x, (k, l, e), p)
+
+-- where something is given, it has a value
+pub given_is_some : {V : Type 0} (o : Option V) (v : V) → o ≡ Some v → is_some o ≡ true
+given_is_some o v e = ap is_some e

@@ -41,7 +41,7 @@ use Rattle.patched_settings.proofs.FaceRows.{any_was}
 use Rattle.patched_settings.proofs.FileClear.{offends_not}
 use Rattle.patched_settings.proofs.Lines.{IsAdded, commands_of, commands_after, turning_lines, filter_lines, host_stays, same_said}
 use Rattle.patched_settings.proofs.NewNames.{new_of_named}
-use Rattle.patched_settings.proofs.PacketLists.{any_of, of_any}
+use Rattle.patched_settings.proofs.Pairs.{any_of, of_any}
 use Rattle.arc_base.proofs.Zips.{AllZip-left}
 use Rattle.patched_settings.proofs.Said.{filter_line_is, own_face_found}
 use Rattle.patched_settings.proofs.SessionFacts.{session_found}

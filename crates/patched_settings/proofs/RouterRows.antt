@@ -28,7 +28,8 @@ use Rattle.patched_settings.specs.SettingsAfter.{list_with, new_list_text, new_l
 use Rattle.patched_settings.proofs.Edited.{AreEdited, file_was, router_row}
 use Rattle.patched_settings.proofs.Lines.{ProcessAfter, process_after, host_stays}
 use Rattle.patched_settings.proofs.NewNames.{named_of_new, new_of_named, list_of_name}
-use Rattle.patched_settings.proofs.PacketLists.{any_of, of_any, bound_was, bound_now}
+use Rattle.patched_settings.proofs.PacketLists.{bound_was, bound_now}
+use Rattle.patched_settings.proofs.Pairs.{any_of, of_any}
 use Rattle.patched_settings.proofs.Pairs.{zip_from, zip_length}
 use Rattle.patched_settings.proofs.RouteLists as routes
 

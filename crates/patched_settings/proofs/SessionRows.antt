@@ -35,7 +35,7 @@ use Rattle.edit_space.specs.Changes.{new_prefixes}
 use Rattle.edit_space.specs.NewLists.{IsNewList}
 use Rattle.edit_space.specs.Numbered.{is_empty}
 use Rattle.edit_space.specs.After.{IsAfter, IsSessionAfter, StaysBound, RouteListMoves, IsNewRouteList, edited_route_list}
-use Rattle.edited_networks.proofs.NamedFacts.{route_router}
+use Rattle.edited_networks.proofs.ListKinds.{one_router, routes}
 use Rattle.edit_space.proofs.RowFacts.{row_was, row_now}
 use Rattle.patched_settings.proofs.Bound.{key_at, stays_placed}
 use Rattle.patched_settings.proofs.Edited.{AreEdited, not_new, face_row, IsRowOf, session_is}
@@ -160,7 +160,7 @@ module _ (doc : Document) (net : Network) (old new : List Config) (chosen : List
             inner : (o : Option RouteList) → slice_get after.route_lists id.0 ≡ o → IsSomeAnd o (IsNewRouteList net chosen s.face) → slice_get keys id.0 ≡ Some (near.router, name)
             inner None e h = absurd h
             inner (Some l) e h =
-                let router_is : l.router.0 ≡ near.router = route_router net g.valid chosen l.router.0 near.router s.face l.name name h.named made in
+                let router_is : l.router.0 ≡ near.router = one_router (routes net chosen g.valid) l.router.0 near.router s.face l.name name h.named made in
                 let name_is : l.name ≡ name =
                 one_name net g.valid g.small chosen near.router (lists.Route s.face) l.name name (subst (λ (r : ℕ). IsNewList net chosen r (lists.Route s.face) l.name) router_is h.named) made in
                 key_at route_list_key net.route_lists after.route_lists (edited_route_list chosen) (λ j m. refl) after.route_lists id.0 l (near.router, name) e (λ i. (router_is i, name_is i))

@@ -1,7 +1,7 @@
 -- No list stops the routing protocol after the edits that did not before: the packets that edits deny come from host networks, and the protocol's
 -- own packets come from the interfaces of links.
 use Rattle.std.proofs.Common.{◌≡◌, ◌≢◌, ℕ, ◌+◌, ◌^◌, ◌<◌, ◌==◌, ◌&&◌, inl, inr, Bool, true, false, cond, Option, Some, None, List, [], ◌∷◌, map, refl, sym, ◌∙◌, ap, subst, arith, IsTrue, find}
-use Rattle.std.specs.Prelude.{Contains, IfSome, IsSomeAnd, IsFalse, MatchBool, is_some, slice_get, option_map}
+use Rattle.std.specs.Prelude.{Contains, IfSome, IsSomeAnd, MatchBool, is_some, slice_get, option_map}
 use Rattle.std.specs.Option.{option_map_or}
 use Rattle.std.specs.List.{filter_map}
 use Rattle.std.proofs.lemmas.Bool.{eqb-true, false≢true, and_parts, and_from, false_from_ne_true}
@@ -52,7 +52,7 @@ use Rattle.edit_laws.proofs.Turning.{staying_packets}
 use Rattle.ios_config.specs.declared.settings.Given.{Given}
 use Rattle.patched_settings.proofs.Edited.{AreEdited, face_site, packet_edit_of}
 use Rattle.patched_settings.proofs.NewNames.{numbered}
-use Rattle.patched_settings.proofs.PacketLists.{any_of, of_any}
+use Rattle.patched_settings.proofs.Pairs.{any_of, of_any}
 use Rattle.patched_settings.proofs.SessionFacts.{session_there, find_in}
 use Rattle.patched_settings.proofs.Sites.{given_of_value}
 

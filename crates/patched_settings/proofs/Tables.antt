@@ -129,22 +129,18 @@ module _ (net : Network) (valid : IsValid net) (small : IsCountable net) (chosen
       of_kind true e = e
       of_kind false e = ap not e
 
-  -- an old list of the name is found among the old ones
-  pub old_is_there : (l : ListText) → list_named packet old name ≡ Some l → Contains old.lists l × (l.name ≡ name)
-  old_is_there l e = let r = find_in test old.lists l e in (r.0, is_name l r.1)
-
 -- the entries of a list without their numbers are the same
-packet_without : (c : Command) → packet_entry (without_number c) ≡ packet_entry c
+pub packet_without : (c : Command) → packet_entry (without_number c) ≡ packet_entry c
 packet_without (commands.Entry number entry) = refl
 packet_without (commands.PrefixLine name number entry) = refl
 packet_without other = refl
 
-route_without : (c : Command) → route_entry (without_number c) ≡ route_entry c
+pub route_without : (c : Command) → route_entry (without_number c) ≡ route_entry c
 route_without (commands.Entry number entry) = refl
 route_without (commands.PrefixLine name number entry) = refl
 route_without other = refl
 
-plain_picks : {X : Type 0} (entry : Command → Option X) → ((c : Command) → entry (without_number c) ≡ entry c) → (gs : List (Given Command)) →
+pub plain_picks : {X : Type 0} (entry : Command → Option X) → ((c : Command) → entry (without_number c) ≡ entry c) → (gs : List (Given Command)) →
     filter_map (λ (g : Given Command). entry g.value) (map plain_entry gs) ≡ filter_map (λ (g : Given Command). entry g.value) gs
 plain_picks entry same [] = refl
 plain_picks entry same (g ∷ gs) =

@@ -46,7 +46,7 @@ use Rattle.patched_settings.specs.Additions.{list_for, new_inbound}
 use Rattle.patched_settings.specs.Plain.{said}
 use Rattle.patched_settings.specs.SettingsAfter.{face_with}
 use Rattle.patched_settings.proofs.NewNames.{numbered, zip_places}
-use Rattle.patched_settings.proofs.PacketLists.{any_of}
+use Rattle.patched_settings.proofs.Pairs.{any_of}
 use Rattle.patched_settings.proofs.SessionFacts.{one_face}
 use Rattle.edited_lines.specs.Sites.{Written}
 use Rattle.patched_texts.specs.EditFiles.{IsEditedFile, HasFace}

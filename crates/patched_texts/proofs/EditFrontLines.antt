@@ -25,7 +25,7 @@ use Rattle.net_build.specs.declared.built.ListPlace.{ListPlace}
 use Rattle.edit_space.specs.After.{opposite_packet_entry, opposite_route_entry}
 use Rattle.patched_settings.specs.Additions.{packet_line, route_line}
 use Rattle.patched_settings.specs.Plain.{said}
-use Rattle.patched_settings.proofs.PacketLists.{any_of}
+use Rattle.patched_settings.proofs.Pairs.{any_of}
 use Rattle.edited_lines.specs.Sites.{Written}
 use Rattle.patched_texts.specs.EditSites.{written_at}
 use Rattle.arc_base.specs.PrefixText.{number_of}

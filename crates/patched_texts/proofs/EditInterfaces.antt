@@ -36,7 +36,7 @@ use Rattle.line_patcher.specs.NewListLines.{face_places}
 use Rattle.edit_space.specs.NewLists.{named_lists}
 use Rattle.patched_settings.proofs.FileClear.{offends_not}
 use Rattle.patched_settings.proofs.NewNames.{new_of_named}
-use Rattle.patched_settings.proofs.PacketLists.{any_of}
+use Rattle.patched_settings.proofs.Pairs.{any_of}
 use Rattle.arc_base.proofs.Zips.{AllZip-left}
 use Rattle.patched_texts.specs.EditFiles.{HasFace}
 use Rattle.patched_texts.proofs.EditRenumber.{at-enumerated}

@@ -38,8 +38,8 @@ use Rattle.line_patcher.specs.EntryLines.{first_line, edited_packet_list, edited
 use Rattle.patched_settings.specs.Additions.{class_for, front_lines, if_own_list, packet_line, prefix_for, route_line}
 use Rattle.patched_settings.specs.Plain.{said, plain_entry}
 use Rattle.patched_settings.proofs.NewNames.{numbered}
-use Rattle.patched_settings.proofs.PacketRows as packets
-use Rattle.patched_settings.proofs.RouteRows as routes
+use Rattle.patched_settings.proofs.ListRows.{things_same}
+use Rattle.patched_settings.proofs.TextKinds.{packet_texts, route_texts}
 use Rattle.patched_settings.proofs.SessionFacts.{one_named}
 use Rattle.patched_settings.proofs.Tables.{plain_packet_entries, plain_route_entries}
 use Rattle.edited_lines.specs.Sites.{Written}
@@ -175,7 +175,7 @@ module _ (net : Network) (places : List Places) (chosen : List Edit) (router : �
     classes-found z zs made kind =
         let (edit, in_chosen, picked) = picked_from (class_for net router x.0) chosen z (subst (λ (l : List Class). Contains l z) (sym made) (Contains-head z zs)) in
         let (id, row, at, here, named) = class-row edit z picked in
-        let same : list_classes chosen id ≡ filter_map (class_for net router x.0) chosen = packets.classes_same net f.valid chosen router x.0 id row at here named in
+        let same : list_classes chosen id ≡ filter_map (class_for net router x.0) chosen = things_same (packet_texts net chosen f.valid) router x.0 id row at here named in
         let some : list_classes chosen id ≢ [] = λ none. some-item z zs (sym made ∙ sym same ∙ none) in
         let h = f.packets id row at here some in
         let g = list-group cs h.list h.among in
@@ -207,7 +207,7 @@ module _ (net : Network) (places : List Places) (chosen : List Edit) (router : �
     prefixes-found z zs made kind =
         let (edit, in_chosen, picked) = picked_from (prefix_for net router x.0) chosen z (subst (λ (l : List Prefix). Contains l z) (sym made) (Contains-head z zs)) in
         let (id, row, at, here, named) = prefix-row edit z picked in
-        let same : list_prefixes chosen id ≡ filter_map (prefix_for net router x.0) chosen = routes.prefixes_same net f.valid chosen router x.0 id row at here named in
+        let same : list_prefixes chosen id ≡ filter_map (prefix_for net router x.0) chosen = things_same (route_texts net chosen f.valid) router x.0 id row at here named in
         let some : list_prefixes chosen id ≢ [] = λ none. some-item z zs (sym made ∙ sym same ∙ none) in
         let h = f.routes id row at here some in
         let g = list-group cs h.list h.among in
@@ -253,7 +253,7 @@ module _ (net : Network) (places : List Places) (chosen : List Edit) (router : �
       -- where the edits put nothing into this list
       pub no-class-here : made_classes ≡ [] → of_number n (flat_map class_at (edited_packet_lists net chosen router)) ≡ []
       no-class-here empty = flat-none n class_at (edited_packet_lists net chosen router) (λ id there. class-off id there (λ row at here h some t.
-          some (packets.classes_same net f.valid chosen router x.0 id row at here (sym h.name ∙ t.name) ∙ empty)))
+          some (things_same (packet_texts net chosen f.valid) router x.0 id row at here (sym h.name ∙ t.name) ∙ empty)))
 
       -- where they put some
       pub classes-here : (id : ℕ) (row : PacketList) → slice_get net.packet_lists id ≡ Some row → row.router.0 ≡ router → row.name ≡ x.0 → (h : HasPacketList cs row) → list_classes chosen id ≢ [] → IsThis h.list →
@@ -285,7 +285,7 @@ module _ (net : Network) (places : List Places) (chosen : List Edit) (router : �
       -- where the edits put nothing into this list
       pub no-prefix-here : made_prefixes ≡ [] → of_number n (flat_map prefix_at (edited_route_lists net chosen router)) ≡ []
       no-prefix-here empty = flat-none n prefix_at (edited_route_lists net chosen router) (λ id there. prefix-off id there (λ row at here h some t.
-          some (routes.prefixes_same net f.valid chosen router x.0 id row at here (sym h.name ∙ t.name) ∙ empty)))
+          some (things_same (route_texts net chosen f.valid) router x.0 id row at here (sym h.name ∙ t.name) ∙ empty)))
 
       -- where they put some
       pub prefixes-here : (id : ℕ) (row : RouteList) → slice_get net.route_lists id ≡ Some row → row.router.0 ≡ router → row.name ≡ x.0 → (h : HasRouteList cs row) → list_prefixes chosen id ≢ [] → IsThis h.list →

@@ -28,7 +28,7 @@ use Rattle.edit_space.specs.Writable.{is_writable}
 use Rattle.edit_space.proofs.Counts.{few_picked, few_placed}
 use Rattle.edited_networks.proofs.FreeNames.{free_name_is_new, free_names_apart}
 use Rattle.patched_settings.proofs.NewNames.{name_is_new, new_of_named, zip_places}
-use Rattle.patched_settings.proofs.PacketLists.{any_of}
+use Rattle.patched_settings.proofs.Pairs.{any_of}
 use Rattle.patched_texts.specs.NewListSites.{IsNewName, AreDifferent}
 use Rattle.patched_texts.proofs.EditEntries.{all-from}
 

@@ -26,8 +26,8 @@ use Rattle.line_patcher.specs.declared.additions.NewNumber.{NewNumber}
 use Rattle.line_patcher.specs.Additions.{numbers_at}
 use Rattle.line_patcher.specs.EntryLines.{edited_packet_list, edited_route_list, edited_packet_lists, edited_route_lists, new_numbers, packet_list_numbers, route_list_numbers}
 use Rattle.patched_settings.specs.Additions.{class_for, prefix_for}
-use Rattle.patched_settings.proofs.PacketRows as packets
-use Rattle.patched_settings.proofs.RouteRows as routes
+use Rattle.patched_settings.proofs.ListRows.{things_same}
+use Rattle.patched_settings.proofs.TextKinds.{packet_texts, route_texts}
 use Rattle.patched_settings.proofs.SessionFacts.{one_named}
 use Rattle.patched_texts.specs.EditFiles.{IsEditedFile, HasPacketList, HasRouteList}
 use Rattle.patched_texts.specs.ListsGrow.{list_begun}
@@ -119,12 +119,12 @@ module _ (net : Network) (places : List Places) (chosen : List Edit) (router : �
       pub no-packets : x.1 ≢ kinds.Prefix → filter_map (class_for net router x.0) chosen ≡ [] → new_numbers_at d ≡ []
       no-packets kind empty =
           of-packets kind ∙ flat-none d.line packet_numbers packet_ids (λ id in_ids. packets-off id in_ids (λ row at here h some t.
-          some (packets.classes_same net f.valid chosen router x.0 id row at here (sym h.name ∙ t.name) ∙ empty)))
+          some (things_same (packet_texts net chosen f.valid) router x.0 id row at here (sym h.name ∙ t.name) ∙ empty)))
 
       pub no-routes : x.1 ≡ kinds.Prefix → filter_map (prefix_for net router x.0) chosen ≡ [] → new_numbers_at d ≡ []
       no-routes kind empty =
           of-routes kind ∙ flat-none d.line route_numbers route_ids (λ id in_ids. routes-off id in_ids (λ row at here h some t.
-          some (routes.prefixes_same net f.valid chosen router x.0 id row at here (sym h.name ∙ t.name) ∙ empty)))
+          some (things_same (route_texts net chosen f.valid) router x.0 id row at here (sym h.name ∙ t.name) ∙ empty)))
 
       -- and else those of the list
       pub some-packets : x.1 ≢ kinds.Prefix → (s : HasClasses net places chosen router text lines cs f q first rest is x begun) → new_numbers_at d ≡ of_number d.line (new_numbers (list_place s.has.list) 0 10 (length (list_classes chosen s.id)))

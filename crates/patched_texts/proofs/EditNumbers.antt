@@ -29,7 +29,7 @@ use Rattle.ios_config.proofs.LineLists.{command-spot}
 use Rattle.ios_words.specs.Laws.{heads_block}
 use Rattle.ios_config.proofs.OwnBlocks.{own-block}
 use Rattle.ios_config.proofs.PartLists.{is_same-Decides}
-use Rattle.patched_settings.proofs.PacketLists.{any_of}
+use Rattle.patched_settings.proofs.Pairs.{any_of}
 use Rattle.edited_lines.specs.Sites.{IsOfBlock}
 use Rattle.patched_texts.specs.ListsGrow.{list_begun}
 use Rattle.patched_texts.proofs.EditLists.{ListGroup, list-group, entry-command}

@@ -32,7 +32,7 @@ use Rattle.edit_space.specs.Numbered.{of_number}
 use Rattle.line_patcher.specs.declared.additions.NewNumber.{NewNumber}
 use Rattle.line_patcher.specs.Additions.{numbers_at}
 use Rattle.edit_space.specs.NewLists.{named_lists}
-use Rattle.patched_settings.proofs.PacketLists.{any_of, of_any}
+use Rattle.patched_settings.proofs.Pairs.{any_of, of_any}
 use Rattle.edited_lines.specs.Sites.{Written, chunk_commands, in_block, says_other, new_commands}
 use Rattle.patched_texts.specs.EditFiles.{IsEditedFile}
 use Rattle.patched_texts.specs.EditSites.{entries_at, new_key, with_number}

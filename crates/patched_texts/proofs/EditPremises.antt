@@ -35,7 +35,6 @@ use Rattle.patched_texts.specs.EditSiteLaws.{CommandsHaveListLines, CommandsGrow
 use Rattle.patched_texts.specs.EditSites.{added, grow, new_key, put}
 use Rattle.patched_texts.specs.Files.{AreSited, IsSited}
 use Rattle.patched_texts.specs.Laws.{SessionFilesHaveTheNetwork}
-use Rattle.patched_texts.specs.Sessions.{AreSessions}
 use Rattle.patched_texts.proofs.EditClasses.{AreSaid, edits-said, no-classes, sessions-said}
 use Rattle.patched_texts.proofs.EditInterfaces.{OneProcess, has-face, one-process}
 use Rattle.patched_texts.proofs.EditHasLists.{edited-extended, has-packets, has-routes}

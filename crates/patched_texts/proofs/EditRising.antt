@@ -19,7 +19,7 @@ use Rattle.edit_space.specs.declared.edit_kinds.Edit.{Edit}
 use Rattle.edit_space.specs.declared.list_kinds.NewList.{NewList}
 use Rattle.edit_space.specs.declared.list_kinds.NewList.TheVariants.{Route, Packet}
 use Rattle.edit_space.specs.Changes.{new_prefixes, new_classes}
-use Rattle.patched_settings.proofs.PacketLists.{of_any}
+use Rattle.patched_settings.proofs.Pairs.{of_any}
 use Rattle.edited_lines.specs.Grown.{HasGrownGroups}
 use Rattle.edited_lines.specs.Sites.{chunk_commands, in_block}
 use Rattle.patched_texts.specs.NewListSites.{AreDifferent, deny_written, head_written, list_chunks, new_chunks, packet_written, permit_all_written, route_written}

@@ -33,7 +33,7 @@ use Rattle.edit_space.specs.Numbered.{if_number}
 use Rattle.net_model.proofs.Readings.{item_at_place, place_of_item}
 use Rattle.patched_settings.proofs.Pairs.{maps_agree}
 use Rattle.arc_base.proofs.Zips.{AllZip-left}
-use Rattle.patched_settings.proofs.PacketLists.{any_of, of_any}
+use Rattle.patched_settings.proofs.Pairs.{any_of, of_any}
 use Rattle.patched_settings.proofs.Untouched.{map_same}
 use Rattle.line_patcher.specs.SessionLines as patched
 use Rattle.patched_settings.specs.Premises.{IsWritable}
