@@ -1,30 +1,28 @@
 -- What tables tell of edits: few things, each at its number.
-use Rattle.std.proofs.Common.{◌≡◌, ℕ, ◌<◌, ◌≤◌, ◌++◌, Bool, List, [], length, get_or, ap, ◌∙◌, arith, map, unwrap_or}
-use Rattle.std.specs.Prelude.{Option, Some, slice_get}
+use Rattle.std.proofs.Common.{◌≡◌, ℕ, ◌+◌, ◌<◌, ◌≤◌, ◌++◌, Bool, true, false, not, List, [], ◌∷◌, length, get_or, take, ap, sym, ◌∙◌, arith, map, unwrap_or, Result, OnOk, if◌then◌else◌}
+use Rattle.std.specs.Prelude.{Option, Some, None, slice_get}
 use Rattle.std.specs.List.{filter_map, zip, range_with_len}
 use Rattle.std.proofs.lemmas.List.{get_or_read}
-use Rattle.std.proofs.lemmas.Option.{get_or_from_slice_get}
+use Rattle.std.proofs.lemmas.Option.{get_or_from_slice_get, slice_get_within}
 use Rattle.std.proofs.lemmas.List.FromFn.{length-map-range_with_len}
 use Rattle.std.specs.Option.{option_map_or}
-use Rattle.net_model.specs.declared.lists.PacketList.{PacketList}
-use Rattle.net_model.specs.declared.lists.RouteList.{RouteList}
 use Rattle.net_model.specs.declared.rows.Network.{Network}
-use Rattle.net_build.specs.declared.built.Places.{Places}
 use Rattle.net_build.specs.declared.built.ListPlace.{ListPlace}
 use Rattle.ios_lines.specs.declared.line.Line.{Line}
 use Rattle.edit_space.specs.declared.edit_kinds.Edit.{Edit}
-use Rattle.edit_space.specs.Numbered.{if_number, of_number, Tells}
+use Rattle.edit_space.specs.Numbered.{if_number, of_number, is_empty, placed, Tells}
 use Rattle.edit_space.specs.Prices.{if_chosen, chosen_of}
 use Rattle.edit_space.proofs.Counts.{few_picked}
 use Rattle.edit_space.specs.NewLists.{new_lists, new_lists_of, new_names_of}
 use Rattle.edited_networks.specs.Working.{AreNewNames}
-use Rattle.edit_space.proofs.Numbers.{things_told, told_at}
+use Rattle.edit_space.proofs.Numbers.{things_told, told_at, picked_unless_empty}
+use Rattle.edit_space.proofs.Placing.{placed_picked, placed_not_picked}
 use Rattle.edit_space.proofs.PriceSteps.{pairs_length}
 use Rattle.line_patcher.specs.declared.additions.NewNumber.{NewNumber}
 use Rattle.line_patcher.specs.declared.texts.Table.{Table}
-use Rattle.line_patcher.specs.EntryLines.{packet_place, route_place, for_packet_list, for_route_list}
 use Rattle.line_patcher.specs.Patches.{end_of, row_bytes, ended, following, patched_row}
 use Rattle.line_patcher.specs.Working.{row_around}
+use Rattle.line_patcher.proofs.Growing.{put_same}
 
 -- edits put no more things anywhere than there are edits
 pub few_put : {X : Type 0} (change : Edit → Option (ℕ × X)) (chosen : List Edit) (number : ℕ) → length chosen ≤ 8192 → length (of_number number (filter_map change chosen)) ≤ 8192
@@ -38,17 +36,39 @@ few_chosen edits flags same few = omega (arith, few_picked if_chosen (zip edits 
 pub at_number : {X : Type 0} (f : ℕ → List X) (count number : ℕ) (groups table : List (List X)) (things : List X) → Tells count f table → groups ≡ table → number < count → things ≡ unwrap_or (slice_get groups number) [] → things ≡ f number
 at_number f count number groups table things told same low is = things_told groups f count number things (same ∙ told) low is
 
--- what a file has for a packet list that it has
-pub for_packet : {X : Type 0} (net : Network) (own : Places) (things : PacketList → ListPlace → List X) (id : ℕ) (list : PacketList) (place : ListPlace) → slice_get net.packet_lists id ≡ Some list → packet_place own list.name ≡ Some place →
-    for_packet_list net own things id ≡ things list place
-for_packet {X} net own things id list place at there =
-    ap (λ (o : Option PacketList). option_map_or (λ (l : PacketList). option_map_or (things l) (packet_place own l.name) []) o []) at ∙ ap (λ (o : Option ListPlace). option_map_or (things list) o []) there
+-- what edits put into a list
+module _ {L X : Type 0} (lists : List L) (change : Edit → Option (ℕ × X)) (chosen : List Edit) (id : ℕ) (list : L) (groups table : List (List X)) (things : List X) (is : Some list ≡ slice_get lists id)
+    (told : Tells (length lists) (λ k. of_number k (filter_map change chosen)) table) (same : groups ≡ table) (are : things ≡ unwrap_or (slice_get groups id) []) where
+  things_are : things ≡ of_number id (filter_map change chosen)
+  things_are = at_number (λ k. of_number k (filter_map change chosen)) (length lists) id groups table things told same (slice_get_within lists id list (sym is)) are
 
--- and for a route list
-pub for_route : {X : Type 0} (net : Network) (own : Places) (things : RouteList → ListPlace → List X) (id : ℕ) (list : RouteList) (place : ListPlace) → slice_get net.route_lists id ≡ Some list → route_place own list.name ≡ Some place →
-    for_route_list net own things id ≡ things list place
-for_route {X} net own things id list place at there =
-    ap (λ (o : Option RouteList). option_map_or (λ (l : RouteList). option_map_or (things l) (route_place own l.name) []) o []) at ∙ ap (λ (o : Option ListPlace). option_map_or (things list) o []) there
+  pub few_things : length chosen ≤ 8192 → length things ≤ 8192
+  few_things few = omega (arith, ap length things_are, few_put change chosen id few)
+
+  -- what is added for it is what a file has for it that has it at a place
+  pub added_for : {U E Y : Type 0} (name : L → List ℕ) (own : List ℕ → Option ListPlace) (made : L → ListPlace → List X → List Y) (place : ListPlace) (bytes : List ℕ) (r : Result U E) (old next : List Y) →
+      bytes ≡ name list → Some place ≡ own bytes → OnOk r (next ≡ old ++ made list place things) →
+      OnOk r (next ≡ old ++ option_map_or (λ (l : L). option_map_or (λ (p : ListPlace). made l p (of_number id (filter_map change chosen))) (own (name l)) []) (slice_get lists id) [])
+  added_for {U} {E} {Y} name own made place bytes r old next named there added =
+      let of_list : Option ListPlace → L → List Y = λ o l. option_map_or (λ (p : ListPlace). made l p (of_number id (filter_map change chosen))) o [] in
+      put_same r old next (made list place things) (option_map_or (λ (l : L). of_list (own (name l)) l) (slice_get lists id) [])
+      (ap (made list place) things_are ∙ ap (λ (o : Option ListPlace). of_list o list) (there ∙ ap own named) ∙ ap (λ (o : Option L). option_map_or (λ (l : L). of_list (own (name l)) l) o []) is) added
+
+-- the lists that edits put things into, one after another
+module _ {L X : Type 0} (router : L → ℕ) (f : ℕ → List X) (whole lists : List L) (i : ℕ) (list : L) (groups table : List (List X)) (now : List (ℕ × ℕ)) (all : lists ≡ whole) (within : i < length lists) (is : list ≡ get_or lists i list)
+    (told : Tells (length whole) f table) (same : groups ≡ table) where
+  abbrev edited : ℕ × L → Option (ℕ × ℕ)
+  edited l = if is_empty (f l.0) then None else Some (router l.1, l.0)
+
+  picks : (filled b : Bool) → filled ≡ not (is_empty (unwrap_or (slice_get groups i) [])) → filled ≡ b → (if b then Some (router list, i) else None) ≡ edited (i, list)
+  picks filled b says test = picked_unless_empty groups f (length whole) i filled b (Some (router list, i)) (same ∙ told) (omega (arith, within, ap length all)) says test
+
+  pub edited_more : (filled : Bool) (next : List (ℕ × ℕ)) → filled ≡ not (is_empty (unwrap_or (slice_get groups i) [])) → filled ≡ true → now ≡ filter_map edited (take i (placed lists)) → next ≡ now ++ (router list, i) ∷ [] →
+      next ≡ filter_map edited (take (i + 1) (placed lists))
+  edited_more filled next says test was put = placed_picked edited lists i list within is now next (router list, i) (sym (picks filled true says test)) was put
+
+  pub not_edited_more : (filled : Bool) → filled ≡ not (is_empty (unwrap_or (slice_get groups i) [])) → filled ≡ false → now ≡ filter_map edited (take i (placed lists)) → now ≡ filter_map edited (take (i + 1) (placed lists))
+  not_edited_more filled says test was = placed_not_picked edited lists i list within is now (sym (picks filled false says test)) was
 
 -- what stands around a row, as the table tells it
 pub around : (text end : List ℕ) (table : Table) (count : ℕ) (before after : List (ℕ × List ℕ)) (numbers : List (ℕ × NewNumber)) (number : ℕ) (row : Line) → Tells count (λ k. of_number k before) table.before.items →

@@ -1,5 +1,5 @@
 -- The lines of new lists, and those that bind them.
-use Rattle.std.specs.Prelude.{ℕ, ◌+◌, ◌*◌, true, false, Option, Some, None, List, [], ◌∷◌, ◌++◌}
+use Rattle.std.specs.Prelude.{ℕ, ◌+◌, ◌*◌, false, Option, Some, None, List, [], ◌∷◌, ◌++◌}
 use Rattle.std.specs.Prelude.{map, flat_map, length, codes, option_map, slice_get}
 use Rattle.std.specs.List.{filter_map, enumerate_from}
 use Rattle.arc_base.specs.declared.prefix.Prefix.{Prefix}

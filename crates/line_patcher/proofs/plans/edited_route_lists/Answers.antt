@@ -1,36 +1,27 @@
-use Rattle.std.proofs.Common.{◌∙◌, ℕ, ◌<◌, arith, true, false, List, length, ap, sym}
-use Rattle.std.specs.Prelude.{Option, Some}
+use Rattle.std.proofs.Common.{◌∙◌, List, ap}
 use Rattle.std.specs.List.{filter_map}
-use Rattle.arc_base.specs.declared.prefix.Prefix.{Prefix}
 use Rattle.net_model.specs.declared.lists.RouteList.{RouteList}
 use Rattle.edit_space.specs.Numbered.{placed}
 use Rattle.edit_space.specs.Changes.{list_prefixes}
 use Rattle.edit_space.specs.declared.edit_kinds.Edit.{Edit}
-use Rattle.edit_space.proofs.Numbers.{picked_unless_empty}
-use Rattle.edit_space.proofs.Placing.{placed_picked, placed_not_picked, placed_all}
+use Rattle.edit_space.proofs.Placing.{placed_all}
 use Rattle.line_patcher.specs.EntryLines.{edited_route_list}
+use Rattle.line_patcher.proofs.Tables.{edited_more, not_edited_more}
 use Rattle.line_patcher.proofs.plans.edited_route_lists.Goals as goal
 use Rattle.line_patcher.proofs.plans.edited_route_lists.Goals.{then-is_filled+in_ok-push, else-is_filled}
 
 pub loop-place-preserved : goal.loop-place-preserved
 loop-place-preserved c =
-    let chosen : List Edit = c.args.changes.now.edits.items in
-    let lists : List RouteList = c.slice-list-items.result.now in
-    let i : ℕ = c.loop-place.place in
-    let list : RouteList = c.list-item.result in
-    let groups : List (List Prefix) = c.deref.result.now in
-    let some : Option (ℕ × ℕ) = Some (list.router.0, i) in
-    let low : i < length c.args.net.now.route_lists = omega (arith, c.loop-place-test.true, ap length c.slice-list-items.ensures.items) in
     elim c.if-is_filled.branch [
       | then-is_filled+in_ok-push w ↦
-          placed_picked (edited_route_list chosen) lists i list c.loop-place-test.true c.list-item.is c.loop-place.edited.items c.if-is_filled.edited.items (list.router.0, i)
-          (sym (picked_unless_empty groups (list_prefixes chosen) (length c.args.net.now.route_lists) i c.is_filled.result true some (c.deref.ensures.value ∙ c.requires.route_lists) low c.is_filled.ensures w.if-is_filled.true))
-          c.loop-place.invariant (ap (λ v. v.items) w.edited-is ∙ w.in_ok-push.ensures.items)
+          edited_more (λ (l : RouteList). l.router.0) (list_prefixes c.args.changes.now.edits.items) c.args.net.now.route_lists c.slice-list-items.result.now c.loop-place.place c.list-item.result c.deref.result.now c.args.changes.now.route_lists.items c.loop-place.edited.items
+          c.slice-list-items.ensures.items c.loop-place-test.true c.list-item.is c.requires.route_lists c.deref.ensures.value c.is_filled.result
+          c.if-is_filled.edited.items c.is_filled.ensures w.if-is_filled.true c.loop-place.invariant (ap (λ v. v.items) w.edited-is ∙ w.in_ok-push.ensures.items)
       | else-is_filled w ↦
           ap (λ v. v.items) w.edited-is ∙
-          placed_not_picked (edited_route_list chosen) lists i list c.loop-place-test.true c.list-item.is c.loop-place.edited.items
-          (sym (picked_unless_empty groups (list_prefixes chosen) (length c.args.net.now.route_lists) i c.is_filled.result false some (c.deref.ensures.value ∙ c.requires.route_lists) low c.is_filled.ensures w.if-is_filled.false))
-          c.loop-place.invariant
+          not_edited_more (λ (l : RouteList). l.router.0) (list_prefixes c.args.changes.now.edits.items) c.args.net.now.route_lists c.slice-list-items.result.now c.loop-place.place c.list-item.result c.deref.result.now c.args.changes.now.route_lists.items c.loop-place.edited.items
+          c.slice-list-items.ensures.items c.loop-place-test.true c.list-item.is c.requires.route_lists c.deref.ensures.value c.is_filled.result
+          c.is_filled.ensures w.if-is_filled.false c.loop-place.invariant
     ]
 
 pub returns : goal.returns
