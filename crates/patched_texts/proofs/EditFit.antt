@@ -56,7 +56,8 @@ use Rattle.patched_texts.proofs.EditThere.{are-named, entry-bytes}
 use Rattle.patched_texts.proofs.EndLines.{group-lines-fit, process-lines-read}
 use Rattle.patched_texts.proofs.PatchedLines.{hanging-ended}
 use Rattle.patched_texts.proofs.RowLines.{line-end, row-facts}
-use Rattle.patched_texts.proofs.RowsWithin.{LiesWithin, row-within}
+use Rattle.line_patcher.specs.Working.{LiesWithin}
+use Rattle.line_patcher.proofs.RowsWithin.{row-within}
 
 some-decimal : (m : ℕ) → m < 2 ^ 64 → 0 < length (decimal m)
 some-decimal m small = ltb-true 0 (length (decimal m)) (and_parts (nat_lt 0 (length (decimal m))) (list_all (nat_lt 32) (decimal m)) (decimal-plain m small)).0

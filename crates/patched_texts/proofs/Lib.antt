@@ -1,4 +1,3 @@
-pub mod RowsWithin
 pub mod PatchedLines
 pub mod RowLines
 pub mod SessionReads

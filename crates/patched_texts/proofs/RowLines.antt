@@ -12,7 +12,8 @@ use Rattle.line_patcher.specs.Additions.{all_at}
 use Rattle.line_patcher.specs.Patches.{end_of, line_end}
 use Rattle.patched_texts.proofs.PatchedLines.{OnlyLastHangs}
 use Rattle.patched_texts.specs.Fits.{IsLineEnd}
-use Rattle.patched_texts.proofs.RowsWithin.{LiesWithin, rows-few}
+use Rattle.line_patcher.specs.Working.{LiesWithin}
+use Rattle.line_patcher.proofs.RowsWithin.{rows-few}
 
 -- the things that all have one number
 number-step : (b : Bool) (line : List ℕ) (rest : List (List ℕ)) → cons_option (if b then Some line else None) rest ≡ (if b then line ∷ rest else rest)
