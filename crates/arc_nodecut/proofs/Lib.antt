@@ -11,7 +11,6 @@ pub mod NodeMenger
 pub mod SplitGrowing
 pub mod Marks
 pub mod Reaches
-pub mod Clear
 pub mod Judging
 pub mod Kept
 pub mod Serving

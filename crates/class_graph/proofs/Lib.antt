@@ -7,3 +7,4 @@ pub mod Between
 pub mod ClassDenials
 pub mod Through
 pub mod Passing
+pub mod Clear

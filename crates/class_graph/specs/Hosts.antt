@@ -1,6 +1,5 @@
 -- What the classes from one host network to another share.
 use Rattle.std.specs.Prelude.{◌≡◌, Bool, IsTrue, List, Contains}
-use Rattle.arc_base.specs.declared.prefix.Prefix.{Prefix}
 use Rattle.net_model.specs.declared.lists.Packet.{Packet}
 use Rattle.net_model.specs.declared.policies.Class.{Class}
 use Rattle.net_model.specs.declared.rows.FaceRow.{FaceRow}

@@ -5,6 +5,5 @@ pub mod ClosedSides
 pub mod Reached
 pub mod Firsts
 pub mod Pushes
-pub mod Clear
 pub mod Cuts
 pub mod Verdicts

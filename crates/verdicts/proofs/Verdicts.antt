@@ -32,7 +32,7 @@ use Rattle.verdicts.specs.Fixed.{IsLeastClosed, AreLeastSides, IsFixedBlocking, 
 use Rattle.verdicts.specs.Judged.{IsBlockingAnswer, IsReachVerdict, IsVerdict}
 use Rattle.verdicts.specs.Reaching.{IsDenial, IsFirstDenial, IsPathsOrCut}
 use Rattle.verdicts.proofs.Lists.{all_of_map, pairs_of_map, sum_of_map, rising_numbers}
-use Rattle.verdicts.proofs.Clear.{permits_all, whole_passes, none_passes}
+use Rattle.class_graph.proofs.Clear.{at_class, permits_all, none_passes}
 
 -- the least sides of the classes are right
 right_closed : (net : Network) (ends : Ends) (kind : PolicyKind) (whole : Class) (classes : List Class) → MakeUp net whole classes → (sides : List ClassSide) →
@@ -103,7 +103,9 @@ reach_verdict net ends k whole classes v is = record { right = is.right; fixed =
 -- where no link denies any of the classes the whole is clear
 clear_of : (net : Network) (ends : Ends) (whole : Class) (classes : List Class) → MakeUp net whole classes → HasNoDenial net ends.to classes (length classes) → IsClear net ends whole
 clear_of net ends whole classes parts none =
-    inr (λ arc is_arc routed. permits_all net ends.to whole classes parts arc is_arc routed (λ k c low at. none k c low at arc.link))
+    inr (λ arc is_arc routed p of.
+    let has = parts.cover p of in
+    permits_all net ends.to classes parts.uniform arc is_arc routed (λ k c low at. none k c low at arc.link) has.class has.one p has.is_of)
 
 -- the first class that is kept out denies the policy
 pub denied_verdict : (net : Network) (ends : Ends) (k : ℕ) (whole : Class) (classes : List Class) → MakeUp net whole classes → IsClear net ends whole → (class : Class) →
@@ -126,6 +128,12 @@ denied_together net ends k whole classes parts together class out = denied_verdi
 pub denied_apart : (net : Network) (ends : Ends) (k : ℕ) (whole : Class) (classes : List Class) → MakeUp net whole classes → HasNoDenial net ends.to classes (length classes) → (class : Class) →
     IsFirstKeptOut net ends classes class → IsReachVerdict net ends k whole classes (Denied class)
 denied_apart net ends k whole classes parts none class out = denied_verdict net ends k whole classes parts (clear_of net ends whole classes parts none) class out
+
+-- where each packet of each class enters and leaves each packet of the whole does
+whole_passes : (net : Network) (ends : Ends) (whole : Class) (classes : List Class) → MakeUp net whole classes → AllPass net ends classes (length classes) → EachPasses net ends whole
+whole_passes net ends whole classes parts all p of =
+    let has = parts.cover p of in
+    at_class (EachPasses net ends) classes all has.class has.one p has.is_of
 
 -- on one router there are no paths to be shown
 pub no_paths : (net : Network) (ends : Ends) (k : ℕ) (whole : Class) (classes : List Class) → MakeUp net whole classes → source_router ends ≡ target_router ends →
@@ -163,7 +171,9 @@ refused_verdict net ends k whole classes parts apart d denial p packet =
         denied = denial.denied.denied p of_class;
       };
       fixed = record {
-        lower = λ arc is_arc routed low. permits_all net ends.to whole classes parts arc is_arc routed (λ j c below at. denial.lower j c below at arc.link low);
+        lower = λ arc is_arc routed low p of.
+            let has = parts.cover p of in
+            permits_all net ends.to classes parts.uniform arc is_arc routed (λ j c below at. denial.lower j c below at arc.link low) has.class has.one p has.is_of;
         class = d.class;
         is_first = denial.is_first;
         denied = denial.denied;
