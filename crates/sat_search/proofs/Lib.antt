@@ -22,3 +22,4 @@ pub mod Forgetting
 pub mod Promises
 pub mod Outcomes
 pub mod Numbering
+pub mod FormulaClauses

@@ -10,7 +10,7 @@ use Rattle.sat_core.specs.States.{State}
 use Rattle.sat_search.specs.Searches.{Knows}
 use Rattle.sat_search.specs.Cores.{core_of}
 use Rattle.sat_search.proofs.Numbering.{ids_are_positive}
-use Rattle.cnf_commands.proofs.Searching.{live_are}
+use Rattle.sat_search.proofs.FormulaClauses.{live_are}
 use Rattle.cnf_commands.proofs.FoundBySearch.{all_appended, is_found}
 use Rattle.cnf_commands.proofs.solving.search_formula.Goals as goal
 
