@@ -14,7 +14,6 @@ pub mod Reaches
 pub mod Judging
 pub mod Kept
 pub mod Serving
-pub mod RisingRouters
 pub mod Keeping
 pub mod Alike
 pub mod KeptOff

@@ -6,11 +6,11 @@ use Rattle.witness_check.proofs.cuts.are_rising.Goals as goal
 pub returns-then-links-place : goal.returns-then-links-place
 returns-then-links-place c = (
   λ t. absurd (false≢true t),
-  λ rising. absurd (not_rising c.args.links.now c.loop-place.place _ _ (omega arith) (omega arith) c.if-links-place.true rising),
+  λ rising. absurd (not_rising c.args.links.now (λ l. l.0) c.loop-place.place _ _ (omega arith) (omega arith) c.if-links-place.true rising),
 )
 
 pub returns : goal.returns
 returns c = (
-  λ t. all_rising c.args.links.now c.loop-place.place (omega arith) c.loop-place.invariant,
+  λ t. all_rising c.args.links.now (λ l. l.0) (record { 0 = 0 }) c.loop-place.place (omega arith) c.loop-place.invariant,
   λ rising. refl,
 )
