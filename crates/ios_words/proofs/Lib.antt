@@ -6,7 +6,6 @@ pub mod Heads
 pub mod Holding
 pub mod Known
 pub mod NameForms
-pub mod OrderKept
 pub mod PlainWords
 pub mod Printed
 pub mod PrintedLines
@@ -21,6 +20,6 @@ pub mod Trials
 pub mod Units
 pub mod WordLists
 pub mod Returns
-pub mod TextKept
+pub mod ValuesKept
 pub mod ListLines
 pub mod PrefixNames

@@ -18,7 +18,7 @@ use Rattle.ios_words.specs.Values.{Values, no_values}
 use Rattle.ios_words.proofs.PrintedSteps.{at}
 use Rattle.ios_words.proofs.RenumberedLines.{prefix-by, prefix_row, route_parts, named-other}
 use Rattle.ios_words.proofs.Sequences.{word-read, name-read, same-values}
-use Rattle.ios_words.proofs.TextKept.{retitled, map_values, read-kept}
+use Rattle.ios_words.proofs.ValuesKept.{to_text, changed, map_values, read-kept}
 
 list-text : (list : List ℕ) (order : Option ℕ) (values : Values) (e : RouteText) → PrefixLine list order e ≡ give means.PrefixLine values → list ≡ values.text
 list-text list order values e is = cc
@@ -31,9 +31,9 @@ prefix-names ws list order e reads same =
     let one = word-read (codes "ip") (Word (codes "prefix-list") ∷ Place Name ∷ Bracket (codes "seq") (Order 4294967294) ∷ route_parts) 0 ws (no_values false) reads.values complete in
     let two = word-read (codes "prefix-list") (Place Name ∷ Bracket (codes "seq") (Order 4294967294) ∷ route_parts) 1 one.rest (no_values false) reads.values one.later in
     let three = name-read (Bracket (codes "seq") (Order 4294967294) ∷ route_parts) 2 two.rest (no_values false) reads.values two.later in
-    let kept : Ok reads.values ≡ map_values three.name (Ok reads.values) =
-    sym three.later ∙ read-kept three.name (Bracket (codes "seq") (Order 4294967294) ∷ route_parts) (at 3 three.rest (record (no_values false) { text = three.name })) refl ∙ ap (map_values three.name) three.later in
-    let text : reads.values.text ≡ three.name = ap (λ (v : Values). v.text) (same-values reads.values (retitled three.name reads.values) kept) in
+    let kept : Ok reads.values ≡ map_values (to_text three.name) (Ok reads.values) =
+    sym three.later ∙ read-kept (to_text three.name) (Bracket (codes "seq") (Order 4294967294) ∷ route_parts) (at 3 three.rest (record (no_values false) { text = three.name })) refl ∙ ap (map_values (to_text three.name)) three.later in
+    let text : reads.values.text ≡ three.name = ap (λ (v : Values). v.text) (same-values reads.values (changed (to_text three.name) reads.values) kept) in
     let words : ws ≡ codes "ip" ∷ codes "prefix-list" ∷ three.name ∷ three.rest = one.are ∙ ap (λ (l : List (List ℕ)). codes "ip" ∷ l) (two.are ∙ ap (λ (l : List (List ℕ)). codes "prefix-list" ∷ l) three.are) in
     let other : bytes_eq three.name (codes "sequence-number") ≡ false = named-other three.name three.rest (subst (λ (l : List (List ℕ)). find (completes false l) (take 81 (rows blocks.Top)) ≡ None) words by.none) in
     let name : three.name ≡ codes "sequence-number" = sym text ∙ sym (list-text list order reads.values e given) ∙ same in

@@ -27,7 +27,7 @@ use Rattle.ios_words.specs.Renumbered.{EntriesMayBeRenumbered, PrefixLinesMayBeR
 use Rattle.ios_words.specs.Rows.{Piece, Word, Verdict, Place, Bracket, Flag, EntryNumber, Protocol, Source, Destination, Ports, Anything, Rule, row}
 use Rattle.ios_words.specs.Values.{Values, with_value, tested, no_values}
 use Rattle.ios_words.proofs.Heads.{find-passes}
-use Rattle.ios_words.proofs.OrderKept.{reordered, map_values, read-kept}
+use Rattle.ios_words.proofs.ValuesKept.{to_order, changed, map_values, read-kept}
 use Rattle.ios_words.proofs.Printed.{reads-at, none-split, fails-by}
 use Rattle.ios_words.proofs.PrintedSteps.{at, chain, name-step, order-step, number-begins}
 
@@ -104,8 +104,8 @@ number-read word ws values n complete ordered = by (begins_entry (word ∷ ws)) 
     by : (b : Bool) → begins_entry (word ∷ ws) ≡ b → NumberRead word ws values
     by true entry =
         let stays : read true (word ∷ ws) entry_row ≡ finish (read_parts rest (start true (word ∷ ws))) = ap (λ b. finish (then_do (read_parts rest) (cond b (Ok (start true (word ∷ ws))) (place (Order 2147483647) (start true (word ∷ ws)))))) entry in
-        let kept : Ok values ≡ map_values None (Ok values) = sym (sym stays ∙ complete) ∙ read-kept None rest (start true (word ∷ ws)) refl ∙ ap (map_values None) (sym stays ∙ complete) in
-        let none : values ≡ reordered None values = one-ok values (reordered None values) (Ok values) refl kept in
+        let kept : Ok values ≡ map_values (to_order None) (Ok values) = sym (sym stays ∙ complete) ∙ read-kept (to_order None) rest (start true (word ∷ ws)) refl ∙ ap (map_values (to_order None)) (sym stays ∙ complete) in
+        let none : values ≡ changed (to_order None) values = one-ok values (changed (to_order None) values) (Ok values) refl kept in
         let clash : None ≡ Some n = sym (ap (λ (v : Values). v.order) none) ∙ ordered in
         absurd (none-some n clash)
     by false no_entry =
@@ -131,9 +131,9 @@ entries-renumbered word ws n m e reads ranged =
     let skip : after EntryNumber words ≡ Some ws = ap (λ b. Some (cond b words ws)) no_entry in
     let number : step EntryNumber (at 0 words (no_values true)) ≡ Ok (at 1 ws v) =
     cond-false (begins_entry words) (Ok (at 0 words (no_values true))) (place (Order 2147483647) (at 0 words (no_values true))) no_entry ∙ order-step 2147483647 0 m ws (no_values true) ranged.0 ranged.1 small in
-    let again : finish (read_parts rest (at 1 ws v)) ≡ Ok (reordered (Some m) reads.values) =
-    read-kept (Some m) rest (at 1 ws (record (no_values true) { order = Some old.number })) refl ∙ ap (map_values (Some m)) old.rest_read in
-    reads-at true words (rows blocks.Extended) 1 entry_row [] (reordered (Some m) reads.values) (Entry (Some m) e) refl
+    let again : finish (read_parts rest (at 1 ws v)) ≡ Ok (changed (to_order (Some m)) reads.values) =
+    read-kept (to_order (Some m)) rest (at 1 ws (record (no_values true) { order = Some old.number })) refl ∙ ap (map_values (to_order (Some m))) old.rest_read in
+    reads-at true words (rows blocks.Extended) 1 entry_row [] (changed (to_order (Some m)) reads.values) (Entry (Some m) e) refl
     (none-split (completes true words) [] remark [] refl (fails-by true words remark (ap (λ o. option_map_or (match_words (Word (codes "remark") ∷ Anything ∷ [])) o false) skip ∙ verdict-first ws matched)) refl)
     (ap (λ o. option_map_or (match_words rest) o false) skip ∙ matched)
     (ap finish (chain EntryNumber rest (at 0 words (no_values true)) (at 1 ws v) number) ∙ again)
@@ -254,9 +254,9 @@ prefix-lines-renumbered name word list ws n m e reads ranged =
     let old = sequence-read name word ws reads.values complete in
     let v = record (no_values false) { text = name } in
     let matched : matches old_words prefix_row ≡ true = matches-by false old_words prefix_row (matches old_words prefix_row) refl by.completed in
-    let again : finish (read_parts route_parts (at 5 ws (record v { order = Some m }))) ≡ Ok (reordered (Some m) reads.values) =
-    read-kept (Some m) route_parts (at 5 ws (record v { order = Some old.number })) refl ∙ ap (map_values (Some m)) old.rest_read in
-    reads-at false words (rows blocks.Top) 81 prefix_row [] (reordered (Some m) reads.values) (PrefixLine list (Some m) e) refl
+    let again : finish (read_parts route_parts (at 5 ws (record v { order = Some m }))) ≡ Ok (changed (to_order (Some m)) reads.values) =
+    read-kept (to_order (Some m)) route_parts (at 5 ws (record v { order = Some old.number })) refl ∙ ap (map_values (to_order (Some m))) old.rest_read in
+    reads-at false words (rows blocks.Top) 81 prefix_row [] (changed (to_order (Some m)) reads.values) (PrefixLine list (Some m) e) refl
     (none-split (completes false words) (take 61 (rows blocks.Top)) sequence_number (take 19 (drop 62 (rows blocks.Top))) refl (fails-by false words sequence_number (no-sequence name tail other)) refl)
     matched
     (ap finish (chain (Place Name) (Bracket (codes "seq") (Order 4294967294) ∷ route_parts) (at 2 (name ∷ tail) (no_values false)) (at 3 tail v) (name-step 2 name tail (no_values false) old.named)

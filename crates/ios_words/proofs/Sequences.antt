@@ -15,7 +15,7 @@ use Rattle.ios_words.specs.Readings.{passed, place, after_word, then_do, read_pa
 use Rattle.ios_words.specs.Renumbered.{NumberedLinesHaveSequences}
 use Rattle.ios_words.specs.Rows.{Piece, Word, Place, Bracket, Rule}
 use Rattle.ios_words.specs.Values.{Values, with_value, tested, no_values}
-use Rattle.ios_words.proofs.OrderKept.{reordered, map_values, read-kept}
+use Rattle.ios_words.proofs.ValuesKept.{to_order, changed, map_values, read-kept}
 use Rattle.ios_words.proofs.PrintedSteps.{at}
 use Rattle.ios_words.proofs.RenumberedLines.{no-ok, prefix-by, prefix_row, route_parts}
 
@@ -72,8 +72,8 @@ same-values v w e = cc
 -- without them there is no number
 no-number : (name : List ℕ) (taken : ℕ) (ws : List (List ℕ)) (values : Values) (n : ℕ) → finish (read_parts route_parts (at taken ws (record (no_values false) { text = name }))) ≡ Ok values → values.order ≡ Some n → ⊥
 no-number name taken ws values n complete ordered =
-    let kept : Ok values ≡ map_values None (Ok values) = sym complete ∙ read-kept None route_parts (at taken ws (record (no_values false) { text = name })) refl ∙ ap (map_values None) complete in
-    let none : values ≡ reordered None values = same-values values (reordered None values) kept in
+    let kept : Ok values ≡ map_values (to_order None) (Ok values) = sym complete ∙ read-kept (to_order None) route_parts (at taken ws (record (no_values false) { text = name })) refl ∙ ap (map_values (to_order None)) complete in
+    let none : values ≡ changed (to_order None) values = same-values values (changed (to_order None) values) kept in
     none-some n (sym (ap (λ (v : Values). v.order) none) ∙ ordered)
 
 sequence-read : (name : List ℕ) (taken : ℕ) (ws : List (List ℕ)) (values : Values) (n : ℕ) → finish (read_parts (Bracket (codes "seq") (Order 4294967294) ∷ route_parts) (at taken ws (record (no_values false) { text = name }))) ≡ Ok values → values.order ≡ Some n → SequenceWords ws
