@@ -32,7 +32,7 @@ use Rattle.command_texts.specs.Plain.{FitsIn, IsReadAs, PlainLinesAreRead, entry
 use Rattle.command_texts.proofs.ListReads.{list-line-read, prefix-line-read, standard-read, standard_text}
 use Rattle.command_texts.proofs.PlainReads.{address, area, bandwidth, bgp-id, cost, covers, group, hostname, interface, list-head, no-address, ospf-id, passive-default, point, reference, remote-as, router-bgp, router-ospf, shutdown, tells}
 use Rattle.command_texts.proofs.PlainSteps.{mask-small, wildcard-small}
-use Rattle.command_texts.proofs.StandardSides.{whole-prefix}
+use Rattle.ios_words.proofs.PrintedSides.{whole-prefix}
 
 -- a number in its range is a plain word
 few : (low high n : ℕ) → IsFrom low high n → high < 2 ^ 64 → is_plain (decimal n) ≡ true
