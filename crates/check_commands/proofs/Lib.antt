@@ -1,3 +1,5 @@
 pub mod Given
+pub mod HeadRead
 pub mod Judged
+pub mod LineByLine
 pub mod Told

@@ -1,87 +1,50 @@
 //! The command `check DOC CERT`.
-ghost use Rattle.std.specs.Prelude.{◌≡◌, ◌≤◌, ◌⊎◌, Some, length, All, IfOk, IfErr, IfSome};
-ghost use Rattle.cnf_types.specs.Words.{lines};
+ghost use Rattle.std.specs.Prelude.{◌≡◌, None, IfOk, IfSome};
 ghost use Rattle.net_doc.specs.Documents.{IsWellFormed};
-ghost use Rattle.net_model.specs.Forwarding.{HasEnds};
-ghost use Rattle.net_model.specs.Packets.{subject};
-ghost use Rattle.net_model.specs.Validity.{IsValid};
 ghost use Rattle.run_files.specs.Answers.{Answers, Gives, IsJudging, OnlyReads};
-ghost use Rattle.run_files.specs.Limits.{least_limit};
-ghost use Rattle.run_inputs.specs.Inputs.{AreFit, HoldsDocument};
-ghost use Rattle.check_commands.specs.RepairChecks.{begins_repair, IsAnyChecked, IsAnyRefusal};
-ghost use Rattle.check_commands.specs.RepairChecks.{IsJudged, IsRepairJudged, IsTextFault};
+ghost use Rattle.run_files.specs.Limits.{least_limit, proof_limit};
+ghost use Rattle.run_files.specs.Refusals.{bytes_at, read_refusal};
+ghost use Rattle.run_inputs.specs.Inputs.{HoldsDocument};
+ghost use Rattle.check_commands.specs.RepairChecks.{IsAnyChecked, IsAnyRefusal, IsRepairJudged};
 ghost use Rattle.check_commands.specs.RepairChecks.{IsTextRefusal};
 
+use crate::first_reading::begins_repair;
+use crate::repair_lines::judge_repair;
 use arc_base::Name;
-use arc_base::limits::{POLICY_LIMIT, PROOF_LIMIT};
+use arc_base::limits::PROOF_LIMIT;
 use arc_outside::Store;
-use cnf_types::first_line;
-use edit_space::{EditFault, edits};
-use net_model::{Document, Network};
-use repair_check::check_repair;
-use repair_check::laws::certified_claims_are_true;
-use repair_commands::fault_stop;
-use report_check::Outcome;
-use run_files::{Done, Limits, Stop, read_file, told};
+use net_model::Document;
+use run_files::{Done, Limits, Stop, told};
 use run_inputs::{read_document, read_sources};
 use std::alloc::Global;
-use verify_commands::{check_text, judgement_of};
+use verify_commands::{check_lines, judgement_of};
 
-// Whether the first line is the head of a repair's certificate.
-fn begins_repair(text: &[u8]) -> bool
-    ensures { result ≡ begins_repair (lines text.now) }
-{
-    if text.is_empty() {
-        return false;
-    }
-    let (line, _) = first_line(text);
-    line == b"arc-repair 1".as_slice()
-}
-
-// Judges the certificate of a repair over the network.
-fn judge_repair(
-    alloc: Global,
-    net: &Network,
-    doc: &Document,
-    text: &[u8],
-) -> Result<Outcome, EditFault>
-    requires fit { AreFit doc.now net.now }
-    requires few { length doc.now.policies ≤ POLICY_LIMIT }
-    ensures judged { IfOk result (IsJudged net.now doc.now text.now) }
-    ensures fault { IfErr result (IsTextFault net.now doc.now text.now) }
-{
-    certified_claims_are_true();
-    let list = edits(alloc, net, doc)?;
-    check_repair(alloc, net, doc, &list, text)
-}
-
-// Judges the certificate of a repair from the document, the router files and its own text alone.
+// Judges the certificate of a repair from the document, the router files and its own lines alone.
 fn check_certificate<S: Store>(
     alloc: Global,
     document: &Name,
     doc: &Document,
-    text: &[u8],
+    certificate: &Name,
     store: &mut S,
 ) -> Result<Done, Stop>
     requires { IsWellFormed doc.now }
     ensures told { IfSome (S.held store.old) (λ files. HoldsDocument document.now files doc.now
-        → Gives (IsTextRefusal document.now text.now files)
-        (IsRepairJudged document.now text.now files) result) }
+        → read_refusal proof_limit files certificate.now ≡ None
+        → Gives (IsTextRefusal document.now (bytes_at files certificate.now) files)
+        (IsRepairJudged document.now (bytes_at files certificate.now) files) result) }
     ensures own { IfOk result IsJudging }
     ensures reads { OnlyReads least_limit S.held S.faults S.absences S.taken
         store.old store.new result }
 {
     let sources = read_sources(alloc, document, doc, &[], Limits::Editing, store)?;
-    let outcome = match judge_repair(alloc, &sources.built.net, doc, text) {
-        Ok(outcome) => outcome,
-        Err(fault) => return Err(fault_stop(alloc, document, fault)),
-    };
+    let outcome = judge_repair(alloc, document, &sources.built.net, doc, certificate, store)?;
     let done = told(alloc, judgement_of(outcome))?;
     Ok(done)
 }
 
 /// Judges a certificate from the document, the router files and its own text alone. One that begins
-/// as that of a repair is judged as such, and any other as a report.
+/// as that of a repair is judged as such, and any other as a report. It is read twice, each time
+/// line by line: for its size and its first line, and, after the router files, for its judgement.
 pub fn check<S: Store>(
     alloc: Global,
     document: &Name,
@@ -94,11 +57,9 @@ pub fn check<S: Store>(
         store.old store.new result }
 {
     let doc = read_document(alloc, document, store)?;
-    let bytes = read_file(alloc, store, certificate, PROOF_LIMIT)?;
-    let text = bytes.as_slice();
-    if begins_repair(text) {
-        check_certificate(alloc, document, &doc, text, store)
+    if begins_repair(alloc, certificate, PROOF_LIMIT, store)? {
+        check_certificate(alloc, document, &doc, certificate, store)
     } else {
-        check_text(alloc, document, doc, text, store)
+        check_lines(alloc, document, doc, certificate, store)
     }
 }

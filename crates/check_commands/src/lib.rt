@@ -3,6 +3,8 @@
 #![tactic(auto)]
 
 mod checking;
+mod first_reading;
 pub mod laws;
+mod repair_lines;
 
 pub use checking::check;

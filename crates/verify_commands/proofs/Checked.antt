@@ -1,15 +1,12 @@
 -- The judgement of a certificate, and what its status says.
 use Rattle.std.proofs.Common.{◌≡◌, ℕ, inl, inr, List, [], refl, sym, ◌∙◌, ap, subst, arith}
-use Rattle.std.specs.Prelude.{Option, Some, None, IfSome, Result, Ok, Err, ◌↔◌}
+use Rattle.std.specs.Prelude.{Option, Some, None, IfSome, Result, Ok, Err}
 use Rattle.arc_outside.specs.Files.{Files}
-use Rattle.cnf_types.specs.Words.{lines}
 use Rattle.net_model.specs.declared.policies.Document.{Document}
 use Rattle.net_model.specs.declared.rows.Network.{Network}
-use Rattle.policy_report.specs.Rereading.{answers}
-use Rattle.policy_report.specs.Steps.{start}
 use Rattle.report_check.specs.declared.outcome.Outcome.{Outcome as Judgement}
 use Rattle.report_check.specs.declared.outcome.Outcome.TheVariants.{Accepted, Rejected}
-use Rattle.report_check.specs.Outcomes.{IsOutcome, IsReport}
+use Rattle.report_check.specs.Outcomes.{IsReport}
 use Rattle.run_inputs.specs.declared.inputs.Input.{Input}
 use Rattle.run_files.specs.declared.outcome.Done.{Done}
 use Rattle.run_files.specs.declared.outcome.FileRefusal.{FileRefusal}
@@ -22,69 +19,83 @@ use Rattle.run_inputs.specs.Inputs.{HoldsDocument, HoldsInput, IsFit, ReadsFiles
 use Rattle.run_files.specs.Judgements.{judgement_status, judgement_text}
 use Rattle.run_files.specs.Limits.{proof_limit}
 use Rattle.run_inputs.proofs.Determined.{determined, judged_once}
-use Rattle.verify_commands.specs.Checks.{IsAccepted, IsChecked, IsCheckRefusal, IsRejected, IsTextChecked, IsUnchecked, RefusesInput, TellsReportCheck, judgement_of}
+use Rattle.verify_commands.specs.Checks.{IsAccepted, IsChecked, IsCheckRefusal, IsRejected, IsUnchecked, RefusesInput, TellsReportCheck, judgement_of}
+use Rattle.verify_commands.specs.ReportLines.{JudgesLines}
 use Rattle.verify_commands.proofs.Verified.{all_true}
 use Rattle.run_files.specs.Refusals.{bytes_at, read_refusal}
 
--- what is answered for a text where the document is held
+-- what is answered for a certificate where it and the document are held
 abbrev pub IsGiven : List ℕ → List ℕ → Document → Option Files → Result Done Stop → Type 0
-IsGiven document text doc held result = IfSome held (λ files. HoldsDocument document files doc → Gives (RefusesInput document files) (IsTextChecked document text files) result)
+IsGiven document certificate doc held result =
+    IfSome held (λ files. HoldsDocument document files doc → read_refusal proof_limit files certificate ≡ None → Gives (RefusesInput document files) (IsChecked document certificate files) result)
 
 -- the router files gave this
 abbrev pub ReadInput : List ℕ → Document → Option Files → Input → Type 0
 ReadInput document doc held input = IfSome held (λ files. HoldsDocument document files doc → ReadsFiles Judging [] document files (Ok input))
 
+-- the router files are refused
+pub files_stopped : (held : Option Files) (document certificate : List ℕ) (doc : Document) (stop : Stop)
+    → IfSome held (λ files. HoldsDocument document files doc → ReadsFiles Judging [] document files (Err stop)) → IsGiven document certificate doc held (Err stop)
+files_stopped None document certificate doc stop told = tt
+files_stopped (Some files) document certificate doc (stops.Refused r) told = λ is fits. inl (told is)
+files_stopped (Some files) document certificate doc stops.Memory told = λ is fits. tt
+files_stopped (Some files) document certificate doc stops.Failed told = λ is fits. tt
+
 -- a document that is refused for its classes
-pub classes_stopped : (held : Option Files) (document text : List ℕ) (doc : Document) (input : Input) (stop : Stop) → ReadInput document doc held input
-    → CountsClasses document input.net input.doc.policies (Err stop) → IsGiven document text doc held (Err stop)
-classes_stopped None document text doc input stop told counts = tt
-classes_stopped (Some files) document text doc input (stops.Refused r) told counts = λ is.
+pub classes_stopped : (held : Option Files) (document certificate : List ℕ) (doc : Document) (input : Input) (stop : Stop) → ReadInput document doc held input
+    → CountsClasses document input.net input.doc.policies (Err stop) → IsGiven document certificate doc held (Err stop)
+classes_stopped None document certificate doc input stop told counts = tt
+classes_stopped (Some files) document certificate doc input (stops.Refused r) told counts = λ is fits.
     inr (record { doc = input.doc; net = input.net; input = told is; count = counts.0; many = counts.1; told = counts.2 })
-classes_stopped (Some files) document text doc input stops.Memory told counts = λ is. tt
-classes_stopped (Some files) document text doc input stops.Failed told counts = λ is. tt
+classes_stopped (Some files) document certificate doc input stops.Memory told counts = λ is fits. tt
+classes_stopped (Some files) document certificate doc input stops.Failed told counts = λ is fits. tt
+
+-- a file that was within its limit is not refused later
+pub refused_none : (o : Option FileRefusal) (r : FileRefusal) → o ≡ None → o ≡ Some r → ⊥
+refused_none o r e f = absurd (cc)
+
+stopped_here : (held : Option Files) (document certificate : List ℕ) (doc : Document) (net : Network) (judged : Document) (stop : Stop)
+    → IfSome held (λ files. JudgesLines proof_limit net judged certificate files (Err stop)) → IsGiven document certificate doc held (Err stop)
+stopped_here None document certificate doc net judged stop told = tt
+stopped_here (Some files) document certificate doc net judged (stops.Refused r) told = λ is fits. absurd (refused_none (read_refusal proof_limit files certificate) r fits told)
+stopped_here (Some files) document certificate doc net judged stops.Memory told = λ is fits. tt
+stopped_here (Some files) document certificate doc net judged stops.Failed told = λ is fits. tt
+
+pub lines_stopped : (held later : Option Files) → later ≡ held → (document certificate : List ℕ) (doc : Document) (net : Network) (judged : Document) (stop : Stop)
+    → IfSome later (λ files. JudgesLines proof_limit net judged certificate files (Err stop)) → IsGiven document certificate doc held (Err stop)
+lines_stopped held later same document certificate doc net judged stop told =
+    stopped_here held document certificate doc net judged stop (subst (λ (o : Option Files). IfSome o (λ files. JudgesLines proof_limit net judged certificate files (Err stop))) same told)
 
 -- the judgement where nothing is refused
-pub judged : (held : Option Files) (document text : List ℕ) (doc : Document) (input : Input) (judgement : Judgement) (done : Done) → ReadInput document doc held input
+judged_here : (held : Option Files) (document certificate : List ℕ) (doc : Document) (input : Input) (judgement : Judgement) (done : Done) → ReadInput document doc held input
     → IsFit input → HasFewClasses input.net input.doc.policies
-    → IsOutcome input.net input.doc.policies 1 1 (answers input.net input.doc [] start (lines text)) judgement → (judgement ≡ Accepted) ↔ IsReport input.net input.doc text
-    → done.text ≡ judgement_text (judgement_of judgement) → done.status ≡ judgement_status (judgement_of judgement) → IsJudging done → IsGiven document text doc held (Ok done)
-judged None document text doc input judgement done told fit classes is accepted text_is status own = tt
-judged (Some files) document text doc input judgement done told fit classes is accepted text_is status own = λ held. record {
+    → IfSome held (λ files. JudgesLines proof_limit input.net input.doc certificate files (Ok judgement))
+    → done.text ≡ judgement_text (judgement_of judgement) → done.status ≡ judgement_status (judgement_of judgement) → IsJudging done → IsGiven document certificate doc held (Ok done)
+judged_here None document certificate doc input judgement done told fit classes judges text_is status own = tt
+judged_here (Some files) document certificate doc input judgement done told fit classes judges text_is status own = λ is fits. record {
   doc = input.doc;
   net = input.net;
-  input = told held;
+  input = told is;
   valid = fit.valid;
+  held = fits;
   classes = classes;
   outcome = judgement;
-  outcome_is = is;
-  accepted = accepted;
-  text_is = text_is;
+  outcome_is = judges.0;
+  accepted = judges.1;
+  text = text_is;
   writes = own.writes;
   status = status;
 }
 
--- a certificate that is held is judged as its text is
-pub as_checked : (document certificate : List ℕ) (files : Files) (done : Done) → read_refusal proof_limit files certificate ≡ None
-    → IsTextChecked document (bytes_at files certificate) files done → IsChecked document certificate files done
-as_checked document certificate files done held checked = record {
-  doc = checked.doc;
-  net = checked.net;
-  input = checked.input;
-  valid = checked.valid;
-  held = held;
-  classes = checked.classes;
-  outcome = checked.outcome;
-  outcome_is = checked.outcome_is;
-  accepted = checked.accepted;
-  text = checked.text_is;
-  writes = checked.writes;
-  status = checked.status;
-}
+pub judged : (held later : Option Files) → later ≡ held → (document certificate : List ℕ) (doc : Document) (input : Input) (judgement : Judgement) (done : Done) → ReadInput document doc held input
+    → IsFit input → HasFewClasses input.net input.doc.policies
+    → IfSome later (λ files. JudgesLines proof_limit input.net input.doc certificate files (Ok judgement))
+    → done.text ≡ judgement_text (judgement_of judgement) → done.status ≡ judgement_status (judgement_of judgement) → IsJudging done → IsGiven document certificate doc held (Ok done)
+judged held later same document certificate doc input judgement done told fit classes judges text_is status own =
+    let P : Option Files → Type 0 = λ o. IfSome o (λ files. JudgesLines proof_limit input.net input.doc certificate files (Ok judgement)) in
+    judged_here held document certificate doc input judgement done told fit classes (subst P same judges) text_is status own
 
 -- of accepted, rejected and refused only one is said
-refused_none : (o : Option FileRefusal) (r : FileRefusal) → o ≡ None → o ≡ Some r → ⊥
-refused_none o r e f = absurd (cc)
-
 module _ (document certificate : List ℕ) (files : Files) where
   accepted_or_rejected : IsAccepted document certificate files → IsRejected document certificate files → ⊥
   accepted_or_rejected yes' no' =

@@ -12,7 +12,7 @@ use Rattle.run_files.specs.declared.outcome.Done.{Done}
 use Rattle.run_files.specs.declared.outcome.FileRefusal.{FileRefusal}
 use Rattle.run_inputs.specs.Determined.{IsDetermined}
 use Rattle.run_inputs.proofs.Determined.{determined}
-use Rattle.verify_commands.specs.Traces.{HasLinks, HasTrace, RefusesEnds, IsTraceRefusal, IsTraced, down_flags}
+use Rattle.verify_commands.specs.Traces.{HasLinks, HasTrace, IsTraceRefusal, IsTraced, down_flags}
 use Rattle.verify_commands.proofs.TraceOnce.{trace_once}
 
 module _ (words : TraceWords) (files : Files) where

@@ -1,5 +1,5 @@
 -- The outcomes of a trace, and what its status says.
-use Rattle.std.proofs.Common.{◌≡◌, ℕ, ◌<◌, ◌⊎◌, inl, inr, Bool, List, [], length, refl, sym, ◌∙◌, ap, subst, arith}
+use Rattle.std.proofs.Common.{◌≡◌, ℕ, ◌⊎◌, inl, inr, Bool, List, [], length, refl, sym, ◌∙◌, ap, subst, arith}
 use Rattle.std.specs.Prelude.{Option, Some, None, IfSome, Ok, Err}
 use Rattle.arc_base.specs.declared.refusal.Kind.TheVariants.{Endpoint}
 use Rattle.arc_base.specs.declared.prefix.Prefix.{Prefix}

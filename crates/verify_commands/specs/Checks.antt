@@ -55,22 +55,6 @@ abbrev pub judgement_of : Outcome → Judgement
 judgement_of Accepted = judgements.Accepted
 judgement_of (Rejected fault) = judgements.Rejected fault.line fault.kind
 
--- The judgement of a text over the network of the document and its files: that it is accepted, or
--- the first line that is rejected. It is accepted exactly where it is a report of right verdicts on
--- the document's policies.
-pub record IsTextChecked (document text : List ℕ) (files : Files) (done : Done) : Type 0 where
-  pub doc : Document
-  pub net : Network
-  pub input : HoldsInput Judging [] document files doc net
-  pub valid : IsValid net
-  pub classes : HasFewClasses net doc.policies
-  pub outcome : Outcome
-  pub outcome_is : IsOutcome net doc.policies 1 1 (answers net doc [] start (lines text)) outcome
-  pub accepted : (outcome ≡ Accepted) ↔ IsReport net doc text
-  pub text_is : done.text ≡ judgement_text (judgement_of outcome)
-  pub writes : done.writes ≡ []
-  pub status : done.status ≡ judgement_status (judgement_of outcome)
-
 -- The judgement of the certificate over the network of the document and its files: that it is
 -- accepted, or the first line that is rejected. It is accepted exactly where it is a report of
 -- right verdicts on the document's policies.

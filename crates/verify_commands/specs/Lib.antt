@@ -1,3 +1,4 @@
 pub mod Verifies
 pub mod Traces
 pub mod Checks
+pub mod ReportLines

@@ -1,18 +1,27 @@
 //! Certificates that are reports.
-ghost use Rattle.std.specs.Prelude.{◌≡◌, IfOk, IfSome};
+ghost use Rattle.std.specs.Prelude.{◌≡◌, ◌<◌, ◌≤◌, ◌^◌, length, All, None, IfOk};
+ghost use Rattle.std.specs.Prelude.{IfSome};
 ghost use Rattle.net_doc.specs.Documents.{IsWellFormed};
+ghost use Rattle.net_model.specs.Forwarding.{HasEnds};
+ghost use Rattle.net_model.specs.Packets.{subject};
+ghost use Rattle.net_model.specs.Validity.{IsValid};
 ghost use Rattle.run_files.specs.Answers.{Gives, IsJudging, OnlyReads};
-ghost use Rattle.run_files.specs.Limits.{least_limit};
+ghost use Rattle.run_files.specs.Limits.{least_limit, proof_limit};
+ghost use Rattle.run_files.specs.Refusals.{read_refusal};
 ghost use Rattle.run_inputs.specs.Inputs.{HoldsDocument};
-ghost use Rattle.verify_commands.specs.Checks.{judgement_of, IsTextChecked, RefusesInput};
+ghost use Rattle.verify_commands.specs.Checks.{judgement_of, IsChecked, RefusesInput};
+ghost use Rattle.verify_commands.specs.ReportLines.{JudgesLines};
 
-use arc_base::Name;
-use arc_outside::Store;
-use net_model::Document;
-use report_check::{Outcome, check_report};
-use run_files::{Done, Judgement, Limits, Stop, told};
+use arc_base::limits::PROOF_LIMIT;
+use arc_base::{Memory, Name};
+use arc_outside::{Pieces, Store};
+use net_model::{Document, Network};
+use report_check::laws::reports_are_accepted;
+use report_check::{Outcome, ReportJudge};
+use run_files::{Done, Judgement, Limits, Stop, next_line, told};
 use run_inputs::{count_classes, read_files};
 use std::alloc::Global;
+use std::ops::ControlFlow;
 
 /// The judgement that an outcome is.
 pub fn judgement_of(outcome: Outcome) -> Judgement
@@ -24,26 +33,70 @@ pub fn judgement_of(outcome: Outcome) -> Judgement
     }
 }
 
-/// Judges the text of a certificate as a report, from its document, the router files and the text
-/// alone.
-pub fn check_text<S: Store>(
+// Judges the lines of a certificate one by one as those of a report over the network, or refuses
+// its file. No more of it than a piece and a line is held.
+fn judge_lines<S: Store>(
+    alloc: Global,
+    net: &Network,
+    doc: &Document,
+    certificate: &Name,
+    limit: u64,
+    store: &mut S,
+) -> Result<Outcome, Stop>
+    requires valid { IsValid net.now }
+    requires ends { All (λ policy. HasEnds net.now (subject policy)) doc.now.policies }
+    requires few { length doc.now.policies ≤ 4294967295 }
+    requires limit { limit < 2 ^ 63 }
+    ensures told { IfSome (S.held store.old) (λ files.
+        JudgesLines limit net.now doc.now certificate.now files result) }
+    ensures reads { OnlyReads limit S.held S.faults S.absences S.taken store.old store.new result }
+{
+    reports_are_accepted();
+    let mut judge = ReportJudge::make(alloc);
+    let mut pieces = Pieces::make(alloc, limit);
+    'lines: loop {
+        match next_line(alloc, &mut pieces, store, certificate) {
+            Ok(true) => {}
+            Ok(false) => return Ok(judge.end()),
+            Err(stop) => return Err(stop),
+        }
+        match judge.line(net, doc, pieces.line()) {
+            Ok(ControlFlow::Continue(next)) => judge = next,
+            Ok(ControlFlow::Break(outcome)) => return Ok(outcome),
+            Err(Memory) => return Err(Stop::Memory),
+        }
+    }
+}
+
+/// Judges the certificate in a file as a report, from its document, the router files and its own
+/// lines alone. It is read after the router files, line by line; that its file is not refused is
+/// known before.
+pub fn check_lines<S: Store>(
     alloc: Global,
     document: &Name,
     doc: Document,
-    text: &[u8],
+    certificate: &Name,
     store: &mut S,
 ) -> Result<Done, Stop>
     requires { IsWellFormed doc }
     ensures told { IfSome (S.held store.old) (λ files. HoldsDocument document.now files doc
+        → read_refusal proof_limit files certificate.now ≡ None
         → Gives (RefusesInput document.now files)
-        (IsTextChecked document.now text.now files) result) }
+        (IsChecked document.now certificate.now files) result) }
     ensures own { IfOk result IsJudging }
     ensures reads { OnlyReads least_limit S.held S.faults S.absences S.taken
         store.old store.new result }
 {
     let input = read_files(alloc, document, doc, &[], Limits::Judging, store)?;
     count_classes(alloc, document, &input.net, &input.doc.policies)?;
-    let outcome = check_report(alloc, &input.net, &input.doc, text)?;
+    let outcome = judge_lines(
+        alloc,
+        &input.net,
+        &input.doc,
+        certificate,
+        PROOF_LIMIT,
+        store,
+    )?;
     let done = told(alloc, judgement_of(outcome))?;
     Ok(done)
 }

@@ -1,6 +1,6 @@
 //! Commands over small files: what each puts, and how many calls of the store it needs. A file is
 //! read by two calls, of which the second finds its end, and written by one; the proof of `lrat` is
-//! gone through twice, and so is the old report of `recheck`.
+//! gone through twice, and so are a certificate of `check` and the old report of `recheck`.
 
 use super::Case;
 
@@ -79,7 +79,7 @@ pub const CASES: [Case; 11] = [
         words: &["check", "net.json", "old"],
         text: "accepted\n",
         code: 0,
-        calls: 8,
+        calls: 10,
         outputs: &[],
     },
     Case {
@@ -92,7 +92,7 @@ pub const CASES: [Case; 11] = [
         words: &["check", "net.json", "cert"],
         text: "accepted\n",
         code: 0,
-        calls: 8,
+        calls: 10,
         outputs: &[],
     },
     Case {
