@@ -63,6 +63,9 @@ module _ {L : Type 0} (before now : List L) (edited : ℕ → L → L) where
 
 module _ (net : Network) (valid : IsValid net) (chosen : List Edit) (after : Network) (is : IsAfter net chosen after)
     (good : (router : ℕ) (list : NewList) (name : List ℕ) → IsNewList net chosen router list name → (router < length net.routers) × IsName name) where
+  same_router : {place : ℕ} {was now : FaceRow} → IsFaceAfter net chosen after place was now → now.router.0 ≡ was.router.0
+  same_router f = ap (λ (x : FaceRow). x.router.0) f.same
+
   face_was : (place : ℕ) (now : FaceRow) → slice_get after.faces place ≡ Some now → (was : FaceRow) × (slice_get net.faces place ≡ Some was) × IsFaceAfter net chosen after place was now
   face_was = row_was (IsFaceAfter net chosen after) net.faces after.faces is.faces
 
@@ -88,7 +91,7 @@ module _ (net : Network) (valid : IsValid net) (chosen : List Edit) (after : Net
       let host : now.host ≡ was.host = ap (λ (x : FaceRow). x.host) f.same in
       let subnet : now.subnet ≡ was.subnet = ap (λ (x : FaceRow). x.subnet) f.same in
       record {
-        router = omega (arith, v.router, is.routers.whole, ap (λ (x : FaceRow). x.router.0) f.same);
+        router = omega (arith, v.router, is.routers.whole, same_router f);
         list_in = bound_within net.packet_lists after.packet_lists (edited_packet_list chosen) (IsNewPacketList net chosen (record { 0 = place })) (is_empty (new_classes chosen place)) was.bound_in now.bound_in was.list_in now.list_in f.bound_in v.list_in f.list_in;
         list_out = stays_within net.packet_lists after.packet_lists (edited_packet_list chosen) was.list_out now.list_out f.list_out;
         host = subst (λ (s : Option Prefix). HostFits place now.host s) (sym subnet) (subst (λ (h : Option Prefix). HostFits place h was.subnet) (sym host) (host_fits place was.host was.subnet v.host));
@@ -107,7 +110,7 @@ module _ (net : Network) (valid : IsValid net) (chosen : List Edit) (after : Net
         b = b.0;
         a_is = a.1;
         b_is = b.1;
-        routers = λ e. v.routers (sym (ap (λ (x : FaceRow). x.router.0) a.2.same) ∙ e ∙ ap (λ (x : FaceRow). x.router.0) b.2.same);
+        routers = λ e. v.routers (sym (same_router a.2) ∙ e ∙ same_router b.2);
       }
 
   valid_session : (place : ℕ) (was now : SessionRow) → IsSessionAfter net chosen after place was now → IsValidSession net was → IsValidSession after now
@@ -129,7 +132,7 @@ module _ (net : Network) (valid : IsValid net) (chosen : List Edit) (after : Net
       peers f g at_f at_g routers e =
           let a = face_was s.face.0 f (ap (slice_get after.faces) (sym (face_of s x i this)) ∙ at_f) in
           let b = face_was t.face.0 g (ap (slice_get after.faces) (sym (face_of t y j that)) ∙ at_g) in
-          h.1 a.0 b.0 a.1 b.1 (sym (ap (λ (z : FaceRow). z.router.0) a.2.same) ∙ routers ∙ ap (λ (z : FaceRow). z.router.0) b.2.same)
+          h.1 a.0 b.0 a.1 b.1 (sym (same_router a.2) ∙ routers ∙ same_router b.2)
           (sym (ap (λ (z : SessionRow). z.peer) this.same) ∙ e ∙ ap (λ (z : SessionRow). z.peer) that.same)
 
   subnets : (i j : ℕ) (f g : FaceRow) → slice_get after.faces i ≡ Some f → slice_get after.faces j ≡ Some g → i ≢ j → AreLinked after i j ⊎ AreApart f g
@@ -207,7 +210,7 @@ module _ (net : Network) (valid : IsValid net) (chosen : List Edit) (after : Net
     routers_named_apart = rows_pairs (IsRouterAfter net chosen) net.routers after.routers is.routers (λ (r : RouterRow) (s : RouterRow). r.name ≢ s.name) (λ (r : RouterRow) (s : RouterRow). r.name ≢ s.name)
         (λ i j x z y w h k differ e. differ (sym h.name ∙ e ∙ k.name)) valid.routers_named_apart;
     faces_named_apart = rows_pairs (IsFaceAfter net chosen after) net.faces after.faces is.faces (λ (f : FaceRow) (g : FaceRow). f.router.0 ≡ g.router.0 → f.name ≢ g.name) (λ (f : FaceRow) (g : FaceRow). f.router.0 ≡ g.router.0 → f.name ≢ g.name)
-        (λ i j x z y w h k differ routers names. differ (sym (ap (λ (f : FaceRow). f.router.0) h.same) ∙ routers ∙ ap (λ (f : FaceRow). f.router.0) k.same) (sym (ap (λ (f : FaceRow). f.name) h.same) ∙ names ∙ ap (λ (f : FaceRow). f.name) k.same)) valid.faces_named_apart;
+        (λ i j x z y w h k differ routers names. differ (sym (same_router h) ∙ routers ∙ same_router k) (sym (ap (λ (f : FaceRow). f.name) h.same) ∙ names ∙ ap (λ (f : FaceRow). f.name) k.same)) valid.faces_named_apart;
     packet_lists = All-from (IsValidPacketList after) after.packet_lists (λ l there. valid_packet_list l ((is.packet_lists l).0 there));
     packet_lists_named_apart = AllPairs-among (λ (l : PacketList) (m : PacketList). IsKeyBefore (l.router.0, l.name) (m.router.0, m.name)) (λ (l : PacketList) (m : PacketList). l.router.0 ≡ m.router.0 → l.name ≢ m.name) after.packet_lists
         (λ l m in_l in_m before. names_differ l.router.0 m.router.0 l.name m.name before) is.packet_order;

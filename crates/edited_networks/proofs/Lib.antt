@@ -5,7 +5,6 @@ mod PlacesFound
 pub mod Naming
 mod Picking
 pub mod NamedFacts
-mod Made
 pub mod ListKinds
 mod ListPlaces
 mod Bound

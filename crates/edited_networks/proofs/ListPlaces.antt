@@ -3,7 +3,7 @@ use Rattle.std.proofs.Common.{◌≡◌, ◌≢◌, ℕ, ◌<◌, ◌⊎◌, ◌
 use Rattle.std.specs.Prelude.{All, AllPairs, Contains, slice_get, option_map, IfSome, IsSomeAnd}
 use Rattle.std.specs.List.{filter_map}
 use Rattle.std.proofs.lemmas.List.{get_or_default}
-use Rattle.std.proofs.lemmas.List.Elements.{Contains-append_left, Contains-append_right, Contains-append_cases}
+use Rattle.std.proofs.lemmas.List.Elements.{All-contains, Contains-append_left, Contains-append_right, Contains-append_cases}
 use Rattle.std.proofs.lemmas.Option.{none-some, same_Some, slice_get_within, slice_get-get_or, get_or_from_slice_get}
 use Rattle.arc_base.proofs.Items.{Contains-map, from_map, All-from, AllPairs-append, AllPairs-among, AllPairs-map}
 use Rattle.arc_base.specs.declared.place.Face.{Face}
@@ -21,10 +21,8 @@ use Rattle.edit_space.specs.After.{StaysBound}
 use Rattle.edit_space.specs.NewLists.{names_of, IsNewList}
 use Rattle.edit_space.specs.Numbered.{placed, EachRow}
 use Rattle.edit_space.specs.Ordered.{Key, IsKeyBefore}
-use Rattle.edited_networks.specs.Working.{key_of, old_key, new_key, new_key_by, IsWithin, ArePlaces, list_at, moved}
-use Rattle.edited_networks.proofs.Keys.{not_before_itself}
+use Rattle.edited_networks.specs.Working.{key_of, old_key, new_key, new_key_by, IsWithin, ArePlaces, AreMade, list_at, moved}
 use Rattle.edited_networks.proofs.ListKinds.{ListsOfKind, IsListAfter, one_router, made_for, of_some}
-use Rattle.edited_networks.proofs.Made.{AreMade}
 use Rattle.edit_space.proofs.NewListFacts.{picks, picked_from, pairs_picked, placed_is, placed_there, placed_pairs}
 use Rattle.edit_space.proofs.RowFacts.{one_item, item_of, row_was, row_now}
 use Rattle.edited_networks.proofs.NamedFacts.{one_name, named_is_new, new_is_named, name_is_new, one_list, named_apart}
@@ -150,23 +148,28 @@ module _ {net : Network} {chosen : List Edit} (K : ListsOfKind net chosen) (vali
     ]
   ]
 
-  module _ (sorted : List Keyed) (order : AllPairs (λ x y. IsKeyBefore (key_of x) (key_of y)) sorted) (same : (x : Keyed) → Contains sorted x ↔ Contains (keys K named) x) where
-    -- each site is one of a list that there was, or of an interface
-    pub sites_within : All (λ key. IsWithin (length K.lists) (length net.faces) key.site) sorted
-    sites_within = All-from (λ (key : Keyed). IsWithin (length K.lists) (length net.faces) key.site) sorted inside
-      where
-        inside : (key : Keyed) → Contains sorted key → IsWithin (length K.lists) (length net.faces) key.site
-        inside key there = elim (key_from key ((same key).0 there)) [
-          | inl old ↦ subst (λ (k : Keyed). IsWithin (length K.lists) (length net.faces) k.site) (sym old.is) (slice_get_within K.lists old.id old.list old.at)
-          | inr new ↦ let o = K.of_face key.router new.face key.name new.new in subst (IsWithin (length K.lists) (length net.faces)) (sym new.site) (slice_get_within net.faces new.face.0 o.0 o.1)
-        ]
+  -- each site is one of a list that there was, or of an interface
+  sites_within : All (λ key. IsWithin (length K.lists) (length net.faces) key.site) (keys K named)
+  sites_within = All-from (λ (key : Keyed). IsWithin (length K.lists) (length net.faces) key.site) (keys K named) inside
+    where
+      inside : (key : Keyed) → Contains (keys K named) key → IsWithin (length K.lists) (length net.faces) key.site
+      inside key there = elim (key_from key there) [
+        | inl old ↦ subst (λ (k : Keyed). IsWithin (length K.lists) (length net.faces) k.site) (sym old.is) (slice_get_within K.lists old.id old.list old.at)
+        | inr new ↦ let o = K.of_face key.router new.face key.name new.new in subst (IsWithin (length K.lists) (length net.faces)) (sym new.site) (slice_get_within net.faces new.face.0 o.0 o.1)
+      ]
 
-    pub sites_apart : AllPairs (λ x y. x.site ≢ y.site) sorted
-    sites_apart i j d l n e =
-        let in_i : Contains sorted (get_or sorted i d) = (i, omega (arith, l, n), get_or_default sorted i (get_or sorted i d) d (omega (arith, l, n))) in
-        let in_j : Contains sorted (get_or sorted j d) = (j, n, get_or_default sorted j (get_or sorted j d) d n) in
-        let one : get_or sorted i d ≡ get_or sorted j d = one_site (get_or sorted i d) (get_or sorted j d) ((same (get_or sorted i d)).0 in_i) ((same (get_or sorted j d)).0 in_j) e in
-        not_before_itself (key_of (get_or sorted j d)) (subst (λ (k : Keyed). IsKeyBefore (key_of k) (key_of (get_or sorted j d))) one (order i j d l n))
+  sites_apart : AllPairs (λ x y. x.site ≢ y.site) (keys K named)
+  sites_apart i j d l n same =
+      keys_apart i j d l n (ap key_of (one_site (get_or (keys K named) i d) (get_or (keys K named) j d) (i, omega (arith, l, n), get_or_default (keys K named) i (get_or (keys K named) i d) d (omega (arith, l, n))) (j, n, get_or_default (keys K named) j (get_or (keys K named) j d) d n) same))
+
+  -- so they can be put in order
+  pub can_be_placed : (lists : List Keyed) (bound faces : ℕ) → lists ≡ keys K named → bound ≡ length K.lists → faces ≡ length net.faces →
+      AllPairs (λ x y. key_of x ≢ key_of y) lists × All (λ key. IsWithin bound faces key.site) lists × AllPairs (λ x y. x.site ≢ y.site) lists
+  can_be_placed lists bound faces is b f = rw (is, b, f) (keys_apart, sites_within, sites_apart)
+
+  module _ (sorted : List Keyed) (order : AllPairs (λ x y. IsKeyBefore (key_of x) (key_of y)) sorted) (same : (x : Keyed) → Contains sorted x ↔ Contains (keys K named) x) where
+    pub all_within : All (λ key. IsWithin (length K.lists) (length net.faces) key.site) sorted
+    all_within = All-from (λ (key : Keyed). IsWithin (length K.lists) (length net.faces) key.site) sorted (λ key there. All-contains (λ (k : Keyed). IsWithin (length K.lists) (length net.faces) k.site) (keys K named) key sites_within ((same key).0 there))
 
     module _ (lists : List K.Row) (rows : EachRow (λ place. K.IsFor) sorted lists) where
       -- the list that stands where an old one is to stand is that one, edited

@@ -27,10 +27,9 @@ use Rattle.edit_space.specs.Determined.{IsCountable, AfterIsThere}
 use Rattle.edit_space.specs.NewLists.{new_names_of, IsNewList}
 use Rattle.edit_space.specs.Numbered.{is_empty, EachRow}
 use Rattle.edit_space.specs.Ordered.{IsKeyBefore}
-use Rattle.edited_networks.specs.Working.{key_of, compare_keys, list_at}
+use Rattle.edited_networks.specs.Working.{AreMade, key_of, compare_keys, list_at}
 use Rattle.edited_networks.proofs.Bound.{packet_name, route_name}
 use Rattle.edited_networks.proofs.Keys.{keys_total, before_from_less, same_from_equal}
-use Rattle.edited_networks.proofs.Made.{AreMade}
 use Rattle.edited_networks.proofs.Naming.{no_rows}
 use Rattle.edited_networks.proofs.ListKinds.{ListsOfKind, IsListAfter, made_for, of_some, packets, routes}
 use Rattle.edited_networks.proofs.ListPlaces.{keys, key_from, keys_apart, lists_in_order, just_lists}

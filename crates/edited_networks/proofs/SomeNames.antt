@@ -15,11 +15,10 @@ use Rattle.edited_networks.specs.declared.new_lists.Named.{Named}
 use Rattle.edit_space.specs.Determined.{IsCountable, AfterIsValid}
 use Rattle.edit_space.specs.NewLists.{free_names, names_of, new_lists, new_route_list, new_packet_list, IsNewList}
 use Rattle.edit_space.specs.Numbered.{placed, if_number, of_number, EachRow}
-use Rattle.edited_networks.specs.Working.{AreNewNames, IsNamed, HasNext}
+use Rattle.edited_networks.specs.Working.{AreMade, AreNewNames, IsNamed, HasNext}
 use Rattle.edited_networks.proofs.AfterValid.{is_valid}
 use Rattle.edit_space.proofs.Counts.{few_picked, few_new_lists}
 use Rattle.edited_networks.proofs.FreeNames.{free_names_found}
-use Rattle.edited_networks.proofs.Made.{AreMade}
 use Rattle.edited_networks.proofs.NamedFacts.{router_within, name_is_new}
 use Rattle.edited_networks.proofs.Naming.{counts, has_next, is_named, rows_more, no_rows, all_rows}
 use Rattle.edit_space.proofs.NewListFacts.{new_list_within}

@@ -1,6 +1,5 @@
 -- The network that is put together is the network after the edits.
-use Rattle.std.proofs.Common.{◌≡◌, ℕ, ◌<◌, ◌↔◌, List, length, map, sym, subst}
-use Rattle.std.specs.Prelude.{AllPairs, Contains}
+use Rattle.std.proofs.Common.{◌≡◌, ℕ, ◌<◌, List, length, map, sym, subst}
 use Rattle.net_model.specs.declared.rows.Network.{Network}
 use Rattle.net_model.specs.Validity.{IsValid}
 use Rattle.arc_base.specs.NameForms.{IsName}
@@ -14,35 +13,22 @@ use Rattle.net_model.specs.declared.rows.SessionRow.{SessionRow}
 use Rattle.edit_space.specs.After.{IsRouterAfter, IsFaceAfter, IsSessionAfter, IsAfter}
 use Rattle.edit_space.specs.NewLists.{IsNewList}
 use Rattle.edit_space.specs.Numbered.{placed, EachRow}
-use Rattle.edit_space.specs.Ordered.{IsKeyBefore}
-use Rattle.edited_networks.specs.Working.{key_of, packet_keys, route_keys, ArePlaces, IsPacketListFor, IsRouteListFor, face_after, session_after}
+use Rattle.edited_networks.specs.Working.{AreMade, AreInPlace, packet_keys, route_keys, IsPacketListFor, IsRouteListFor, face_after, session_after}
 use Rattle.edited_networks.proofs.AfterValid.{is_valid}
 use Rattle.edited_networks.proofs.NamedFacts.{router_within, name_is_new}
 use Rattle.edited_networks.proofs.Bound.{faces_are, sessions_are}
-use Rattle.edited_networks.proofs.Made.{AreMade}
 use Rattle.edited_networks.proofs.ListKinds.{packets, routes}
 use Rattle.edited_networks.proofs.ListPlaces.{stays_bound, new_bound, lists_in_order, just_lists}
 
--- what is known of the lists in their order, and of where they stand
-pub record AreInPlace (keys sorted : List Keyed) (places : Places) : Type 0 where
-  pub order : AllPairs (λ x y. IsKeyBefore (key_of x) (key_of y)) sorted
-  pub same : (x : Keyed) → Contains sorted x ↔ Contains keys x
-  pub are : ArePlaces sorted places
-
-pub in_place : (keyed keys sorted d : List Keyed) (places : Places) → keyed ≡ keys → AllPairs (λ x y. IsKeyBefore (key_of x) (key_of y)) sorted → ((x : Keyed) → Contains sorted x ↔ Contains keyed x) → d ≡ sorted → ArePlaces d places →
-    AreInPlace keys sorted places
-in_place keyed keys sorted d places is order same d_is are = record {
-  order = order;
-  same = subst (λ (l : List Keyed). (x : Keyed) → Contains sorted x ↔ Contains l x) is same;
-  are = subst (λ (l : List Keyed). ArePlaces l places) d_is are;
-}
+pub in_place : {lists keys sorted : List Keyed} {places : Places} → lists ≡ keys → AreInPlace lists sorted places → AreInPlace keys sorted places
+in_place {lists} {keys} {sorted} {places} is p = subst (λ (l : List Keyed). AreInPlace l sorted places) is p
 
 module _ (net : Network) (valid : IsValid net) (chosen : List Edit) (names : List (List (List ℕ))) (named : List Named) (m : AreMade net chosen names named)
     (packets_sorted routes_sorted : List Keyed) (packet_places route_places : Places) (p : AreInPlace (packet_keys net named) packets_sorted packet_places) (r : AreInPlace (route_keys net named) routes_sorted route_places)
     (after : Network) (protocol : after.protocol ≡ net.protocol) (links : after.links ≡ net.links) (routers : EachRow (IsRouterAfter net chosen) net.routers after.routers)
     (faces : after.faces ≡ map (face_after net.protocol chosen packet_places) (placed net.faces)) (sessions : after.sessions ≡ map (session_after chosen route_places) net.sessions)
     (packet_rows : EachRow (λ place. IsPacketListFor net chosen) packets_sorted after.packet_lists) (route_rows : EachRow (λ place. IsRouteListFor net chosen) routes_sorted after.route_lists) where
-  pub is_after : IsAfter net chosen after
+  is_after : IsAfter net chosen after
   is_after = record {
     protocol = protocol;
     links = links;
@@ -65,5 +51,5 @@ module _ (net : Network) (valid : IsValid net) (chosen : List Edit) (names : Lis
   good_names router list name new =
       (router_within net valid chosen names named m.new_names m.are_named router list name new, (name_is_new net valid chosen names named m.new_names m.are_named router list name m.few new).1)
 
-  pub is_valid_after : IsValid after
-  is_valid_after = is_valid net valid chosen after is_after good_names
+  pub is_whole : IsAfter net chosen after × IsValid after
+  is_whole = (is_after, is_valid net valid chosen after is_after good_names)

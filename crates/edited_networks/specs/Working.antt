@@ -1,6 +1,6 @@
 -- What the functions that make the network after edits keep.
 use Rattle.std.specs.Prelude.{◌≡◌, ℕ, ◌<◌, ◌^◌, Bool, Option, Some, None, IsSomeAnd, IsTrue}
-use Rattle.std.specs.Prelude.{Contains, ◌↔◌, ◌⊎◌, [], slice_index_or, option_map, not, ◌||◌}
+use Rattle.std.specs.Prelude.{AllPairs, Contains, ◌↔◌, ◌⊎◌, [], slice_index_or, option_map, not, ◌||◌}
 use Rattle.std.specs.Prelude.{if◌then◌else◌, List, ◌++◌, map, slice_get, slice_index, length}
 use Rattle.std.specs.List.{filter_map}
 use Rattle.std.specs.Option.{option_and_then}
@@ -29,10 +29,10 @@ use Rattle.edit_space.specs.declared.sites.Site.TheVariants.{Bound, New}
 use Rattle.edit_space.specs.Numbered.{placed, of_number, is_empty, Tells, EachRow}
 use Rattle.edit_space.specs.Changes.{turns_session, list_prefixes, new_prefixes, list_classes}
 use Rattle.edit_space.specs.Changes.{new_classes}
-use Rattle.edit_space.specs.NewLists.{free_names, names_of}
+use Rattle.edit_space.specs.NewLists.{free_names, names_of, new_lists}
 use Rattle.edit_space.specs.After.{with_prefixes, with_classes, new_route_entries}
 use Rattle.edit_space.specs.After.{new_packet_entries, turned_if, passive_after}
-use Rattle.edit_space.specs.Ordered.{Key}
+use Rattle.edit_space.specs.Ordered.{Key, IsKeyBefore}
 
 -- the tables tell what the edits change in the network
 pub record AreChanges (net : Network) (changes : Changes) : Type 0 where
@@ -88,6 +88,13 @@ pub record IsNamed (lists : List (ℕ × NewList)) (names : List (List (List ℕ
 abbrev pub AreNamed : List (ℕ × NewList) → List (List (List ℕ)) → List Named → Type 0
 AreNamed lists names named = EachRow (λ place. IsNamed lists names) lists named
 
+-- the new lists of these edits with their names, and for each router the names of its new lists
+pub record AreMade (net : Network) (chosen : List Edit) (names : List (List (List ℕ)))
+    (named : List Named) : Type 0 where
+  pub new_names : AreNewNames net (new_lists net chosen) names
+  pub are_named : AreNamed (new_lists net chosen) names named
+  pub few : length (new_lists net chosen) < 2 ^ 33
+
 -- the list that stood at this place, with its router and name, as it is put in order
 abbrev pub old_key : ℕ → ℕ → List ℕ → Keyed
 old_key place router name =
@@ -138,6 +145,12 @@ abbrev pub ArePlaces : List Keyed → Places → Type 0
 ArePlaces lists places =
     (place : ℕ) (list : Keyed) → slice_get lists place ≡ Some list →
     PlacesTell places list.site place
+
+-- the lists in the order of their keys, and where each of them stands
+pub record AreInPlace (lists sorted : List Keyed) (places : Places) : Type 0 where
+  pub order : AllPairs (λ x y. IsKeyBefore (key_of x) (key_of y)) sorted
+  pub same : (x : Keyed) → Contains sorted x ↔ Contains lists x
+  pub are : ArePlaces sorted places
 
 -- what the route list of this site has: the entries of the one that there was with the new ones, or
 -- those of a new one

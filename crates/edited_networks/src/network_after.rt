@@ -5,8 +5,8 @@ ghost use Rattle.edit_space.specs.After.{IsAfter};
 ghost use Rattle.edit_space.specs.Prices.{chosen_of};
 
 use crate::changes::Changes;
-use crate::new_lists::{lists_made, named_lists, new_names};
-use crate::order::{find_places, in_order};
+use crate::new_lists::new_named;
+use crate::order::placed_lists;
 use crate::packet_lists::{keyed_packet_lists, packet_lists_after};
 use crate::route_lists::{keyed_route_lists, route_lists_after};
 use crate::rows::{faces_after, routers_after, same_links, sessions_after};
@@ -28,14 +28,12 @@ pub fn after(
     ensures valid { IfOk result IsValid }
 {
     let changes = Changes::of(alloc, net, chosen_edits(alloc, edits.slice(), chosen)?)?;
-    let lists = lists_made(alloc, net, &changes)?;
-    let names = new_names(alloc, net, &lists)?;
-    let named = named_lists(alloc, net, &names, &lists)?;
-    let packets = in_order(keyed_packet_lists(alloc, net, &named)?)?;
-    let routes = in_order(keyed_route_lists(alloc, net, &named)?)?;
+    let (names, named) = new_named(alloc, net, &changes)?;
     let faces = net.faces.len();
-    let packet_places = find_places(alloc, net.packet_lists.len(), faces, packets.slice())?;
-    let route_places = find_places(alloc, net.route_lists.len(), faces, routes.slice())?;
+    let packets = keyed_packet_lists(alloc, net, &named)?;
+    let (packets, packet_places) = placed_lists(alloc, net.packet_lists.len(), faces, packets)?;
+    let routes = keyed_route_lists(alloc, net, &named)?;
+    let (routes, route_places) = placed_lists(alloc, net.route_lists.len(), faces, routes)?;
     Ok(Network {
         protocol: net.protocol,
         routers: routers_after(alloc, net, &changes, &names)?,

@@ -4,7 +4,8 @@ ghost use Rattle.std.specs.Prelude.{slice_set, slice_index, slice_index_or, IfOk
 ghost use Rattle.std.specs.List.{filter_map};
 ghost use Rattle.edit_space.specs.NewLists.{new_route_list, new_packet_list, new_lists};
 ghost use Rattle.edit_space.specs.Numbered.{placed};
-ghost use Rattle.edited_networks.specs.Working.{AreChanges, AreNewNames, AreNamed, HasNext};
+ghost use Rattle.edited_networks.specs.Working.{AreChanges, AreNewNames, AreNamed, HasNext, AreMade};
+ghost use Rattle.net_model.specs.Validity.{IsValid};
 
 use crate::changes::Changes;
 use crate::names::free_names;
@@ -157,7 +158,7 @@ fn take_name(
 }
 
 /// The new lists with their names.
-pub fn named_lists(
+fn named_lists(
     alloc: Global,
     net: &Network,
     names: &[List<Name>],
@@ -178,4 +179,21 @@ pub fn named_lists(
         })?;
     }
     Ok(named)
+}
+
+/// For each router the names of its new lists, and all new lists with their names.
+pub fn new_named(
+    alloc: Global,
+    net: &Network,
+    changes: &Changes,
+) -> Result<(Vec<List<Name>>, Vec<Named>), Memory>
+    requires valid { IsValid net.now }
+    requires changes { AreChanges net.now changes.now }
+    ensures { IfOk result (λ made.
+        AreMade net.now changes.now.edits.items made.0.items made.1.items) }
+{
+    let lists = lists_made(alloc, net, changes)?;
+    let names = new_names(alloc, net, &lists)?;
+    let named = named_lists(alloc, net, &names, &lists)?;
+    Ok((names, named))
 }

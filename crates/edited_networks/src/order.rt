@@ -2,7 +2,7 @@
 ghost use Rattle.std.specs.Prelude.{◌≡◌, ◌≢◌, ◌↔◌, ◌<◌, ◌^◌, length, slice_set, Contains, All};
 ghost use Rattle.std.specs.Prelude.{AllPairs, IfOk};
 ghost use Rattle.edit_space.specs.Ordered.{IsKeyBefore};
-ghost use Rattle.edited_networks.specs.Working.{key_of, compare_keys, IsWithin, ArePlaces};
+ghost use Rattle.edited_networks.specs.Working.{key_of, compare_keys, IsWithin, ArePlaces, AreInPlace};
 
 use arc_base::{List, Memory, Name};
 use edit_space::Site;
@@ -27,7 +27,7 @@ fn compare(a: &Keyed, b: &Keyed) -> Ordering
 }
 
 /// The lists in their order.
-pub fn in_order(lists: Vec<Keyed>) -> Result<List<Keyed>, Memory>
+fn in_order(lists: Vec<Keyed>) -> Result<List<Keyed>, Memory>
     requires { AllPairs (λ x y. key_of x ≢ key_of y) lists.items }
     ensures order { IfOk result (AllPairs (λ x y. IsKeyBefore (key_of x) (key_of y))) }
     ensures same { IfOk result (λ sorted. (x : Keyed) →
@@ -48,7 +48,7 @@ pub struct Places {
 }
 
 /// Where these lists stand, of so many lists that there were and so many interfaces.
-pub fn find_places(alloc: Global, bound: u32, faces: u32, lists: &[Keyed]) -> Result<Places, Memory>
+fn find_places(alloc: Global, bound: u32, faces: u32, lists: &[Keyed]) -> Result<Places, Memory>
     requires within { All (λ list. IsWithin bound faces list.site) lists.now }
     requires apart { AllPairs (λ x y. x.site ≢ y.site) lists.now }
     requires few { length lists.now < 2 ^ 32 }
@@ -73,4 +73,22 @@ fn put(places: &mut Vec<u32>, at: u32, place: u32)
     ensures { places.new.items ≡ slice_set places.old.items at place }
 {
     places[at as usize] = place;
+}
+
+/// The lists in their order, and where they stand, of so many lists that there were and so many
+/// interfaces.
+pub fn placed_lists(
+    alloc: Global,
+    bound: u32,
+    faces: u32,
+    lists: Vec<Keyed>,
+) -> Result<(List<Keyed>, Places), Memory>
+    requires keys { AllPairs (λ x y. key_of x ≢ key_of y) lists.items }
+    requires within { All (λ list. IsWithin bound faces list.site) lists.items }
+    requires sites { AllPairs (λ x y. x.site ≢ y.site) lists.items }
+    ensures { IfOk result (λ placed. AreInPlace lists.items placed.0 placed.1) }
+{
+    let sorted = in_order(lists)?;
+    let places = find_places(alloc, bound, faces, sorted.slice())?;
+    Ok((sorted, places))
 }
