@@ -7,16 +7,12 @@ use Rattle.std.specs.Cmp.Lexicographic.{slice_cmp}
 use Rattle.std.specs.Ordering.{nat_cmp}
 use Rattle.std.specs.BTreeMap.{BTreeMap, get_by}
 use denote.Ref.{Bor}
-use Rattle.net_model.specs.declared.lists.PacketList.{PacketList}
-use Rattle.net_model.specs.declared.lists.RouteList.{RouteList}
 use Rattle.ios_words.specs.declared.commands.Command.{Command}
 use Rattle.ios_words.specs.declared.commands.Command.TheVariants as commands
-use Rattle.ios_config.specs.declared.settings.Config.{Config}
 use Rattle.ios_config.specs.declared.settings.ListText.{ListText}
 use Rattle.net_rows.specs.Ordered.{AreInOrder}
 use Rattle.arc_base.specs.NameForms.{IsNameBefore, texts_at}
-use Rattle.net_rows.specs.Lists.{is_of_kind, packet_row_at, route_row_at, IsBoundPacketList}
-use Rattle.net_rows.specs.Lists.{IsBoundRouteList}
+use Rattle.net_rows.specs.Lists.{is_of_kind}
 
 -- the names with this property were added to those that were there
 abbrev pub Adds : (List ℕ → Type 0) → List (Bor (List ℕ)) → List (Bor (List ℕ)) → Type 0
@@ -37,14 +33,9 @@ abbrev pub list_if : Bool → ListText → List ℕ → Option ListText
 list_if packet list name =
     if bytes_eq list.name name && is_of_kind packet list then Some list else None
 
--- the rows of the packet lists of a file were added, in byte order of their names
-pub record AddsPacketRows (router : ℕ) (config : Config) (old new : List PacketList) : Type 0 where
+-- the rows of those names were added that are bound, in byte order
+pub record AddsRows {X : Type 0} (IsBound : List ℕ → Type 0) (row_at : List ℕ → Option X)
+    (old new : List X) : Type 0 where
   pub names : List (List ℕ)
-  pub bound : AreInOrder IsNameBefore (IsBoundPacketList config) names
-  pub added : new ≡ old ++ filter_map (packet_row_at router config) names
-
--- the rows of the route lists of a file were added, in byte order of their names
-pub record AddsRouteRows (router : ℕ) (config : Config) (old new : List RouteList) : Type 0 where
-  pub names : List (List ℕ)
-  pub bound : AreInOrder IsNameBefore (IsBoundRouteList config) names
-  pub added : new ≡ old ++ filter_map (route_row_at router config) names
+  pub bound : AreInOrder IsNameBefore IsBound names
+  pub added : new ≡ old ++ filter_map row_at names

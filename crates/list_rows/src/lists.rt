@@ -7,7 +7,9 @@ ghost use Rattle.net_rows.specs.Lists.{is_packet_kind, is_extended_kind, entry_o
 ghost use Rattle.net_rows.specs.Lists.{route_entry, packet_entries, route_entries, is_of_kind};
 ghost use Rattle.net_rows.specs.Lists.{list_named, if_defined, packet_row, route_row};
 ghost use Rattle.arc_base.specs.NameForms.{IsNameBefore, texts_at};
-ghost use Rattle.list_rows.specs.ListTables.{Adds, list_at, list_if, AddsPacketRows, AddsRouteRows};
+ghost use Rattle.list_rows.specs.ListTables.{Adds, list_at, list_if, AddsRows};
+ghost use Rattle.net_rows.specs.Lists.{IsBoundPacketList, IsBoundRouteList, packet_row_at};
+ghost use Rattle.net_rows.specs.Lists.{route_row_at};
 
 use crate::bound_lists::{Names, add_bound_packet, add_bound_route};
 use arc_base::limits::ROUTER_LIMIT;
@@ -257,7 +259,8 @@ fn add_packet_lists(
     router: u32,
     config: &Config,
 ) -> Result<(), Memory>
-    ensures { OnOk result (AddsPacketRows router config.now rows.old.items rows.new.items) }
+    ensures { OnOk result (AddsRows (IsBoundPacketList config.now)
+        (packet_row_at router config.now) rows.old.items rows.new.items) }
 {
     let mut bound = BTreeSet::new(alloc);
     add_bound_packet(&mut bound, config)?;
@@ -296,7 +299,8 @@ fn add_route_lists(
     router: u32,
     config: &Config,
 ) -> Result<(), Memory>
-    ensures { OnOk result (AddsRouteRows router config.now rows.old.items rows.new.items) }
+    ensures { OnOk result (AddsRows (IsBoundRouteList config.now)
+        (route_row_at router config.now) rows.old.items rows.new.items) }
 {
     let mut bound = BTreeSet::new(alloc);
     add_bound_route(alloc, &mut bound, config)?;

@@ -3,22 +3,23 @@ use Rattle.std.proofs.lemmas.Result.{IfOk-weaker}
 use Rattle.net_model.specs.declared.lists.PacketList.{PacketList}
 use Rattle.ios_config.specs.declared.settings.Config.{Config}
 use Rattle.net_rows.specs.Lists.{ArePacketLists}
-use Rattle.list_rows.proofs.ListsKinds.{ArePacketRowsTo, packet_rows_none, packet_rows_more, packet_rows_all}
+use Rattle.list_rows.proofs.ListsKinds.{packets}
+use Rattle.list_rows.proofs.ListsRows.{AreRowsTo, rows_none, rows_more, rows_all}
 use Rattle.list_rows.proofs.lists.packet_lists.Goals as goal
 
 pub loop-router-init : goal.loop-router-init
 loop-router-init c =
-    subst (λ (rows : List PacketList). ArePacketRowsTo c.slice-config-items.result.now 0 rows) (sym c.new-rows.ensures.items) (packet_rows_none c.slice-config-items.result.now)
+    subst (λ (rows : List PacketList). AreRowsTo packets c.slice-config-items.result.now 0 rows) (sym c.new-rows.ensures.items) (rows_none packets c.slice-config-items.result.now)
 
 pub loop-router-preserved : goal.loop-router-preserved
 loop-router-preserved c =
-    packet_rows_more c.slice-config-items.result.now c.loop-router.router c.config-item.result c.loop-router.rows.items c.add_packet_lists.new.rows.items c.loop-router-test.true c.config-item.is
+    rows_more packets c.slice-config-items.result.now c.loop-router.router c.config-item.result c.loop-router.rows.items c.add_packet_lists.new.rows.items c.loop-router-test.true c.config-item.is
     c.in_ok-add_packet_lists.ensures c.loop-router.invariant
 
 pub returns : goal.returns
 returns c =
     let all : ArePacketLists c.args.configs.now c.loop-router.rows.items =
     subst (λ (configs : List Config). ArePacketLists configs c.loop-router.rows.items) c.slice-config-items.ensures.items
-    (packet_rows_all c.slice-config-items.result.now c.loop-router.router c.loop-router.rows.items c.loop-router-test.false c.loop-router.invariant) in
+    (rows_all packets c.slice-config-items.result.now c.loop-router.router c.loop-router.rows.items c.loop-router-test.false c.loop-router.invariant) in
     IfOk-weaker c.of.result (λ (list : List PacketList). list ≡ c.loop-router.rows.items) (ArePacketLists c.args.configs.now)
     (λ list is. subst (ArePacketLists c.args.configs.now) (sym is) all) c.of.ensures.ok
