@@ -72,7 +72,7 @@ no_groups things start zero none = omega arith
 no_groups {X} things start (suc count) none =
     omega (arith, length-append (of_number start things) (flat_map (λ k. of_number k things) (range_with_len (start + 1) count)), ap (λ (l : List (ℕ × X)). length (of_number start l)) none, no_groups things (start + 1) count none)
 
-few_by_number : {X : Type 0} (count : ℕ) (things : List (ℕ × X)) → length (by_number count things) ≤ length things
+pub few_by_number : {X : Type 0} (count : ℕ) (things : List (ℕ × X)) → length (by_number count things) ≤ length things
 few_by_number count [] = no_groups [] 0 count refl
 few_by_number count (x ∷ xs) = omega (arith, (few_one x xs 0 count).0, few_by_number count xs)
 

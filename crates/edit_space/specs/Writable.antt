@@ -1,5 +1,5 @@
 -- Which services one entry of a packet list can say.
-use Rattle.std.specs.Prelude.{ℕ, ◌/◌, ◌%◌, ◌==◌, ◌&&◌, ◌||◌, nat_le, Bool}
+use Rattle.std.specs.Prelude.{◌/◌, ◌%◌, ◌==◌, ◌&&◌, ◌||◌, nat_le, Bool}
 use Rattle.net_model.specs.declared.services.Service.{Service}
 
 -- whether one entry of a packet list can say the range of services: all of them, all of one

@@ -28,7 +28,7 @@ use Rattle.edit_space.specs.EditLists.{has_session, edits_at, link_edits, writab
 use Rattle.edit_space.specs.Writable.{is_writable}
 use Rattle.edit_space.specs.Numbered.{placed, of_number, by_number}
 use Rattle.edit_space.specs.Sites.{route_list_site, neighbor_site, packet_list_site, face_site, route_sites, packet_sites}
-use Rattle.edit_space.proofs.Counts.{few_picked, few_placed, all_counted}
+use Rattle.edit_space.proofs.Counts.{few_picked, few_placed, few_by_number, all_counted}
 use Rattle.generated_networks.specs.Limits.{GeneratedNetworksHaveFewEdits}
 use Rattle.generated_networks.proofs.Degrees.{degree}
 use Rattle.generated_networks.proofs.FewClasses.{AreEven, one-class, few-classes, few-first, told-few}
@@ -38,39 +38,6 @@ use Rattle.generated_networks.proofs.Networks.{have-plan, have-policies}
 use Rattle.generated_networks.proofs.Plans.{count-few}
 use Rattle.generated_networks.proofs.Said.{links_of, settings_of, all_settings, files-say}
 use Rattle.generated_networks.proofs.Settings.{link_faces}
-
--- things that are put together by their numbers are no more than there were
-few-one : {X : Type 0} (x : ℕ × X) (xs : List (ℕ × X)) (start count : ℕ) →
-    (length (flat_map (λ k. of_number k (x ∷ xs)) (range_with_len start count)) ≤ 1 + length (flat_map (λ k. of_number k xs) (range_with_len start count))) ×
-    (x.0 < start → length (flat_map (λ k. of_number k (x ∷ xs)) (range_with_len start count)) ≤ length (flat_map (λ k. of_number k xs) (range_with_len start count)))
-few-one x xs start zero = (omega arith, λ h. omega arith)
-few-one {X} x xs start (suc count) = by (x.0 == start) refl (few-one x xs (start + 1) count)
-  where
-    split : (things : List (ℕ × X)) → length (flat_map (λ k. of_number k things) (range_with_len start (suc count))) ≡ length (of_number start things) + length (flat_map (λ k. of_number k things) (range_with_len (start + 1) count))
-    split things = length-append (of_number start things) (flat_map (λ k. of_number k things) (range_with_len (start + 1) count))
-
-    here : (b : Bool) → (x.0 == start) ≡ b → length (of_number start (x ∷ xs)) ≡ length (cons_option (if b then Some x.1 else None) (of_number start xs))
-    here b e = ap (λ t. length (cons_option (if t then Some x.1 else None) (of_number start xs))) e
-
-    by : (b : Bool) → (x.0 == start) ≡ b →
-        (length (flat_map (λ k. of_number k (x ∷ xs)) (range_with_len (start + 1) count)) ≤ 1 + length (flat_map (λ k. of_number k xs) (range_with_len (start + 1) count))) ×
-        (x.0 < start + 1 → length (flat_map (λ k. of_number k (x ∷ xs)) (range_with_len (start + 1) count)) ≤ length (flat_map (λ k. of_number k xs) (range_with_len (start + 1) count))) →
-        (length (flat_map (λ k. of_number k (x ∷ xs)) (range_with_len start (suc count))) ≤ 1 + length (flat_map (λ k. of_number k xs) (range_with_len start (suc count)))) ×
-        (x.0 < start → length (flat_map (λ k. of_number k (x ∷ xs)) (range_with_len start (suc count))) ≤ length (flat_map (λ k. of_number k xs) (range_with_len start (suc count))))
-    by true e rest =
-        let same : x.0 ≡ start = eqb-true x.0 start e in
-        (omega (arith, split (x ∷ xs), split xs, here true e, rest.1 (omega (arith, same)), same), λ h. absurd (omega (arith, h, same)))
-    by false e rest =
-        (omega (arith, split (x ∷ xs), split xs, here false e, rest.0), λ h. omega (arith, split (x ∷ xs), split xs, here false e, rest.1 (omega (arith, h))))
-
-no-groups : {X : Type 0} (things : List (ℕ × X)) (start count : ℕ) → things ≡ [] → length (flat_map (λ k. of_number k things) (range_with_len start count)) ≤ 0
-no-groups things start zero none = omega arith
-no-groups {X} things start (suc count) none =
-    omega (arith, length-append (of_number start things) (flat_map (λ k. of_number k things) (range_with_len (start + 1) count)), ap (λ (l : List (ℕ × X)). length (of_number start l)) none, no-groups things (start + 1) count none)
-
-few-by-number : {X : Type 0} (count : ℕ) (things : List (ℕ × X)) → length (by_number count things) ≤ length things
-few-by-number count [] = no-groups [] 0 count refl
-few-by-number count (x ∷ xs) = omega (arith, (few-one x xs 0 count).0, few-by-number count xs)
 
 -- the interfaces of all files
 few-sites : (n a m i : ℕ) → 2 ≤ n → length (flat_map sites_of (enumerate_from i (map (settings_of n) (range_with_len a m)))) ≤ 4 * m
@@ -112,7 +79,7 @@ few-at-links net (link ∷ links) =
 no-routes : (net : Network) → net.route_lists ≡ [] → net.sessions ≡ [] → length (route_sites net) ≤ 0
 no-routes net no-lists no-sessions =
     let things = map route_list_site (placed net.route_lists) ++ filter_map (neighbor_site net) net.sessions in
-    let all = few-by-number (length net.routers) things in
+    let all = few_by_number (length net.routers) things in
     let one : length (map route_list_site (placed net.route_lists)) ≡ 0 = ap (λ (ls : List RouteList). length (map route_list_site (placed ls))) no-lists in
     let two : length (filter_map (neighbor_site net) net.sessions) ≡ 0 = ap (λ (ss : List SessionRow). length (filter_map (neighbor_site net) ss)) no-sessions in
     let long : length things ≡ length (map route_list_site (placed net.route_lists)) + length (filter_map (neighbor_site net) net.sessions) = length-append (map route_list_site (placed net.route_lists)) (filter_map (neighbor_site net) net.sessions) in
@@ -122,7 +89,7 @@ few-packets : (net : Network) → net.packet_lists ≡ [] → length (packet_sit
 few-packets net no-lists =
     let front = filter_map packet_list_site (placed net.packet_lists) in
     let back = filter_map face_site (placed net.faces) in
-    let all : length (packet_sites net) ≤ length (front ++ back) = few-by-number (length net.routers) (front ++ back) in
+    let all : length (packet_sites net) ≤ length (front ++ back) = few_by_number (length net.routers) (front ++ back) in
     let one : length front ≡ 0 = ap (λ (ls : List PacketList). length (filter_map packet_list_site (placed ls))) no-lists in
     let two : length back ≤ length (placed net.faces) = few_picked face_site (placed net.faces) in
     let three = few_placed net.faces in
