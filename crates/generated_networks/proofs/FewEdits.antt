@@ -1,7 +1,6 @@
 -- There are few edits of a generated network.
-use Rattle.std.proofs.Common.{◌≡◌, ℕ, zero, suc, ◌+◌, ◌*◌, ◌<◌, ◌≤◌, ◌==◌, Bool, true, false, Some, None, List, [], ◌∷◌, ◌++◌, length, map, refl, ap, subst, ◌∙◌, arith, length-append, not, if◌then◌else◌, mul-le-mul}
-use Rattle.std.specs.List.{AllZip, cons_option, enumerate_from, filter_map, flat_map, range_with_len}
-use Rattle.std.proofs.lemmas.Bool.{eqb-true}
+use Rattle.std.proofs.Common.{◌≡◌, ℕ, zero, suc, ◌+◌, ◌*◌, ◌<◌, ◌≤◌, Bool, true, false, List, [], ◌∷◌, ◌++◌, length, map, refl, ap, subst, ◌∙◌, arith, length-append, not, if◌then◌else◌, mul-le-mul}
+use Rattle.std.specs.List.{AllZip, enumerate_from, filter_map, flat_map, range_with_len}
 use Rattle.std.proofs.lemmas.List.{length-map}
 use Rattle.std.proofs.lemmas.List.Filters.{length-filter_both}
 use Rattle.net_model.specs.declared.lists.PacketList.{PacketList}
@@ -26,7 +25,7 @@ use Rattle.edit_space.specs.declared.edit_kinds.EditFault.TheVariants.{Limit, Me
 use Rattle.arc_base.specs.declared.refusal.LimitKind.TheVariants as limits
 use Rattle.edit_space.specs.EditLists.{has_session, edits_at, link_edits, writable_classes, AreEdits, NamesLimit, HasEdits}
 use Rattle.edit_space.specs.Writable.{is_writable}
-use Rattle.edit_space.specs.Numbered.{placed, of_number, by_number}
+use Rattle.edit_space.specs.Numbered.{placed}
 use Rattle.edit_space.specs.Sites.{route_list_site, neighbor_site, packet_list_site, face_site, route_sites, packet_sites}
 use Rattle.edit_space.proofs.Counts.{few_picked, few_placed, few_by_number, all_counted}
 use Rattle.generated_networks.specs.Limits.{GeneratedNetworksHaveFewEdits}
