@@ -39,10 +39,10 @@ struct Reading<F: Drop> {
 /// faults, also a name that is no path.
 ///
 /// A file stays open from its first piece to its last, so that one that is replaced meanwhile is
-/// read as it was, and a pipe can be read once: to read it from its start again is an error, and not
-/// the end of a file. A plain file is written beside its name, as
-/// NAME.part, and then renamed, so that it is whole or as it was; where no such file can be made,
-/// and at a link, a pipe or a device, the bytes are written in its place.
+/// read as it was, and a pipe can be read once: to read it from its start again is an error, and
+/// not the end of a file. A plain file is written beside its name, as NAME.part, and then renamed,
+/// so that it is whole or as it was; where no such file can be made, and at a link, a pipe or a
+/// device, the bytes are written in its place.
 /// Where there is no memory for the name NAME.part nothing is written.
 #[derive(Drop)]
 pub struct DiskStore<R: Files> {

@@ -1,7 +1,7 @@
 -- What the functions that make the network after edits keep.
 use Rattle.std.specs.Prelude.{◌≡◌, ℕ, ◌<◌, ◌^◌, Bool, Option, Some, None, IsSomeAnd, IsTrue}
-use Rattle.std.specs.Prelude.{AllPairs, Contains, ◌↔◌, ◌⊎◌, [], slice_index_or, option_map, not, ◌||◌}
-use Rattle.std.specs.Prelude.{if◌then◌else◌, List, ◌++◌, map, slice_get, slice_index, length}
+use Rattle.std.specs.Prelude.{AllPairs, Contains, ◌↔◌, ◌⊎◌, [], slice_index_or, option_map, not}
+use Rattle.std.specs.Prelude.{◌||◌, if◌then◌else◌, List, ◌++◌, map, slice_get, slice_index, length}
 use Rattle.std.specs.List.{filter_map}
 use Rattle.std.specs.Option.{option_and_then}
 use Rattle.std.specs.Cmp.Lexicographic.{slice_cmp}

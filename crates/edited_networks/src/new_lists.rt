@@ -4,7 +4,8 @@ ghost use Rattle.std.specs.Prelude.{slice_set, slice_index, slice_index_or, IfOk
 ghost use Rattle.std.specs.List.{filter_map};
 ghost use Rattle.edit_space.specs.NewLists.{new_route_list, new_packet_list, new_lists};
 ghost use Rattle.edit_space.specs.Numbered.{placed};
-ghost use Rattle.edited_networks.specs.Working.{AreChanges, AreNewNames, AreNamed, HasNext, AreMade};
+ghost use Rattle.edited_networks.specs.Working.{AreChanges, AreNewNames, AreNamed, HasNext};
+ghost use Rattle.edited_networks.specs.Working.{AreMade};
 ghost use Rattle.net_model.specs.Validity.{IsValid};
 
 use crate::changes::Changes;

@@ -2,7 +2,8 @@
 ghost use Rattle.std.specs.Prelude.{◌≡◌, ◌≢◌, ◌↔◌, ◌<◌, ◌^◌, length, slice_set, Contains, All};
 ghost use Rattle.std.specs.Prelude.{AllPairs, IfOk};
 ghost use Rattle.edit_space.specs.Ordered.{IsKeyBefore};
-ghost use Rattle.edited_networks.specs.Working.{key_of, compare_keys, IsWithin, ArePlaces, AreInPlace};
+ghost use Rattle.edited_networks.specs.Working.{key_of, compare_keys, IsWithin, ArePlaces};
+ghost use Rattle.edited_networks.specs.Working.{AreInPlace};
 
 use arc_base::{List, Memory, Name};
 use edit_space::Site;

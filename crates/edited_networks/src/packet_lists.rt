@@ -2,8 +2,8 @@
 ghost use Rattle.std.specs.Prelude.{◌≡◌, ◌++◌, All, length, map, IfOk, OnOk};
 ghost use Rattle.std.specs.List.{filter_map};
 ghost use Rattle.edit_space.specs.Numbered.{EachRow};
-ghost use Rattle.edited_networks.specs.Working.{AreChanges, IsWithin, packet_keys, new_key_by, packet_face};
-ghost use Rattle.edited_networks.specs.Working.{IsPacketListFor};
+ghost use Rattle.edited_networks.specs.Working.{AreChanges, IsWithin, packet_keys, new_key_by};
+ghost use Rattle.edited_networks.specs.Working.{packet_face, IsPacketListFor};
 
 use crate::changes::Changes;
 use crate::entries::{new_packet_entries, with_classes};

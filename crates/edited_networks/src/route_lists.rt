@@ -2,8 +2,8 @@
 ghost use Rattle.std.specs.Prelude.{◌≡◌, ◌++◌, All, length, map, IfOk, OnOk};
 ghost use Rattle.std.specs.List.{filter_map};
 ghost use Rattle.edit_space.specs.Numbered.{EachRow};
-ghost use Rattle.edited_networks.specs.Working.{AreChanges, IsWithin, route_keys, new_key_by, route_face};
-ghost use Rattle.edited_networks.specs.Working.{IsRouteListFor};
+ghost use Rattle.edited_networks.specs.Working.{AreChanges, IsWithin, route_keys, new_key_by};
+ghost use Rattle.edited_networks.specs.Working.{route_face, IsRouteListFor};
 
 use crate::changes::Changes;
 use crate::entries::{new_route_entries, with_prefixes};

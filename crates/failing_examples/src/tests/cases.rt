@@ -26,16 +26,16 @@ const R1_WITH_A_LIST: &str =
       \x203 permit ip any any\nrouter ospf 1\n\x20network 0.0.0.0 255.255.255.255 area 0\n!\nend\n";
 
 const BLOCKED: &str = r#"{"version": 1, "routers": ["r1.cfg", "r2.cfg"],
- "links": [{"a": "r1:GigabitEthernet0/1", "": "r2:GigabitEthernet0/1"}],
+ "links": [{"a": "r1:GigabitEthernet0/1", "b": "r2:GigabitEthernet0/1"}],
  "policies": [{"kind": "blocked", "from": "10.1.0.0/24", "to": "10.2.0.0/24"}]}"#;
 
 const BLOCKED_AND_WEIGHED: &str = r#"{"version": 1, "routers": ["r1.cfg", "r2.cfg"],
- "links": [{"a": "r1:GigabitEthernet0/1", "": "r2:GigabitEthernet0/1"}],
+ "links": [{"a": "r1:GigabitEthernet0/1", "b": "r2:GigabitEthernet0/1"}],
  "policies": [{"kind": "blocked", "from": "10.1.0.0/24", "to": "10.2.0.0/24"}],
  "weights": {"list": 2, "session": 3}}"#;
 
 const BLOCKED_BY_LISTS: &str = r#"{"version": 1, "routers": ["r1.cfg", "r2.cfg"],
- "links": [{"a": "r1:GigabitEthernet0/1", "": "r2:GigabitEthernet0/1"}],
+ "links": [{"a": "r1:GigabitEthernet0/1", "b": "r2:GigabitEthernet0/1"}],
  "policies": [{"kind": "blocked", "from": "10.1.0.0/24", "to": "10.2.0.0/24"}],
  "weights": {"list": 1, "filter": 1, "session": 3}}"#;
 
