@@ -1,5 +1,5 @@
 -- What is bound at the interfaces and sessions after edits.
-use Rattle.std.proofs.Common.{◌≡◌, ℕ, ◌<◌, Bool, true, false, not, Option, Some, None, List, [], length, get_or, map, refl, sym, ◌∙◌, ap, subst, arith, eq-eqb, IsTrue, if◌then◌else◌}
+use Rattle.std.proofs.Common.{◌≡◌, ℕ, ◌<◌, Bool, false, not, Option, Some, None, List, [], length, get_or, map, refl, sym, ◌∙◌, ap, subst, arith, eq-eqb, IsTrue, if◌then◌else◌}
 use Rattle.std.specs.Prelude.{Contains, IfSome, IsSomeAnd, MatchBool, slice_get, option_map}
 use Rattle.std.specs.List.{filter_map}
 use Rattle.std.proofs.lemmas.List.{length-map}
@@ -17,13 +17,14 @@ use Rattle.edit_space.specs.declared.list_kinds.NewList.{NewList}
 use Rattle.edit_space.specs.declared.list_kinds.NewList.TheVariants.{Route, Packet}
 use Rattle.edited_networks.specs.declared.new_lists.Named.{Named}
 use Rattle.edited_networks.specs.declared.order.Places.{Places}
-use Rattle.edit_space.specs.After.{IsNewPacketList, IsNewRouteList, PacketListMoves, RouteListMoves, StaysBound, IsInboundAfter, IsFilterAfter, IsFaceAfter, IsSessionAfter}
+use Rattle.edit_space.specs.After.{IsNewPacketList, IsNewRouteList, PacketListMoves, RouteListMoves, StaysBound, IsFaceAfter, IsSessionAfter}
 use Rattle.edit_space.specs.Changes.{new_classes, new_prefixes}
 use Rattle.edit_space.specs.NewLists.{new_lists, new_lists_of, new_names_of, new_packet_list, new_route_list, IsNewList}
 use Rattle.edit_space.specs.Numbered.{placed, if_number, is_empty, EachRow}
-use Rattle.edited_networks.specs.Working.{AreNewNames, AreNamed, list_at, moved, bound_at, face_after, session_after}
+use Rattle.edited_networks.specs.Working.{AreNewNames, AreNamed, moved, bound_at, face_after, session_after}
 use Rattle.edited_networks.proofs.NamedFacts.{names_at}
 use Rattle.edit_space.proofs.NewListFacts.{picks, placed_there, new_list_within}
+use Rattle.edit_space.proofs.RowFacts.{item_of}
 use Rattle.edit_space.proofs.Placing.{placed_at, placed_length}
 
 pub placed_get : {X : Type 0} (xs : List X) (k : ℕ) (x : X) → slice_get xs k ≡ Some x → slice_get (placed xs) k ≡ Some (k, x)
@@ -31,6 +32,11 @@ placed_get xs k x at =
     let within : k < length xs = slice_get_within xs k x at in
     let is : get_or xs k x ≡ x = same_Some (get_or xs k x) x (sym (slice_get-get_or xs k x within) ∙ at) in
     slice_get-get_or (placed xs) k (k, x) (omega (arith, within, placed_length xs)) ∙ ap Some (sym (placed_at xs k x within (sym is)))
+
+-- the first of two facts about what may be there
+pub first_of : {X : Type 0} (A B : X → Type 0) (o : Option X) → IfSome o (λ x. A x × B x) → IfSome o A
+first_of A B None h = h
+first_of A B (Some x) h = h.0
 
 its_number : {X : Type 0} (number : ℕ) (x : X) → if_number number (number, x) ≡ Some x
 its_number number x = ap (λ (b : Bool). if b then Some x else None) (eq-eqb number number refl)
@@ -65,26 +71,19 @@ module _ (net : Network) (valid : IsValid net) (chosen : List Edit) (names : Lis
 
   module _ (after : Network) (places : Places)
       (stays : (o : Option ListId) → IfSome o (λ id. id.0 < length net.packet_lists) → StaysBound (PacketListMoves net chosen after) o (moved places o))
-      (new_bound : (router : ℕ) (face : Face) (name : List ℕ) → IsNewList net chosen router (Packet face) name →
-      IsSomeAnd (option_map list_at (slice_get places.new.items face.0)) (λ id. IsSomeAnd (slice_get after.packet_lists id.0) (IsNewPacketList net chosen face))) where
-    inbound : (place : ℕ) (was : FaceRow) → slice_get net.faces place ≡ Some was → IfSome was.list_in (λ id. id.0 < length net.packet_lists) →
-        IsInboundAfter net chosen after place was.list_in (bound_at places (not (is_empty (new_classes chosen place))) place was.list_in)
-    inbound place was at within = by (is_empty (new_classes chosen place)) refl
-      where
-        by : (b : Bool) → is_empty (new_classes chosen place) ≡ b →
-            MatchBool b (StaysBound (PacketListMoves net chosen after) was.list_in (bound_at places (not b) place was.list_in))
-            (IsSomeAnd (bound_at places (not b) place was.list_in) (λ id. IsSomeAnd (slice_get after.packet_lists id.0) (IsNewPacketList net chosen (record { 0 = place }))))
-        by true e = stays was.list_in within
-        by false e = let name = packet_name place was at e in new_bound was.router.0 (record { 0 = place }) name.0 name.1
-
+      (is_bound : (none : Bool) (face : Face) (o : Option ListId) → IfSome o (λ id. id.0 < length net.packet_lists) → (none ≡ false → (router : ℕ) × (name : List ℕ) × IsNewList net chosen router (Packet face) name) →
+      MatchBool none (StaysBound (PacketListMoves net chosen after) o (bound_at places (not none) face.0 o)) (IsSomeAnd (bound_at places (not none) face.0 o) (λ id. IsSomeAnd (slice_get after.packet_lists id.0) (IsNewPacketList net chosen face)))) where
     is_face_after : (place : ℕ) (was : FaceRow) → slice_get net.faces place ≡ Some was → IsFaceAfter net chosen after place was (face_after net.protocol chosen places (place, was))
     is_face_after place was at =
         let v : IsValidFace net place was = valid.faces place was at in
-        record { same = refl; passive = refl; bound_in = refl; list_in = inbound place was at (bound (λ id. IsTrue was.bound_in) was.list_in v.list_in); list_out = stays was.list_out v.list_out }
-      where
-        bound : (P : ListId → Type 0) (o : Option ListId) → IfSome o (λ id. (id.0 < length net.packet_lists) × P id) → IfSome o (λ id. id.0 < length net.packet_lists)
-        bound P None h = tt
-        bound P (Some id) h = h.0
+        record {
+          same = refl;
+          passive = refl;
+          bound_in = refl;
+          list_in = is_bound (is_empty (new_classes chosen place)) (record { 0 = place }) was.list_in (first_of (λ (id : ListId). id.0 < length net.packet_lists) (λ id. IsTrue was.bound_in) was.list_in v.list_in)
+              (λ e. let name = packet_name place was at e in (was.router.0, name.0, name.1));
+          list_out = stays was.list_out v.list_out;
+        }
 
     pub faces_are : EachRow (IsFaceAfter net chosen after) net.faces (map (face_after net.protocol chosen places) (placed net.faces))
     faces_are = record { whole = length-map (placed net.faces) (face_after net.protocol chosen places) ∙ placed_length net.faces; each = each }
@@ -96,30 +95,19 @@ module _ (net : Network) (valid : IsValid net) (chosen : List Edit) (names : Lis
             subst (IsFaceAfter net chosen after place was) (same_Some (face_after net.protocol chosen places (place, was)) now (sym made ∙ here)) (is_face_after place was at)
 
   module _ (after : Network) (places : Places)
-      (stays : (o : Option ListId) → IfSome o (λ id. id.0 < length net.route_lists) → StaysBound (RouteListMoves net chosen after) o (moved places o))
-      (new_bound : (router : ℕ) (face : Face) (name : List ℕ) → IsNewList net chosen router (Route face) name →
-      IsSomeAnd (option_map list_at (slice_get places.new.items face.0)) (λ id. IsSomeAnd (slice_get after.route_lists id.0) (IsNewRouteList net chosen face))) where
-    filtered : (was : SessionRow) (face : FaceRow) → Contains net.sessions was → slice_get net.faces was.face.0 ≡ Some face → IfSome was.filter (λ id. id.0 < length net.route_lists) →
-        IsFilterAfter net chosen after was.face was.filter (bound_at places (not (is_empty (new_prefixes chosen was.face.0))) was.face.0 was.filter)
-    filtered was face there at within = by (is_empty (new_prefixes chosen was.face.0)) refl
-      where
-        by : (b : Bool) → is_empty (new_prefixes chosen was.face.0) ≡ b →
-            MatchBool b (StaysBound (RouteListMoves net chosen after) was.filter (bound_at places (not b) was.face.0 was.filter))
-            (IsSomeAnd (bound_at places (not b) was.face.0 was.filter) (λ id. IsSomeAnd (slice_get after.route_lists id.0) (IsNewRouteList net chosen was.face)))
-        by true e = stays was.filter within
-        by false e = let name = route_name was face there at e in new_bound face.router.0 was.face name.0 name.1
-
+      (is_bound : (none : Bool) (face : Face) (o : Option ListId) → IfSome o (λ id. id.0 < length net.route_lists) → (none ≡ false → (router : ℕ) × (name : List ℕ) × IsNewList net chosen router (Route face) name) →
+      MatchBool none (StaysBound (RouteListMoves net chosen after) o (bound_at places (not none) face.0 o)) (IsSomeAnd (bound_at places (not none) face.0 o) (λ id. IsSomeAnd (slice_get after.route_lists id.0) (IsNewRouteList net chosen face)))) where
     is_session_after : (place : ℕ) (was : SessionRow) → Contains net.sessions was → IsSessionAfter net chosen after place was (session_after chosen places was)
     is_session_after place was there =
         let v : IsValidSession net was = All-contains (IsValidSession net) net.sessions was valid.sessions there in
-        record { same = refl; down = refl; bound = refl; filter = filtered was (get_or net.faces was.face.0 nothing) there (slice_get-get_or net.faces was.face.0 nothing v.face) (within (λ id. IsTrue was.bound) was.filter v.filter) }
-      where
-        nothing : FaceRow
-        nothing = record { router = record { 0 = 0 }; name = []; addr = None; subnet = None; host = None; up = false; enabled = false; told = false; passive = false; cost = 0; bound_in = false; list_in = None; list_out = None }
-
-        within : (P : ListId → Type 0) (o : Option ListId) → IfSome o (λ id. (id.0 < length net.route_lists) × P id) → IfSome o (λ id. id.0 < length net.route_lists)
-        within P None h = tt
-        within P (Some id) h = h.0
+        let face = item_of net.faces was.face.0 v.face in
+        record {
+          same = refl;
+          down = refl;
+          bound = refl;
+          filter = is_bound (is_empty (new_prefixes chosen was.face.0)) was.face was.filter (first_of (λ (id : ListId). id.0 < length net.route_lists) (λ id. IsTrue was.bound) was.filter v.filter)
+              (λ e. let name = route_name was face.0 there face.1 e in (face.0.router.0, name.0, name.1));
+        }
 
     pub sessions_are : EachRow (IsSessionAfter net chosen after) net.sessions (map (session_after chosen places) net.sessions)
     sessions_are = record { whole = length-map net.sessions (session_after chosen places); each = each }

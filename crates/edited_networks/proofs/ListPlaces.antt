@@ -1,6 +1,6 @@
 -- The lists of a kind after edits: which keys they have, that these differ, and where each list stands.
-use Rattle.std.proofs.Common.{◌≡◌, ◌≢◌, ℕ, ◌<◌, ◌⊎◌, ◌↔◌, inl, inr, Option, Some, None, List, ◌++◌, length, get_or, map, refl, sym, ◌∙◌, ap, subst, arith}
-use Rattle.std.specs.Prelude.{All, AllPairs, Contains, slice_get, option_map, IfSome, IsSomeAnd}
+use Rattle.std.proofs.Common.{◌≡◌, ◌≢◌, ℕ, ◌<◌, ◌⊎◌, ◌↔◌, inl, inr, Bool, true, false, not, Option, Some, None, List, ◌++◌, length, get_or, map, refl, sym, ◌∙◌, ap, subst, arith}
+use Rattle.std.specs.Prelude.{All, AllPairs, Contains, slice_get, option_map, IfSome, IsSomeAnd, MatchBool}
 use Rattle.std.specs.List.{filter_map}
 use Rattle.std.proofs.lemmas.List.{get_or_default}
 use Rattle.std.proofs.lemmas.List.Elements.{All-contains, Contains-append_left, Contains-append_right, Contains-append_cases}
@@ -21,7 +21,7 @@ use Rattle.edit_space.specs.After.{StaysBound}
 use Rattle.edit_space.specs.NewLists.{names_of, IsNewList}
 use Rattle.edit_space.specs.Numbered.{placed, EachRow}
 use Rattle.edit_space.specs.Ordered.{Key, IsKeyBefore}
-use Rattle.edited_networks.specs.Working.{key_of, old_key, new_key, new_key_by, IsWithin, ArePlaces, AreMade, list_at, moved}
+use Rattle.edited_networks.specs.Working.{key_of, old_key, new_key, new_key_by, IsWithin, ArePlaces, AreMade, list_at, moved, bound_at}
 use Rattle.edited_networks.proofs.ListKinds.{ListsOfKind, IsListAfter, one_router, made_for, of_some}
 use Rattle.edit_space.proofs.NewListFacts.{picks, picked_from, pairs_picked, placed_is, placed_there, placed_pairs}
 use Rattle.edit_space.proofs.RowFacts.{one_item, item_of, row_was, row_now}
@@ -247,10 +247,17 @@ module _ {net : Network} {chosen : List Edit} (K : ListsOfKind net chosen) (vali
             (of_some (λ (list : K.Row). slice_get lists s.0 ≡ Some (K.edited id.0 list)) (slice_get K.lists id.0) was.0 was.1 s.2)
 
         -- and where a new list stands
-        pub new_bound : (router : ℕ) (face : Face) (name : List ℕ) → IsNewList net chosen router (K.new face) name →
+        new_bound : (router : ℕ) (face : Face) (name : List ℕ) → IsNewList net chosen router (K.new face) name →
             IsSomeAnd (option_map list_at (slice_get places.new.items face.0)) (λ id. IsSomeAnd (slice_get lists id.0) (K.IsNew face))
         new_bound router face name new =
             let key : Keyed = record { router = router; name = name; site = New face } in
             let s = new_stands router face name new in
             subst (λ (o : Option ℕ). IsSomeAnd (option_map list_at o) (λ id. IsSomeAnd (slice_get lists id.0) (K.IsNew face))) (sym (are s.0 key s.1))
             (of_some (K.IsNew face) (slice_get lists s.0) s.2.0 s.2.1 (new_is key face s.2.0 refl new s.2.2))
+
+        -- so they tell where that stands which is bound: the new list, where there is one, or what was bound
+        pub is_bound : (none : Bool) (face : Face) (o : Option ListId) → IfSome o (λ id. id.0 < length K.lists) → (none ≡ false → (router : ℕ) × (name : List ℕ) × IsNewList net chosen router (K.new face) name) →
+            MatchBool none (StaysBound (λ was now. IsSomeAnd (slice_get K.lists was.0) (λ list. slice_get lists now.0 ≡ Some (K.edited was.0 list))) o (bound_at places (not none) face.0 o))
+            (IsSomeAnd (bound_at places (not none) face.0 o) (λ id. IsSomeAnd (slice_get lists id.0) (K.IsNew face)))
+        is_bound true face o within new = stays_bound o within
+        is_bound false face o within new = let made = new refl in new_bound made.0 face made.1 made.2

@@ -21,14 +21,14 @@ use Rattle.net_model.proofs.Readings.{place_of_item, item_at_place}
 use Rattle.edit_space.specs.declared.edit_kinds.Edit.{Edit}
 use Rattle.edited_networks.specs.declared.new_lists.Named.{Named}
 use Rattle.edited_networks.specs.declared.order.Keyed.{Keyed}
-use Rattle.edit_space.specs.After.{turned_if, passive_after, IsNewPacketList, IsNewRouteList, PacketListMoves, RouteListMoves, StaysBound, IsInboundAfter, IsFilterAfter, IsRouterAfter, IsFaceAfter, IsSessionAfter, IsAfter}
+use Rattle.edit_space.specs.After.{turned_if, passive_after, StaysBound, IsRouterAfter, IsFaceAfter, IsSessionAfter, IsAfter}
 use Rattle.edit_space.specs.Changes.{turns_session, new_classes, new_prefixes}
 use Rattle.edit_space.specs.Determined.{IsCountable, AfterIsThere}
 use Rattle.edit_space.specs.NewLists.{new_names_of, IsNewList}
 use Rattle.edit_space.specs.Numbered.{is_empty, EachRow}
 use Rattle.edit_space.specs.Ordered.{IsKeyBefore}
 use Rattle.edited_networks.specs.Working.{AreMade, key_of, compare_keys, list_at}
-use Rattle.edited_networks.proofs.Bound.{packet_name, route_name}
+use Rattle.edited_networks.proofs.Bound.{first_of, packet_name, route_name}
 use Rattle.edited_networks.proofs.Keys.{keys_total, before_from_less, same_from_equal}
 use Rattle.edited_networks.proofs.Naming.{no_rows}
 use Rattle.edited_networks.proofs.ListKinds.{ListsOfKind, IsListAfter, made_for, of_some, packets, routes}
@@ -57,10 +57,6 @@ sort_keys xs apart = (
       (sort key_of compare_keys keys_total xs) (λ x y in_x in_y less. before_from_less (key_of x) (key_of y) less) (sorted key_of compare_keys keys_total xs),
   λ x. (from_sort key_of compare_keys keys_total xs x, to_sort key_of compare_keys keys_total xs (λ a b in_a in_b equal. same_by key_of xs apart a b in_a in_b (same_from_equal (key_of a) (key_of b) equal)) x),
 )
-
-first_of : {X : Type 0} (A B : X → Type 0) (o : Option X) → IfSome o (λ x. A x × B x) → IfSome o A
-first_of A B None h = h
-first_of A B (Some x) h = h.0
 
 -- the lists of a kind after the edits
 module _ {net : Network} {chosen : List Edit} (K : ListsOfKind net chosen) (valid : IsValid net) {names : List (List (List ℕ))} {named : List Named} (m : AreMade net chosen names named) where
@@ -98,6 +94,12 @@ module _ {net : Network} {chosen : List Edit} (K : ListsOfKind net chosen) (vali
       let place = place_of_item rows.0 one.0 ((just one.0).1 (inr (face, one.1))) in
       (Some (list_at place.0), of_some (K.IsNew face) (slice_get rows.0 place.0) one.0 place.1 one.1)
 
+  -- and what is bound: the new list, where there is one, or what was bound
+  some_bound : (none : Bool) (face : Face) (o : Option ListId) → IfSome o (λ id. id.0 < length K.lists) → (none ≡ false → (router : ℕ) × (name : List ℕ) × IsNewList net chosen router (K.new face) name) →
+      (n : Option ListId) × MatchBool none (StaysBound (λ was now. IsSomeAnd (slice_get K.lists was.0) (λ list. slice_get rows.0 now.0 ≡ Some (K.edited was.0 list))) o n) (IsSomeAnd n (λ id. IsSomeAnd (slice_get rows.0 id.0) (K.IsNew face)))
+  some_bound true face o within new = stays o within
+  some_bound false face o within new = let made = new refl in new_stands made.0 face made.1 made.2
+
 module _ (net : Network) (valid : IsValid net) (countable : IsCountable net) (chosen : List Edit) (named : List Named) (m : AreMade net chosen (names_made net valid countable chosen) named) where
   abbrev packet_rows : List PacketList
   packet_rows = (rows (packets net chosen valid) valid m).0
@@ -109,47 +111,23 @@ module _ (net : Network) (valid : IsValid net) (countable : IsCountable net) (ch
   abbrev listed : List RouterRow → List FaceRow → List SessionRow → Network
   listed routers faces sessions = record { protocol = net.protocol; routers = routers; faces = faces; sessions = sessions; links = net.links; packet_lists = packet_rows; route_lists = route_rows }
 
-  inbound : (place : ℕ) (was : FaceRow) → slice_get net.faces place ≡ Some was → (n : Option ListId) × IsInboundAfter net chosen (listed [] [] []) place was.list_in n
-  inbound place was at = by (is_empty (new_classes chosen place)) refl
-    where
-      v : IsValidFace net place was
-      v = valid.faces place was at
-
-      by : (b : Bool) → is_empty (new_classes chosen place) ≡ b →
-          (n : Option ListId) × MatchBool b (StaysBound (PacketListMoves net chosen (listed [] [] [])) was.list_in n) (IsSomeAnd n (λ id. IsSomeAnd (slice_get packet_rows id.0) (IsNewPacketList net chosen (record { 0 = place }))))
-      by true e = stays (packets net chosen valid) valid m was.list_in (first_of (λ (id : ListId). id.0 < length net.packet_lists) (λ id. IsTrue was.bound_in) was.list_in v.list_in)
-      by false e =
-          let name = packet_name net valid chosen (names_made net valid countable chosen) named m.new_names m.are_named place was at e in
-          new_stands (packets net chosen valid) valid m was.router.0 (record { 0 = place }) name.0 name.1
-
-  filtered : (place : ℕ) (was : SessionRow) → slice_get net.sessions place ≡ Some was → (n : Option ListId) × IsFilterAfter net chosen (listed [] [] []) was.face was.filter n
-  filtered place was at = by (is_empty (new_prefixes chosen was.face.0)) refl
-    where
-      one : Contains net.sessions was
-      one = item_at_place net.sessions place was at
-
-      v : IsValidSession net was
-      v = All-contains (IsValidSession net) net.sessions was valid.sessions one
-
-      by : (b : Bool) → is_empty (new_prefixes chosen was.face.0) ≡ b →
-          (n : Option ListId) × MatchBool b (StaysBound (RouteListMoves net chosen (listed [] [] [])) was.filter n) (IsSomeAnd n (λ id. IsSomeAnd (slice_get route_rows id.0) (IsNewRouteList net chosen was.face)))
-      by true e = stays (routes net chosen valid) valid m was.filter (first_of (λ (id : ListId). id.0 < length net.route_lists) (λ id. IsTrue was.bound) was.filter v.filter)
-      by false e =
-          let face = item_of net.faces was.face.0 v.face in
-          let name = route_name net valid chosen (names_made net valid countable chosen) named m.new_names m.are_named was face.0 one face.1 e in
-          new_stands (routes net chosen valid) valid m face.0.router.0 was.face name.0 name.1
-
   face_row : (place : ℕ) (was : FaceRow) → slice_get net.faces place ≡ Some was → (now : FaceRow) × IsFaceAfter net chosen (listed [] [] []) place was now
   face_row place was at =
-      let list_in = inbound place was at in
-      let list_out = stays (packets net chosen valid) valid m was.list_out (valid.faces place was at).list_out in (
+      let v : IsValidFace net place was = valid.faces place was at in
+      let list_in = some_bound (packets net chosen valid) valid m (is_empty (new_classes chosen place)) (record { 0 = place }) was.list_in (first_of (λ (id : ListId). id.0 < length net.packet_lists) (λ id. IsTrue was.bound_in) was.list_in v.list_in)
+      (λ e. let name = packet_name net valid chosen (names_made net valid countable chosen) named m.new_names m.are_named place was at e in (was.router.0, name.0, name.1)) in
+      let list_out = stays (packets net chosen valid) valid m was.list_out v.list_out in (
         record was { passive = passive_after net.protocol chosen place was.passive; bound_in = was.bound_in || not (is_empty (new_classes chosen place)); list_in = list_in.0; list_out = list_out.0 },
         record { same = refl; passive = refl; bound_in = refl; list_in = list_in.1; list_out = list_out.1 },
       )
 
   session_row : (place : ℕ) (was : SessionRow) → slice_get net.sessions place ≡ Some was → (now : SessionRow) × IsSessionAfter net chosen (listed [] [] []) place was now
   session_row place was at =
-      let filter = filtered place was at in (
+      let there : Contains net.sessions was = item_at_place net.sessions place was at in
+      let v : IsValidSession net was = All-contains (IsValidSession net) net.sessions was valid.sessions there in
+      let face = item_of net.faces was.face.0 v.face in
+      let filter = some_bound (routes net chosen valid) valid m (is_empty (new_prefixes chosen was.face.0)) was.face was.filter (first_of (λ (id : ListId). id.0 < length net.route_lists) (λ id. IsTrue was.bound) was.filter v.filter)
+      (λ e. let name = route_name net valid chosen (names_made net valid countable chosen) named m.new_names m.are_named was face.0 there face.1 e in (face.0.router.0, name.0, name.1)) in (
         record was { down = turned_if (turns_session chosen was.face.0) was.down; bound = was.bound || not (is_empty (new_prefixes chosen was.face.0)); filter = filter.0 },
         record { same = refl; down = refl; bound = refl; filter = filter.1 },
       )

@@ -18,7 +18,7 @@ use Rattle.edited_networks.proofs.AfterValid.{is_valid}
 use Rattle.edited_networks.proofs.NamedFacts.{router_within, name_is_new}
 use Rattle.edited_networks.proofs.Bound.{faces_are, sessions_are}
 use Rattle.edited_networks.proofs.ListKinds.{packets, routes}
-use Rattle.edited_networks.proofs.ListPlaces.{stays_bound, new_bound, lists_in_order, just_lists}
+use Rattle.edited_networks.proofs.ListPlaces.{stays_bound, is_bound, lists_in_order, just_lists}
 
 pub in_place : {lists keys sorted : List Keyed} {places : Places} → lists ≡ keys → AreInPlace lists sorted places → AreInPlace keys sorted places
 in_place {lists} {keys} {sorted} {places} is p = subst (λ (l : List Keyed). AreInPlace l sorted places) is p
@@ -36,11 +36,10 @@ module _ (net : Network) (valid : IsValid net) (chosen : List Edit) (names : Lis
     faces = subst (λ (l : List FaceRow). EachRow (IsFaceAfter net chosen after) net.faces l) (sym faces)
         (faces_are net valid chosen names named m.new_names m.are_named after packet_places
         (stays_bound (packets net chosen valid) valid m packets_sorted p.order p.same after.packet_lists packet_rows packet_places p.are)
-        (new_bound (packets net chosen valid) valid m packets_sorted p.order p.same after.packet_lists packet_rows packet_places p.are));
+        (is_bound (packets net chosen valid) valid m packets_sorted p.order p.same after.packet_lists packet_rows packet_places p.are));
     sessions = subst (λ (l : List SessionRow). EachRow (IsSessionAfter net chosen after) net.sessions l) (sym sessions)
         (sessions_are net valid chosen names named m.new_names m.are_named after route_places
-        (stays_bound (routes net chosen valid) valid m routes_sorted r.order r.same after.route_lists route_rows route_places r.are)
-        (new_bound (routes net chosen valid) valid m routes_sorted r.order r.same after.route_lists route_rows route_places r.are));
+        (is_bound (routes net chosen valid) valid m routes_sorted r.order r.same after.route_lists route_rows route_places r.are));
     packet_order = lists_in_order (packets net chosen valid) valid m packets_sorted p.order p.same after.packet_lists packet_rows;
     packet_lists = just_lists (packets net chosen valid) valid m packets_sorted p.order p.same after.packet_lists packet_rows;
     route_order = lists_in_order (routes net chosen valid) valid m routes_sorted r.order r.same after.route_lists route_rows;
