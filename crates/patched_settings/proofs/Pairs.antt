@@ -4,7 +4,6 @@ use Rattle.std.specs.Prelude.{Any, Contains, slice_get, is_some}
 use Rattle.std.specs.List.{AllZip, filter_map, last_or, cons_option}
 use Rattle.std.proofs.lemmas.Option.{none-some, same_Some}
 use Rattle.arc_base.proofs.Items.{Contains-head, Contains-tail, Contains-none}
-use Rattle.arc_base.proofs.Zips.{AllZip-right}
 
 abbrev rest : {X : Type 0} → List X → List X
 rest [] = []

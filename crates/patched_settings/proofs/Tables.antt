@@ -28,7 +28,7 @@ use Rattle.patched_settings.specs.Plain.{said, without_number, plain_entry, plai
 use Rattle.patched_settings.specs.Additions.{new_list_kind, route_line, packet_line}
 use Rattle.patched_settings.specs.SettingsAfter.{list_with, new_list_text, new_list_texts, AreSettingsAfter}
 use Rattle.patched_settings.proofs.NewNames.{one_list, new_of_named, named_of_new}
-use Rattle.patched_settings.proofs.SessionFacts.{find_in, find_one}
+use Rattle.patched_settings.proofs.SessionFacts.{find_one}
 
 find_mapped : {X Y : Type 0} (f : X → Y) (p : X → Bool) (q : Y → Bool) → ((x : X) → q (f x) ≡ p x) → (xs : List X) → find q (map f xs) ≡ option_map f (find p xs)
 find_mapped f p q same [] = refl
