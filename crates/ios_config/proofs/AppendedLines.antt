@@ -1,16 +1,14 @@
 -- A line that is put at the end of a block.
-use Rattle.std.proofs.Common.{◌≡◌, ◌≢◌, ℕ, zero, suc, ◌+◌, ◌-◌, ◌<◌, ◌≤◌, ◌||◌, not, Bool, true, false, List, [], ◌∷◌, ◌++◌, length, map, slice_get, take, Some, None, append-nil, refl, sym, ap, subst, ◌∙◌, arith, ⊎_elim, inl, Contains}
+use Rattle.std.proofs.Common.{◌≡◌, ◌≢◌, ℕ, suc, ◌+◌, ◌<◌, ◌≤◌, ◌||◌, not, Bool, true, false, List, [], ◌∷◌, ◌++◌, length, map, slice_get, take, Some, None, append-nil, refl, sym, ap, subst, ◌∙◌, arith, ⊎_elim, inl, Contains}
 use Rattle.std.proofs.lemmas.Bool.{cases_Bool, cond-false}
-use Rattle.std.proofs.lemmas.List.{map-append}
-use Rattle.std.proofs.lemmas.List.Elements.{filter-append, Contains-append_left, Contains-append_right, Contains-append_cases}
-use Rattle.std.proofs.lemmas.Option.{none-some, slice_get_within}
+use Rattle.std.proofs.lemmas.List.Elements.{filter-append, Contains-append_right, Contains-append_cases}
 use Rattle.std.specs.List.{list_any, enumerate_from, AllByRecursion}
 use Rattle.arc_base.proofs.Items.{Contains-cases, Contains-none, Contains-head, Contains-tail, from_filter}
 use Rattle.ios_lines.specs.declared.line.Lines.{Lines}
 use Rattle.ios_lines.specs.Texts.{text_lines}
 use Rattle.ios_lines.specs.Kinds.{open_banner}
 use Rattle.ios_lines.specs.Views.{Mark, marks_of, open_block}
-use Rattle.ios_lines.specs.Changes.{inserted, MayStandAt}
+use Rattle.ios_lines.specs.Changes.{MayStandAt}
 use Rattle.ios_lines.specs.ChangeLaws.{CanBeCut, IsPlaceOf}
 use Rattle.ios_lines.proofs.ChangedTexts.{an-inserted-line as line-stands, inner-may, rows-tell}
 use Rattle.ios_lines.proofs.Insertions.{moved-low}
@@ -19,7 +17,7 @@ use Rattle.ios_words.specs.declared.commands.Command.{Command}
 use Rattle.ios_words.specs.declared.commands.Command.TheVariants as commands
 use Rattle.ios_words.specs.declared.kinds.BlockKind.TheVariants as kinds
 use Rattle.ios_config.specs.declared.commands.FileCommand.{FileCommand}
-use Rattle.ios_config.specs.Appended.{HasBlock, IsLineOf, HasAppended, ALineIsAppended}
+use Rattle.ios_config.specs.Appended.{HasBlock, IsLineOf, ALineIsAppended}
 use Rattle.ios_config.specs.Bare.{bare, bare_config, HasOneOther}
 use Rattle.ios_config.specs.Commands.{AreCommandsOf, opened_by}
 use Rattle.ios_config.specs.Effects.{Split}
@@ -42,15 +40,19 @@ numbered-at n (m ∷ marks) k x has = ⊎_elim
     (λ later. let deeper = numbered-at (n + 1) marks k x later in (suc deeper.0, (let number : k ≡ n + 1 + deeper.0 = deeper.1 in omega arith), deeper.2))
     (Contains-cases (n, m) (k, x) (enumerate_from (n + 1) marks) has)
 
+pub not-inert : (b : Bool) → not b ≡ true → b ≡ false
+not-inert true is = absurd cc
+not-inert false is = refl
+
 -- what the row of a command tells of its place
-pub record CommandPlace (text : List ℕ) (c : FileCommand) : Type 0 where
+pub record CommandPlace (lines : List (List ℕ)) (c : FileCommand) : Type 0 where
   pub place : ℕ
   pub mark : Mark
   pub line : c.line ≡ place + 1
   pub block : c.block ≡ mark.block
-  pub told : IsPlaceOf (text_lines text) place mark
+  pub told : IsPlaceOf lines place mark
 
-pub command-place : (text : List ℕ) (lines : Lines) (commands : List FileCommand) (c : FileCommand) → CanBeCut text → (new : List ℕ) (more : Lines) → HaveLines text new lines more commands → Contains commands c → CommandPlace text c
+pub command-place : (text : List ℕ) (lines : Lines) (commands : List FileCommand) (c : FileCommand) → CanBeCut text → (new : List ℕ) (more : Lines) → HaveLines text new lines more commands → Contains commands c → CommandPlace (text_lines text) c
 command-place text lines commands c cut new more have among =
     let marks = marks_of text lines in
     let (l, there, r) = zip-found (IsMarkRead marks) (command_marks marks) commands c ((commands-of-marks text lines commands).0 have.reads) among in
@@ -58,10 +60,6 @@ command-place text lines commands c cut new more have among =
     let (place, number, at) = numbered-at 1 marks l.0 l.1 numbered in
     let row : c.line ≡ place + 1 = let line = r.line in omega arith in
     record { place = place; mark = l.1; line = row; block = r.block; told = rows-tell text lines place l.1 have.old_lines cut at (not-inert l.1.inert says) }
-  where
-    not-inert : (b : Bool) → not b ≡ true → b ≡ false
-    not-inert true is = absurd cc
-    not-inert false is = refl
 
 -- some command has the part
 pub any-part : (part : Part) (cs : List FileCommand) (c : FileCommand) → Contains cs c → part_of c ≡ part → list_any (is_same part) (map part_of cs) ≡ true
@@ -93,23 +91,14 @@ part-head block (commands.ListLine name entry) within opens known = absurd (know
 part-head block (commands.PrefixLine name number entry) within opens known = absurd (known (sym opens))
 part-head block _ within opens known = refl
 
-pub a-line-appended : ALineIsAppended
-a-line-appended old new lines more commands head last within line command cut have b of is =
-    let ls = text_lines old in
+-- a command after all of its block changes what the block sets, and nothing else
+pub block-sets : (commands : List FileCommand) (head last : FileCommand) (within : BlockKind) (line : List ℕ) (command : Command) → HasBlock commands head last within → IsLineOf line within head.line command →
+    Split last.line commands → HasOneOther (bare_config (config_of commands)) (bare_config (config_of (with_command last.line (command_at (last.line + 1) head.line command) commands)))
+    (map bare (members commands (Block head.line))) (map bare (members commands (Block head.line)) ++ record { line = 0; block = 0; command = command } ∷ [])
+block-sets commands head last within line command b of split =
     let place = last.line in
-    let p = command-place old lines commands last cut new more have b.last_among in
-    let row : p.place + 1 ≡ place = sym p.line in
-    let low : p.place < length ls = p.told.within in
-    let outside : open_banner (take place ls) ≡ None = ap (λ n. open_banner (take n ls)) (sym row) ∙ p.told.after in
-    let block : open_block (take place ls) ≡ head.line = ap (λ n. open_block (take n ls)) (sym row) ∙ p.told.block ∙ sym p.block ∙ b.last_block in
-    let some : open_block (take place ls) ≢ 0 = λ none. b.some (b.own ∙ sym block ∙ none) in
-    let may : MayStandAt ls place line = inner-may ls place line (omega arith) outside some of.inner in
-    let put : IsPut old new place line = record { may = may; new_lines = is; cut = cut } in
-    let opened : Opened commands (open_block (take place ls)) within = record { head = head; among = b.among; line = sym block; opens = b.opens; known = b.known } in
-    let added = inner-adds old new lines more commands place line within command put have of.inner opened of.reads in
     let c = command_at (place + 1) head.line command in
     let part = Block head.line in
-    let split = commands-split old lines commands place have.reads in
     let own : part_of head ≡ part = part-head head.block head.command within b.opens b.known ∙ ap Block b.own in
     let early : head.line ≤ place = b.latest head b.among own in
     let in_front : Contains split.front head = ⊎_elim
@@ -125,14 +114,29 @@ a-line-appended old new lines more commands head last within line command cut ha
     omega arith) in
     let whole : members split.front part ≡ members commands part =
     sym (append-nil (members split.front part)) ∙ ap (λ cs. members split.front part ++ cs) (sym none_back) ∙ sym (filter-append (λ d. is_same part (part_of d)) split.front split.back) ∙ ap (λ cs. members cs part) (sym split.parts) in
+    subst (λ (cs : List FileCommand). HasOneOther (bare_config (config_of cs)) (bare_config (config_of (with_command place c commands))) (map bare (members commands part)) (map bare (members commands part) ++ bare c ∷ [])) (sym split.parts)
+    (subst (λ (cs : List FileCommand). HasOneOther (bare_config (config_of (split.front ++ split.back))) (bare_config (config_of cs)) (map bare (members commands part)) (map bare (members commands part) ++ bare c ∷ [])) (sym (split.with_one c))
+    (subst (λ (g : List FileCommand). HasOneOther (bare_config (config_of (split.front ++ split.back))) (bare_config (config_of (between place split.front c split.back))) g (map bare (members commands part) ++ bare c ∷ [])) (ap (λ cs. map bare (members cs part)) (sym split.parts))
+    (subst (λ (g : List FileCommand). HasOneOther (bare_config (config_of (split.front ++ split.back))) (bare_config (config_of (between place split.front c split.back))) (map bare (members (split.front ++ split.back) part)) g)
+    (ap (λ cs. map bare cs ++ bare c ∷ map bare (members split.back part)) whole ∙ ap (λ cs. map bare (members commands part) ++ bare c ∷ map bare cs) none_back)
+    sets)))
+
+pub a-line-appended : ALineIsAppended
+a-line-appended old new lines more commands head last within line command cut have b of is =
+    let ls = text_lines old in
+    let place = last.line in
+    let p = command-place old lines commands last cut new more have b.last_among in
+    let row : p.place + 1 ≡ place = sym p.line in
+    let low : p.place < length ls = p.told.within in
+    let outside : open_banner (take place ls) ≡ None = ap (λ n. open_banner (take n ls)) (sym row) ∙ p.told.after in
+    let block : open_block (take place ls) ≡ head.line = ap (λ n. open_block (take n ls)) (sym row) ∙ p.told.block ∙ sym p.block ∙ b.last_block in
+    let some : open_block (take place ls) ≢ 0 = λ none. b.some (b.own ∙ sym block ∙ none) in
+    let may : MayStandAt ls place line = inner-may ls place line (omega arith) outside some of.inner in
+    let put : IsPut old new place line = record { may = may; new_lines = is; cut = cut } in
+    let opened : Opened commands (open_block (take place ls)) within = record { head = head; among = b.among; line = sym block; opens = b.opens; known = b.known } in
+    let added = inner-adds old new lines more commands place line within command put have of.inner opened of.reads in
     record {
       cut = (line-stands old new place line may is cut).cut;
       reads = subst (λ n. AreCommandsOf new more (with_command place (command_at (place + 1) n command) commands)) block added;
-      sets =
-          subst (λ (cs : List FileCommand). HasOneOther (bare_config (config_of cs)) (bare_config (config_of (with_command place c commands))) (map bare (members commands part)) (map bare (members commands part) ++ bare c ∷ [])) (sym split.parts)
-          (subst (λ (cs : List FileCommand). HasOneOther (bare_config (config_of (split.front ++ split.back))) (bare_config (config_of cs)) (map bare (members commands part)) (map bare (members commands part) ++ bare c ∷ [])) (sym (split.with_one c))
-          (subst (λ (g : List FileCommand). HasOneOther (bare_config (config_of (split.front ++ split.back))) (bare_config (config_of (between place split.front c split.back))) g (map bare (members commands part) ++ bare c ∷ [])) (ap (λ cs. map bare (members cs part)) (sym split.parts))
-          (subst (λ (g : List FileCommand). HasOneOther (bare_config (config_of (split.front ++ split.back))) (bare_config (config_of (between place split.front c split.back))) (map bare (members (split.front ++ split.back) part)) g)
-          (ap (λ cs. map bare cs ++ bare c ∷ map bare (members split.back part)) whole ∙ ap (λ cs. map bare (members commands part) ++ bare c ∷ map bare cs) none_back)
-          sets)));
+      sets = block-sets commands head last within line command b of (commands-split old lines commands place have.reads);
     }

@@ -1,40 +1,27 @@
 -- The commands of a list of lines, and what a line more does to them.
-use Rattle.std.proofs.Common.{◌≡◌, ◌≢◌, ℕ, zero, suc, ◌+◌, ◌<◌, ◌≤◌, ◌==◌, ◌||◌, not, Bool, true, false, List, [], ◌∷◌, ◌++◌, length, length-take-le, map, take, slice_get, get_or, Some, None, refl, sym, ap, subst, ◌∙◌, arith, ⊎_elim, inl, Contains, MatchBool, append-nil}
-use Rattle.std.proofs.lemmas.Bool.{cases_Bool, ne_eqb}
+use Rattle.std.proofs.Common.{◌≡◌, ◌≢◌, ℕ, ◌+◌, ◌<◌, ◌≤◌, ◌==◌, ◌||◌, not, true, false, List, [], length, length-take-le, map, take, slice_get, get_or, Some, None, refl, sym, ap, subst, ◌∙◌, arith, Contains, MatchBool}
+use Rattle.std.proofs.lemmas.Bool.{ne_eqb}
 use Rattle.std.proofs.lemmas.List.{length-map}
-use Rattle.std.proofs.lemmas.List.Elements.{filter-append, Contains-append_right, Contains-append_cases}
 use Rattle.std.proofs.lemmas.Option.{same_Some, slice_get-map, slice_get_within}
 use Rattle.std.specs.Prelude.{option_map}
 use Rattle.std.specs.List.{AllByRecursion}
 use Rattle.arc_base.proofs.Items.{from_filter}
-use Rattle.ios_lines.specs.declared.line.Lines.{Lines}
-use Rattle.ios_lines.specs.Texts.{text_lines}
-use Rattle.ios_lines.specs.Kinds.{IsInner, is_head, is_inert, kind_at, open_banner}
-use Rattle.ios_lines.specs.Lines.{AreLinesOf}
+use Rattle.ios_lines.specs.Kinds.{is_head, is_inert, kind_at, open_banner}
 use Rattle.ios_lines.specs.Reading.{block_after}
-use Rattle.ios_lines.specs.Views.{Mark, mark_seen, seen, seen_in, open_block, marks_of}
+use Rattle.ios_lines.specs.Views.{Mark, mark_seen, seen, seen_in, open_block}
 use Rattle.ios_lines.specs.Changes.{inserted, mark_moved, MayStandAt, seen_there, Insert}
 use Rattle.ios_lines.specs.ChangeLaws.{IsPlaceOf}
 use Rattle.ios_lines.proofs.ChangedTexts.{marks-change, place-of, seen-at, inner-may}
 use Rattle.ios_lines.proofs.Insertions.{length-seen, moved-low, open-low}
 use Rattle.ios_lines.proofs.Orphans.{NotAlone, orphans-inserted, stand-all}
 use Rattle.ios_lines.proofs.ViewRows.{rows-are-seen}
-use Rattle.ios_words.specs.declared.kinds.BlockKind.{BlockKind}
 use Rattle.ios_words.specs.declared.kinds.BlockKind.TheVariants as kinds
-use Rattle.ios_words.specs.declared.commands.Command.{Command}
 use Rattle.ios_config.specs.declared.commands.FileCommand.{FileCommand}
-use Rattle.ios_config.specs.Appended.{HasBlock, IsLineOf}
-use Rattle.ios_config.specs.Bare.{bare, bare_config, HasOneOther}
-use Rattle.ios_config.specs.Effects.{Split}
-use Rattle.ios_config.specs.Groups.{Block, is_same, part_of, members}
 use Rattle.ios_config.specs.Inserted.{numbered_marks, command_marks, MarkOpens, IsMarkRead, AreMarksRead, Opened, command_moved, command_at, with_command}
-use Rattle.ios_config.specs.Joined.{part_moved, between}
-use Rattle.ios_config.specs.LineLists.{marks_in, AreCommandsIn, CommandsAreOfLines, AnInnerLineIsIn, AHeadIsIn, ASingleLineIsIn, AClosingLineIsIn, IsAppendedIn, ALineIsAppendedIn}
-use Rattle.ios_config.specs.Texts.{config_of}
-use Rattle.ios_config.proofs.AppendedLines.{numbered-at, any-part, none-part, all-of, part-head}
+use Rattle.ios_config.specs.LineLists.{marks_in, AreCommandsIn, CommandsAreOfLines, AnInnerLineIsIn, AHeadIsIn, ASingleLineIsIn, AClosingLineIsIn, ALineIsAppendedIn}
+use Rattle.ios_config.proofs.AppendedLines.{numbered-at, not-inert, CommandPlace, block-sets}
 use Rattle.ios_config.proofs.InsertedCommands.{with-one, with-none, still-opens, marks-split}
 use Rattle.ios_config.proofs.InsertedLines.{head-opens, zip-found}
-use Rattle.ios_config.proofs.JoinedSettings.{one-sets-other}
 use Rattle.ios_config.proofs.MarkCommands.{commands-of-marks}
 
 pub commands-of-lines : CommandsAreOfLines
@@ -115,14 +102,6 @@ single-in lines commands place line command are may is reads =
 pub closing-in : AClosingLineIsIn
 closing-in lines commands place line are may is = add-none lines commands place line are may (ap is_inert is)
 
--- what the row of a command tells of its place
-pub record CommandSpot (lines : List (List ℕ)) (c : FileCommand) : Type 0 where
-  pub place : ℕ
-  pub mark : Mark
-  pub line : c.line ≡ place + 1
-  pub block : c.block ≡ mark.block
-  pub told : IsPlaceOf lines place mark
-
 spot-of : (lines : List (List ℕ)) (place : ℕ) (m : Mark) → AllByRecursion NotAlone (seen lines) → slice_get (marks_in lines) place ≡ Some m → m.inert ≡ false → IsPlaceOf lines place m
 spot-of lines place m stand there says =
     let long = long-marks lines in
@@ -132,7 +111,7 @@ spot-of lines place m stand there says =
     let same : mark_seen s ≡ m = same_Some (mark_seen s) m (sym (slice_get-map mark_seen (seen lines) place ∙ ap (option_map mark_seen) (seen-at lines place low)) ∙ there) in
     subst (IsPlaceOf lines place) same (place-of lines place stand low (ap (λ (n : Mark). n.inert) same ∙ says))
 
-pub command-spot : (lines : List (List ℕ)) (commands : List FileCommand) (c : FileCommand) → AreCommandsIn lines commands → Contains commands c → CommandSpot lines c
+pub command-spot : (lines : List (List ℕ)) (commands : List FileCommand) (c : FileCommand) → AreCommandsIn lines commands → Contains commands c → CommandPlace lines c
 command-spot lines commands c are among =
     let marks = marks_in lines in
     let (l, there, r) = zip-found (IsMarkRead marks) (command_marks marks) commands c are.reads among in
@@ -140,10 +119,6 @@ command-spot lines commands c are among =
     let (place, number, at) = numbered-at 1 marks l.0 l.1 numbered in
     let row : c.line ≡ place + 1 = let line = r.line in omega arith in
     record { place = place; mark = l.1; line = row; block = r.block; told = spot-of lines place l.1 (stand-all lines are.no_orphan) at (not-inert l.1.inert says) }
-  where
-    not-inert : (b : Bool) → not b ≡ true → b ≡ false
-    not-inert true is = absurd cc
-    not-inert false is = refl
 
 pub appended-in : ALineIsAppendedIn
 appended-in lines commands head last within line command are b of =
@@ -157,32 +132,8 @@ appended-in lines commands head last within line command are b of =
     let may : MayStandAt lines place line = inner-may lines place line (omega arith) outside some of.inner in
     let opened : Opened commands (open_block (take place lines)) within = record { head = head; among = b.among; line = sym block; opens = b.opens; known = b.known } in
     let added = inner-in lines commands place line within command are may of.inner opened of.reads in
-    let c = command_at (place + 1) head.line command in
-    let part = Block head.line in
-    let split = marks-split (marks_in lines) commands place are.reads in
-    let own : part_of head ≡ part = part-head head.block head.command within b.opens b.known ∙ ap Block b.own in
-    let early : head.line ≤ place = b.latest head b.among own in
-    let in_front : Contains split.front head = ⊎_elim
-    (λ front. front)
-    (λ back. let over : place < head.line = all-of (λ (d : FileCommand). place < d.line) split.back head split.high back in absurd (omega arith))
-    (Contains-append_cases split.front split.back head (subst (λ (cs : List FileCommand). Contains cs head) split.parts b.among)) in
-    let same_part : part_of c ≡ part_moved place part = of.part ∙ ap Block (sym (moved-low place head.line early)) in
-    let sets = one-sets-other place split.front c split.back part same_part (inl (any-part part split.front head in_front own)) in
-    let none_back : members split.back part ≡ [] = none-part part split.back (λ d has same.
-    let over : place < d.line = all-of (λ (e : FileCommand). place < e.line) split.back d split.high has in
-    let among : Contains commands d = subst (λ (cs : List FileCommand). Contains cs d) (sym split.parts) (Contains-append_right split.front split.back d has) in
-    let under : d.line ≤ place = b.latest d among same in
-    omega arith) in
-    let whole : members split.front part ≡ members commands part =
-    sym (append-nil (members split.front part)) ∙ ap (λ cs. members split.front part ++ cs) (sym none_back) ∙ sym (filter-append (λ d. is_same part (part_of d)) split.front split.back) ∙ ap (λ cs. members cs part) (sym split.parts) in
     record {
       may = may;
       stands = subst (λ n. AreCommandsIn (inserted place line lines) (with_command place (command_at (place + 1) n command) commands)) block added;
-      sets =
-          subst (λ (cs : List FileCommand). HasOneOther (bare_config (config_of cs)) (bare_config (config_of (with_command place c commands))) (map bare (members commands part)) (map bare (members commands part) ++ bare c ∷ [])) (sym split.parts)
-          (subst (λ (cs : List FileCommand). HasOneOther (bare_config (config_of (split.front ++ split.back))) (bare_config (config_of cs)) (map bare (members commands part)) (map bare (members commands part) ++ bare c ∷ [])) (sym (split.with_one c))
-          (subst (λ (g : List FileCommand). HasOneOther (bare_config (config_of (split.front ++ split.back))) (bare_config (config_of (between place split.front c split.back))) g (map bare (members commands part) ++ bare c ∷ [])) (ap (λ cs. map bare (members cs part)) (sym split.parts))
-          (subst (λ (g : List FileCommand). HasOneOther (bare_config (config_of (split.front ++ split.back))) (bare_config (config_of (between place split.front c split.back))) (map bare (members (split.front ++ split.back) part)) g)
-          (ap (λ cs. map bare cs ++ bare c ∷ map bare (members split.back part)) whole ∙ ap (λ cs. map bare (members commands part) ++ bare c ∷ map bare cs) none_back)
-          sets)));
+      sets = block-sets commands head last within line command b of (marks-split (marks_in lines) commands place are.reads);
     }
