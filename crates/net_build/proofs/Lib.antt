@@ -12,4 +12,4 @@ pub mod FacesApart
 mod WellFormed
 pub mod OneAnswer
 mod OtherKinds
-mod NetworkTried
+pub mod NetworkTried

@@ -73,7 +73,8 @@ module _ (doc : Document) (configs : List Config) (net : Network) (rows : AreRow
         tried_same (InDocument kinds.Endpoint (λ (place : ℕ) (policy : Policy). ¬ HasEndpoints net policy.from policy.to) doc.policies) (RefusesEndpoint doc configs) (λ (done : Unit {0}). Unit {0}) result
         (to_endpoint doc configs distinct net rows) (from_endpoint doc configs distinct net rows) said
 
-has_ends : (net : Network) → IsValid net → (policy : Policy) → HasEndpoints net policy.from policy.to → HasEnds net (subject policy)
+-- a policy between two host networks has ends
+pub has_ends : (net : Network) → IsValid net → (policy : Policy) → HasEndpoints net policy.from policy.to → HasEnds net (subject policy)
 has_ends net is policy h =
     let to : (q : Prefix) × (h.to.face.host ≡ Some q) × IsInside policy.to q = some_host h.to.face.host policy.to h.to.lies in
     record {

@@ -1,40 +1,16 @@
 -- One more policy at the end of a list.
 use Rattle.std.proofs.Common.{◌≡◌, ℕ, zero, suc, ◌+◌, ◌-◌, ◌<◌, ◌⊎◌, inl, inr, List, [], ◌∷◌, ◌++◌, length, refl, sym, ◌∙◌, ap, subst, arith, length-append}
-use Rattle.std.specs.Prelude.{Option, Some, Ok, Err, IfSome, IsSomeAnd, slice_get}
+use Rattle.std.specs.Prelude.{Option, Some, Err, IfSome, slice_get}
 use Rattle.std.specs.Option.{ForSome}
 use Rattle.std.proofs.lemmas.Option.{same_Some}
-use Rattle.arc_base.specs.Addresses.{IsInside}
-use Rattle.arc_base.specs.declared.prefix.Prefix.{Prefix}
 use Rattle.arc_base.specs.declared.refusal.Kind.TheVariants.{Endpoint}
 use Rattle.net_model.specs.declared.policies.Policy.{Policy}
 use Rattle.net_model.specs.declared.rows.Network.{Network}
-use Rattle.net_model.specs.Packets.{subject}
-use Rattle.net_model.specs.Forwarding.{HasEnds}
-use Rattle.net_model.specs.Validity.{IsValid}
 use Rattle.net_rows.specs.Addressing.{HasEndpoints}
-use Rattle.net_rows.proofs.Distinct.{Contains-at}
-use Rattle.net_model.proofs.Hosts.{some_host, one_host}
 use Rattle.run_files.specs.declared.outcome.Stop.{Stop}
 use Rattle.run_files.specs.declared.outcome.Stop.TheVariants as stops
 use Rattle.run_files.specs.Refusals.{refusal_of}
 use Rattle.reach_commands.specs.Added.{AddsPolicy, IsLast}
-
--- a policy between two host networks has ends
-pub has_ends : (net : Network) → IsValid net → (policy : Policy) → HasEndpoints net policy.from policy.to → HasEnds net (subject policy)
-has_ends net is policy h =
-    let to : (q : Prefix) × (h.to.face.host ≡ Some q) × IsInside policy.to q = some_host h.to.face.host policy.to h.to.lies in
-    record {
-      ends = record { source = h.from.face; target = h.to.face; to = to.0 };
-      are_ends = record {
-        source = Contains-at net.faces h.source h.from.face h.from.at_place;
-        from = h.from.lies;
-        target = Contains-at net.faces h.target h.to.face h.to.at_place;
-        host = to.1;
-        to = to.2;
-      };
-      apart = λ same. h.apart (one_host net is policy.to h.source h.target
-          (record { face = h.from.face; at_place = h.from.at_place; lies = subst (λ (o : Option Prefix). IsSomeAnd o (IsInside policy.to)) (sym same) h.to.lies }) h.to);
-    }
 
 -- the refusal of its prefixes
 pub ends_refused : (document : List ℕ) (net : Network) (policies : List Policy) (policy : Policy) (stop : Stop) → ¬ HasEndpoints net policy.from policy.to →

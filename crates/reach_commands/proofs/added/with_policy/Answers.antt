@@ -1,6 +1,7 @@
 use Rattle.std.proofs.Common.{sym, ◌∙◌}
 use Rattle.std.proofs.lemmas.Bool.{false≢true}
-use Rattle.reach_commands.proofs.AddedPolicy.{ends_refused, has_ends}
+use Rattle.net_build.proofs.NetworkTried.{has_ends}
+use Rattle.reach_commands.proofs.AddedPolicy.{ends_refused}
 use Rattle.reach_commands.proofs.added.with_policy.Goals as goal
 
 pub returns-then-not-has_endpoints-clause-told : goal.returns-then-not-has_endpoints-clause-told
