@@ -7,5 +7,6 @@ pub mod NodesAnswered
 pub mod PrefersAnswered
 pub mod RecheckAnswered
 pub mod AddedPolicy
+pub mod AddedStops
 pub mod RecheckedEach
 pub mod FewClasses

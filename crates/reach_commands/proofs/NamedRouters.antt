@@ -1,7 +1,6 @@
 -- Routers by their names: in a valid network a name is that of one router at most.
 use Rattle.std.proofs.Common.{◌≡◌, ℕ, zero, suc, ◌+◌, ◌<◌, ◌≤◌, ◌⊎◌, inl, inr, List, [], ◌∷◌, length, get_or, refl, sym, ◌∙◌, ap, subst, arith}
-use Rattle.std.specs.Prelude.{Option, Some, None, Err, IfSome, MatchOption, slice_get, AllPairs}
-use Rattle.std.specs.List.{AllZip}
+use Rattle.std.specs.Prelude.{Option, Some, None, Err, IfSome, MatchOption, slice_get}
 use Rattle.std.proofs.lemmas.Bool.{cases_lt}
 use Rattle.std.proofs.lemmas.Option.{slice_get_within, get_or_from_slice_get}
 use Rattle.arc_base.specs.declared.place.Router.{Router}

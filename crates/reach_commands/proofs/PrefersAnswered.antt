@@ -19,29 +19,13 @@ use Rattle.run_files.specs.declared.outcome.Stop.TheVariants as stops
 use Rattle.run_files.specs.Limits.{least_limit}
 use Rattle.arc_outside.specs.Reads.{TookOn}
 use Rattle.run_files.specs.Answers.{Answers, IsJudging, OnlyReads}
-use Rattle.run_inputs.specs.Counts.{CountsClasses, HasFewClasses, HasManyClasses}
-use Rattle.run_inputs.specs.declared.inputs.Input.{Input}
-use Rattle.run_inputs.specs.Inputs.{HoldsInput, IsInputRefusal, ReadsInput}
-use Rattle.run_files.proofs.Answering.{stopped}
+use Rattle.run_inputs.specs.Counts.{HasFewClasses}
+use Rattle.run_inputs.specs.Inputs.{HoldsInput}
 use Rattle.reach_commands.specs.Added.{AddsPolicy}
 use Rattle.reach_commands.specs.PreferRuns.{prefers_policy, prefers_status, AreNamed, FindsRouters, IsPrefersAnswer, IsPrefersRefusal}
 
 abbrev Read : Option Files → PrefersWords → Document → Network → Type 0
 Read held words doc net = IfSome held (λ files. HoldsInput Judging [] words.document files doc net)
-
-pub input_stopped : (held : Option Files) (words : PrefersWords) (stop : Stop) → IfSome held (λ files. ReadsInput Judging [] words.document files (Err stop)) →
-    Answers IsJudging (IsPrefersRefusal words) (IsPrefersAnswer words) held (Err stop)
-input_stopped held words stop told =
-    stopped IsJudging (IsPrefersRefusal words) (IsPrefersAnswer words) (IsInputRefusal Judging [] words.document)
-    (λ files (input : Input). HoldsInput Judging [] words.document files input.doc input.net) held stop (λ files r refused. inl refused) told
-
-pub ends_stopped : (held : Option Files) (words : PrefersWords) (doc : Document) (net : Network) (stop : Stop) → Read held words doc net →
-    AddsPolicy words.document net doc.policies (prefers_policy words) (Err stop) → Answers IsJudging (IsPrefersRefusal words) (IsPrefersAnswer words) held (Err stop)
-ends_stopped None words doc net (stops.Refused r) told adds = tt
-ends_stopped (Some files) words doc net (stops.Refused r) told adds =
-    inr (inl (record { doc = doc; net = net; input = told; ends = adds.0; told = adds.1 }))
-ends_stopped held words doc net stops.Memory told adds = tt
-ends_stopped held words doc net stops.Failed told adds = tt
 
 pub routers_stopped : (held : Option Files) (words : PrefersWords) (doc : Document) (net : Network) (judged : List Policy) (stop : Stop) → Read held words doc net →
     AddsPolicy words.document net doc.policies (prefers_policy words) (Ok judged) → FindsRouters words.document net words.routers (Err stop) →
@@ -51,27 +35,6 @@ routers_stopped (Some files) words doc net judged (stops.Refused r) told adds fi
     inr (inr (inl (record { doc = doc; net = net; input = told; ends = adds.0; place = finds.0; first = finds.1; told = finds.2 })))
 routers_stopped held words doc net judged stops.Memory told adds finds = tt
 routers_stopped held words doc net judged stops.Failed told adds finds = tt
-
-pub classes_stopped : (held : Option Files) (words : PrefersWords) (doc : Document) (net : Network) (judged : List Policy) (wanted : List Router) (stop : Stop) → Read held words doc net →
-    AddsPolicy words.document net doc.policies (prefers_policy words) (Ok judged) → AreNamed net words.routers wanted → CountsClasses words.document net judged (Err stop) →
-    Answers IsJudging (IsPrefersRefusal words) (IsPrefersAnswer words) held (Err stop)
-classes_stopped None words doc net judged wanted (stops.Refused r) told adds named counts = tt
-classes_stopped (Some files) words doc net judged wanted (stops.Refused r) told adds named counts =
-    inr (inr (inr (record {
-      many = record {
-        doc = doc;
-        net = net;
-        input = told;
-        ends = adds.0;
-        count = counts.0;
-        many = subst (λ (ps : List Policy). HasManyClasses net ps counts.0) adds.1 counts.1;
-        told = counts.2;
-      };
-      wanted = wanted;
-      named = named;
-    })))
-classes_stopped held words doc net judged wanted stops.Memory told adds named counts = tt
-classes_stopped held words doc net judged wanted stops.Failed told adds named counts = tt
 
 pub answered : (held : Option Files) (words : PrefersWords) (doc : Document) (net : Network) (judged : List Policy) (wanted : List Router) (answer : Preferred) (done : Done) → Read held words doc net →
     IsValid net → AddsPolicy words.document net doc.policies (prefers_policy words) (Ok judged) → AreNamed net words.routers wanted → HasFewClasses net judged →

@@ -1,6 +1,6 @@
 -- What the status of `prefers` tells.
-use Rattle.std.proofs.Common.{◌≡◌, ℕ, inl, inr, List, [], refl, sym, ◌∙◌, ap, subst, arith}
-use Rattle.std.specs.Prelude.{Option, Some, None, is_some, IsNone}
+use Rattle.std.proofs.Common.{◌≡◌, inl, inr, List, [], refl, sym, ◌∙◌, ap, subst, arith}
+use Rattle.std.specs.Prelude.{Option, Some, None, is_some}
 use Rattle.std.proofs.lemmas.Bool.{false≢true}
 use Rattle.arc_base.specs.declared.place.Router.{Router}
 use Rattle.arc_outside.specs.Files.{Files}

@@ -1,5 +1,5 @@
 -- What `recheck` answers.
-use Rattle.std.proofs.Common.{◌≡◌, ℕ, ◌≤◌, inl, inr, List, [], sym, ◌∙◌, ap, subst}
+use Rattle.std.proofs.Common.{◌≡◌, ◌≤◌, inr, List, [], ◌∙◌, subst}
 use Rattle.std.specs.Prelude.{Option, Some, None, IfSome, Ok, Err}
 use Rattle.std.specs.List.{AllZip}
 use Rattle.arc_base.specs.declared.place.Link.{Link}
@@ -18,7 +18,7 @@ use Rattle.run_files.specs.declared.outcome.Stop.TheVariants as stops
 use Rattle.run_files.specs.Answers.{Answers, IsJudging}
 use Rattle.run_files.specs.Limits.{proof_limit}
 use Rattle.run_files.specs.ReadingLines.{IsWithinLimit}
-use Rattle.run_files.specs.Refusals.{bytes_at, read_refusal}
+use Rattle.run_files.specs.Refusals.{read_refusal}
 use Rattle.run_inputs.specs.declared.inputs.Input.{Input}
 use Rattle.run_inputs.specs.Counts.{CountsClasses, HasFewClasses}
 use Rattle.run_inputs.specs.Inputs.{HoldsDocument, IsFit, ReadsDocumentAt, ReadsFiles}

@@ -1,6 +1,6 @@
 -- What the status of `recheck` tells.
-use Rattle.std.proofs.Common.{◌≡◌, ℕ, zero, suc, ◌+◌, ◌<◌, inl, inr, Bool, true, false, List, [], ◌∷◌, length, get_or, refl, sym, ◌∙◌, ap, subst, arith}
-use Rattle.std.specs.Prelude.{if◌then◌else◌, Option, Some, None, All, IsTrue, IsSomeAnd, slice_get, ◌&&◌, ◌↔◌}
+use Rattle.std.proofs.Common.{◌≡◌, ℕ, zero, suc, inl, inr, Bool, true, false, List, [], ◌∷◌, length, refl, sym, ◌∙◌, ap, arith}
+use Rattle.std.specs.Prelude.{if◌then◌else◌, Option, Some, None, All, IsSomeAnd, slice_get, ◌&&◌}
 use Rattle.std.specs.List.{AllZip, list_all}
 use Rattle.std.proofs.lemmas.Bool.{false≢true, and_parts}
 use Rattle.arc_outside.specs.Files.{Files}
@@ -24,7 +24,7 @@ use Rattle.run_inputs.specs.Inputs.{HoldsInput}
 use Rattle.run_files.specs.Limits.{proof_limit}
 use Rattle.run_files.specs.Refusals.{read_refusal}
 use Rattle.run_inputs.proofs.Determined.{determined, judged_once}
-use Rattle.reach_commands.specs.RecheckRuns.{AreRechecked, IsRecheckRefusal, IsRecheckAnswer, RecheckSaysYes, RecheckSaysNo, TellsRecheck}
+use Rattle.reach_commands.specs.RecheckRuns.{IsRecheckRefusal, IsRecheckAnswer, RecheckSaysYes, RecheckSaysNo, TellsRecheck}
 use Rattle.reach_commands.proofs.OneInput.{one_input}
 
 -- the rechecked verdict is right

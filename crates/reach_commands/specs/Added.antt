@@ -1,8 +1,7 @@
 -- A command that judges one more policy beside those of the document: it goes from the one prefix
 -- of the words to the other, and stands at the end of their list.
-use Rattle.std.specs.Prelude.{◌≡◌, ◌⊎◌, ◌<◌, ◌-◌, ℕ, List, [], ◌∷◌, ◌++◌, length, slice_get, Some}
+use Rattle.std.specs.Prelude.{◌≡◌, ◌<◌, ◌-◌, ℕ, List, [], ◌∷◌, ◌++◌, length, slice_get, Some}
 use Rattle.std.specs.Prelude.{Result, Ok, Err}
-use Rattle.arc_base.specs.declared.prefix.Prefix.{Prefix}
 use Rattle.arc_base.specs.declared.refusal.Kind.TheVariants.{Endpoint, Limit}
 use Rattle.arc_base.specs.declared.refusal.LimitKind.TheVariants.{Classes}
 use Rattle.arc_outside.specs.Files.{Files}
