@@ -1,6 +1,5 @@
 -- The bare settings of a file are those of its bare groups.
-use Rattle.std.proofs.Common.{◌≡◌, ℕ, ◌-◌, Bool, true, false, cond, List, [], ◌∷◌, ◌++◌, length, map, flat_map, reverse, slice_get, Option, Some, None, option_map, option_and_then, refl, sym, ap, subst, ◌∙◌}
-use Rattle.std.proofs.lemmas.Bool.{cases_Bool, cond-true, cond-false}
+use Rattle.std.proofs.Common.{◌≡◌, ℕ, ◌-◌, Bool, true, false, cond, List, [], ◌∷◌, ◌++◌, length, map, flat_map, reverse, slice_get, Option, Some, None, option_map, option_and_then, refl, sym, ap, ◌∙◌}
 use Rattle.std.proofs.lemmas.Simd.{map-map}
 use Rattle.std.proofs.lemmas.List.{map-append, length-map}
 use Rattle.std.proofs.lemmas.Option.{slice_get-map}
@@ -17,9 +16,9 @@ use Rattle.ios_config.specs.declared.settings.ListKind.{ListKind}
 use Rattle.ios_config.specs.declared.settings.ListForm.{ListForm}
 use Rattle.ios_config.specs.declared.settings.ProcessText.{ProcessText}
 use Rattle.ios_config.specs.declared.settings.ProcessKind.{ProcessKind}
-use Rattle.ios_config.specs.Bare.{bare, bare_groups, bare_given, bare_option, bare_face, bare_list, bare_process, bare_setting, bare_config, config_from, BareGroupsSetTheSame}
+use Rattle.ios_config.specs.Bare.{bare, bare_given, bare_option, bare_face, bare_list, bare_process, bare_setting, BareGroupsSetTheSame}
 use Rattle.ios_config.specs.Groups.{groups}
-use Rattle.ios_config.specs.Texts.{last_line, given, face_text, face_by, face_of, entry_number, is_entry, entries, is_numbered, list_text, list_by, list_of, process_text, process_by, process_of, router_name, config_of}
+use Rattle.ios_config.specs.Texts.{last_line, given, face_text, face_by, face_of, is_entry, entries, is_numbered, list_text, list_by, list_of, process_text, process_by, process_of, router_name}
 use Rattle.ios_config.specs.Values.{Says, given_at, last_setting, address, mask_length, shut_down, bandwidth, ospf_cost, ospf_area, point_to_point, inbound, outbound}
 
 -- the last line has no number left

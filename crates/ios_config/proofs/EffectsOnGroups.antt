@@ -1,11 +1,11 @@
 -- What one command more does to the settings of its group.
-use Rattle.std.proofs.Common.{◌≡◌, ℕ, ◌+◌, ◌*◌, ◌<◌, ◌≤◌, ◌⊎◌, nat_lt, Bool, true, false, cond, List, [], ◌∷◌, ◌++◌, map, slice_get, Option, Some, None, is_some, refl, sym, ap, subst, ◌∙◌, arith, ⊎_elim, Contains, true≢false}
+use Rattle.std.proofs.Common.{◌≡◌, ℕ, ◌+◌, ◌*◌, ◌<◌, true, cond, List, [], ◌∷◌, ◌++◌, map, Option, Some, None, refl, sym, ap, subst, ◌∙◌, arith, ⊎_elim, Contains, true≢false}
 use Rattle.std.proofs.lemmas.Bool.{lt-ltb}
-use Rattle.std.proofs.lemmas.List.{map-append, take-append-drop}
+use Rattle.std.proofs.lemmas.List.{map-append}
 use Rattle.std.proofs.lemmas.List.Elements.{filter_map-append, Contains-append_left, Contains-append_right, Contains-append_cases}
-use Rattle.std.proofs.lemmas.Option.{none-some, same_Some}
+use Rattle.std.proofs.lemmas.Option.{none-some}
 use Rattle.std.specs.Prelude.{AllPairs, Any}
-use Rattle.std.specs.List.{AllByRecursion, cons_option, filter_map}
+use Rattle.std.specs.List.{cons_option}
 use Rattle.arc_base.proofs.Items.{AllPairs-append, AllPairs-rest, AllPairs-first, AllPairs-single, AllPairs-map, Contains-cases, Contains-none, Contains-head, Contains-tail, from_map}
 use Rattle.ios_words.specs.declared.commands.Command.{Command}
 use Rattle.ios_words.specs.declared.commands.Command.TheVariants as commands
@@ -19,10 +19,9 @@ use Rattle.ios_config.specs.declared.settings.ProcessText.{ProcessText}
 use Rattle.ios_config.specs.declared.settings.ProcessKind.{ProcessKind}
 use Rattle.ios_config.specs.Effects.{process_with, ALastLineIsTheProcesss, face_bound, ALastBindingIsSet, list_with, AFirstEntryIsTheLists, AFirstListLineIsTheLists, AFirstPrefixLineIsTheLists, StillStandsOnce, SilentCommandsClashWithNone, PlacesRise, NoNumbersRise}
 use Rattle.ios_config.specs.Inserted.{command_moved}
-use Rattle.ios_config.specs.Joined.{between}
-use Rattle.ios_config.specs.Rising.{rises, FallsAt}
-use Rattle.ios_config.specs.Texts.{last_line, given, face_text, face_by, face_of, entry_number, is_entry, entries, is_numbered, list_text, list_by, list_of, process_text, process_by, process_of}
-use Rattle.ios_config.specs.Twice.{stand_of, excluded, Clash, StandOnce}
+use Rattle.ios_config.specs.Rising.{rises}
+use Rattle.ios_config.specs.Texts.{given, face_text, face_by, entry_number, is_entry, entries, is_numbered, list_text, list_by, process_text, process_by}
+use Rattle.ios_config.specs.Twice.{stand_of, Clash}
 use Rattle.ios_config.specs.Values.{address, mask_length, shut_down, bandwidth, ospf_cost, ospf_area, point_to_point, inbound, outbound}
 use Rattle.ios_config.proofs.Values.{last_setting-more, last_line-more}
 

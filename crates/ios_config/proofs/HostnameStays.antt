@@ -1,5 +1,5 @@
 -- A command that is no hostname line leaves the name of the router.
-use Rattle.std.proofs.Common.{◌≡◌, ℕ, Bool, true, false, cond, List, [], ◌∷◌, ◌++◌, map, reverse, Option, Some, None, is_some, refl, sym, ap, ◌∙◌, append_assoc}
+use Rattle.std.proofs.Common.{◌≡◌, ℕ, Bool, false, List, [], ◌∷◌, ◌++◌, map, reverse, Option, Some, None, is_some, refl, sym, ap, ◌∙◌, append_assoc}
 use Rattle.std.proofs.lemmas.Bool.{cond-false}
 use Rattle.std.proofs.lemmas.List.{map-append, reverse-append}
 use Rattle.std.proofs.lemmas.List.Folds.{find-append}
@@ -9,7 +9,6 @@ use Rattle.std.specs.List.{find}
 use Rattle.std.specs.Option.{option_or}
 use Rattle.ios_config.specs.declared.commands.FileCommand.{FileCommand}
 use Rattle.ios_config.specs.declared.settings.Given.{Given}
-use Rattle.ios_config.specs.declared.settings.Setting.{Setting}
 use Rattle.ios_config.specs.Bare.{bare, bare_option, bare_setting, TheHostnameStays}
 use Rattle.ios_config.specs.Inserted.{command_moved}
 use Rattle.ios_config.specs.Joined.{between}

@@ -1,6 +1,6 @@
 -- The groups of a file's commands where one command more stands among them.
-use Rattle.std.proofs.Common.{◌≡◌, ℕ, ◌||◌, not, Bool, true, false, cond, List, [], ◌∷◌, ◌++◌, map, filter, refl, sym, ap, subst, ◌∙◌, ⊎_elim, ◌⊎◌, inl, inr}
-use Rattle.std.proofs.lemmas.Bool.{cases_Bool, cond-true, cond-false}
+use Rattle.std.proofs.Common.{◌≡◌, ℕ, Bool, true, false, cond, List, [], ◌∷◌, ◌++◌, map, refl, sym, ap, ◌∙◌, ◌⊎◌, inl, inr}
+use Rattle.std.proofs.lemmas.Bool.{cond-true, cond-false}
 use Rattle.std.proofs.lemmas.List.{map-append}
 use Rattle.std.proofs.lemmas.List.Elements.{filter-append}
 use Rattle.std.proofs.lemmas.Simd.{map-map}
@@ -8,7 +8,7 @@ use Rattle.std.specs.List.{list_any}
 use Rattle.ios_config.specs.declared.commands.FileCommand.{FileCommand}
 use Rattle.ios_config.specs.Groups.{Part, is_same, part_of, distinct, members, groups}
 use Rattle.ios_config.specs.Inserted.{command_moved}
-use Rattle.ios_config.specs.Joined.{part_moved, between, members_with, StandsBeside, ACommandJoinsItsGroup, HasNewGroup, ACommandBeginsItsGroup}
+use Rattle.ios_config.specs.Joined.{part_moved, between, members_with, StandsBeside, ACommandJoinsItsGroup, ACommandBeginsItsGroup}
 use Rattle.ios_config.proofs.JoinedParts.{part-moved, same-moved, distinct-old, distinct-next, distinct-moved, any-moved, any-append, any-distinct, other-way, is-self, distinct-new}
 use Rattle.ios_config.proofs.PartLists.{neither}
 

@@ -1,12 +1,12 @@
 -- The bare groups of a file's commands where one command more stands among them.
-use Rattle.std.proofs.Common.{◌≡◌, ℕ, ◌||◌, not, Bool, true, false, cond, List, [], ◌∷◌, ◌++◌, map, filter, refl, sym, ap, subst, ◌∙◌, ⊎_elim, ◌⊎◌, inl, inr, flat_map}
-use Rattle.std.proofs.lemmas.Bool.{cases_Bool, cond-true, cond-false}
+use Rattle.std.proofs.Common.{◌≡◌, ℕ, ◌||◌, not, Bool, true, false, cond, List, [], ◌∷◌, ◌++◌, map, refl, sym, ap, subst, ◌∙◌, ⊎_elim, ◌⊎◌, inl, inr, flat_map}
+use Rattle.std.proofs.lemmas.Bool.{cases_Bool, cond-true}
 use Rattle.std.proofs.lemmas.List.{map-append}
 use Rattle.std.proofs.lemmas.List.Elements.{filter-append}
 use Rattle.std.proofs.lemmas.Simd.{map-map}
 use Rattle.std.specs.List.{list_any}
 use Rattle.ios_config.specs.declared.commands.FileCommand.{FileCommand}
-use Rattle.ios_config.specs.Bare.{bare, bare_groups, bare_setting, bare_config, config_from, HasJoined, ACommandJoinsOneGroup, HasOneOther, OneGroupSetsOther, ANewGroupSetsItsOwn}
+use Rattle.ios_config.specs.Bare.{bare, bare_groups, bare_setting, bare_config, config_from, ACommandJoinsOneGroup, HasOneOther, OneGroupSetsOther, ANewGroupSetsItsOwn}
 use Rattle.ios_config.specs.declared.settings.Config.{Config}
 use Rattle.ios_config.specs.declared.settings.Setting.{Setting}
 use Rattle.ios_config.specs.Texts.{config_of, face_of, list_of, process_of, router_name}
@@ -15,10 +15,10 @@ use Rattle.std.proofs.lemmas.Grind.{flat_map-append}
 use Rattle.std.specs.Prelude.{Option, option_map}
 use Rattle.ios_config.specs.Groups.{Part, is_same, part_of, distinct, members, groups}
 use Rattle.ios_config.specs.Inserted.{command_moved}
-use Rattle.ios_config.specs.Joined.{part_moved, between, members_with}
+use Rattle.ios_config.specs.Joined.{between, members_with}
 use Rattle.ios_config.proofs.JoinedGroups.{joins-group, begins-group, beside-parts, map-apart, same-map}
 use Rattle.ios_config.proofs.JoinedParts.{any-others, other-way, is-self}
-use Rattle.ios_config.proofs.PartLists.{is_same-Decides, neither, others}
+use Rattle.ios_config.proofs.PartLists.{is_same-Decides, others}
 
 -- a part that stands among others stands there once
 record StandsOnce (part : Part) (ps : List Part) : Type 0 where

@@ -1,5 +1,5 @@
 -- The least number with a property, and with one of two.
-use Rattle.std.proofs.Common.{◌≡◌, ℕ, ◌<◌, ◌≤◌, min, ◌⊎◌, inl, inr, Option, Some, None, arith, subst}
+use Rattle.std.proofs.Common.{◌≡◌, ℕ, ◌≤◌, min, ◌⊎◌, inl, inr, Option, Some, None, arith, subst}
 use Rattle.std.proofs.lemmas.Bool.{cases_lt}
 use Rattle.ios_config.specs.Least.{IsLeast, FindsLeast, lesser}
 

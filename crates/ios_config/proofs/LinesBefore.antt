@@ -1,5 +1,5 @@
 -- A line that is put before another, over lists of lines.
-use Rattle.std.proofs.Common.{◌≡◌, ◌≢◌, ℕ, zero, suc, ◌+◌, ◌<◌, ◌≤◌, not, Bool, true, false, cond, List, [], ◌∷◌, ◌++◌, length, map, filter, take, Some, None, refl, sym, ap, subst, ◌∙◌, arith, ⊎_elim, inl, inr, Contains, IsTrue}
+use Rattle.std.proofs.Common.{◌≡◌, ◌≢◌, ℕ, ◌+◌, ◌<◌, ◌≤◌, Bool, true, false, cond, List, [], ◌∷◌, ◌++◌, length, map, filter, take, None, refl, sym, ap, subst, ◌∙◌, arith, ⊎_elim, inl, inr, Contains, IsTrue}
 use Rattle.std.proofs.lemmas.Bool.{cases_Bool}
 use Rattle.std.proofs.lemmas.List.Elements.{filter-append, Contains-append_cases}
 use Rattle.std.specs.List.{AllZip, AllByRecursion, enumerate_from}
@@ -12,9 +12,9 @@ use Rattle.ios_lines.proofs.Insertions.{moved-low}
 use Rattle.ios_config.specs.declared.commands.FileCommand.{FileCommand}
 use Rattle.ios_config.specs.Bare.{bare, bare_config, HasOneOther}
 use Rattle.ios_config.specs.Groups.{Block, is_same, part_of, members}
-use Rattle.ios_config.specs.Inserted.{numbered_marks, command_marks, IsMarkRead, AreMarksRead, Opened, command_at, with_command}
+use Rattle.ios_config.specs.Inserted.{IsMarkRead, Opened, command_at, with_command}
 use Rattle.ios_config.specs.Joined.{part_moved, between}
-use Rattle.ios_config.specs.LineLists.{marks_in, AreCommandsIn, IsPutIn, ALineIsPutBeforeIn, ASingleLineIsPutBeforeIn}
+use Rattle.ios_config.specs.LineLists.{marks_in, AreCommandsIn, ALineIsPutBeforeIn, ASingleLineIsPutBeforeIn}
 use Rattle.ios_config.specs.Texts.{config_of}
 use Rattle.ios_config.proofs.AppendedLines.{any-part, all-of, part-head}
 use Rattle.ios_config.proofs.InsertedCommands.{marks-split, says}

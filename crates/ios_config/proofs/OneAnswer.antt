@@ -1,8 +1,8 @@
 -- A file has one answer: its settings, or its first refusal.
-use Rattle.std.proofs.Common.{◌≡◌, ◌≢◌, ℕ, zero, suc, ◌<◌, ◌≤◌, ◌⊎◌, inl, inr, List, [], ◌∷◌, ◌++◌, length, get_or, refl, sym, ◌∙◌, ap, subst, arith}
+use Rattle.std.proofs.Common.{◌≡◌, ◌≢◌, ℕ, zero, suc, ◌<◌, inl, inr, List, [], ◌∷◌, ◌++◌, length, get_or, refl, sym, ◌∙◌, ap, subst, arith}
 use Rattle.std.proofs.lemmas.Bool.{cases_lt}
 use Rattle.std.proofs.lemmas.List.{length-append}
-use Rattle.std.specs.Prelude.{Result, Ok, Err, AllPairs, Any}
+use Rattle.std.specs.Prelude.{Result, Ok, Err, Any}
 use Rattle.std.specs.List.{AllZip}
 use Rattle.arc_base.specs.declared.refusal.Kind.{Kind}
 use Rattle.arc_base.specs.declared.refusal.Kind.TheVariants as refusals
@@ -17,7 +17,7 @@ use Rattle.ios_words.proofs.Answers.{one_answer}
 use Rattle.ios_config.specs.declared.commands.FileCommand.{FileCommand}
 use Rattle.ios_config.specs.declared.settings.Config.{Config}
 use Rattle.ios_config.specs.Commands.{command_lines, IsWithin, IsReadAs, AreCommandsOf, IsNoCommand, IsFirstFault}
-use Rattle.ios_config.specs.Configs.{IsConfigOf, HasDuplicate, HasNumberNotRising, IsRefused}
+use Rattle.ios_config.specs.Configs.{IsConfigOf, IsRefused}
 use Rattle.ios_config.specs.Texts.{config_of}
 use Rattle.ios_config.specs.Twice.{Clash, StandOnce, IsFirstDuplicate}
 use Rattle.ios_config.specs.Rising.{IsFirstNotRising}

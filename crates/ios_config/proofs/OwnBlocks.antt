@@ -1,5 +1,5 @@
 -- A command that heads a block stands in a block of its own number.
-use Rattle.std.proofs.Common.{◌≡◌, ◌≢◌, ℕ, zero, suc, ◌+◌, ◌<◌, ◌≤◌, ◌==◌, ◌⊎◌, ◌||◌, ◌&&◌, inl, inr, not, Bool, true, false, if◌then◌else◌, List, [], ◌∷◌, ◌++◌, length, map, take, slice_get, get_or, Option, Some, None, refl, sym, ap, subst, ◌∙◌, arith, ⊎_elim, Contains, MatchBool, codes}
+use Rattle.std.proofs.Common.{◌≡◌, ℕ, zero, suc, ◌+◌, ◌<◌, ◌==◌, ◌⊎◌, ◌||◌, ◌&&◌, inl, inr, not, Bool, true, false, if◌then◌else◌, List, [], ◌∷◌, length, take, slice_get, get_or, Some, None, refl, sym, ap, subst, ◌∙◌, arith, ⊎_elim, Contains, MatchBool, codes}
 use Rattle.std.proofs.lemmas.Bool.{cases_Bool, false≢true, true≢false, and_parts, eqb-true, eqb-false}
 use Rattle.std.proofs.lemmas.Option.{same_Some, slice_get-map, slice_get_within}
 use Rattle.std.proofs.lemmas.List.{length-map}
@@ -31,7 +31,7 @@ use Rattle.ios_words.specs.Rows.{Rule}
 use Rattle.ios_words.proofs.Heads.{inner-none, find-passes, heads, heads-give}
 use Rattle.ios_config.specs.declared.commands.FileCommand.{FileCommand}
 use Rattle.ios_config.specs.Commands.{opened_by}
-use Rattle.ios_config.specs.Inserted.{numbered_marks, command_marks, MarkOpens, IsMarkRead, IsMarkWithin}
+use Rattle.ios_config.specs.Inserted.{numbered_marks, command_marks, MarkOpens, IsMarkRead}
 use Rattle.ios_config.specs.LineLists.{marks_in, AreCommandsIn}
 use Rattle.ios_config.proofs.AppendedLines.{numbered-at}
 use Rattle.ios_config.proofs.InsertedLines.{zip-found}

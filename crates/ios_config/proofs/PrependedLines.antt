@@ -1,26 +1,20 @@
 -- A line that is put before another.
-use Rattle.std.proofs.Common.{◌≡◌, ◌≢◌, ℕ, zero, suc, ◌+◌, ◌<◌, ◌≤◌, Bool, true, false, List, [], ◌∷◌, ◌++◌, length, map, take, Some, None, refl, sym, ap, subst, ◌∙◌, arith, ⊎_elim, inl, inr, Contains}
+use Rattle.std.proofs.Common.{◌≡◌, ◌≢◌, ◌+◌, ◌<◌, ◌≤◌, false, List, ◌∷◌, ◌++◌, length, map, take, None, sym, ap, subst, ◌∙◌, arith, ⊎_elim, inl, Contains}
 use Rattle.std.proofs.lemmas.Bool.{cases_Bool}
 use Rattle.std.proofs.lemmas.List.Elements.{filter-append, Contains-append_cases}
-use Rattle.std.specs.List.{AllByRecursion}
-use Rattle.ios_lines.specs.declared.line.Lines.{Lines}
 use Rattle.ios_lines.specs.Texts.{text_lines}
 use Rattle.ios_lines.specs.Kinds.{open_banner}
-use Rattle.ios_lines.specs.Views.{Mark, open_block}
-use Rattle.ios_lines.specs.Changes.{inserted, MayStandAt}
-use Rattle.ios_lines.specs.ChangeLaws.{CanBeCut}
+use Rattle.ios_lines.specs.Views.{open_block}
+use Rattle.ios_lines.specs.Changes.{MayStandAt}
 use Rattle.ios_lines.proofs.ChangedTexts.{an-inserted-line as line-stands, inner-may}
 use Rattle.ios_lines.proofs.Insertions.{moved-low}
-use Rattle.ios_words.specs.declared.kinds.BlockKind.{BlockKind}
-use Rattle.ios_words.specs.declared.commands.Command.{Command}
 use Rattle.ios_config.specs.declared.commands.FileCommand.{FileCommand}
-use Rattle.ios_config.specs.Appended.{IsLineOf}
 use Rattle.ios_config.specs.Bare.{bare, bare_config, HasOneOther}
 use Rattle.ios_config.specs.Commands.{AreCommandsOf}
 use Rattle.ios_config.specs.Groups.{Block, is_same, part_of, members}
-use Rattle.ios_config.specs.Inserted.{HaveLines, IsPut, Opened, command_at, with_command}
+use Rattle.ios_config.specs.Inserted.{IsPut, Opened, command_at, with_command}
 use Rattle.ios_config.specs.Joined.{part_moved, between}
-use Rattle.ios_config.specs.Prepended.{IsInBlock, HasPrepended, ALineIsPutBefore}
+use Rattle.ios_config.specs.Prepended.{ALineIsPutBefore}
 use Rattle.ios_config.specs.Texts.{config_of}
 use Rattle.ios_config.proofs.AppendedLines.{command-place, any-part, all-of, part-head}
 use Rattle.ios_config.proofs.InsertedCommands.{commands-split}

@@ -1,8 +1,6 @@
 -- A process that commands set has its block among them.
-use Rattle.std.proofs.Common.{◌≡◌, ◌≢◌, ℕ, zero, suc, ◌+◌, ◌-◌, ◌<◌, ◌≤◌, ◌⊎◌, inl, inr, Bool, true, false, cond, List, [], ◌∷◌, ◌++◌, length, map, filter, slice_get, refl, sym, ap, subst, ◌∙◌, arith, ⊎_elim, Contains, IsTrue}
+use Rattle.std.proofs.Common.{◌≡◌, ◌≢◌, ℕ, suc, ◌+◌, ◌-◌, ◌≤◌, ◌⊎◌, inl, inr, Bool, true, false, cond, List, [], ◌∷◌, length, map, filter, slice_get, refl, sym, ap, subst, ◌∙◌, arith, ⊎_elim, Contains}
 use Rattle.std.specs.Option.{option_map_or}
-use Rattle.std.specs.List.{flat_map}
-use Rattle.std.proofs.lemmas.Bool.{cases_Bool}
 use Rattle.arc_base.proofs.Items.{Contains-cases, Contains-none, Contains-head, Contains-tail, Contains-filter, from_map, from_piece, from_filter}
 use Rattle.ios_words.specs.declared.kinds.BlockKind.{BlockKind}
 use Rattle.ios_words.specs.declared.kinds.BlockKind.TheVariants as kinds
@@ -12,12 +10,11 @@ use Rattle.ios_words.specs.Laws.{heads_block}
 use Rattle.ios_config.specs.declared.commands.FileCommand.{FileCommand}
 use Rattle.ios_config.specs.declared.settings.ProcessText.{ProcessText}
 use Rattle.ios_config.specs.declared.settings.ProcessKind.TheVariants.{Ospf, Bgp}
-use Rattle.ios_config.specs.Appended.{HasBlock}
 use Rattle.ios_config.specs.Commands.{opened_by}
 use Rattle.ios_config.specs.Groups.{Part, Block, is_same, part_of, members, distinct, groups}
 use Rattle.ios_config.specs.LineLists.{marks_in, AreCommandsIn}
 use Rattle.ios_config.specs.ProcessLines.{HasProcess, ProcessesHaveBlocks}
-use Rattle.ios_config.specs.Texts.{config_of, last_line, process_of, process_by}
+use Rattle.ios_config.specs.Texts.{last_line, process_of, process_by}
 use Rattle.ios_config.proofs.AppendedLines.{part-head}
 use Rattle.ios_config.proofs.HeadsFirst.{part-block}
 use Rattle.ios_config.proofs.JoinedParts.{is-self}

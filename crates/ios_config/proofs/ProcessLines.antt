@@ -1,7 +1,7 @@
 -- Lines that are put one after another at the end of a process.
-use Rattle.std.proofs.Common.{◌≡◌, ◌≢◌, ℕ, zero, suc, ◌+◌, ◌<◌, ◌≤◌, ◌⊎◌, inl, inr, None, Bool, true, false, List, [], ◌∷◌, ◌++◌, length, map, take, drop, refl, sym, ap, subst, ◌∙◌, arith, ⊎_elim, Contains, append_assoc, append-nil, nat_le}
+use Rattle.std.proofs.Common.{◌≡◌, ℕ, zero, suc, ◌+◌, ◌<◌, ◌≤◌, ◌⊎◌, inl, inr, Bool, true, false, List, [], ◌∷◌, ◌++◌, length, map, take, drop, refl, sym, ap, subst, ◌∙◌, arith, ⊎_elim, Contains, append_assoc, append-nil, nat_le}
 use Rattle.std.proofs.lemmas.Bool.{leb-false, cond-true, cond-false}
-use Rattle.std.proofs.lemmas.List.{map-append, take-append-drop}
+use Rattle.std.proofs.lemmas.List.{take-append-drop}
 use Rattle.ios_lines.specs.Changes.{inserted, moved}
 use Rattle.ios_lines.proofs.Insertions.{moved-low}
 use Rattle.ios_words.specs.declared.kinds.BlockKind.{BlockKind}
@@ -13,21 +13,19 @@ use Rattle.ios_config.specs.declared.settings.Config.{Config}
 use Rattle.ios_config.specs.declared.settings.FaceText.{FaceText}
 use Rattle.ios_config.specs.declared.settings.ListText.{ListText}
 use Rattle.ios_config.specs.declared.settings.ProcessText.{ProcessText}
-use Rattle.ios_config.specs.Appended.{HasBlock, IsLineOf}
+use Rattle.ios_config.specs.Appended.{HasBlock}
 use Rattle.ios_config.specs.Bare.{bare, bare_config, bare_process, bare_given, HasOneOther}
 use Rattle.ios_config.specs.Commands.{opened_by}
-use Rattle.ios_config.specs.Effects.{Split, process_with}
-use Rattle.ios_config.specs.Groups.{Part, Block, part_in, part_of, members}
+use Rattle.ios_config.specs.Effects.{process_with}
+use Rattle.ios_config.specs.Groups.{Block, part_in, part_of, members}
 use Rattle.ios_config.specs.Inserted.{command_moved, command_at, with_command}
-use Rattle.ios_config.specs.Joined.{part_moved, between}
-use Rattle.ios_config.specs.LineLists.{marks_in, AreCommandsIn, IsAppendedIn}
-use Rattle.ios_config.specs.ProcessLines.{IsQuiet, AreLinesIn, IsProcessKind, inserted_all, unnumbered, with_lines, HasLonger, AreAppendedIn, ProcessLinesAreAppended}
-use Rattle.ios_config.specs.Texts.{config_of, face_of, list_of, process_of, face_by, list_by, process_by}
-use Rattle.ios_config.specs.Twice.{Clash, StandOnce}
-use Rattle.ios_config.specs.Values.{hostname as says_hostname}
+use Rattle.ios_config.specs.LineLists.{marks_in, AreCommandsIn}
+use Rattle.ios_config.specs.ProcessLines.{AreLinesIn, IsProcessKind, inserted_all, unnumbered, with_lines, HasLonger, AreAppendedIn, ProcessLinesAreAppended}
+use Rattle.ios_config.specs.Texts.{config_of, process_of, face_by, list_by, process_by}
+use Rattle.ios_config.specs.Twice.{StandOnce}
 use Rattle.ios_config.proofs.AppendedLines.{part-head}
 use Rattle.ios_config.proofs.EffectsOnGroups.{last-line, still-once, silent}
-use Rattle.ios_config.proofs.HeadsFirst.{block-low, part-block, head-first, HasOneMoreCommand, one-more-command}
+use Rattle.ios_config.proofs.HeadsFirst.{part-block, head-first, one-more-command}
 use Rattle.ios_config.proofs.HostnameStays.{hostname-stays}
 use Rattle.ios_config.proofs.InsertedCommands.{marks-split}
 use Rattle.ios_config.proofs.LineLists.{appended-in}

@@ -1,11 +1,10 @@
 -- The commands of a text of which one line says another thing.
-use Rattle.std.proofs.Common.{◌≡◌, ◌≢◌, ℕ, zero, suc, ◌+◌, ◌<◌, ◌==◌, ◌||◌, not, Bool, true, false, cond, List, [], ◌∷◌, ◌++◌, length, take, drop, map, filter, slice_get, Some, refl, sym, ap, subst, ◌∙◌, arith, ⊎_elim, Contains, MatchBool, true≢false}
-use Rattle.std.proofs.lemmas.Bool.{cases_Bool, cond-true, cond-false, eq-eqb}
+use Rattle.std.proofs.Common.{◌≡◌, ◌≢◌, ℕ, zero, suc, ◌+◌, ◌||◌, not, Bool, true, false, List, [], ◌∷◌, ◌++◌, take, drop, filter, slice_get, Some, refl, sym, ap, subst, ◌∙◌, arith, ⊎_elim, Contains, MatchBool, true≢false}
+use Rattle.std.proofs.lemmas.Bool.{cond-true, eq-eqb}
 use Rattle.std.proofs.lemmas.List.Elements.{filter-append, Contains-append_left, Contains-append_right, Contains-append_cases}
 use Rattle.std.proofs.lemmas.Option.{none-some, same_Some}
 use Rattle.std.specs.List.{AllZip, enumerate_from}
 use Rattle.arc_base.proofs.Items.{Contains-cases, Contains-none, Contains-head, Contains-tail, from_filter}
-use Rattle.ios_lines.specs.declared.line.Lines.{Lines}
 use Rattle.ios_lines.specs.Views.{Mark, marks_of}
 use Rattle.ios_lines.specs.Changes.{changed, mark_worded}
 use Rattle.ios_lines.specs.ChangeLaws.{HasHead}
@@ -16,8 +15,8 @@ use Rattle.ios_words.specs.declared.commands.Command.{Command}
 use Rattle.ios_words.specs.Commands.{is_extended_block, ReadBy}
 use Rattle.ios_words.specs.Language.{rows}
 use Rattle.ios_config.specs.declared.commands.FileCommand.{FileCommand}
-use Rattle.ios_config.specs.Inserted.{numbered_marks, command_marks, MarkOpens, is_top_mark, IsMarkWithin, IsMarkRead, AreMarksRead, command_at}
-use Rattle.ios_config.specs.Replaced.{HasOtherWords, HasOtherCommand, AReplacedLineHasAnotherCommand}
+use Rattle.ios_config.specs.Inserted.{numbered_marks, command_marks, MarkOpens, is_top_mark, IsMarkRead, AreMarksRead, command_at}
+use Rattle.ios_config.specs.Replaced.{AReplacedLineHasAnotherCommand}
 use Rattle.ios_config.proofs.MarkCommands.{commands-of-marks}
 use Rattle.ios_config.proofs.InsertedCommands.{says, zip-split, zip-join}
 

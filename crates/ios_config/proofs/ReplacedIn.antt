@@ -1,19 +1,19 @@
 -- The commands of a list of lines of which one is another.
-use Rattle.std.proofs.Common.{◌≡◌, ◌≢◌, ℕ, suc, ◌+◌, not, true, false, List, ◌∷◌, ◌++◌, take, drop, filter, slice_get, Some, refl, sym, ap, subst, ◌∙◌, arith, Contains}
+use Rattle.std.proofs.Common.{◌≡◌, ◌≢◌, ℕ, suc, ◌+◌, not, true, List, ◌∷◌, ◌++◌, take, drop, filter, slice_get, Some, sym, ap, subst, ◌∙◌, arith, Contains}
 use Rattle.std.proofs.lemmas.Bool.{cond-true}
 use Rattle.std.proofs.lemmas.List.Elements.{filter-append, Contains-append_left, Contains-append_right}
 use Rattle.std.specs.List.{AllZip}
 use Rattle.arc_base.proofs.Items.{Contains-tail, from_filter}
 use Rattle.arc_base.specs.Words.{words}
 use Rattle.ios_lines.specs.Views.{Mark}
-use Rattle.ios_lines.specs.Changes.{changed, replaced, mark_worded, Write, MayReplaceAt}
+use Rattle.ios_lines.specs.Changes.{changed, replaced, mark_worded, Write}
 use Rattle.ios_lines.proofs.ChangedTexts.{marks-change}
 use Rattle.ios_lines.proofs.Replacements.{orphans-replaced}
 use Rattle.ios_lines.proofs.SeenHeads.{seen-heads}
 use Rattle.ios_config.specs.declared.commands.FileCommand.{FileCommand}
 use Rattle.ios_config.specs.Inserted.{numbered_marks, command_marks, IsMarkRead, command_at}
-use Rattle.ios_config.specs.LineLists.{marks_in, AreCommandsIn}
-use Rattle.ios_config.specs.ReplacedIn.{IsReplacedIn, AReplacedLineIsIn}
+use Rattle.ios_config.specs.LineLists.{marks_in}
+use Rattle.ios_config.specs.ReplacedIn.{AReplacedLineIsIn}
 use Rattle.ios_config.proofs.InsertedCommands.{says, zip-split, zip-join}
 use Rattle.ios_config.proofs.ReplacedCommands.{parts-old, parts-new, still-reads, reads-other, zip-in, first-read}
 

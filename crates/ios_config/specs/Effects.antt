@@ -12,7 +12,7 @@ use Rattle.ios_config.specs.declared.settings.FaceText.{FaceText}
 use Rattle.ios_config.specs.declared.settings.Given.{Given}
 use Rattle.ios_config.specs.declared.settings.ListText.{ListText}
 use Rattle.ios_config.specs.declared.settings.ProcessText.{ProcessText}
-use Rattle.ios_config.specs.Inserted.{AreMarksRead, command_moved, with_command}
+use Rattle.ios_config.specs.Inserted.{with_command}
 use Rattle.ios_config.specs.Joined.{between}
 use Rattle.ios_config.specs.Rising.{FallsAt}
 use Rattle.ios_config.specs.Texts.{given, entry_number, is_entry, entries, face_of, list_of}

@@ -2,20 +2,17 @@
 use Rattle.std.specs.Prelude.{◌≡◌, ◌≢◌, ℕ, ◌+◌, ◌<◌, List, ◌∷◌, ◌++◌, map, Contains}
 use Rattle.ios_lines.specs.declared.line.Lines.{Lines}
 use Rattle.ios_lines.specs.Texts.{text_lines}
-use Rattle.ios_lines.specs.Kinds.{IsSingle}
 use Rattle.ios_lines.specs.Changes.{inserted}
 use Rattle.ios_lines.specs.ChangeLaws.{CanBeCut}
 use Rattle.ios_words.specs.declared.kinds.BlockKind.{BlockKind}
 use Rattle.ios_words.specs.declared.kinds.BlockKind.TheVariants as kinds
 use Rattle.ios_words.specs.declared.commands.Command.{Command}
-use Rattle.ios_words.specs.Commands.{ReadBy}
-use Rattle.ios_words.specs.Language.{rows}
 use Rattle.ios_config.specs.declared.commands.FileCommand.{FileCommand}
 use Rattle.ios_config.specs.Appended.{IsLineOf}
 use Rattle.ios_config.specs.Bare.{bare, bare_config, HasOneOther}
 use Rattle.ios_config.specs.Commands.{opened_by, AreCommandsOf}
 use Rattle.ios_config.specs.Effects.{Split}
-use Rattle.ios_config.specs.Groups.{Part, Block, part_in, part_of, members}
+use Rattle.ios_config.specs.Groups.{Part, Block, members}
 use Rattle.ios_config.specs.Inserted.{HaveLines, command_at, with_command}
 use Rattle.ios_config.specs.Texts.{config_of}
 
