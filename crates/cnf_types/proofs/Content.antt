@@ -1,12 +1,14 @@
 -- The lines of a text that are no comments, one by one.
-use Rattle.std.proofs.Common.{◌≡◌, ℕ, suc, zero, ◌+◌, ◌<◌, ◌≤◌, ℤ, Bool, true, false, not, cond, List, [], ◌∷◌, ◌++◌, length, refl, ap, sym, ◌∙◌, append_assoc, Option, Some, None, IsFalse}
+use Rattle.std.proofs.Common.{◌≡◌, ℕ, ◌+◌, ℤ, true, false, cond, List, [], ◌∷◌, ◌++◌, refl, ap, sym, ◌∙◌, append_assoc, Some, IsFalse, ◌||◌}
 use Rattle.std.specs.List.{list_any}
-use Rattle.cnf_types.specs.Words.{lines, without_return}
+use Rattle.std.proofs.lemmas.List.Elements.{filter_map-append}
+use Rattle.cnf_types.specs.Numbers.{number}
+use Rattle.cnf_types.specs.Words.{without_return}
 use Rattle.arc_base.specs.Words.{words}
 use Rattle.cnf_types.specs.Dimacs.{content, is_comment, line_words, line_numbers, numbers, first_bad, is_bad, pieces}
 use Rattle.cnf_types.specs.declared.literal.Lit.{Lit}
 use Rattle.cnf_types.specs.declared.clauses.Clause.{Clause}
-use Rattle.cnf_types.specs.Progress.{onto, pieces_after}
+use Rattle.cnf_types.specs.Progress.{pieces_after}
 use Rattle.cnf_types.proofs.Growing.{onto_nothing}
 
 pub content_line : (n : ℕ) (line : List ℕ) (ls : List (List ℕ)) → is_comment line ≡ false → content n (line ∷ ls) ≡ (n + 1, line) ∷ content (n + 1) ls
@@ -29,3 +31,12 @@ numbers_line vars n line bytes ls rest more rest_is off bytes_is =
 -- no clause yet
 pub pieces_at_first : (clauses : List Clause) (front : List Lit) (more : List ℤ) → clauses ≡ [] → front ≡ [] → pieces_after clauses front more ≡ pieces more
 pieces_at_first clauses front more clauses_is front_is = rw (clauses_is, front_is) (onto_nothing more)
+
+-- a word that is a number goes before the words that follow it
+pub good_word : (vars : ℕ) (word : List ℕ) (ws all : List (List ℕ)) → all ≡ word ∷ ws → IsFalse (is_bad vars word) → list_any (is_bad vars) ws ≡ list_any (is_bad vars) all
+good_word vars word ws all all_is good = sym (ap (list_any (is_bad vars)) all_is ∙ ap (λ b. b || list_any (is_bad vars) ws) good)
+
+-- and so does its number
+pub numbers_word : (vars : ℕ) (word : List ℕ) (ws all : List (List ℕ)) (more : List ℤ) → all ≡ word ∷ ws → line_numbers vars (word ∷ []) ++ (line_numbers vars ws ++ more) ≡ line_numbers vars all ++ more
+numbers_word vars word ws all more all_is =
+    sym (ap (λ r. line_numbers vars r ++ more) all_is ∙ ap (λ zs. zs ++ more) (filter_map-append (number vars) (word ∷ []) ws) ∙ append_assoc (line_numbers vars (word ∷ [])) (line_numbers vars ws) more)

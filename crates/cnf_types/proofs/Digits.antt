@@ -1,9 +1,9 @@
 -- A word that does not go on as a number within the limit is none.
-use Rattle.std.proofs.Common.{◌≡◌, ℕ, suc, zero, ◌+◌, ◌-◌, ◌*◌, ◌<◌, ◌≤◌, Bool, true, false, ◌&&◌, cond, List, [], ◌∷◌, length, drop, get_or, refl, ap, sym, ◌∙◌, arith, Option, Some, None, if◌then◌else◌, nat_le, le_trans, ⊎_elim}
+use Rattle.std.proofs.Common.{◌≡◌, ℕ, ◌+◌, ◌<◌, ◌≤◌, Bool, true, false, ◌&&◌, List, [], ◌∷◌, length, drop, get_or, refl, ap, sym, ◌∙◌, arith, Some, None, if◌then◌else◌, nat_le, le_trans, ⊎_elim}
 use Rattle.std.proofs.lemmas.Option.{none-some}
 use Rattle.std.specs.Char.{is_ascii_digit}
 use Rattle.std.specs.Str.{all_ascii_digits}
-use Rattle.std.proofs.lemmas.Bool.{and_cases, and_left, and_right, cond-false, leb-false, lt-leb, cases_Bool}
+use Rattle.std.proofs.lemmas.Bool.{and_cases, and_left, and_right, cond-false, leb-false, lt-leb}
 use Rattle.std.proofs.lemmas.List.{drop_more}
 use Rattle.arc_base.specs.Words.{is_filled}
 use Rattle.cnf_types.specs.Numbers.{natural, value_after, with_digit, is_natural}

@@ -1,12 +1,12 @@
 -- How the lines of a text and the words of a line begin.
-use Rattle.std.proofs.Common.{◌≡◌, ℕ, suc, zero, ◌+◌, ◌-◌, ◌<◌, ◌≤◌, Bool, true, false, not, cond, List, [], ◌∷◌, ◌++◌, length, take, drop, filter, refl, ap, sym, ◌∙◌, arith, ⊎_elim, inl, inr, ◌⊎◌, one-add, Option, Some, None, position, take_all, get_or, All, drop-drop, add-one, ap₂, length-take, length-drop}
-use Rattle.std.specs.List.{position_or_len, onto_first, slice_split, before_first, after_first}
+use Rattle.std.proofs.Common.{◌≡◌, ℕ, suc, zero, ◌+◌, ◌<◌, ◌≤◌, Bool, true, false, not, List, [], ◌∷◌, length, take, drop, filter, refl, ap, sym, ◌∙◌, arith, ⊎_elim, one-add, Some, None, position, take_all, get_or, All, drop-drop, add-one, ap₂, length-take, length-drop}
+use Rattle.std.specs.List.{position_or_len, onto_first, slice_split}
 use Rattle.std.proofs.lemmas.Bool.{cases_Bool, not-true, false≢true}
 use Rattle.std.proofs.lemmas.Bool.Decides.{nat_tests}
 use Rattle.std.proofs.lemmas.List.{drop_all, drop_more}
 use Rattle.std.proofs.lemmas.List.Quantifiers.{position-Some}
 use Rattle.std.proofs.lemmas.List.Splits.{slice_split_first, slice_split_none}
-use Rattle.std.proofs.lemmas.List.Sums.{fails_before_first, passes_at_first}
+use Rattle.std.proofs.lemmas.List.Sums.{fails_before_first}
 use Rattle.std.proofs.lemmas.List.Elements.{All-from_get_or}
 use Rattle.cnf_types.specs.Words.{lines, is_line_feed}
 use Rattle.arc_base.specs.Words.{words, is_blank, is_filled}

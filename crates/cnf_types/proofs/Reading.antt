@@ -1,6 +1,6 @@
 -- What a whole text is read as, from what its parts are.
-use Rattle.std.proofs.Common.{◌≡◌, ℕ, suc, zero, ◌+◌, ◌<◌, ◌≤◌, ℤ, Bool, true, false, not, cond, nat_le, nat_lt, List, [], ◌∷◌, ◌++◌, length, map, refl, ap, sym, ◌∙◌, append-nil, Option, Some, None, Result, Ok, Err, IfOk, IfErr, IsSomeAnd, sum_by, ◌==◌, ◌&&◌, arith, add-zero}
-use Rattle.std.proofs.lemmas.Bool.{eq-eqb, ne_eqb, cases_eq, and_right, cond-true, cond-false, lt-ltb, le-ltb, le-leb, lt-leb}
+use Rattle.std.proofs.Common.{◌≡◌, ℕ, ◌+◌, ◌<◌, ◌≤◌, Bool, true, false, cond, nat_le, List, [], ◌∷◌, ◌++◌, length, map, refl, ap, sym, ◌∙◌, append-nil, Option, Some, None, Result, Ok, Err, IsSomeAnd, sum_by, ◌==◌, ◌&&◌, add-zero}
+use Rattle.std.proofs.lemmas.Bool.{eq-eqb, ne_eqb, and_right, cond-true, cond-false, lt-ltb, le-ltb, le-leb, lt-leb}
 use Rattle.std.proofs.lemmas.List.Sums.{sum_by-append, sum_by-cons}
 use Rattle.arc_base.specs.declared.refusal.LimitKind.TheVariants.{Literals, Variables}
 use Rattle.cnf_types.specs.declared.literal.Lit.{Lit}
@@ -11,7 +11,7 @@ use Rattle.cnf_types.specs.declared.faults.CnfFault.TheVariants.{BadHeader, BadN
 use Rattle.cnf_types.specs.declared.header.Header.{Header}
 use Rattle.cnf_types.specs.Words.{lines}
 use Rattle.cnf_types.specs.Dimacs.{closed, ends_closed, counted, sized, judged, after_header, from_header, reading, content, first_bad, numbers, pieces, IsFaultOf}
-use Rattle.cnf_types.specs.Progress.{pieces_after, onto, IsFirstBad}
+use Rattle.cnf_types.specs.Progress.{pieces_after, IsFirstBad}
 
 abbrev literals : Clause → List Lit
 literals c = c.lits
@@ -74,21 +74,13 @@ sized_small vars clauses count count_is small =
     let is : sum_by length (map literals clauses ++ [] ∷ []) ≡ count = count_of_pieces clauses ∙ sym count_is in
     sym (cond-true _ _ _ (ap (λ n. nat_le n 32000000) is ∙ le-leb count 32000000 small) ∙ ap (λ cs. Ok (record { vars = vars; clauses = cs })) (closed_all clauses []))
 
--- an answer is what the text is read as
-pub ok_of : (text : List ℕ) (r : Result Formula CnfFault) → reading text ≡ r → IfOk r (λ f. reading text ≡ Ok f)
-ok_of text (Ok f) e = e
-ok_of text (Err fault) e = tt
-
+-- a fault is that of the text
 pub fault_is : (text : List ℕ) (fault : CnfFault) → reading text ≡ Err fault → IsFaultOf text fault
 fault_is text (BadHeader n) e = e
 fault_is text (BadNumber n) e = e
 fault_is text (Count n) e = e
 fault_is text (TooLarge kind n) e = e
 fault_is text Memory e = tt
-
-pub fault_of : (text : List ℕ) (r : Result Formula CnfFault) → reading text ≡ r → IfErr r (IsFaultOf text)
-fault_of text (Ok f) e = tt
-fault_of text (Err fault) e = fault_is text fault e
 
 pub read_from : (text : List ℕ) (r : Result Formula CnfFault) → from_header (length (lines text)) (content 0 (lines text)) ≡ r → reading text ≡ r
 unfolding reading

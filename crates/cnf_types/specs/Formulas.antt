@@ -3,7 +3,6 @@ use Rattle.std.specs.Prelude.{ℕ, ◌-◌, Bool, false, if◌then◌else◌, no
 use Rattle.std.specs.Prelude.{slice_index_or}
 use Rattle.std.specs.List.{list_any}
 use Rattle.cnf_types.specs.declared.literal.Lit.{Lit}
-use Rattle.cnf_types.specs.declared.clauses.Clause.{Clause}
 use Rattle.cnf_types.specs.declared.clauses.Formula.{Formula}
 use Rattle.cnf_types.specs.Literals.{variable, is_positive}
 

@@ -1,5 +1,4 @@
-use Rattle.std.specs.Prelude.{◌≡◌, ℕ, ◌+◌, ◌-◌, ◌*◌, ◌/◌, ◌%◌, Bool, if◌then◌else◌, ◌==◌, not}
-use Rattle.std.specs.Prelude.{IsTrue, IsFalse, ◌↔◌}
+use Rattle.std.specs.Prelude.{ℕ, ◌+◌, ◌-◌, ◌*◌, ◌/◌, ◌%◌, Bool, if◌then◌else◌, ◌==◌}
 use Rattle.cnf_types.specs.declared.literal.Lit.{Lit}
 
 -- the variable itself, or its negation

@@ -1,5 +1,5 @@
 -- The lines of a text.
-use Rattle.std.specs.Prelude.{ℕ, ◌-◌, Bool, if◌then◌else◌, ◌==◌, not, List, [], ◌∷◌, length, take}
+use Rattle.std.specs.Prelude.{ℕ, ◌-◌, Bool, if◌then◌else◌, ◌==◌, List, [], ◌∷◌, length, take}
 use Rattle.std.specs.Prelude.{slice_index}
 use Rattle.std.specs.List.{onto_first}
 

@@ -9,15 +9,14 @@ ghost use Rattle.cnf_types.specs.Numbers.{number};
 ghost use Rattle.cnf_types.specs.Dimacs.{is_bad, line_numbers, first_bad, content, numbers, pieces};
 ghost use Rattle.cnf_types.specs.Progress.{pieces_after, IsFirstBad};
 
-use crate::clauses::Clause;
 use crate::faults::CnfFault;
 use crate::header::is_comment;
 use crate::literal::Lit;
 use crate::numbers::number;
+use crate::sinks::ClauseSink;
 use crate::words::{first_line, next_word, without_return};
-use arc_base::{List, Memory};
+use arc_base::Memory;
 use std::alloc::Global;
-use std::mem;
 
 /// Why a word is not taken.
 #[derive(Clone, Copy, Debug, PartialEq, Eq)]
@@ -36,46 +35,32 @@ impl From<Memory> for WordFault {
     }
 }
 
-/// The clauses so far, and the literals of the one that is not closed.
+/// What took the clauses so far, and the literals of the one that is not closed, in room that is
+/// used again for each clause.
 #[derive(Debug, Drop)]
-pub(crate) struct Body {
+pub(crate) struct Body<S> {
     pub vars: u64,
-    pub clauses: List<Clause>,
-    pub unclosed: List<Lit>,
+    pub sink: S,
+    pub unclosed: Vec<Lit>,
 }
 
-impl Body {
-    /// No clause, over the variables from 1 to `vars`.
-    pub fn make(alloc: Global, vars: u64) -> Body
-        ensures vars { result.vars ≡ vars }
-        ensures clauses { result.clauses ≡ [] }
-        ensures unclosed { result.unclosed ≡ [] }
-    {
-        Body {
-            vars,
-            clauses: List::make(alloc),
-            unclosed: List::make(alloc),
-        }
-    }
-
+impl<S: ClauseSink + Drop> Body<S> {
     /// Takes a literal, or closes the clause at 0.
     fn take_number(&mut self, alloc: Global, number: i64) -> Result<(), Memory>
         requires size { unsigned_abs number < 2 ^ 63 }
-        requires room { length self.old.clauses < 2 ^ 32 - 1 }
-        requires open_room { length self.old.unclosed < 2 ^ 32 - 1 }
+        requires room { length (S.taken self.old.sink) < 2 ^ 32 - 1 }
         ensures pieces { OnOk result ((more : Items ℤ) →
-            pieces_after self.new.clauses self.new.unclosed more
-            ≡ pieces_after self.old.clauses self.old.unclosed (number ∷ more)) }
-        ensures clauses { length self.new.clauses ≤ length self.old.clauses + 1 }
-        ensures unclosed { length self.new.unclosed ≤ length self.old.unclosed + 1 }
+            pieces_after (S.taken self.new.sink) self.new.unclosed.items more
+            ≡ pieces_after (S.taken self.old.sink) self.old.unclosed.items (number ∷ more)) }
+        ensures clauses { length (S.taken self.new.sink) ≤ length (S.taken self.old.sink) + 1 }
         ensures vars { self.new.vars ≡ self.old.vars }
     {
         if number != 0 {
-            self.unclosed
-                .push(Lit::make(number.unsigned_abs(), number > 0))?;
+            let lit = Lit::make(number.unsigned_abs(), number > 0);
+            self.unclosed.push(lit)?;
         } else {
-            let lits = mem::replace(&mut self.unclosed, List::make(alloc));
-            self.clauses.push(Clause { lits })?;
+            self.sink.take(alloc, &self.unclosed)?;
+            self.unclosed.clear();
         }
         Ok(())
     }
@@ -83,16 +68,14 @@ impl Body {
     /// Takes a word: a number of at most `vars`, whatever its sign.
     fn take_word(&mut self, alloc: Global, word: &[u8]) -> Result<(), WordFault>
         requires limit { self.old.vars < 2 ^ 63 }
-        requires room { length self.old.clauses < 2 ^ 32 - 1 }
-        requires unclosed_room { length self.old.unclosed < 2 ^ 32 - 1 }
+        requires room { length (S.taken self.old.sink) < 2 ^ 32 - 1 }
         ensures number { OnOk result (IsFalse (is_bad self.old.vars word.now)) }
         ensures pieces { OnOk result ((more : Items ℤ) →
-            pieces_after self.new.clauses self.new.unclosed more
-            ≡ pieces_after self.old.clauses self.old.unclosed
+            pieces_after (S.taken self.new.sink) self.new.unclosed.items more
+            ≡ pieces_after (S.taken self.old.sink) self.old.unclosed.items
             (line_numbers self.old.vars (word.now ∷ []) ++ more)) }
         ensures bad { IsErrOf result WordFault.BadNumber → IsTrue (is_bad self.old.vars word.now) }
-        ensures clauses { length self.new.clauses ≤ length self.old.clauses + 1 }
-        ensures unclosed { length self.new.unclosed ≤ length self.old.unclosed + 1 }
+        ensures clauses { length (S.taken self.new.sink) ≤ length (S.taken self.old.sink) + 1 }
         ensures vars { self.new.vars ≡ self.old.vars }
     {
         let Some(number) = number(word, self.vars) else {
@@ -105,17 +88,15 @@ impl Body {
     /// Takes the words of a line, which is longer than the room that is left is small.
     fn take_words(&mut self, alloc: Global, line: &[u8]) -> Result<(), WordFault>
         requires limit { self.old.vars < 2 ^ 63 }
-        requires room { length self.old.clauses + length line.now < 2 ^ 32 }
-        requires unclosed_room { length self.old.unclosed + length line.now < 2 ^ 32 }
+        requires room { length (S.taken self.old.sink) + length line.now < 2 ^ 32 }
         ensures numbers { OnOk result (IsFalse (list_any (is_bad self.old.vars) (words line.now))) }
         ensures pieces { OnOk result ((more : Items ℤ) →
-            pieces_after self.new.clauses self.new.unclosed more
-            ≡ pieces_after self.old.clauses self.old.unclosed
+            pieces_after (S.taken self.new.sink) self.new.unclosed.items more
+            ≡ pieces_after (S.taken self.old.sink) self.old.unclosed.items
             (line_numbers self.old.vars (words line.now) ++ more)) }
         ensures bad { IsErrOf result WordFault.BadNumber →
             IsTrue (list_any (is_bad self.old.vars) (words line.now)) }
-        ensures clauses { length self.new.clauses ≤ length self.old.clauses + length line.now }
-        ensures unclosed { length self.new.unclosed ≤ length self.old.unclosed + length line.now }
+        ensures clauses { length (S.taken self.new.sink) ≤ length (S.taken self.old.sink) + length line.now }
         ensures vars { self.new.vars ≡ self.old.vars }
     {
         let mut rest = line;
@@ -127,25 +108,32 @@ impl Body {
     }
 }
 
-/// Reads the clauses in the lines of a text that follow the header, and gives them with the number
+/// Hands the clauses in the lines of a text that follow the header to a sink, and gives the number
 /// of the last line. `before` lines stand before them.
-pub(crate) fn read_lines(
+pub(crate) fn read_lines<S: ClauseSink + Drop>(
     alloc: Global,
     vars: u64,
     before: u32,
     text: &[u8],
-) -> Result<(Body, u32), CnfFault>
+    sink: S,
+) -> Result<(Body<S>, u32), CnfFault>
     requires limit { vars < 2 ^ 63 }
     requires size { before + length text.now < 2 ^ 32 }
+    requires empty { S.taken sink ≡ [] }
     ensures numbers { OnOk result (first_bad vars (content before (lines text.now)) ≡ None) }
-    ensures pieces { IfOk result (λ found. pieces_after found.0.clauses found.0.unclosed []
+    ensures pieces { IfOk result (λ found.
+        pieces_after (S.taken found.0.sink) found.0.unclosed.items []
         ≡ pieces (numbers vars (content before (lines text.now)) ++ [])) }
     ensures last { IfOk result (λ found. found.1 ≡ before + length (lines text.now)) }
     ensures vars { IfOk result (λ found. found.0.vars ≡ vars) }
     ensures fault { IfErr result (λ fault.
         IsFirstBad fault (first_bad vars (content before (lines text.now)))) }
 {
-    let mut body = Body::make(alloc, vars);
+    let mut body = Body {
+        vars,
+        sink,
+        unclosed: Vec::new(alloc),
+    };
     let mut line = before;
     let mut rest = text;
     while !rest.is_empty() {

@@ -1,18 +1,19 @@
 //! Formulas from the text of a DIMACS file.
 ghost use Rattle.std.specs.Prelude.{◌≡◌, ◌+◌, ◌<◌, ◌≤◌, ◌^◌, [], length, IfOk, IfErr, Err, Ok};
-ghost use Rattle.std.specs.Prelude.{sum_by, IsTrue, ◌↔◌};
+ghost use Rattle.std.specs.Prelude.{IsTrue, ◌↔◌};
 ghost use Rattle.cnf_types.specs.Words.{lines};
 ghost use Rattle.cnf_types.specs.Dimacs.{content, from_header, after_header, counted, reading};
 ghost use Rattle.cnf_types.specs.Dimacs.{IsFaultOf};
 ghost use Rattle.cnf_types.specs.Progress.{pieces_after};
 
 use crate::body::{Body, read_lines};
-use crate::clauses::{Clause, Formula};
+use crate::clauses::Formula;
 use crate::faults::CnfFault;
 use crate::header::{Header, header_of, is_comment};
+use crate::sinks::ClauseSink;
 use crate::words::{first_line, without_return};
-use arc_base::LimitKind;
 use arc_base::limits::{LITERAL_LIMIT, VARIABLE_LIMIT};
+use arc_base::{LimitKind, List};
 use std::alloc::Global;
 
 /// The header of a text, the number of its line, and what follows that.
@@ -43,55 +44,68 @@ fn read_header(text: &[u8]) -> Result<(Header, u32, &[u8]), CnfFault>
     Err(CnfFault::BadHeader(line))
 }
 
-/// How many literals the clauses have.
-fn literal_count(clauses: &[Clause]) -> u64
-    requires { length clauses.now < 2 ^ 32 }
-    ensures { result ≡ sum_by (λ c. length c.lits) clauses.now }
+/// Whether so many clauses were taken, and none is not closed.
+fn is_whole<S: ClauseSink>(body: &Body<S>, clauses: u64) -> bool
+    ensures { IsTrue result ↔
+        ((length (S.taken body.now.sink) ≡ clauses) × (body.now.unclosed.items ≡ [])) }
 {
-    let mut count = 0;
-    for clause in clauses {
-        count += u64::from(clause.lits.len());
-    }
-    count
+    body.sink.count() == clauses && body.unclosed.is_empty()
 }
 
-/// Whether there are so many clauses, and none that is not closed.
-fn is_whole(body: &Body, clauses: u64) -> bool
-    ensures { IsTrue result ↔ ((length body.now.clauses ≡ clauses) × (body.now.unclosed ≡ [])) }
-{
-    u64::from(body.clauses.len()) == clauses && body.unclosed.is_empty()
-}
-
-/// The formula of the clauses that were read, if their number is the header's.
-fn finish(body: Body, header: Header, last: u32) -> Result<Formula, CnfFault>
+/// The variables and the clauses that were read, if the number of clauses is the header's.
+fn finish<S: ClauseSink + Drop>(
+    body: Body<S>,
+    header: Header,
+    last: u32,
+) -> Result<(u64, S), CnfFault>
     requires { body.vars ≡ header.vars }
-    ensures { result ≡ counted header last (pieces_after body.clauses body.unclosed []) }
+    ensures formula { IfOk result (λ found.
+        counted header last (pieces_after (S.taken body.sink) body.unclosed.items [])
+        ≡ Ok (record { vars = found.0; clauses = S.taken found.1 })) }
+    ensures fault { IfErr result (λ fault.
+        counted header last (pieces_after (S.taken body.sink) body.unclosed.items [])
+        ≡ Err fault) }
 {
     if !is_whole(&body, header.clauses) {
         return Err(CnfFault::Count(last));
     }
-    let literals = literal_count(body.clauses.slice());
+    let literals = body.sink.literal_count();
     if literals > LITERAL_LIMIT {
         return Err(CnfFault::TooLarge(LimitKind::Literals, literals));
     }
-    Ok(Formula {
-        vars: body.vars,
-        clauses: body.clauses,
-    })
+    Ok((body.vars, body.sink))
 }
 
-/// The formula that a text in DIMACS form writes, or its first fault. Lines that begin with `c` are
-/// comments. The first other line is the header `p cnf V C`; then come C clauses, each closed by 0,
-/// over any lines.
-pub fn formula(alloc: Global, bytes: &[u8]) -> Result<Formula, CnfFault>
-    requires { length bytes.now < 2 ^ 32 }
-    ensures formula { IfOk result (λ f. reading bytes.now ≡ Ok f) }
+/// Reads the formula that a text in DIMACS form writes, and hands each clause to a sink as soon as
+/// it is closed; gives the number of variables and the sink, or the text's first fault. Lines that
+/// begin with `c` are comments. The first other line is the header `p cnf V C`; then come C clauses,
+/// each closed by 0, over any lines.
+pub fn read_clauses<S: ClauseSink + Drop>(
+    alloc: Global,
+    bytes: &[u8],
+    sink: S,
+) -> Result<(u64, S), CnfFault>
+    requires size { length bytes.now < 2 ^ 32 }
+    requires empty { S.taken sink ≡ [] }
+    ensures formula { IfOk result (λ found. reading bytes.now
+        ≡ Ok (record { vars = found.0; clauses = S.taken found.1 })) }
     ensures fault { IfErr result (IsFaultOf bytes.now) }
 {
     let (header, line, rest) = read_header(bytes)?;
     if header.vars > VARIABLE_LIMIT {
         return Err(CnfFault::TooLarge(LimitKind::Variables, header.vars));
     }
-    let (body, last) = read_lines(alloc, header.vars, line, rest)?;
+    let (body, last) = read_lines(alloc, header.vars, line, rest, sink)?;
     finish(body, header, last)
+}
+
+/// The formula that a text in DIMACS form writes, or its first fault; `read_clauses` says of what
+/// form that is.
+pub fn formula(alloc: Global, bytes: &[u8]) -> Result<Formula, CnfFault>
+    requires { length bytes.now < 2 ^ 32 }
+    ensures formula { IfOk result (λ f. reading bytes.now ≡ Ok f) }
+    ensures fault { IfErr result (IsFaultOf bytes.now) }
+{
+    let (vars, clauses) = read_clauses(alloc, bytes, List::make(alloc))?;
+    Ok(Formula { vars, clauses })
 }

@@ -6,13 +6,12 @@ use Rattle.cnf_types.specs.Progress.{pieces_after}
 use Rattle.cnf_types.proofs.body.Body.take_words.Given as goal
 
 abbrev pub invariant-loop-word : goal.invariant-loop-word
-invariant-loop-word l = record {
+invariant-loop-word g l = record {
   bad : list_any (is_bad l.fn.self.vars) (words l.rest) ≡ list_any (is_bad l.fn.self.vars) (words l.line);
-  pieces : (more : List ℤ) → pieces_after l.self.clauses l.self.unclosed (line_numbers l.fn.self.vars (words l.rest) ++ more) ≡ pieces_after l.fn.self.clauses l.fn.self.unclosed (line_numbers l.fn.self.vars (words l.line) ++ more);
-  clauses : length l.self.clauses + length l.rest ≤ length l.fn.self.clauses + length l.line;
-  unclosed : length l.self.unclosed + length l.rest ≤ length l.fn.self.unclosed + length l.line;
+  pieces : (more : List ℤ) → pieces_after (g.S.ClauseSink.taken l.self.sink) l.self.unclosed.items (line_numbers l.fn.self.vars (words l.rest) ++ more) ≡ pieces_after (g.S.ClauseSink.taken l.fn.self.sink) l.fn.self.unclosed.items (line_numbers l.fn.self.vars (words l.line) ++ more);
+  clauses : length (g.S.ClauseSink.taken l.self.sink) + length l.rest ≤ length (g.S.ClauseSink.taken l.fn.self.sink) + length l.line;
   vars : l.self.vars ≡ l.fn.self.vars;
 }
 
 abbrev pub decreases-loop-word : goal.decreases-loop-word
-decreases-loop-word l = length l.rest
+decreases-loop-word g l = length l.rest

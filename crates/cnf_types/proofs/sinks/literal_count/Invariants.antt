@@ -1,6 +1,6 @@
 use Rattle.std.proofs.Common.{◌≡◌, ◌*◌, ◌≤◌, length, take, sum_by}
 use Rattle.cnf_types.specs.declared.clauses.Clause.{Clause}
-use Rattle.cnf_types.proofs.dimacs.literal_count.Given as goal
+use Rattle.cnf_types.proofs.sinks.literal_count.Given as goal
 
 abbrev pub invariant-loop-clause : goal.invariant-loop-clause
 invariant-loop-clause l = record {
