@@ -1,8 +1,7 @@
 pub mod Chains
-pub mod Ids
 pub mod LeftLiterals
 pub mod Places
-pub mod Slots
+pub mod RowsOfClauses
 pub mod SoundLogs
 pub mod Soundness
 pub mod Stamps

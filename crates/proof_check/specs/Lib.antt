@@ -4,4 +4,5 @@ pub mod Marks
 pub mod Outcomes
 pub mod Places
 pub mod Propagation
+pub mod Rows
 pub mod View

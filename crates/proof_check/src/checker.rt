@@ -7,8 +7,9 @@ use crate::faults::StepFault;
 use crate::hints::follow;
 use crate::left::Marks;
 use crate::live::Live;
+use crate::rows::Rows;
 use arc_base::{List, Memory};
-use cnf_types::{Formula, Lit};
+use cnf_types::{ClauseSink, CnfFault, Formula, Lit, read_clauses};
 use proof_log::Step;
 use std::alloc::Global;
 use std::mem;
@@ -46,16 +47,43 @@ fn read_literals(lits: &mut Vec<Lit>, numbers: &[i64]) -> Result<(), Memory>
 impl Checker {
     ghost use Rattle.std.specs.Prelude.{◌≡◌, ◌<◌, ◌^◌, length, None, IfOk, IfErr, OnOk, OnErr, ℕ};
     ghost use Rattle.std.specs.Prelude.{Bool, List as Items, IsTrue, ◌↔◌, nat_lt, All, false, map};
-    ghost use Rattle.std.specs.Prelude.{unsigned_abs};
-    ghost use Rattle.cnf_types.specs.Dimacs.{is_zero, literal_of};
+    ghost use Rattle.std.specs.Prelude.{unsigned_abs, IsOkAnd};
+    ghost use Rattle.cnf_types.specs.Dimacs.{is_zero, literal_of, reading, IsFaultOf};
     ghost use Rattle.cnf_types.specs.Formulas.{Satisfies};
     ghost use Rattle.proof_check.specs.Logs.{after_all, IsAccepted, IsRefuting, KeepsBounds};
     ghost use Rattle.proof_check.specs.Knowledge.{start, step_fault, after, IsFirst};
     ghost use Rattle.proof_check.specs.View.{known};
 
+    /// A checker that knows the formula of these clauses over the variables from 1 to `vars`.
+    #[inline(never)]
+    fn over(
+        alloc: Global,
+        vars: u64,
+        rows: Rows,
+        least: Option<u32>,
+        tops: &List<Lit>,
+    ) -> Result<Checker, Memory>
+        ensures { IfOk result (λ checker. known checker
+            ≡ start (record { vars = vars; clauses = rows }) least tops.now) }
+    {
+        let count = rows.count();
+        // A few clauses do not pay for the flags of a great number of variables.
+        let flags = vars.min(1024 + 16 * count.min(u64::from(u32::MAX)));
+        Ok(Checker {
+            alloc,
+            live: Live::of(alloc, rows),
+            marks: Marks::make(alloc, 2 * flags as usize + 2)?,
+            last: count,
+            least,
+            tops: Vec::from_slice(alloc, tops.slice())?,
+            refuted: false,
+            numbers: Vec::new(alloc),
+            lits: Vec::new(alloc),
+        })
+    }
+
     /// A checker that knows the formula. `least` is the lowest bound that is allowed, where there
     /// is one. `tops` has, at place j - 1, the literal "the price is at least j".
-    #[inline(never)]
     pub fn make(
         alloc: Global,
         f: &Formula,
@@ -64,19 +92,28 @@ impl Checker {
     ) -> Result<Checker, Memory>
         ensures { IfOk result (λ checker. known checker ≡ start f.now least tops.now) }
     {
-        // A few clauses do not pay for the flags of a great number of variables.
-        let vars = f.vars.min(1024 + 16 * u64::from(f.clauses.len()));
-        Ok(Checker {
-            alloc,
-            live: Live::of(alloc, f.clauses.slice())?,
-            marks: Marks::make(alloc, 2 * vars as usize + 2)?,
-            last: u64::from(f.clauses.len()),
-            least,
-            tops: Vec::from_slice(alloc, tops.slice())?,
-            refuted: false,
-            numbers: Vec::new(alloc),
-            lits: Vec::new(alloc),
-        })
+        let rows = Rows::of(alloc, f.clauses.slice())?;
+        Checker::over(alloc, f.vars, rows, least, tops)
+    }
+
+    /// A checker that knows the formula which a text in DIMACS form writes, or the text's first fault.
+    /// Each clause is read right into the place where the checker keeps it. `least` and `tops` are
+    /// those of `make`.
+    pub fn read(
+        alloc: Global,
+        bytes: &[u8],
+        least: Option<u32>,
+        tops: &List<Lit>,
+    ) -> Result<Checker, CnfFault>
+        requires { length bytes.now < 2 ^ 32 }
+        ensures formula { IfOk result (λ checker. IsOkAnd (reading bytes.now) (λ f.
+            known checker ≡ start f least tops.now)) }
+        ensures fault { IfErr result (IsFaultOf bytes.now) }
+    {
+        let rows = Rows::make(alloc, 1)?;
+        let (vars, rows) = read_clauses(alloc, bytes, rows)?;
+        let checker = Checker::over(alloc, vars, rows, least, tops)?;
+        Ok(checker)
     }
 
     /// Hands out the room for the numbers of a line.

@@ -13,6 +13,7 @@ pub mod laws;
 mod left;
 mod live;
 mod rejections;
+mod rows;
 mod tables;
 
 pub use checker::Checker;

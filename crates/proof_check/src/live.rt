@@ -4,9 +4,10 @@ ghost use Rattle.std.specs.Prelude.{is_none, option_map, IfOk, OnOk, OnErr};
 ghost use Rattle.proof_check.specs.Knowledge.{formula_clause, with_clause, without_clauses};
 ghost use Rattle.proof_check.specs.View.{clause_in};
 
+use crate::rows::Rows;
 use crate::tables::Table;
 use arc_base::Memory;
-use cnf_types::{Clause, Lit};
+use cnf_types::Lit;
 use std::alloc::Global;
 use std::collections::HashMap;
 
@@ -20,21 +21,14 @@ pub(crate) struct Live {
 
 impl Live {
     /// The clauses of a formula, under the ids from 1 on.
-    pub fn of(alloc: Global, clauses: &[Clause]) -> Result<Live, Memory>
-        requires { length clauses.now < 2 ^ 32 }
-        ensures clauses { IfOk result (λ live. (id : ℕ) →
-            clause_in live id ≡ formula_clause clauses.now id) }
-        ensures rows { IfOk result (λ live. length live.near ≡ length clauses.now + 1) }
+    pub fn of(alloc: Global, rows: Rows) -> Live
+        ensures clauses { (id : ℕ) → clause_in result id ≡ formula_clause rows id }
+        ensures rows { length result.near ≡ length rows + 1 }
     {
-        let mut near = Table::make(alloc, clauses.len() + 1)?;
-        near.push_none()?;
-        for clause in clauses {
-            near.push(clause.lits.slice())?;
-        }
-        Ok(Live {
-            near,
+        Live {
+            near: rows.into_table(),
             far: HashMap::new(alloc),
-        })
+        }
     }
 
     /// The clause of an id.

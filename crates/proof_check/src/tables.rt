@@ -3,6 +3,7 @@ ghost use Rattle.std.specs.Prelude.{◌≡◌, ◌≤◌, ◌<◌, ◌+◌, ◌-
 ghost use Rattle.std.specs.Prelude.{option_map, slice_get, slice_set, sum_by, Some, None};
 ghost use Rattle.std.specs.Prelude.{IfOk, OnOk, OnErr};
 ghost use Rattle.proof_check.specs.Places.{nowhere, size, clause_at, IsPlace, IsRising};
+ghost use Rattle.proof_check.specs.Rows.{row_size};
 
 use arc_base::Memory;
 use cnf_types::Lit;
@@ -136,6 +137,13 @@ impl Table {
         ensures { result ≡ length self.now }
     {
         self.places.len()
+    }
+
+    /// How many literals the clauses of the rows have.
+    pub fn literal_count(&self) -> usize
+        ensures { result ≡ sum_by row_size self.now }
+    {
+        self.lits.len() - self.dropped
     }
 
     /// The row of this number, if there is one: its clause, if it has one.
