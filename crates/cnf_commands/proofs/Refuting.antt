@@ -1,18 +1,23 @@
 -- The judgement of a proof, and what its status says.
 use Rattle.std.proofs.Common.{◌≡◌, ℕ, inl, inr, List, refl, sym, ◌∙◌, ap, subst, arith}
-use Rattle.std.specs.Prelude.{Option, Some, None, IfSome, Ok, Err}
+use Rattle.std.specs.Prelude.{[], Option, Some, None, IfSome, Result, Ok, Err, IsOkAnd}
 use Rattle.arc_outside.specs.Files.{Files}
 use Rattle.cnf_types.specs.declared.clauses.Formula.{Formula}
+use Rattle.cnf_types.specs.declared.faults.CnfFault.{CnfFault}
 use Rattle.cnf_types.specs.Dimacs.{reading}
+use Rattle.cnf_types.specs.Words.{lines}
+use Rattle.proof_check.specs.declared.checker.Checker.{Checker}
+use Rattle.proof_check.specs.Knowledge.{Knowledge, start}
+use Rattle.proof_check.specs.View.{known}
 use Rattle.proof_check.specs.declared.rejections.Outcome.{Outcome as Judgement}
 use Rattle.proof_check.specs.declared.rejections.Outcome.TheVariants.{Accepted, Rejected}
-use Rattle.proof_check.specs.Outcomes.{IsRefutation}
+use Rattle.proof_check.specs.Outcomes.{log_outcome, IsRefutation}
 use Rattle.proof_check.proofs.Verdicts.{accepted_where, accepted_sound}
 use Rattle.run_files.specs.declared.outcome.Done.{Done}
 use Rattle.run_files.specs.declared.outcome.FileRefusal.{FileRefusal}
 use Rattle.run_files.specs.declared.outcome.Stop.{Stop}
 use Rattle.run_files.specs.declared.outcome.Stop.TheVariants as stops
-use Rattle.cnf_commands.specs.Formulas.{cnf_refusal, ReadsFormula}
+use Rattle.cnf_commands.specs.Formulas.{cnf_refusal, MakesChecker}
 use Rattle.run_files.specs.Answers.{Answers, IsJudging, IsTold}
 use Rattle.run_files.specs.Judgements.{judgement_status, judgement_text}
 use Rattle.cnf_commands.specs.Lrats.{judgement_of, lrat_refusal, IsJudged, IsLratRefusal, IsLratRefused, IsNotRefuted, IsRefuted, TellsRefutation}
@@ -32,7 +37,7 @@ then_of : (cnf proof : List ℕ) (files : Files) (o : Option FileRefusal) → cn
 unfolding lrat_refusal
 then_of cnf proof files o none e = ap (λ (u : Option FileRefusal). option_or u (read_refusal proof_limit files proof)) none ∙ e
 
-pub formula_stopped : (held : Option Files) (cnf proof : List ℕ) (stop : Stop) → IfSome held (λ files. ReadsFormula cnf files (Err stop)) → Answers IsJudging (IsLratRefusal cnf proof) (IsJudged cnf proof) held (Err stop)
+pub formula_stopped : (held : Option Files) (cnf proof : List ℕ) (stop : Stop) → IfSome held (λ files. MakesChecker cnf files (Err stop)) → Answers IsJudging (IsLratRefusal cnf proof) (IsJudged cnf proof) held (Err stop)
 formula_stopped None cnf proof (stops.Refused r) told = tt
 formula_stopped None cnf proof stops.Memory told = tt
 formula_stopped None cnf proof stops.Failed told = tt
@@ -40,44 +45,52 @@ formula_stopped (Some files) cnf proof (stops.Refused r) told = first_of cnf pro
 formula_stopped (Some files) cnf proof stops.Memory told = tt
 formula_stopped (Some files) cnf proof stops.Failed told = tt
 
-proof_stopped_here : (held : Option Files) (cnf proof : List ℕ) (f : Formula) (stop : Stop) → IfSome held (λ files. ReadsFormula cnf files (Ok f)) → IfSome held (λ files. IsWithinLimit proof_limit files proof (Err stop)) → Answers IsJudging (IsLratRefusal cnf proof) (IsJudged cnf proof) held (Err stop)
-proof_stopped_here None cnf proof f (stops.Refused r) formula told = tt
-proof_stopped_here None cnf proof f stops.Memory formula told = tt
-proof_stopped_here None cnf proof f stops.Failed formula told = tt
-proof_stopped_here (Some files) cnf proof f (stops.Refused r) formula told = then_of cnf proof files (Some r) formula.0 told
-proof_stopped_here (Some files) cnf proof f stops.Memory formula told = tt
-proof_stopped_here (Some files) cnf proof f stops.Failed formula told = tt
+proof_stopped_here : (held : Option Files) (cnf proof : List ℕ) (checker : Checker) (stop : Stop) → IfSome held (λ files. MakesChecker cnf files (Ok checker)) → IfSome held (λ files. IsWithinLimit proof_limit files proof (Err stop)) → Answers IsJudging (IsLratRefusal cnf proof) (IsJudged cnf proof) held (Err stop)
+proof_stopped_here None cnf proof checker (stops.Refused r) formula told = tt
+proof_stopped_here None cnf proof checker stops.Memory formula told = tt
+proof_stopped_here None cnf proof checker stops.Failed formula told = tt
+proof_stopped_here (Some files) cnf proof checker (stops.Refused r) formula told = then_of cnf proof files (Some r) formula.0 told
+proof_stopped_here (Some files) cnf proof checker stops.Memory formula told = tt
+proof_stopped_here (Some files) cnf proof checker stops.Failed formula told = tt
 
-pub proof_stopped : (held now : Option Files) → now ≡ held → (cnf proof : List ℕ) (f : Formula) (stop : Stop) → IfSome held (λ files. ReadsFormula cnf files (Ok f)) → IfSome now (λ files. IsWithinLimit proof_limit files proof (Err stop)) → Answers IsJudging (IsLratRefusal cnf proof) (IsJudged cnf proof) held (Err stop)
-proof_stopped held now same cnf proof f stop formula told =
+pub proof_stopped : (held now : Option Files) → now ≡ held → (cnf proof : List ℕ) (checker : Checker) (stop : Stop) → IfSome held (λ files. MakesChecker cnf files (Ok checker)) → IfSome now (λ files. IsWithinLimit proof_limit files proof (Err stop)) → Answers IsJudging (IsLratRefusal cnf proof) (IsJudged cnf proof) held (Err stop)
+proof_stopped held now same cnf proof checker stop formula told =
     let P : Option Files → Type 0 = λ o. IfSome o (λ files. IsWithinLimit proof_limit files proof (Err stop)) in
-    proof_stopped_here held cnf proof f stop formula (subst P same told)
+    proof_stopped_here held cnf proof checker stop formula (subst P same told)
 
-judged_here : (held : Option Files) (cnf proof : List ℕ) (f : Formula) (judgement : Judgement) (done : Done) → IfSome held (λ files. ReadsFormula cnf files (Ok f)) → IfSome held (λ files. IsWithinLimit proof_limit files proof (Ok tt)) →
-    IfSome held (λ files. JudgesProof proof_limit files proof f (Ok judgement)) → done.text ≡ judgement_text (judgement_of judgement) → done.status ≡ judgement_status (judgement_of judgement) → IsJudging done → Answers IsJudging (IsLratRefusal cnf proof) (IsJudged cnf proof) held (Ok done)
-judged_here None cnf proof f judgement done formula tried judged text status own = (own, tt)
-judged_here (Some files) cnf proof f judgement done formula tried judged text status own = (
-  own,
-  record {
-    held = then_of cnf proof files None formula.0 tried;
-    formula = f;
-    formula_is = formula.1;
-    outcome = judgement;
-    outcome_is = judged;
-    accepted = accepted_where f (bytes_at files proof) judgement judged;
-    sound = accepted_sound f (bytes_at files proof) judgement judged;
-    text = text;
-    writes = own.writes;
-    status = status;
-  },
-)
+-- the formula that a checker knows
+known_formula : (r : Result Formula CnfFault) (k : Knowledge) → IsOkAnd r (λ f. k ≡ start f None []) → (f : Formula) × (r ≡ Ok f) × (k ≡ start f None [])
+known_formula (Ok f) k is = (f, refl, is)
+known_formula (Err fault) k is = absurd is
 
-pub judged : (held now later : Option Files) → now ≡ held → later ≡ now → (cnf proof : List ℕ) (f : Formula) (judgement : Judgement) (done : Done) → IfSome held (λ files. ReadsFormula cnf files (Ok f)) → IfSome now (λ files. IsWithinLimit proof_limit files proof (Ok tt)) →
-    IfSome later (λ files. JudgesProof proof_limit files proof f (Ok judgement)) → done.text ≡ judgement_text (judgement_of judgement) → done.status ≡ judgement_status (judgement_of judgement) → IsJudging done → Answers IsJudging (IsLratRefusal cnf proof) (IsJudged cnf proof) held (Ok done)
-judged held now later same still cnf proof f judgement done formula tried told =
+judged_here : (held : Option Files) (cnf proof : List ℕ) (checker : Checker) (judgement : Judgement) (done : Done) → IfSome held (λ files. MakesChecker cnf files (Ok checker)) → IfSome held (λ files. IsWithinLimit proof_limit files proof (Ok tt)) →
+    IfSome held (λ files. JudgesProof proof_limit files proof (known checker) (Ok judgement)) → done.text ≡ judgement_text (judgement_of judgement) → done.status ≡ judgement_status (judgement_of judgement) → IsJudging done → Answers IsJudging (IsLratRefusal cnf proof) (IsJudged cnf proof) held (Ok done)
+judged_here None cnf proof checker judgement done formula tried judged text status own = (own, tt)
+judged_here (Some files) cnf proof checker judgement done formula tried judged text status own =
+    let read = known_formula (reading (bytes_at files cnf)) (known checker) formula.1 in
+    let f : Formula = read.0 in
+    let judges : judgement ≡ log_outcome (start f None []) 1 (lines (bytes_at files proof)) = judged ∙ ap (λ (k : Knowledge). log_outcome k 1 (lines (bytes_at files proof))) read.2 in (
+      own,
+      record {
+        held = then_of cnf proof files None formula.0 tried;
+        formula = f;
+        formula_is = read.1;
+        outcome = judgement;
+        outcome_is = judges;
+        accepted = accepted_where f (bytes_at files proof) judgement judges;
+        sound = accepted_sound f (bytes_at files proof) judgement judges;
+        text = text;
+        writes = own.writes;
+        status = status;
+      },
+    )
+
+pub judged : (held now later : Option Files) → now ≡ held → later ≡ now → (cnf proof : List ℕ) (checker : Checker) (judgement : Judgement) (done : Done) → IfSome held (λ files. MakesChecker cnf files (Ok checker)) → IfSome now (λ files. IsWithinLimit proof_limit files proof (Ok tt)) →
+    IfSome later (λ files. JudgesProof proof_limit files proof (known checker) (Ok judgement)) → done.text ≡ judgement_text (judgement_of judgement) → done.status ≡ judgement_status (judgement_of judgement) → IsJudging done → Answers IsJudging (IsLratRefusal cnf proof) (IsJudged cnf proof) held (Ok done)
+judged held now later same still cnf proof checker judgement done formula tried told =
     let P : Option Files → Type 0 = λ o. IfSome o (λ files. IsWithinLimit proof_limit files proof (Ok tt)) in
-    let Q : Option Files → Type 0 = λ o. IfSome o (λ files. JudgesProof proof_limit files proof f (Ok judgement)) in
-    judged_here held cnf proof f judgement done formula (subst P same tried) (subst Q (still ∙ same) told)
+    let Q : Option Files → Type 0 = λ o. IfSome o (λ files. JudgesProof proof_limit files proof (known checker) (Ok judgement)) in
+    judged_here held cnf proof checker judgement done formula (subst P same tried) (subst Q (still ∙ same) told)
 
 -- what a status says
 one_formula : (text : List ℕ) (f g : Formula) → reading text ≡ Ok f → reading text ≡ Ok g → f ≡ g

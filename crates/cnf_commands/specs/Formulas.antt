@@ -1,11 +1,14 @@
 -- The formula that a command begins with.
-use Rattle.std.specs.Prelude.{◌≡◌, ℕ, List, Option, Some, None, Result, Ok, Err}
+use Rattle.std.specs.Prelude.{◌≡◌, ℕ, List, [], Option, Some, None, Result, Ok, Err, IsOkAnd}
 use Rattle.arc_base.specs.declared.refusal.Kind.TheVariants.{Limit}
 use Rattle.arc_outside.specs.Files.{Files}
 use Rattle.cnf_types.specs.declared.clauses.Formula.{Formula}
 use Rattle.cnf_types.specs.declared.faults.CnfFault.{CnfFault}
 use Rattle.cnf_types.specs.declared.faults.CnfFault.TheVariants as faults
 use Rattle.cnf_types.specs.Dimacs.{reading}
+use Rattle.proof_check.specs.declared.checker.Checker.{Checker}
+use Rattle.proof_check.specs.Knowledge.{start}
+use Rattle.proof_check.specs.View.{known}
 use Rattle.run_files.specs.declared.outcome.FileRefusal.{FileRefusal}
 use Rattle.run_files.specs.declared.outcome.Reason.TheVariants as reasons
 use Rattle.run_files.specs.declared.outcome.Stop.{Stop}
@@ -44,3 +47,10 @@ abbrev pub ReadsFormula : List ℕ → Files → Result Formula Stop → Type 0
 ReadsFormula cnf files result =
     Gives (λ r. cnf_refusal cnf files ≡ Some r)
     (λ f. (cnf_refusal cnf files ≡ None) × (reading (bytes_at files cnf) ≡ Ok f)) result
+
+-- what reading the formula into a checker answers
+abbrev pub MakesChecker : List ℕ → Files → Result Checker Stop → Type 0
+MakesChecker cnf files result =
+    Gives (λ r. cnf_refusal cnf files ≡ Some r)
+    (λ checker. (cnf_refusal cnf files ≡ None)
+    × IsOkAnd (reading (bytes_at files cnf)) (λ f. known checker ≡ start f None [])) result

@@ -1,17 +1,16 @@
 -- What judging the lines of a proof answers.
-use Rattle.std.specs.Prelude.{◌≡◌, ℕ, List, [], None, Some, Result}
+use Rattle.std.specs.Prelude.{◌≡◌, ℕ, List, Some, Result}
 use Rattle.arc_outside.specs.Files.{Files}
-use Rattle.cnf_types.specs.declared.clauses.Formula.{Formula}
 use Rattle.cnf_types.specs.Words.{lines}
 use Rattle.proof_check.specs.declared.rejections.Outcome.{Outcome}
-use Rattle.proof_check.specs.Knowledge.{start}
+use Rattle.proof_check.specs.Knowledge.{Knowledge}
 use Rattle.proof_check.specs.Outcomes.{log_outcome}
 use Rattle.run_files.specs.declared.outcome.Stop.{Stop}
 use Rattle.run_files.specs.Answers.{Gives}
 use Rattle.run_files.specs.Refusals.{bytes_at, read_refusal}
 
--- the outcome of the lines of a proof for a formula, or a refusal of its file
-abbrev pub JudgesProof : ℕ → Files → List ℕ → Formula → Result Outcome Stop → Type 0
-JudgesProof limit files proof f result =
+-- the outcome of the lines of a proof for one who knows so much, or a refusal of its file
+abbrev pub JudgesProof : ℕ → Files → List ℕ → Knowledge → Result Outcome Stop → Type 0
+JudgesProof limit files proof k result =
     Gives (λ r. read_refusal limit files proof ≡ Some r)
-    (λ o. o ≡ log_outcome (start f None []) 1 (lines (bytes_at files proof))) result
+    (λ o. o ≡ log_outcome k 1 (lines (bytes_at files proof))) result

@@ -1,14 +1,15 @@
 //! The formula that a command begins with.
 ghost use Rattle.std.specs.Prelude.{◌≡◌, ◌⊎◌, ◌≤◌, ◌<◌, ◌^◌, length, IfOk, IfSome, IsSomeAnd};
 ghost use Rattle.clean_logs.specs.Laws.{HasItsVariables};
-ghost use Rattle.cnf_commands.specs.Formulas.{faulty, ReadsFormula};
+ghost use Rattle.cnf_commands.specs.Formulas.{faulty, ReadsFormula, MakesChecker};
 ghost use Rattle.run_files.specs.Answers.{OnlyReads};
 ghost use Rattle.run_files.specs.Limits.{least_limit};
 
 use arc_base::limits::{FORMULA_FILE_LIMIT, VARIABLE_LIMIT};
-use arc_base::{Kind, Memory, Name};
+use arc_base::{Kind, List, Memory, Name};
 use arc_outside::Store;
 use cnf_types::{CnfFault, Formula, formula};
+use proof_check::Checker;
 use run_files::{FileRefusal, Reason, Stop, read_file, refused};
 use std::alloc::Global;
 
@@ -52,6 +53,19 @@ pub fn read_formula<S: Store>(alloc: Global, cnf: &Name, store: &mut S) -> Resul
     let bytes = read_file(alloc, store, cnf, FORMULA_FILE_LIMIT)?;
     match formula(alloc, bytes.as_slice()) {
         Ok(formula) => Ok(formula),
+        Err(fault) => Err(faulty(alloc, cnf, fault)),
+    }
+}
+
+/// Reads the formula right into a checker that knows it, or refuses it. There are no prices.
+pub fn read_checker<S: Store>(alloc: Global, cnf: &Name, store: &mut S) -> Result<Checker, Stop>
+    ensures told { IfSome (S.held store.old) (λ files. MakesChecker cnf.now files result) }
+    ensures reads { OnlyReads least_limit S.held S.faults S.absences S.taken
+        store.old store.new result }
+{
+    let bytes = read_file(alloc, store, cnf, FORMULA_FILE_LIMIT)?;
+    match Checker::read(alloc, bytes.as_slice(), None, &List::make(alloc)) {
+        Ok(checker) => Ok(checker),
         Err(fault) => Err(faulty(alloc, cnf, fault)),
     }
 }

@@ -4,7 +4,7 @@ ghost use Rattle.cnf_commands.specs.Lrats.{judgement_of, rejection_kind, IsJudge
 ghost use Rattle.run_files.specs.Answers.{Answers, IsJudging, OnlyReads};
 ghost use Rattle.run_files.specs.Limits.{least_limit};
 
-use crate::formulas::read_formula;
+use crate::formulas::read_checker;
 use crate::proof_lines::judge_proof;
 use arc_base::limits::PROOF_LIMIT;
 use arc_base::{CertKind, Name};
@@ -34,17 +34,17 @@ fn judgement_of(outcome: Outcome) -> Judgement
     }
 }
 
-/// Judges whether a proof shows that no assignment satisfies the formula. The proof is read twice:
-/// for its size, and line by line for its steps.
+/// Judges whether a proof shows that no assignment satisfies the formula. The formula is read right
+/// into the checker, and the proof twice: for its size, and line by line for its steps.
 pub fn lrat<S: Store>(alloc: Global, cnf: &Name, proof: &Name, store: &mut S) -> Result<Done, Stop>
     ensures answer { Answers IsJudging (IsLratRefusal cnf.now proof.now)
         (IsJudged cnf.now proof.now) (S.held store.old) result }
     ensures reads { OnlyReads least_limit S.held S.faults S.absences S.taken
         store.old store.new result }
 {
-    let formula = read_formula(alloc, cnf, store)?;
+    let checker = read_checker(alloc, cnf, store)?;
     try_file(alloc, store, proof, PROOF_LIMIT)?;
-    let outcome = judge_proof(alloc, store, proof, PROOF_LIMIT, &formula)?;
+    let outcome = judge_proof(alloc, store, proof, PROOF_LIMIT, checker)?;
     let done = told(alloc, judgement_of(outcome))?;
     Ok(done)
 }

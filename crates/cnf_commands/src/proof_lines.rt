@@ -5,9 +5,8 @@ ghost use Rattle.proof_check.specs.View.{known};
 ghost use Rattle.run_files.specs.Answers.{OnlyReads};
 ghost use Rattle.cnf_commands.specs.ProofLines.{JudgesProof};
 
-use arc_base::{List, Memory, Name};
+use arc_base::{Memory, Name};
 use arc_outside::{Pieces, Store};
-use cnf_types::Formula;
 use proof_check::{Checker, Outcome, Rejection, judge_line};
 use run_files::{Stop, next_line};
 use std::alloc::Global;
@@ -23,24 +22,20 @@ fn last_word(checker: &Checker, number: u64) -> Outcome
     }
 }
 
-/// Judges the lines of a proof one by one, or refuses its file. No more of the proof than a piece
-/// and a line is held.
+/// Judges the lines of a proof one by one by a checker, or refuses its file. No more of the proof
+/// than a piece and a line is held.
 pub fn judge_proof<S: Store>(
     alloc: Global,
     store: &mut S,
     proof: &Name,
     limit: u64,
-    f: &Formula,
+    mut checker: Checker,
 ) -> Result<Outcome, Stop>
     requires { limit < 2 ^ 63 }
     ensures told { IfSome (S.held store.old) (λ files.
-        JudgesProof limit files proof.now f.now result) }
+        JudgesProof limit files proof.now (known checker) result) }
     ensures reads { OnlyReads limit S.held S.faults S.absences S.taken store.old store.new result }
 {
-    let mut checker = match Checker::make(alloc, f, None, &List::make(alloc)) {
-        Ok(checker) => checker,
-        Err(Memory) => return Err(Stop::Memory),
-    };
     let mut pieces = Pieces::make(alloc, limit);
     let mut number = 1;
     'lines: loop {

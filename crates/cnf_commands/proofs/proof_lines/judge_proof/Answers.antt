@@ -6,7 +6,7 @@ use Rattle.cnf_commands.proofs.proof_lines.judge_proof.Goals as goal
 
 pub lines-init : goal.lines-init
 lines-init g c = record {
-  told = judge_start (g.S.Store.held c.args.store.now) c.args.proof.now c.args.f.now (known c.in-Ok.checker) c.make.result c.make-pieces.result c.in-Ok.ensures c.make.ensures c.make-pieces.ensures.left;
+  told = judge_start (g.S.Store.held c.args.store.now) c.args.proof.now (known c.args.checker) c.make-pieces.result c.make-pieces.ensures.left;
   number_fits = omega (arith, c.make-pieces.ensures.ahead);
   limit = c.make-pieces.ensures.limit;
   going = c.make-pieces.ensures.failed;
@@ -18,7 +18,7 @@ lines-init g c = record {
 
 pub lines-preserved : goal.lines-preserved
 lines-preserved g c = record {
-  told = judge_on (g.S.Store.held c.args.store.now) (g.S.Store.held c.lines.store) c.lines.invariant.same c.args.proof.now c.args.f.now (known c.lines.checker) (known c.judge_line.new.checker) c.lines.number c.lines.pieces c.next_line.new.pieces c.line.result.now c.line.ensures
+  told = judge_on (g.S.Store.held c.args.store.now) (g.S.Store.held c.lines.store) c.lines.invariant.same c.args.proof.now (known c.args.checker) (known c.lines.checker) (known c.judge_line.new.checker) c.lines.number c.lines.pieces c.next_line.new.pieces c.line.result.now c.line.ensures
       c.lines.invariant.told (rw c.in-Ok-true.field-0-test at c.in-Ok-true.ensures.told) (sym c.in-Ok-None.field-0-is ∙ c.in-Ok-None.ensures.rejection) (c.in-Ok-None.ensures.after (subst IsNone (sym c.in-Ok-None.field-0-is) refl));
   number_fits = omega (arith, c.lines.invariant.number_fits, (rw c.in-Ok-true.field-0-test at c.in-Ok-true.ensures.fewer) refl);
   limit = c.in-Ok-true.ensures.limit ∙ c.lines.invariant.limit;
@@ -31,5 +31,5 @@ lines-preserved g c = record {
 
 pub returns-in-Ok-Some-clause-told : goal.returns-in-Ok-Some-clause-told
 returns-in-Ok-Some-clause-told g c =
-    judge_rejected (g.S.Store.held c.args.store.now) (g.S.Store.held c.lines.store) c.lines.invariant.same c.args.limit c.args.proof.now c.args.f.now (known c.lines.checker) c.lines.number c.lines.pieces c.next_line.new.pieces c.line.result.now c.in-Ok-Some.rejection c.line.ensures
+    judge_rejected (g.S.Store.held c.args.store.now) (g.S.Store.held c.lines.store) c.lines.invariant.same c.args.limit c.args.proof.now (known c.args.checker) (known c.lines.checker) c.lines.number c.lines.pieces c.next_line.new.pieces c.line.result.now c.in-Ok-Some.rejection c.line.ensures
     c.lines.invariant.told (rw c.in-Ok-true.field-0-test at c.in-Ok-true.ensures.told) (sym c.in-Ok-Some.field-0-is ∙ c.in-Ok-Some.ensures.rejection)

@@ -7,7 +7,7 @@ use Rattle.cnf_commands.proofs.proof_lines.judge_proof.Given as goal
 
 abbrev pub invariant-lines : goal.invariant-lines
 invariant-lines g l = record {
-  told : IfSome (g.S.Store.held l.fn.store) (λ files. JudgesRest files l.proof l.f (known l.checker) l.number l.pieces);
+  told : IfSome (g.S.Store.held l.fn.store) (λ files. JudgesRest files l.proof (known l.fn.checker) (known l.checker) l.number l.pieces);
   number_fits : l.number + ahead l.pieces ≤ 1 + l.limit;
   limit : l.pieces.limit ≡ l.limit;
   going : l.pieces.failed ≡ false;
