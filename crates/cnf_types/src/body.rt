@@ -96,7 +96,8 @@ impl<S: ClauseSink + Drop> Body<S> {
             (line_numbers self.old.vars (words line.now) ++ more)) }
         ensures bad { IsErrOf result WordFault.BadNumber →
             IsTrue (list_any (is_bad self.old.vars) (words line.now)) }
-        ensures clauses { length (S.taken self.new.sink) ≤ length (S.taken self.old.sink) + length line.now }
+        ensures clauses { length (S.taken self.new.sink)
+            ≤ length (S.taken self.old.sink) + length line.now }
         ensures vars { self.new.vars ≡ self.old.vars }
     {
         let mut rest = line;

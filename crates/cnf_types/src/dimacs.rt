@@ -78,8 +78,8 @@ fn finish<S: ClauseSink + Drop>(
 
 /// Reads the formula that a text in DIMACS form writes, and hands each clause to a sink as soon as
 /// it is closed; gives the number of variables and the sink, or the text's first fault. Lines that
-/// begin with `c` are comments. The first other line is the header `p cnf V C`; then come C clauses,
-/// each closed by 0, over any lines.
+/// begin with `c` are comments. The first other line is the header `p cnf V C`; then come C
+/// clauses, each closed by 0, over any lines.
 pub fn read_clauses<S: ClauseSink + Drop>(
     alloc: Global,
     bytes: &[u8],

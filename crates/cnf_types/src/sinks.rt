@@ -1,6 +1,6 @@
 //! What takes the clauses of a formula one by one, as a trait.
-ghost use Rattle.std.specs.Prelude.{◌≡◌, ◌<◌, ◌-◌, ◌^◌, ◌++◌, [], ◌∷◌, List as Items, length, sum_by};
-ghost use Rattle.std.specs.Prelude.{OnOk, OnErr};
+ghost use Rattle.std.specs.Prelude.{◌≡◌, ◌<◌, ◌-◌, ◌^◌, ◌++◌, [], ◌∷◌, List as Items, length};
+ghost use Rattle.std.specs.Prelude.{sum_by, OnOk, OnErr};
 
 use crate::clauses::Clause;
 use crate::literal::Lit;

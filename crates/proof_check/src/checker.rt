@@ -96,9 +96,9 @@ impl Checker {
         Checker::over(alloc, f.vars, rows, least, tops)
     }
 
-    /// A checker that knows the formula which a text in DIMACS form writes, or the text's first fault.
-    /// Each clause is read right into the place where the checker keeps it. `least` and `tops` are
-    /// those of `make`.
+    /// A checker that knows the formula which a text in DIMACS form writes, or the text's first
+    /// fault. Each clause is read right into the place where the checker keeps it. `least` and
+    /// `tops` are those of `make`.
     pub fn read(
         alloc: Global,
         bytes: &[u8],

@@ -11,8 +11,8 @@ use cnf_types::Lit;
 use std::alloc::Global;
 use std::collections::HashMap;
 
-/// The live clauses: each in the row of its id, as long as the ids follow one another from 0 on, and
-/// the others in a map.
+/// The live clauses: each in the row of its id, as long as the ids follow one another from 0 on,
+/// and the others in a map.
 #[derive(Drop)]
 pub(crate) struct Live {
     near: Table,

@@ -188,9 +188,9 @@ impl Table {
         }
     }
 
-    /// Takes the clause of a row away. Once the literals of such clauses are more than half of all and
-    /// more than the rows, the others move together, so that over all this takes time linear in the
-    /// literals that were added and in the rows.
+    /// Takes the clause of a row away. Once the literals of such clauses are more than half of all
+    /// and more than the rows, the others move together, so that over all this takes time linear in
+    /// the literals that were added and in the rows.
     pub fn remove(&mut self, row: usize)
         requires { row < length self.old }
         ensures { self.new ≡ slice_set self.old row None }
