@@ -73,21 +73,32 @@ fn repaired(alloc: Global, pair: &Pair, bound: u32) -> Result<Option<Outcome>, E
     }
 }
 
+/// What comes of a repair of the two routers under OSPF with a policy of this kind.
+fn outcome_of(alloc: Global, kind: &str, bound: u32) -> Result<Option<Outcome>, Fail>
+    requires { bound ≤ 512 }
+{
+    let pair = ospf(alloc, kind)?;
+    let outcome = repaired(alloc, &pair, bound)?;
+    Ok(outcome)
+}
+
+/// That a claim with this price is accepted with its log.
+fn accepted(price: Option<u32>, without_log: bool) -> Option<Outcome> {
+    Some(Outcome {
+        price,
+        accepted: true,
+        without_log,
+    })
+}
+
 // Packets from r1's users are to be blocked: a list at one interface is enough, or a session that
 // is turned. Without an edit they are delivered; that no edit is too few has to be shown, and that
 // a network which is met needs none does not.
 #[test]
 fn the_cheapest_repair_is_accepted(rt: HostRuntime) -> Result<(), Fail> {
     let alloc = rt.alloc();
-    let outcome = |price, without_log| Some(Outcome {
-        price,
-        accepted: true,
-        without_log,
-    });
-    let blocked = ospf(alloc, BLOCKED)?;
-    assert_eq!(rt; repaired(alloc, &blocked, 32)?, outcome(Some(1), false));
-    assert_eq!(rt; repaired(alloc, &blocked, 0)?, outcome(None, false));
-    let reached = ospf(alloc, REACH)?;
-    assert_eq!(rt; repaired(alloc, &reached, 32)?, outcome(Some(0), true));
+    assert_eq!(rt; outcome_of(alloc, BLOCKED, 32)?, accepted(Some(1), false));
+    assert_eq!(rt; outcome_of(alloc, BLOCKED, 0)?, accepted(None, false));
+    assert_eq!(rt; outcome_of(alloc, REACH, 32)?, accepted(Some(0), true));
     Ok(())
 }

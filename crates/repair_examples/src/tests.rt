@@ -61,8 +61,11 @@ fn lines(alloc: Global, encoded: &Encoded) -> Result<String, Fail> {
     Ok(text)
 }
 
-/// How many variables, clauses and literals, and how many tops.
-fn counts(encoded: &Encoded) -> (u64, u32, u32, u32) {
+/// How many variables, clauses and literals a formula has, and how many tops stand beside it.
+type Counts = (u64, u32, u32, u32);
+
+/// How large the formula is.
+fn counts(encoded: &Encoded) -> Counts {
     let mut literals: u32 = 0;
     for clause in encoded.formula.clauses.slice() {
         literals = literals.saturating_add(clause.lits.len());
@@ -112,18 +115,24 @@ edit packet r2 interface GigabitEthernet0/1 10.1.0.0/24 10.2.0.0/24
     Ok(())
 }
 
+/// The repair formula of the two routers under OSPF with a policy of this kind, for price 0 alone:
+/// its clauses, and how large it is.
+fn formula_of(alloc: Global, kind: &str) -> Result<(String, Counts), Fail> {
+    let pair = ospf(alloc, kind)?;
+    let encoded = encoded(alloc, &pair, 0)?;
+    let lines = lines(alloc, &encoded)?;
+    Ok((lines, counts(&encoded)))
+}
+
 // Variables 1 to 6 are the edits; 7 and 8 tell which routers the packets are kept on, and 9 to 14
 // the price up to each edit.
 #[test]
 fn the_formula_of_a_blocked_policy(rt: HostRuntime) -> Result<(), Fail> {
-    let alloc = rt.alloc();
-    let pair = ospf(alloc, BLOCKED)?;
-    let encoded = encoded(alloc, &pair, 0)?;
-    let lines = lines(alloc, &encoded)?;
+    let (lines, counts) = formula_of(rt.alloc(), BLOCKED)?;
     let expected =
         "3 7 \n-7 1 2 6 8 \n-8 1 2 4 7 \n-8 \n-1 9 \n-9 10 \n-2 10 \n-10 11 \n-3 11 \n-11 12 \n-4 12 \n-12 13 \n-5 13 \n-13 14 \n-6 14 \n";
     assert_eq!(rt; lines.as_str(), expected);
-    assert_eq!(rt; counts(&encoded), (14, 15, 35, 1));
+    assert_eq!(rt; counts, (14, 15, 35, 1));
     Ok(())
 }
 
@@ -132,11 +141,11 @@ fn the_formula_of_a_blocked_policy(rt: HostRuntime) -> Result<(), Fail> {
 fn the_formulas_of_other_policies(rt: HostRuntime) -> Result<(), Fail> {
     let alloc = rt.alloc();
     // one for each router; enters, both arcs, leaves, and eleven for the prices
-    let through = encoded(alloc, &ospf(alloc, THROUGH)?, 0)?;
-    assert_eq!(rt; counts(&through), (14, 15, 35, 1));
+    let (_, through) = formula_of(alloc, THROUGH)?;
+    assert_eq!(rt; through, (14, 15, 35, 1));
     // one for each arc; enters, two lists, four sessions, out of the source, into the target, no
     // way back, and one link
-    let reach = encoded(alloc, &ospf(alloc, REACH)?, 0)?;
-    assert_eq!(rt; counts(&reach), (14, 23, 43, 1));
+    let (_, reach) = formula_of(alloc, REACH)?;
+    assert_eq!(rt; reach, (14, 23, 43, 1));
     Ok(())
 }
