@@ -37,16 +37,16 @@ fn push<T: Drop>(list: &mut List<T>, item: T) -> Result<(), Memory> {
     list.push(item)
 }
 
+fn file(alloc: Global, name: &str, text: &str) -> Result<(Name, Name), Memory> {
+    let name = Name::make(alloc, name.as_bytes())?;
+    let text = Name::make(alloc, text.as_bytes())?;
+    Ok((name, text))
+}
+
 fn files(alloc: Global, case: &Case) -> Result<List<(Name, Name)>, Memory> {
     let mut files = List::make(alloc);
     for (name, text) in case.files {
-        push(
-            &mut files,
-            (
-                Name::make(alloc, name.as_bytes())?,
-                Name::make(alloc, text.as_bytes())?,
-            ),
-        )?;
+        push(&mut files, file(alloc, name, text)?)?;
     }
     Ok(files)
 }
