@@ -9,7 +9,6 @@ mod acceptance;
 mod apart;
 mod cases;
 mod cutting;
-mod denials;
 mod denied;
 mod hops;
 mod judgement;

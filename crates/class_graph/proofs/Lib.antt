@@ -8,3 +8,4 @@ pub mod ClassDenials
 pub mod Through
 pub mod Passing
 pub mod Clear
+pub mod FirstDenials

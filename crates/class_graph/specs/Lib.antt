@@ -5,3 +5,4 @@ pub mod Graphs
 pub mod Building
 pub mod Denials
 pub mod Passing
+pub mod FirstDenials

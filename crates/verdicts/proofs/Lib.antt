@@ -3,7 +3,6 @@ pub mod Ways
 pub mod Walks
 pub mod ClosedSides
 pub mod Reached
-pub mod Firsts
 pub mod Pushes
 pub mod Cuts
 pub mod Verdicts

@@ -27,10 +27,11 @@ use Rattle.net_model.proofs.Packets.{first_is_of}
 use Rattle.net_model.proofs.Readings.{item_at_place}
 use Rattle.traffic_classes.specs.Classes.{AreClasses}
 use Rattle.traffic_classes.specs.Parts.{MakeUp}
-use Rattle.verdicts.specs.declared.denials.Denial.{Denial}
+use Rattle.class_graph.specs.declared.first_denials.Denial.{Denial}
+use Rattle.class_graph.specs.FirstDenials.{IsLowestDenial, IsFirstDenial}
 use Rattle.verdicts.specs.Fixed.{IsLeastClosed, AreLeastSides, IsFixedBlocking, IsFixed}
 use Rattle.verdicts.specs.Judged.{IsBlockingAnswer, IsReachVerdict, IsVerdict}
-use Rattle.verdicts.specs.Reaching.{IsDenial, IsFirstDenial, IsPathsOrCut}
+use Rattle.verdicts.specs.Reaching.{IsPathsOrCut}
 use Rattle.verdicts.proofs.Lists.{all_of_map, pairs_of_map, sum_of_map, rising_numbers}
 use Rattle.class_graph.proofs.Clear.{at_class, permits_all, none_passes}
 
@@ -155,7 +156,7 @@ no_paths net ends k whole classes parts together all =
 
 -- the first denial is a refusal
 pub refused_verdict : (net : Network) (ends : Ends) (k : ℕ) (whole : Class) (classes : List Class) → MakeUp net whole classes → source_router ends ≢ target_router ends → (d : Denial) →
-    IsDenial net ends.to classes (length classes) d → (p : Packet) → p ≡ first_packet d.class → IsReachVerdict net ends k whole classes (Refused p d.link)
+    IsLowestDenial net ends.to classes (length classes) d → (p : Packet) → p ≡ first_packet d.class → IsReachVerdict net ends k whole classes (Refused p d.link)
 refused_verdict net ends k whole classes parts apart d denial p packet =
     let one : Contains classes d.class = item_at_place classes denial.is_first.place d.class denial.is_first.at_place in
     let part : LiesIn d.class whole = All-contains (λ (c : Class). LiesIn c whole) classes d.class parts.parts one in
@@ -228,9 +229,9 @@ pub no_denial_to : (net : Network) (ends : Ends) (pair : HostPair) → IsHostPai
 no_denial_to net ends pair is classes n none = subst (λ (to : Prefix). HasNoDenial net to classes n) is.to none
 
 pub denial_to : (net : Network) (ends : Ends) (pair : HostPair) → IsHostPair net ends pair → (classes : List Class) (n : ℕ) (found : Option Denial) (d : Denial) → found ≡ Some d →
-    IsFirstDenial net pair.to classes n found → IsDenial net ends.to classes n d
+    IsFirstDenial net pair.to classes n found → IsLowestDenial net ends.to classes n d
 denial_to net ends pair is classes n found d some denial =
-    subst (λ (to : Prefix). IsDenial net to classes n d) is.to (subst (IsFirstDenial net pair.to classes n) some denial)
+    subst (λ (to : Prefix). IsLowestDenial net to classes n d) is.to (subst (IsFirstDenial net pair.to classes n) some denial)
 
 pub clear_when : (net : Network) (to : Prefix) (classes : List Class) (n : ℕ) (found : Option Denial) → found ≡ None → IsFirstDenial net to classes n found → HasNoDenial net to classes n
 clear_when net to classes n found none denial = subst (IsFirstDenial net to classes n) none denial

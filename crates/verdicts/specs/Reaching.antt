@@ -1,12 +1,9 @@
 -- What is found on the way to the verdict on a reach policy.
-use Rattle.std.specs.Prelude.{◌≡◌, ◌≢◌, ℕ, ◌+◌, ◌<◌, ◌≤◌, nat_le, Bool, if◌then◌else◌, Option, Some}
-use Rattle.std.specs.Prelude.{None, MatchOption, List, length, map, slice_get, All, AllPairs}
+use Rattle.std.specs.Prelude.{◌≡◌, ◌≢◌, ℕ, ◌+◌, ◌≤◌, Bool, List, length, map, All, AllPairs}
 use Rattle.std.specs.List.{flat_map}
 use Rattle.arc_base.specs.declared.place.Link.{Link}
-use Rattle.arc_base.specs.declared.prefix.Prefix.{Prefix}
 use Rattle.graph_flow.specs.declared.arcs.LinkRow2.{LinkRow2}
 use Rattle.graph_flow.specs.Answers.{AreInOrder}
-use Rattle.net_model.specs.declared.policies.Class.{Class}
 use Rattle.net_model.specs.declared.rows.Network.{Network}
 use Rattle.net_model.specs.declared.verdicts.LinkPath.{LinkPath}
 use Rattle.net_model.specs.declared.verdicts.Verdict.{Verdict}
@@ -14,33 +11,7 @@ use Rattle.net_model.specs.declared.verdicts.Verdict.TheVariants.{Closed, Paths,
 use Rattle.net_model.specs.declared.verdicts.Verdict.TheVariants.{Refused}
 use Rattle.net_model.specs.Forwarding.{Ends}
 use Rattle.net_model.specs.Witnesses.{IsPath, IsOn}
-use Rattle.class_graph.specs.Denials.{IsDeniedOn, HasNoDenial}
-use Rattle.class_graph.specs.Passing.{IsFirstAfter}
-use Rattle.verdicts.specs.declared.denials.Denial.{Denial}
 use Rattle.verdicts.specs.Fixed.{IsSeparator}
-
--- of the first classes, so many, the denial's is the first that its link denies, and no lower link
--- denies any
-pub record IsDenial (net : Network) (to : Prefix) (classes : List Class) (n : ℕ)
-    (d : Denial) : Type 0 where
-  pub is_first : IsFirstAfter (λ c. ¬ IsDeniedOn net to c d.link.0) classes d.class
-  pub early : is_first.place < n
-  pub denied : IsDeniedOn net to d.class d.link.0
-  pub lower : (k : ℕ) (c : Class) → k < n → slice_get classes k ≡ Some c →
-      (link : ℕ) → link < d.link.0 → ¬ IsDeniedOn net to c link
-
--- it is this denial, or there is none
-abbrev pub IsFirstDenial : Network → Prefix → List Class → ℕ → Option Denial → Type 0
-IsFirstDenial net to classes n found =
-    MatchOption found (HasNoDenial net to classes n) (IsDenial net to classes n)
-
--- of a denial and a link that denies the class the one at the lower link, and the denial where both
--- are at one link
-abbrev pub lower_of : Option Denial → Option Link → Class → Option Denial
-lower_of best None class = best
-lower_of None (Some link) class = Some (record { link = link; class = class })
-lower_of (Some d) (Some link) class =
-    if nat_le d.link.0 link.0 then Some d else Some (record { link = link; class = class })
 
 -- so many paths, no link stands in them twice, and they are in rising order of their first links
 pub record AreGoodPaths (net : Network) (ends : Ends) (many : ℕ)

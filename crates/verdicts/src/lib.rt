@@ -5,7 +5,6 @@
 #![tactic(auto)]
 
 mod blocking;
-mod denials;
 mod fault;
 mod judgement;
 mod reach;

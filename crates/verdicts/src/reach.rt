@@ -10,10 +10,9 @@ ghost use Rattle.traffic_classes.specs.Parts.{MakeUp};
 ghost use Rattle.verdicts.specs.Judged.{IsReachVerdict};
 ghost use Rattle.verdicts.specs.Reaching.{IsPathsOrCut, paths_of};
 
-use crate::denials::first_denial;
 use arc_base::limits::FAILURE_LIMIT;
 use arc_base::{Link, List, Memory};
-use class_graph::{HostPair, routed_graph};
+use class_graph::{HostPair, first_denial, routed_graph};
 use graph_flow::{FlowAnswer, LinkRow2, disjoint};
 use net_model::{Class, LinkPath, Network, Verdict};
 use std::alloc::Global;

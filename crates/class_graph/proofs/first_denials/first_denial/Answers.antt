@@ -1,8 +1,8 @@
 use Rattle.std.proofs.Common.{sym, subst, arith}
-use Rattle.verdicts.specs.Reaching.{IsFirstDenial}
+use Rattle.class_graph.specs.FirstDenials.{IsFirstDenial}
 use Rattle.class_graph.proofs.Passing.{item_here}
-use Rattle.verdicts.proofs.Firsts.{first_denial_more, denial_at_end}
-use Rattle.verdicts.proofs.denials.first_denial.Goals as goal
+use Rattle.class_graph.proofs.FirstDenials.{first_denial_more, denial_at_end}
+use Rattle.class_graph.proofs.first_denials.first_denial.Goals as goal
 
 pub loop-class-preserved : goal.loop-class-preserved
 loop-class-preserved c =

@@ -1,4 +1,4 @@
--- The first class of a list, as a walk through the list finds it.
+-- The first denial of a list of classes, as a walk through the list finds it.
 use Rattle.std.proofs.Common.{◌≡◌, ℕ, ◌+◌, ◌<◌, ◌≤◌, Bool, true, false, Option, Some, None, List, length, refl, sym, ◌∙◌, subst, inl, inr, arith}
 use Rattle.std.specs.Prelude.{if◌then◌else◌, nat_le, slice_get, MatchOption}
 use Rattle.std.proofs.lemmas.Bool.{false≢true}
@@ -10,11 +10,11 @@ use Rattle.net_model.specs.declared.policies.Class.{Class}
 use Rattle.net_model.specs.declared.rows.Network.{Network}
 use Rattle.class_graph.specs.Denials.{IsDeniedOn, IsDeniedNowhere, IsLeastDenied}
 use Rattle.class_graph.proofs.Passing.{one_more_class}
-use Rattle.verdicts.specs.declared.denials.Denial.{Denial}
-use Rattle.verdicts.specs.Reaching.{IsDenial, IsFirstDenial, lower_of}
+use Rattle.class_graph.specs.declared.first_denials.Denial.{Denial}
+use Rattle.class_graph.specs.FirstDenials.{IsLowestDenial, IsFirstDenial, lower_of}
 
-old_stays : (net : Network) (to : Prefix) (classes : List Class) (n : ℕ) (class : Class) → slice_get classes n ≡ Some class → (d : Denial) → IsDenial net to classes n d →
-    ((link : ℕ) → link < d.link.0 → ¬ IsDeniedOn net to class link) → IsDenial net to classes (n + 1) d
+old_stays : (net : Network) (to : Prefix) (classes : List Class) (n : ℕ) (class : Class) → slice_get classes n ≡ Some class → (d : Denial) → IsLowestDenial net to classes n d →
+    ((link : ℕ) → link < d.link.0 → ¬ IsDeniedOn net to class link) → IsLowestDenial net to classes (n + 1) d
 old_stays net to classes n class at d old high = record {
   is_first = old.is_first;
   early = omega (arith, old.early);
@@ -24,7 +24,7 @@ old_stays net to classes n class at d old high = record {
 
 new_first : (net : Network) (to : Prefix) (classes : List Class) (n : ℕ) (class : Class) → slice_get classes n ≡ Some class → (link : Link) → IsLeastDenied net to class link.0 →
     ((k : ℕ) (c : Class) → k < n → slice_get classes k ≡ Some c → (l : ℕ) → l < link.0 + 1 → ¬ IsDeniedOn net to c l) →
-    IsDenial net to classes (n + 1) (record { link = link; class = class })
+    IsLowestDenial net to classes (n + 1) (record { link = link; class = class })
 new_first net to classes n class at link least before = record {
   is_first = record { place = n; at_place = at; before = λ k c low at_k. before k c low at_k link.0 (omega arith) };
   early = omega arith;
@@ -33,7 +33,7 @@ new_first net to classes n class at link least before = record {
       (λ k c low at_k l below. before k c low at_k l (omega arith)) least.least;
 }
 
-choose : (net : Network) (to : Prefix) (classes : List Class) (n : ℕ) (class : Class) → slice_get classes n ≡ Some class → (d : Denial) → IsDenial net to classes n d →
+choose : (net : Network) (to : Prefix) (classes : List Class) (n : ℕ) (class : Class) → slice_get classes n ≡ Some class → (d : Denial) → IsLowestDenial net to classes n d →
     (link : Link) → IsLeastDenied net to class link.0 → (test : Bool) → nat_le d.link.0 link.0 ≡ test →
     IsFirstDenial net to classes (n + 1) (if test then Some d else Some (record { link = link; class = class }))
 choose net to classes n class at d old link least true is = elim (leb_tells d.link.0 link.0) [

@@ -1,23 +1,25 @@
-//! The first link that denies a class.
+//! The first denial of a list of classes: by links, or by classes.
 ghost use Rattle.std.specs.Prelude.{◌≡◌, length, IfOk};
 ghost use Rattle.class_graph.specs.Classes.{AreAllUniform};
 ghost use Rattle.class_graph.specs.Hosts.{HasHostPair};
-ghost use Rattle.verdicts.specs.Reaching.{IsFirstDenial, lower_of};
+ghost use Rattle.class_graph.specs.FirstDenials.{IsFirstDenial, IsSomeDenial, lower_of};
 
+use crate::denials::denied_link;
+use crate::hosts::HostPair;
 use arc_base::{Link, List, Memory};
-use class_graph::{HostPair, denied_link};
 use net_model::{Class, Network};
 use std::alloc::Global;
 
 /// A link with a class that it denies.
 #[derive(Clone, Copy, Debug)]
-pub(crate) struct Denial {
+pub struct Denial {
     pub link: Link,
     pub class: Class,
 }
 
-/// The first link that denies some of the classes, with the first of these.
-pub(crate) fn first_denial(
+/// The first link that denies some of the classes, with the first of these. It looks at each link
+/// once for each class.
+pub fn first_denial(
     alloc: Global,
     net: &Network,
     pair: &HostPair,
@@ -44,4 +46,27 @@ fn lower(best: Option<Denial>, found: Option<Link>, class: Class) -> Option<Deni
         Some(denial) if denial.link.0 <= link.0 => Some(denial),
         _ => Some(Denial { link, class }),
     }
+}
+
+/// The first class that some link denies, with the first such link. It stops there.
+pub fn some_denial(
+    alloc: Global,
+    net: &Network,
+    pair: &HostPair,
+    classes: &List<Class>,
+) -> Result<Option<Denial>, Memory>
+    requires pair { HasHostPair net.now pair.now }
+    requires uniform { AreAllUniform net.now classes.now }
+    ensures { IfOk result (IsSomeDenial net.now pair.now.to classes.now) }
+{
+    for class in classes.slice() {
+        let found = denied_link(alloc, net, pair, *class)?;
+        if let Some(link) = found {
+            return Ok(Some(Denial {
+                link,
+                class: *class,
+            }));
+        }
+    }
+    Ok(None)
 }
