@@ -4,6 +4,7 @@ use Rattle.std.specs.Prelude.{position}
 use Rattle.condition_formula.specs.declared.condition.Condition.{Condition}
 use Rattle.condition_formula.specs.declared.condition.Condition.TheVariants.{Always, Never, If}
 use Rattle.condition_formula.specs.declared.condition.Condition.TheVariants.{Unless}
+use Rattle.net_model.specs.declared.policies.Class.{Class}
 use Rattle.edit_space.specs.declared.edit_kinds.Edit.{Edit}
 use Rattle.edit_space.specs.declared.edit_kinds.Edit.TheVariants as edits
 
@@ -12,24 +13,11 @@ use Rattle.edit_space.specs.declared.edit_kinds.Edit.TheVariants as edits
 abbrev pub Key : Type 0
 Key = ℕ × ℕ × ℕ × ℕ × ℕ × ℕ × ℕ × ℕ
 
--- the numbers of the edit
-abbrev pub key_of : Edit → Key
-key_of (edits.Session face) = (0, face.0, 0, 0, 0, 0, 0, 0)
-key_of (edits.RouteList list to) = (1, list.0, to.addr, to.len, 0, 0, 0, 0)
-key_of (edits.RouteNew face to) = (2, face.0, to.addr, to.len, 0, 0, 0, 0)
-key_of (edits.PacketList list class) = (
-  3,
-  list.0,
-  class.from.addr,
-  class.from.len,
-  class.to.addr,
-  class.to.len,
-  class.service.low,
-  class.service.high,
-)
-key_of (edits.PacketNew face class) = (
-  4,
-  face.0,
+-- those of an edit of this kind that acts at this place, with an entry for the class
+abbrev pub packet_key : ℕ → ℕ → Class → Key
+packet_key kind place class = (
+  kind,
+  place,
   class.from.addr,
   class.from.len,
   class.to.addr,
@@ -38,7 +26,15 @@ key_of (edits.PacketNew face class) = (
   class.service.high,
 )
 
--- whether the two have the same numbers
+-- the numbers of the edit
+abbrev pub key_of : Edit → Key
+key_of (edits.Session face) = (0, face.0, 0, 0, 0, 0, 0, 0)
+key_of (edits.RouteList list to) = (1, list.0, to.addr, to.len, 0, 0, 0, 0)
+key_of (edits.RouteNew face to) = (2, face.0, to.addr, to.len, 0, 0, 0, 0)
+key_of (edits.PacketList list class) = packet_key 3 list.0 class
+key_of (edits.PacketNew face class) = packet_key 4 face.0 class
+
+-- whether the eight numbers of the one are those of the other
 abbrev pub same_key : Key → Key → Bool
 same_key k l =
     ((((((nat_eq k.0 l.0 && nat_eq k.1 l.1) && nat_eq k.2 l.2) && nat_eq k.3 l.3) &&

@@ -1,18 +1,29 @@
 //! The places of edits in their list.
 ghost use Rattle.std.specs.Prelude.{◌≡◌, ◌≢◌, ◌<◌, ◌^◌, List, length, map, AllPairs, IfOk};
 ghost use Rattle.edit_space.specs.declared.edit_kinds.Edit.{Edit as AnyEdit};
-ghost use Rattle.policy_encode.specs.Turning.{key_of, place_of, condition_at, turned};
+ghost use Rattle.policy_encode.specs.Turning.{key_of, packet_key, place_of, condition_at, turned};
 ghost use Rattle.policy_encode.specs.Finding.{IsIndexOf};
 
 use arc_base::Memory;
 use condition_formula::Condition;
 use edit_space::Edit;
 use indexmap::IndexSet;
+use net_model::Class;
 use std::alloc::Global;
 
 /// The numbers that make an edit: its kind, the place where it acts, and of its entry the prefix,
 /// or the two prefixes and the range of services.
 pub(crate) type EditKey = (u8, u32, u32, u8, u32, u8, u32, u32);
+
+/// The numbers of an edit of a packet list: its kind, its place and those of its class.
+fn packet_key(kind: u8, place: u32, class: &Class) -> EditKey
+    ensures { result ≡ packet_key kind place class.now }
+{
+    let (from, to, of) = (class.from, class.to, class.service);
+    (
+        kind, place, from.addr, from.len, to.addr, to.len, of.low, of.high,
+    )
+}
 
 /// The numbers of an edit.
 fn key_of(edit: &Edit) -> EditKey
@@ -22,18 +33,8 @@ fn key_of(edit: &Edit) -> EditKey
         Edit::Session(face) => (0, face.0, 0, 0, 0, 0, 0, 0),
         Edit::RouteList(list, to) => (1, list.0, to.addr, to.len, 0, 0, 0, 0),
         Edit::RouteNew(face, to) => (2, face.0, to.addr, to.len, 0, 0, 0, 0),
-        Edit::PacketList(list, class) => {
-            let (from, to, of) = (class.from, class.to, class.service);
-            (
-                3, list.0, from.addr, from.len, to.addr, to.len, of.low, of.high,
-            )
-        }
-        Edit::PacketNew(face, class) => {
-            let (from, to, of) = (class.from, class.to, class.service);
-            (
-                4, face.0, from.addr, from.len, to.addr, to.len, of.low, of.high,
-            )
-        }
+        Edit::PacketList(list, class) => packet_key(3, list.0, class),
+        Edit::PacketNew(face, class) => packet_key(4, face.0, class),
     }
 }
 
