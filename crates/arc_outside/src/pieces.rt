@@ -43,11 +43,9 @@ fn take_front(window: &mut Window, line: &mut Vec<u8>) -> Result<bool, Memory>
 
 impl Pieces {
     ghost use Rattle.std.specs.Prelude.{◌≡◌, ◌+◌, ◌-◌, ◌^◌, ◌<◌, ◌≤◌, [], ℕ, true, false, List};
-    ghost use Rattle.std.specs.Prelude.{Option, unwrap_or, min, IfOk, IfSome, OnOk, OnErr, IsErrOf};
-    ghost use Rattle.std.specs.Prelude.{IsTrue};
-    ghost use Rattle.arc_outside.specs.Causes.{Rose};
+    ghost use Rattle.std.specs.Prelude.{Option, unwrap_or, min, IfOk, IfSome, OnOk, OnErr, IsTrue};
     ghost use Rattle.arc_outside.specs.LinesRead.{ahead, left, ReadsLine};
-    ghost use Rattle.arc_outside.specs.Reads.{TookMore};
+    ghost use Rattle.arc_outside.specs.Reads.{OnlyReadsFile};
 
     /// A reader at the start of a file that may have so many bytes. It takes no memory yet.
     pub fn make(alloc: Global, limit: u64) -> Pieces
@@ -87,18 +85,11 @@ impl Pieces {
         ensures fewer { IfOk result (λ found. IsTrue found → ahead self.new < ahead self.old) }
         ensures limit { self.new.limit ≡ self.old.limit }
         ensures kept { self.new.failed ≡ self.old.failed }
-        ensures same { S.held store.new ≡ S.held store.old }
         ensures onward { self.old.place ≤ self.new.place }
         ensures took { min (S.taken store.old + (self.new.place - self.old.place)) (2 ^ 64 - 1)
             ≤ S.taken store.new }
-        ensures too_long { IsErrOf result ReadAll.TooLong →
-            TookMore (self.old.limit - self.old.place) (S.taken store.old) (S.taken store.new) }
-        ensures failed { IsErrOf result (ReadAll.Fault Fault.Failed) →
-            Rose (S.faults store.old) (S.faults store.new) }
-        ensures missing { IsErrOf result (ReadAll.Fault Fault.Missing) →
-            Rose (S.absences store.old) (S.absences store.new) }
-        ensures faults { S.faults store.old ≤ S.faults store.new }
-        ensures absences { S.absences store.old ≤ S.absences store.new }
+        ensures reads { OnlyReadsFile (self.old.limit - self.old.place) S.held S.faults S.absences
+            S.taken store.old store.new result }
     {
         self.line.clear();
         'pieces: loop {
@@ -133,20 +124,11 @@ impl Pieces {
         ensures limit { self.new.limit ≡ self.old.limit }
         ensures ok { OnOk result (self.new.failed ≡ false) }
         ensures err { OnErr result (self.new.failed ≡ true) }
-        ensures same { S.held store.new ≡ S.held store.old }
-
-        // How many bytes the reads took, and when each error comes.
         ensures onward { self.old.place ≤ self.new.place }
         ensures took { min (S.taken store.old + (self.new.place - self.old.place)) (2 ^ 64 - 1)
             ≤ S.taken store.new }
-        ensures too_long { IsErrOf result ReadAll.TooLong →
-            TookMore (self.old.limit - self.old.place) (S.taken store.old) (S.taken store.new) }
-        ensures failed { IsErrOf result (ReadAll.Fault Fault.Failed) →
-            Rose (S.faults store.old) (S.faults store.new) }
-        ensures missing { IsErrOf result (ReadAll.Fault Fault.Missing) →
-            Rose (S.absences store.old) (S.absences store.new) }
-        ensures faults { S.faults store.old ≤ S.faults store.new }
-        ensures absences { S.absences store.old ≤ S.absences store.new }
+        ensures reads { OnlyReadsFile (self.old.limit - self.old.place) S.held S.faults S.absences
+            S.taken store.old store.new result }
     {
         self.failed = true;
         let found = self.read_line(store, name)?;

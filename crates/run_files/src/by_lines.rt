@@ -1,9 +1,8 @@
 //! Files that are read line by line.
 ghost use Rattle.std.specs.Prelude.{◌≡◌, ◌+◌, ◌-◌, ◌^◌, ◌<◌, ◌≤◌, min, false, IfOk, IfSome, OnOk};
-ghost use Rattle.std.specs.Prelude.{IsErrOf, IsTrue};
-ghost use Rattle.arc_outside.specs.Causes.{Rose};
+ghost use Rattle.std.specs.Prelude.{IsTrue};
 ghost use Rattle.arc_outside.specs.LinesRead.{ahead};
-ghost use Rattle.arc_outside.specs.Reads.{TookMore, TookOn};
+ghost use Rattle.arc_outside.specs.Reads.{OnlyReadsFile};
 ghost use Rattle.run_files.specs.Answers.{OnlyReads};
 ghost use Rattle.run_files.specs.ReadingLines.{IsReadPast, IsWithinLimit, MovesOn};
 
@@ -47,16 +46,8 @@ pub fn next_line<S: Store>(
 /// ended. It ends for every store, since each turn takes a byte.
 fn read_past<S: Store>(alloc: Global, store: &mut S, name: &Name, limit: u64) -> Result<(), ReadAll>
     ensures told { IfSome (S.held store.old) (λ files. IsReadPast (files name.now) limit result) }
-    ensures same { S.held store.new ≡ S.held store.old }
-    ensures taken { TookOn (S.taken store.old) (S.taken store.new) }
-    ensures too_long { IsErrOf result ReadAll.TooLong →
-        TookMore limit (S.taken store.old) (S.taken store.new) }
-    ensures failed { IsErrOf result (ReadAll.Fault Fault.Failed) →
-        Rose (S.faults store.old) (S.faults store.new) }
-    ensures missing { IsErrOf result (ReadAll.Fault Fault.Missing) →
-        Rose (S.absences store.old) (S.absences store.new) }
-    ensures faults { S.faults store.old ≤ S.faults store.new }
-    ensures absences { S.absences store.old ≤ S.absences store.new }
+    ensures reads { OnlyReadsFile limit S.held S.faults S.absences S.taken
+        store.old store.new result }
 {
     let mut piece = match Vec::from_elem(alloc, 0u8, PIECE_LENGTH) {
         Ok(piece) => piece,
