@@ -18,6 +18,10 @@ pub mod Lessons
 pub mod Models
 pub mod Lives
 pub mod Following
+pub mod Rising
+pub mod Halves
+pub mod Costs
+pub mod Waits
 pub mod Forgetting
 pub mod Promises
 pub mod Outcomes

@@ -1,8 +1,9 @@
 -- What drop steps leave: which lemmas a log has, which may be dropped, and what a step that drops
 -- some does.
-use Rattle.std.specs.Prelude.{◌≡◌, ℕ, ◌⊎◌, IsSome, List, [], ◌∷◌, ◌++◌, reverse, All}
+use Rattle.std.specs.Prelude.{◌≡◌, ℕ, ◌+◌, ◌-◌, ◌*◌, ◌^◌, min, ◌⊎◌, IsSome, List, [], ◌∷◌, ◌++◌}
+use Rattle.std.specs.Prelude.{length, reverse, All}
 use Rattle.proof_log.specs.declared.steps.Step.{Step}
-use Rattle.proof_log.specs.declared.steps.Step.TheVariants.{Drop}
+use Rattle.proof_log.specs.declared.steps.Step.TheVariants.{Add, Drop, Bound}
 use Rattle.proof_check.specs.Knowledge.{without_clauses}
 use Rattle.sat_core.specs.States.{State}
 use Rattle.clean_logs.specs.CleanLogs.{added_by, dropped_by}
@@ -14,6 +15,26 @@ use Rattle.sat_search.specs.declared.lemmas.Lemmas.{Lemmas}
 pub record AreLemmas (steps : List Step) (lemmas : Lemmas) : Type 0 where
   pub ids : reverse lemmas.ids.items ≡ added_by [] steps
   pub drops : lemmas.drops ≡ dropped_by 0 steps
+
+-- how many literals the clauses have that the steps add
+abbrev pub sizes : List Step → List ℕ
+sizes [] = []
+sizes (Add id lits hints ∷ steps) = length lits ∷ sizes steps
+sizes (Drop ids ∷ steps) = sizes steps
+sizes (Bound id price ∷ steps) = sizes steps
+
+-- how many clauses are added after so many drop steps until the next one comes: 1,500 j before the
+-- j-th, as far as 64 bits count
+abbrev pub gap_after : ℕ → ℕ
+gap_after drops = min (1500 * (drops + 1)) (2 ^ 64 - 1)
+
+-- how many are still to be added after steps, where so many drop steps came before them and so many
+-- clauses were still to be added
+abbrev pub wait_after : ℕ → ℕ → List Step → ℕ
+wait_after drops wait [] = wait
+wait_after drops wait (Add id lits hints ∷ steps) = wait_after drops (wait - 1) steps
+wait_after drops wait (Drop ids ∷ steps) = wait_after (drops + 1) (gap_after (drops + 1)) steps
+wait_after drops wait (Bound id price ∷ steps) = wait_after drops wait steps
 
 -- the log added the clause, and it is none of those that its next drop step has to leave
 abbrev pub MayGo : List Step → ℕ → Type 0

@@ -2,6 +2,8 @@ pub mod Live
 pub mod Passes
 pub mod Searches
 pub mod Orders
+pub mod Restarting
 pub mod Learners
 pub mod Dropping
+pub mod Costs
 pub mod Cores

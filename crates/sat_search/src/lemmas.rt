@@ -3,10 +3,11 @@
 //! dropped bears on nothing but speed.
 ghost use Rattle.std.specs.Prelude.{◌≡◌, ◌≢◌, ◌+◌, ◌-◌, ◌*◌, ◌<◌, ◌≤◌, ◌⊎◌, ◌^◌, ◌∷◌, ◌++◌, []};
 ghost use Rattle.std.specs.Prelude.{length, take, All, AllPairs, Contains, Some, IsSome, IfSome};
-ghost use Rattle.std.specs.Prelude.{IsSomeAnd, IfOk, OnOk, OnErr, slice_get};
+ghost use Rattle.std.specs.Prelude.{IsSomeAnd, IfOk, OnOk, OnErr, slice_get, nat_le, ◌==◌, ℕ};
 ghost use Rattle.sat_core.specs.Trails.{id_at};
 ghost use Rattle.sat_core.specs.Forgotten.{IsNoReason};
 ghost use Rattle.sat_search.specs.Dropping.{AreLemmas, Drops, Forgets, ForgetsMore};
+ghost use Rattle.sat_search.specs.Dropping.{sizes, gap_after, wait_after};
 
 use arc_base::{List, Memory};
 use proof_log::{Log, Step};
@@ -39,9 +40,14 @@ pub(crate) struct Lemmas {
 }
 
 impl Lemmas {
-    /// The lemmas of a log.
+    /// The lemmas of a log. Of a lemma that is there already only its literals are known, which
+    /// stand for the levels that it joined; and all steps tell which lemmas were used lately.
     pub fn of(alloc: Global, steps: &[Step]) -> Result<Lemmas, Memory>
-        ensures { IfOk result (AreLemmas steps.now) }
+        ensures lemmas { IfOk result (AreLemmas steps.now) }
+        ensures levels { IfOk result (λ lemmas. lemmas.levels.items ≡ sizes steps.now) }
+        ensures wait { IfOk result (λ lemmas.
+            lemmas.wait ≡ wait_after 0 (gap_after 0) steps.now) }
+        ensures from { IfOk result (λ lemmas. lemmas.from ≡ 0) }
     {
         let mut lemmas = Lemmas {
             alloc,
@@ -64,7 +70,11 @@ impl Lemmas {
     /// A lemma joins the log.
     pub fn add(&mut self, id: u64, levels: u32) -> Result<(), Memory>
         ensures ids { OnOk result (self.new.ids.items ≡ self.old.ids.items ++ id ∷ []) }
+        ensures levels { OnOk result
+            (self.new.levels.items ≡ self.old.levels.items ++ levels ∷ []) }
+        ensures wait { OnOk result (self.new.wait ≡ self.old.wait - 1) }
         ensures drops { self.new.drops ≡ self.old.drops }
+        ensures from { self.new.from ≡ self.old.from }
     {
         self.ids.push(id)?;
         self.levels.push(levels)?;
@@ -75,20 +85,24 @@ impl Lemmas {
     /// Lemmas were dropped.
     fn dropped(&mut self)
         requires { self.old.drops + 1 < 2 ^ 64 }
-        ensures ids { self.new.ids.items ≡ self.old.ids.items }
-        ensures drops { self.new.drops ≡ self.old.drops + 1 }
+        ensures { self.new ≡ record self.old
+            { drops = self.old.drops + 1; wait = gap_after (self.old.drops + 1) } }
     {
         self.drops += 1;
-        self.wait = ADDED.saturating_mul(self.drops.saturating_add(1));
+        self.wait = ADDED.saturating_mul(self.drops).saturating_add(ADDED);
     }
 
     /// Whether lemmas are to be dropped once another one is added.
-    pub fn is_due_with_next(&self) -> bool {
+    pub fn is_due_with_next(&self) -> bool
+        ensures { result ≡ nat_le self.now.wait 1 }
+    {
         self.wait <= 1
     }
 
     /// Whether lemmas are to be dropped now.
-    pub fn is_due(&self) -> bool {
+    pub fn is_due(&self) -> bool
+        ensures { result ≡ (self.now.wait == 0) }
+    {
         self.wait == 0
     }
 
@@ -100,25 +114,16 @@ impl Lemmas {
         self.ids.len().saturating_sub(kept)
     }
 
-    /// Where a clause stands among the first lemmas, so many of them, where it does.
+    /// Where a clause stands among the first lemmas, so many of them, where it does, by a binary
+    /// search: the ids of a log's lemmas rise.
     fn place_of(&self, id: u64, old: usize) -> Option<usize>
-        ensures { IfSome result (λ place.
+        ensures place { IfSome result (λ place.
             (place < old) × (slice_get self.now.ids.items place ≡ Some id)) }
+        ensures found { AllPairs (λ a b. a < b) self.now.ids.items → (place : ℕ) → place < old →
+            slice_get self.now.ids.items place ≡ Some id → result ≡ Some place }
     {
-        let mut low = 0;
-        let mut high = old.min(self.ids.len());
-        while low < high {
-            let middle = low + (high - low) / 2;
-            if self.ids[middle] == id {
-                return Some(middle);
-            }
-            if self.ids[middle] < id {
-                low = middle + 1;
-            } else {
-                high = middle;
-            }
-        }
-        None
+        let first = &self.ids[..old.min(self.ids.len())];
+        first.binary_search(&id).ok()
     }
 
     /// Which of the first lemmas the hints of these steps name.

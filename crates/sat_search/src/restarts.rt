@@ -1,5 +1,7 @@
 //! Restarts: when a search goes back to level 0 and begins its decisions anew. Nothing but speed
 //! depends on it.
+ghost use Rattle.std.specs.Prelude.{◌≡◌};
+ghost use Rattle.sat_search.specs.Restarting.{at_first, ends_gap, after_conflict};
 
 /// The conflicts before the first restart.
 const FIRST: u64 = 100;
@@ -13,7 +15,10 @@ pub(crate) struct Restarts {
 }
 
 impl Restarts {
-    pub fn make() -> Restarts {
+    /// The first gap.
+    pub fn make() -> Restarts
+        ensures { result ≡ at_first }
+    {
         Restarts {
             left: FIRST,
             gap: FIRST,
@@ -21,7 +26,10 @@ impl Restarts {
     }
 
     /// Counts a conflict, and tells whether the search is to begin anew after it.
-    pub fn is_due(&mut self) -> bool {
+    pub fn is_due(&mut self) -> bool
+        ensures due { result ≡ ends_gap self.old }
+        ensures after { self.new ≡ after_conflict self.old }
+    {
         self.left = self.left.saturating_sub(1);
         if self.left > 0 {
             return false;

@@ -1,5 +1,6 @@
 use Rattle.std.proofs.Common.{ℕ, List, length, take, All, Contains, ap, sym, ◌∙◌, subst, arith}
 use Rattle.proof_log.specs.declared.steps.Step.{Step}
+use Rattle.sat_search.specs.declared.lemmas.Lemmas.{Lemmas}
 use Rattle.sat_search.specs.Dropping.{AreLemmas}
 use Rattle.sat_search.proofs.Forgetting.{few_drops, first_go, lemmas_drop, drops_some}
 use Rattle.sat_search.proofs.lemmas.Lemmas.drop_half.Goals as goal
@@ -10,7 +11,7 @@ dropped-requires c = omega (arith, few_drops c.args.log.now.steps c.args.self.no
 pub returns-clause-lemmas : goal.returns-clause-lemmas
 returns-clause-lemmas c =
     subst (λ (xs : List Step). AreLemmas xs c.dropped.new.self) (sym c.in_ok-push.ensures.ok)
-    (lemmas_drop c.args.log.now.steps c.args.self.now c.dropped.new.self _ c.requires.lemmas c.dropped.ensures.ids c.dropped.ensures.drops)
+    (lemmas_drop c.args.log.now.steps c.args.self.now c.dropped.new.self _ c.requires.lemmas (ap (λ (l : Lemmas). l.ids.items) c.dropped.ensures) (ap (λ (l : Lemmas). l.drops) c.dropped.ensures))
 
 pub returns-clause-drops : goal.returns-clause-drops
 returns-clause-drops c =
