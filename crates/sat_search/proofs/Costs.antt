@@ -1,8 +1,8 @@
 -- What clauses cost, and which may be dropped.
-use Rattle.std.proofs.Common.{◌≡◌, ◌≢◌, ℕ, zero, suc, ◌+◌, ◌-◌, ◌/◌, ◌<◌, ◌≤◌, ◌==◌, ◌||◌, Bool, true, false, cond, nat_le, nat_lt, inl, inr, List, [], ◌∷◌, ◌++◌, length, take, get_or, slice_get, map, All, AllPairs, refl, ap, sym, ◌∙◌, subst, add-one, arith, Option, Some, None}
-use Rattle.std.specs.List.{list_any, position, Any, sum_by}
+use Rattle.std.proofs.Common.{◌≡◌, ◌≢◌, ℕ, zero, suc, ◌+◌, ◌-◌, ◌<◌, ◌≤◌, ◌==◌, ◌||◌, Bool, true, false, cond, nat_le, nat_lt, inl, inr, List, [], ◌∷◌, ◌++◌, length, take, get_or, slice_get, refl, ap, sym, ◌∙◌, add-one, arith, Option, Some, None}
+use Rattle.std.specs.List.{position, Any, sum_by}
 use Rattle.std.specs.Option.{is_some, option_map, option_and_then}
-use Rattle.std.proofs.lemmas.Bool.{cases_eq, eq-eqb, ne_eqb, eqb-true, le-leb, lt-leb, lt-ltb, cond-true, cond-false}
+use Rattle.std.proofs.lemmas.Bool.{cases_eq, eq-eqb, ne_eqb, eqb-true, le-leb, lt-leb, lt-ltb, cond-true}
 use Rattle.std.proofs.lemmas.Option.{slice_get_within, slice_get-get_or, get_or_from_slice_get, none-some, same_Some}
 use Rattle.std.proofs.lemmas.List.{get_or-take, length-take}
 use Rattle.std.proofs.lemmas.List.Elements.{All-weaker}
@@ -15,7 +15,7 @@ use Rattle.sat_core.specs.declared.assigned.Assigned.{Assigned}
 use Rattle.sat_core.specs.declared.assigned.Held.{Held}
 use Rattle.sat_core.specs.declared.numbered.Numbered.{Numbered}
 use Rattle.sat_core.specs.States.{State}
-use Rattle.sat_core.specs.Forgotten.{IsNoReason, moved, moved_reason, moved_entry, moved_entries, without_at, without_clause}
+use Rattle.sat_core.specs.Forgotten.{IsNoReason, moved, moved_reason, moved_entries, without_at, without_clause}
 use Rattle.sat_core.proofs.Removed.{moved-last, moved-other, to_removed}
 use Rattle.sat_search.specs.declared.lemmas.Lemmas.{Lemmas}
 use Rattle.sat_search.specs.Costs.{is_at, is_reason, place_among, dropping_place, cost_at, cost_of, is_as_much, one_if, count_below, counts, costing, droppable, Rise}

@@ -1,9 +1,9 @@
 -- Clauses that a core forgets, and the lemmas of a log that may be dropped.
-use Rattle.std.proofs.Common.{◌≡◌, ◌≢◌, ℕ, ◌+◌, ◌-◌, ◌*◌, ◌<◌, ◌≤◌, ◌==◌, Bool, true, false, cond, ◌||◌, IsSome, IsSomeAnd, ◌⊎◌, inl, inr, List, [], ◌∷◌, ◌++◌, length, take, drop, reverse, slice_get, get_or, All, AllPairs, Contains, refl, ap, sym, ◌∙◌, subst, arith, Option, Some, None, ℤ, Result, Ok, Err, IfOk}
+use Rattle.std.proofs.Common.{◌≡◌, ◌≢◌, ℕ, ◌+◌, ◌-◌, ◌*◌, ◌<◌, ◌≤◌, ◌==◌, Bool, true, false, cond, ◌||◌, IsSome, IsSomeAnd, inl, inr, List, [], ◌∷◌, ◌++◌, length, take, drop, reverse, slice_get, get_or, All, AllPairs, Contains, refl, ap, sym, ◌∙◌, subst, arith, Option, Some, None, ℤ, Result, Ok, Err, IfOk}
 use Rattle.std.specs.List.{list_any}
-use Rattle.std.proofs.lemmas.Bool.{cases_eq, cases_order, eq-eqb}
+use Rattle.std.proofs.lemmas.Bool.{cases_eq, cases_lt, cases_order, eq-eqb}
 use Rattle.std.proofs.lemmas.Option.{none-some, same_Some, slice_get_within, get_or_from_slice_get}
-use Rattle.std.proofs.lemmas.List.{append-nil, get_or-reverse, length-reverse, get_or-take, get_or-drop, length-take-le, length-drop, reverse-append, take_more}
+use Rattle.std.proofs.lemmas.List.{append-nil, get_or-reverse, length-reverse, get_or-take, get_or-drop, length-take, length-take-le, length-drop, reverse-append, take_more}
 use Rattle.std.proofs.lemmas.List.Folds.{list_any-append}
 use Rattle.std.proofs.lemmas.List.Elements.{All-append, All-cons, All-nil, All-weaker}
 use Rattle.arc_base.specs.declared.memory.Memory.{Memory}
@@ -24,7 +24,7 @@ use Rattle.sat_search.specs.Passes.{is_marked}
 use Rattle.sat_search.specs.Orders.{IsOrder}
 use Rattle.sat_search.specs.Learners.{IsReady}
 use Rattle.sat_search.specs.declared.learner.Learner.{Learner}
-use Rattle.sat_search.specs.Dropping.{AreLemmas, MayGo, Forgets, ForgetsMore, Drops}
+use Rattle.sat_search.specs.Dropping.{old_lemmas, AreLemmas, MayGo, Forgets, ForgetsMore, Drops}
 use Rattle.sat_search.specs.declared.lemmas.Lemmas.{Lemmas}
 use Rattle.sat_search.proofs.Held.{at_held, held_at}
 use Rattle.sat_search.proofs.Clauses.{id_found}
@@ -181,15 +181,15 @@ turned items n m id few (k, low, is) =
     (place, omega (arith, few, below, length-drop m (reverse items), length-reverse items), read)
 
 -- the first lemmas may go, where the others are those that have to stay
-pub first_go : (steps : List Step) (lemmas : Lemmas) (n : ℕ) (ids : List ℕ) → AreLemmas steps lemmas → (n + 1000 * (lemmas.drops + 1) ≤ length lemmas.ids.items) ⊎ (n ≡ 0) → All (Contains (take n lemmas.ids.items)) ids → All (MayGo steps) ids
+pub first_go : (steps : List Step) (lemmas : Lemmas) (n : ℕ) (ids : List ℕ) → AreLemmas steps lemmas → n ≡ old_lemmas lemmas → All (Contains (take n lemmas.ids.items)) ids → All (MayGo steps) ids
 first_go steps lemmas n ids are few first = All-weaker (Contains (take n lemmas.ids.items)) (MayGo steps) goes ids first
   where
     goes : (id : ℕ) → Contains (take n lemmas.ids.items) id → MayGo steps id
-    goes id held = elim few [
-      | inl enough ↦
+    goes id held = elim (cases_lt 0 n) [
+      | inl some ↦
           subst (λ (added : List ℕ). IsOld added (dropped_by 0 steps) id) are.ids
-          (subst (λ (drops : ℕ). IsOld (reverse lemmas.ids.items) drops id) are.drops (turned lemmas.ids.items n (1000 * (lemmas.drops + 1)) id (omega (arith, enough)) held))
-      | inr none ↦ absurd (omega (arith, held.1, ap (λ (k : ℕ). length (take k lemmas.ids.items)) none))
+          (subst (λ (drops : ℕ). IsOld (reverse lemmas.ids.items) drops id) are.drops (turned lemmas.ids.items n (1000 * (lemmas.drops + 1)) id (omega (arith, some, few)) held))
+      | inr none ↦ absurd (omega (arith, held.1, length-take n lemmas.ids.items, none))
     ]
 
 -- ---- a step that drops clauses

@@ -1,10 +1,10 @@
 -- Places in rising lists.
-use Rattle.std.proofs.Common.{◌≡◌, ◌≢◌, ℕ, ◌<◌, ◌≤◌, List, length, take, get_or, slice_get, refl, ap, sym, ◌∙◌, arith, Option, Some, None, Result, Ok, Err, AllPairs, ◌⊎◌, inl, inr}
+use Rattle.std.proofs.Common.{◌≡◌, ℕ, ◌<◌, ◌≤◌, List, length, take, get_or, slice_get, ap, sym, ◌∙◌, arith, Some, Result, Ok, Err, AllPairs, inl, inr}
 use Rattle.std.specs.Result.{result_ok}
 use Rattle.std.specs.Ordering.{nat_cmp}
 use Rattle.std.specs.List.Sorted.{IsBinarySearchResult}
 use Rattle.std.proofs.lemmas.Bool.{cases_order}
-use Rattle.std.proofs.lemmas.Option.{get_or_from_slice_get, slice_get_within, none-some}
+use Rattle.std.proofs.lemmas.Option.{get_or_from_slice_get}
 use Rattle.std.proofs.lemmas.List.{get_or-take, length-take-le}
 use Rattle.std.proofs.lemmas.List.Sorted.{searched}
 

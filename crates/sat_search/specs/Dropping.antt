@@ -1,6 +1,6 @@
 -- What drop steps leave: which lemmas a log has, which may be dropped, and what a step that drops
 -- some does.
-use Rattle.std.specs.Prelude.{◌≡◌, ℕ, ◌+◌, ◌-◌, ◌*◌, ◌^◌, min, ◌⊎◌, IsSome, List, [], ◌∷◌, ◌++◌}
+use Rattle.std.specs.Prelude.{◌≡◌, ℕ, ◌+◌, ◌-◌, ◌*◌, ◌/◌, ◌^◌, min, ◌⊎◌, IsSome, List, [], ◌∷◌, ◌++◌}
 use Rattle.std.specs.Prelude.{length, reverse, All}
 use Rattle.proof_log.specs.declared.steps.Step.{Step}
 use Rattle.proof_log.specs.declared.steps.Step.TheVariants.{Add, Drop, Bound}
@@ -9,6 +9,7 @@ use Rattle.sat_core.specs.States.{State}
 use Rattle.clean_logs.specs.CleanLogs.{added_by, dropped_by}
 use Rattle.sat_search.specs.Live.{clause_in}
 use Rattle.sat_search.specs.Searches.{IsOld}
+use Rattle.sat_search.specs.Costs.{droppable}
 use Rattle.sat_search.specs.declared.lemmas.Lemmas.{Lemmas}
 
 -- the lemmas are those of the log
@@ -35,6 +36,23 @@ wait_after drops wait [] = wait
 wait_after drops wait (Add id lits hints ∷ steps) = wait_after drops (wait - 1) steps
 wait_after drops wait (Drop ids ∷ steps) = wait_after (drops + 1) (gap_after (drops + 1)) steps
 wait_after drops wait (Bound id price ∷ steps) = wait_after drops wait steps
+
+-- how many of the lemmas, the first ones, are old enough to be dropped
+abbrev pub old_lemmas : Lemmas → ℕ
+old_lemmas lemmas = length lemmas.ids.items - 1000 * (lemmas.drops + 1)
+
+-- half of the clauses that may be dropped are gone, rounded up
+abbrev pub HalvesDroppable : Lemmas → State → State → Type 0
+HalvesDroppable lemmas s now =
+    length now.clauses + (droppable lemmas.ids.items (old_lemmas lemmas) s + 1) / 2
+    ≡ length s.clauses
+
+-- the wait after a drop step is that of the next one, which looks at the steps from there on; where
+-- there was none, it is 1,500
+abbrev pub WaitsAgain : Lemmas → Lemmas → List Step → Type 0
+WaitsAgain old new steps =
+    ((new.drops ≡ old.drops) × (new.wait ≡ 1500) × (new.from ≡ old.from)) ⊎
+    ((new.drops ≡ old.drops + 1) × (new.wait ≡ gap_after new.drops) × (new.from ≡ length steps))
 
 -- the log added the clause, and it is none of those that its next drop step has to leave
 abbrev pub MayGo : List Step → ℕ → Type 0

@@ -1,13 +1,15 @@
 //! What a search keeps between its conflicts, and what it does at one: conflict analysis, and the
 //! step back to the level where the lemma implies a literal.
 ghost use Rattle.std.specs.Prelude.{◌≡◌, ◌≢◌, ◌+◌, ◌*◌, ◌≤◌, ◌<◌, ◌-◌, ◌^◌, All, AllPairs, length};
-ghost use Rattle.std.specs.Prelude.{IsSomeAnd, IfOk, OnOk, OnErr};
+ghost use Rattle.std.specs.Prelude.{IsSomeAnd, IfOk, OnOk, OnErr, IsTrue, ◌||◌, ◌⊎◌, nat_le};
 ghost use Rattle.proof_log.specs.declared.steps.Log.{Log};
 ghost use Rattle.sat_core.specs.Trails.{clause_at, IsOf, IsFalsified};
 ghost use Rattle.sat_core.specs.States.{IsSound};
 ghost use Rattle.sat_search.specs.Live.{clause_in};
 ghost use Rattle.sat_search.specs.Learners.{IsReady};
-ghost use Rattle.sat_search.specs.Dropping.{Drops};
+ghost use Rattle.sat_search.specs.Dropping.{Drops, HalvesDroppable, WaitsAgain};
+ghost use Rattle.sat_search.specs.Costs.{Rise};
+ghost use Rattle.sat_search.specs.Restarting.{after_conflict, ends_gap};
 ghost use Rattle.sat_search.specs.Searches.{Gains, IsLearnt, Teaches};
 
 use crate::lemmas::Lemmas;
@@ -56,6 +58,12 @@ impl Learner {
         requires short { length log.old.steps < 2 ^ 32 - 1 }
         ensures ready { IfOk result (λ empty. IsReady core.new.vars log.new.steps self.new) }
         ensures teaches { IfOk result (Teaches core.old log.old.steps core.new log.new.steps) }
+        ensures restarts { IfOk result (λ empty.
+            self.new.restarts ≡ after_conflict self.old.restarts) }
+        ensures wait { IfOk result (λ empty.
+            self.new.lemmas.wait ≡ self.old.lemmas.wait - 1) }
+        ensures anew { IsTrue (ends_gap self.old.restarts || nat_le self.old.lemmas.wait 1) →
+            IfOk result (λ empty. core.new.level ≡ 0) }
         ensures err { OnErr result (log.new.steps ≡ log.old.steps) }
     {
         let lesson = Lesson::of(self.alloc, &mut self.marks, core, conflict)?;
@@ -79,6 +87,14 @@ impl Learner {
         requires short { length log.old.steps < 2 ^ 32 - 1 }
         ensures ready { OnOk result (IsReady core.new.vars log.new.steps self.new) }
         ensures drops { OnOk result (Drops core.old log.old.steps core.new log.new.steps) }
+        ensures half { Rise self.old.lemmas.ids.items → self.old.lemmas.wait ≡ 0 →
+            core.old.level ≡ 0 →
+            OnOk result (HalvesDroppable self.old.lemmas core.old core.new) }
+        ensures waits { self.old.lemmas.wait ≡ 0 → core.old.level ≡ 0 →
+            OnOk result (WaitsAgain self.old.lemmas self.new.lemmas log.new.steps) }
+        ensures later { (0 < self.old.lemmas.wait) ⊎ (0 < core.old.level) →
+            (self.new ≡ self.old) × (core.new ≡ core.old) }
+        ensures restarts { self.new.restarts ≡ self.old.restarts }
         ensures err { OnErr result (log.new.steps ≡ log.old.steps) }
     {
         if !self.lemmas.is_due() || core.level() > 0 {
@@ -125,7 +141,8 @@ fn join(core: &mut Core, id: u64, lits: &[Lit]) -> Result<(), Memory>
     requires few_literals { length lits.now < 2 ^ 32 }
     requires few_clauses { length core.old.clauses < 2 ^ 32 - 1 }
     requires fresh { All (λ c. c.id ≢ id) core.old.clauses }
-    ensures { OnOk result (Gains core.old id lits.now core.new) }
+    ensures gains { OnOk result (Gains core.old id lits.now core.new) }
+    ensures level { OnOk result (core.new.level ≤ core.old.level) }
 {
     if core.is_asserting(lits) {
         return core.learn(id, lits);
@@ -141,6 +158,7 @@ fn enter(core: &mut Core, log: &mut Log, lits: List<Lit>, hints: List<i64>) -> R
     requires short { length log.old.steps < 2 ^ 32 - 1 }
     requires learnt { IsLearnt (clause_in core.old.clauses) core.old.vars lits hints }
     ensures teaches { IfOk result (Teaches core.old log.old.steps core.new log.new.steps) }
+    ensures level { IfOk result (λ empty. core.new.level ≤ core.old.level) }
     ensures err { OnErr result (log.new.steps ≡ log.old.steps) }
 {
     if core.clauses() == u32::MAX {

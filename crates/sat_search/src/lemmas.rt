@@ -3,11 +3,16 @@
 //! dropped bears on nothing but speed.
 ghost use Rattle.std.specs.Prelude.{◌≡◌, ◌≢◌, ◌+◌, ◌-◌, ◌*◌, ◌<◌, ◌≤◌, ◌⊎◌, ◌^◌, ◌∷◌, ◌++◌, []};
 ghost use Rattle.std.specs.Prelude.{length, take, All, AllPairs, Contains, Some, IsSome, IfSome};
-ghost use Rattle.std.specs.Prelude.{IsSomeAnd, IfOk, OnOk, OnErr, slice_get, nat_le, ◌==◌, ℕ};
+ghost use Rattle.std.specs.Prelude.{IsSomeAnd, IfOk, OnOk, OnErr, slice_get, nat_le, ◌==◌, ◌/◌, ℕ};
+ghost use Rattle.std.specs.Prelude.{sum_by};
+ghost use Rattle.std.specs.List.Sorted.{IsNonDecreasing};
 ghost use Rattle.sat_core.specs.Trails.{id_at};
 ghost use Rattle.sat_core.specs.Forgotten.{IsNoReason};
 ghost use Rattle.sat_search.specs.Dropping.{AreLemmas, Drops, Forgets, ForgetsMore};
-ghost use Rattle.sat_search.specs.Dropping.{sizes, gap_after, wait_after};
+ghost use Rattle.sat_search.specs.Dropping.{sizes, gap_after, wait_after, old_lemmas};
+ghost use Rattle.sat_search.specs.Dropping.{HalvesDroppable, WaitsAgain};
+ghost use Rattle.sat_search.specs.Costs.{cost_of, costing, counts, droppable, is_as_much, one_if};
+ghost use Rattle.sat_search.specs.Costs.{Rise};
 
 use arc_base::{List, Memory};
 use proof_log::{Log, Step};
@@ -108,9 +113,9 @@ impl Lemmas {
 
     /// How many of the lemmas, the first ones, are old enough.
     fn old(&self) -> usize
-        ensures { result + 1000 * (self.now.drops + 1) ≤ length self.now.ids.items ⊎ (result ≡ 0) }
+        ensures { result ≡ old_lemmas self.now }
     {
-        let kept = KEPT.saturating_mul(self.drops.saturating_add(1)) as usize;
+        let kept = KEPT.saturating_mul(self.drops).saturating_add(KEPT) as usize;
         self.ids.len().saturating_sub(kept)
     }
 
@@ -119,7 +124,7 @@ impl Lemmas {
     fn place_of(&self, id: u64, old: usize) -> Option<usize>
         ensures place { IfSome result (λ place.
             (place < old) × (slice_get self.now.ids.items place ≡ Some id)) }
-        ensures found { AllPairs (λ a b. a < b) self.now.ids.items → (place : ℕ) → place < old →
+        ensures found { Rise self.now.ids.items → (place : ℕ) → place < old →
             slice_get self.now.ids.items place ≡ Some id → result ≡ Some place }
     {
         let first = &self.ids[..old.min(self.ids.len())];
@@ -153,18 +158,24 @@ impl Lemmas {
     }
 
     /// How little a clause of the core is worth, where it may be dropped: it is one of the first
-    /// lemmas, has more than two literals, and implied no literal of the trail.
+    /// lemmas, has more than two literals, and implied no literal of the trail. For its id the time
+    /// is that of a binary search.
     fn cost(&self, core: &Core, used: &[bool], held: Held) -> Option<u64>
         requires { held.0 < length core.now.clauses }
         ensures no_reason { IsSome result → IsNoReason core.now.trail held }
         ensures old { IsSome result →
             IsSomeAnd (id_at core.now.clauses held)
             (Contains (take (length used.now) self.now.ids.items)) }
+        ensures exact { Rise self.now.ids.items →
+            result ≡ cost_of self.now used.now core.now held.0 }
     {
+        let id = core.id(held);
         if core.clause(held).len() <= 2 {
             return None;
         }
-        let place = self.place_of(core.id(held), used.len())?;
+        let Some(place) = self.place_of(id, used.len()) else {
+            return None;
+        };
         if core.is_reason(held) {
             return None;
         }
@@ -174,7 +185,12 @@ impl Lemmas {
     }
 
     /// The costs of the clauses that may be dropped, the least first.
-    fn costs(&self, core: &Core, used: &[bool]) -> Result<Vec<u64>, Memory> {
+    fn costs(&self, core: &Core, used: &[bool]) -> Result<Vec<u64>, Memory>
+        ensures sorted { IfOk result (λ costs. IsNonDecreasing costs.items) }
+        ensures counts { Rise self.now.ids.items → IfOk result (λ costs. (least : ℕ) →
+            sum_by (counts least) costs.items
+            ≡ costing self.now used.now least core.now (length core.now.clauses)) }
+    {
         let mut costs = Vec::new(self.alloc);
         for place in 0..core.clauses() {
             if let Some(cost) = self.cost(core, used, Held(place)) {
@@ -190,6 +206,10 @@ impl Lemmas {
         requires { AllPairs (λ c d. c.id ≢ d.id) core.old.clauses }
         ensures forgets { IfOk result (λ ids. Forgets core.old ids core.new) }
         ensures old { IfOk result (All (Contains (take (length used.now) self.now.ids.items))) }
+        ensures fewer { IfOk result (λ ids.
+            length core.new.clauses + length ids ≡ length core.old.clauses) }
+        ensures half { Rise self.now.ids.items → IfOk result (λ ids.
+            length ids ≡ (droppable self.now.ids.items (length used.now) core.old + 1) / 2) }
     {
         let costs = self.costs(core, used)?;
         let half = costs.len().div_ceil(2).min(u32::MAX as usize);
@@ -221,6 +241,13 @@ impl Lemmas {
             (All (Contains (take (length used.now) self.now.ids.items)) ids.old →
             All (Contains (take (length used.now) self.now.ids.items)) ids.new) }
         ensures places { OnOk result (held.0 ≤ length core.new.clauses) }
+        ensures takes { Rise self.now.ids.items → OnOk result (length ids.new ≡ length ids.old +
+            one_if (is_as_much least (cost_of self.now used.now core.old held.0))) }
+        ensures fewer { OnOk result (length core.new.clauses + length ids.new
+            ≡ length core.old.clauses + length ids.old) }
+        ensures before { OnOk result ((n : ℕ) → n ≤ held.0 →
+            costing self.now used.now least core.new n
+            ≡ costing self.now used.now least core.old n) }
     {
         match self.cost(core, used, held) {
             Some(cost) if cost >= least => {
@@ -232,14 +259,17 @@ impl Lemmas {
         }
     }
 
-    /// Drops lemmas, at level 0, by a step of the log. Where none may be dropped, it is tried again
-    /// later.
+    /// Drops lemmas, at level 0, by a step of the log: the half that costs most of those that may
+    /// be dropped. Where none may be dropped, it is tried again later.
     pub fn drop_half(&mut self, core: &mut Core, log: &mut Log) -> Result<(), Memory>
         requires lemmas { AreLemmas log.old.steps self.old }
         requires short { length log.old.steps < 2 ^ 32 - 1 }
         requires different { AllPairs (λ c d. c.id ≢ d.id) core.old.clauses }
         ensures lemmas { OnOk result (AreLemmas log.new.steps self.new) }
         ensures drops { OnOk result (Drops core.old log.old.steps core.new log.new.steps) }
+        ensures half { Rise self.old.ids.items → OnOk result
+            (HalvesDroppable self.old core.old core.new) }
+        ensures waits { OnOk result (WaitsAgain self.old self.new log.new.steps) }
         ensures err { OnErr result (log.new.steps ≡ log.old.steps) }
     {
         let steps = log.steps.slice();

@@ -1,4 +1,4 @@
-use Rattle.std.proofs.Common.{ℕ, List, ◌∷◌, ◌++◌, [], refl, ap, ◌∙◌, arith}
+use Rattle.std.proofs.Common.{ℕ, ◌∷◌, ◌++◌, [], refl, ap, ◌∙◌, arith}
 use Rattle.sat_search.specs.declared.lemmas.Lemmas.{Lemmas}
 use Rattle.sat_search.proofs.Forgetting.{first_add, first_drop, first_bound}
 use Rattle.sat_search.proofs.Waits.{begins_add, begins_drop, begins_bound}
