@@ -110,7 +110,7 @@ impl Checker {
             known checker ≡ start f least tops.now)) }
         ensures fault { IfErr result (IsFaultOf bytes.now) }
     {
-        let rows = Rows::make(alloc, 1)?;
+        let rows = Rows::make(alloc)?;
         let (vars, rows) = read_clauses(alloc, bytes, rows)?;
         let checker = Checker::over(alloc, vars, rows, least, tops)?;
         Ok(checker)
@@ -118,14 +118,15 @@ impl Checker {
 
     /// Hands out the room for the numbers of a line.
     pub(crate) fn take_numbers(&mut self, alloc: Global) -> Vec<i64>
-        ensures { known self.new ≡ known self.old }
+        ensures room { result ≡ self.old.numbers }
+        ensures same { known self.new ≡ known self.old }
     {
         mem::replace(&mut self.numbers, Vec::new(alloc))
     }
 
     /// Takes the room for the numbers of a line back.
     pub(crate) fn give_numbers(&mut self, numbers: Vec<i64>)
-        ensures { known self.new ≡ known self.old }
+        ensures { self.new ≡ record self.old { numbers = numbers } }
     {
         self.numbers = numbers;
     }

@@ -1,5 +1,5 @@
 //! What of a clause is left when some literals are false.
-ghost use Rattle.std.specs.Prelude.{◌≡◌, [], OnOk, IfOk};
+ghost use Rattle.std.specs.Prelude.{◌≡◌, [], length, OnOk, IfOk};
 ghost use Rattle.proof_check.specs.Propagation.{left, left_of, is_among, with_literal};
 ghost use Rattle.proof_check.specs.Marks.{is_marked};
 
@@ -29,7 +29,8 @@ pub(crate) struct Marks {
 impl Marks {
     /// No marks, with flags for so many codes.
     pub fn make(alloc: Global, codes: usize) -> Result<Marks, Memory>
-        ensures { IfOk result (λ marks. (m : Lit) → is_marked marks m ≡ is_among [] m) }
+        ensures none { IfOk result (λ marks. (m : Lit) → is_marked marks m ≡ is_among [] m) }
+        ensures flags { IfOk result (λ marks. length marks.near ≡ codes) }
     {
         Ok(Marks {
             near: Flags::make(alloc, codes)?,
@@ -39,7 +40,8 @@ impl Marks {
 
     /// Takes all marks away.
     fn clear(&mut self, alloc: Global)
-        ensures { (m : Lit) → is_marked self.new m ≡ is_among [] m }
+        ensures none { (m : Lit) → is_marked self.new m ≡ is_among [] m }
+        ensures flags { length self.new.near ≡ length self.old.near }
     {
         self.near.clear();
         if !self.far.is_empty() {
@@ -49,8 +51,9 @@ impl Marks {
 
     /// Marks one literal more.
     pub fn mark(&mut self, lit: Lit) -> Result<(), Memory>
-        ensures { OnOk result ((m : Lit) →
+        ensures marked { OnOk result ((m : Lit) →
             is_marked self.new m ≡ with_literal lit (is_marked self.old) m) }
+        ensures flags { length self.new.near ≡ length self.old.near }
     {
         if lit.code < self.near.len() as u64 {
             self.near.set(lit.code as usize);
@@ -62,7 +65,8 @@ impl Marks {
 
     /// Marks just these literals.
     pub fn restart(&mut self, alloc: Global, lits: &[Lit]) -> Result<(), Memory>
-        ensures { OnOk result ((m : Lit) → is_marked self.new m ≡ is_among lits.now m) }
+        ensures marked { OnOk result ((m : Lit) → is_marked self.new m ≡ is_among lits.now m) }
+        ensures flags { length self.new.near ≡ length self.old.near }
     {
         self.clear(alloc);
         for lit in lits {

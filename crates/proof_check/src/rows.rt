@@ -28,11 +28,11 @@ impl Model for Rows {
 }
 
 impl Rows {
-    /// No clause, with room for so many.
-    pub fn make(alloc: Global, count: usize) -> Result<Rows, Memory>
+    /// No clause.
+    pub fn make(alloc: Global) -> Result<Rows, Memory>
         ensures { IfOk result (λ rows. rows ≡ []) }
     {
-        let mut table = Table::make(alloc, count)?;
+        let mut table = Table::make(alloc);
         table.push_none()?;
         Ok(Rows { table })
     }
@@ -42,7 +42,7 @@ impl Rows {
         requires { length clauses.now < 2 ^ 32 }
         ensures { IfOk result (λ rows. rows ≡ clauses.now) }
     {
-        let mut rows = Rows::make(alloc, clauses.len() + 1)?;
+        let mut rows = Rows::make(alloc)?;
         for clause in clauses {
             rows.take(alloc, clause.lits.slice())?;
         }

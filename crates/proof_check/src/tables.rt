@@ -1,7 +1,7 @@
 //! Clauses in the rows of a table, whose literals stand one behind another in one vector.
 ghost use Rattle.std.specs.Prelude.{◌≡◌, ◌≤◌, ◌<◌, ◌+◌, ◌-◌, ◌++◌, [], ◌∷◌, All, length, map, max};
 ghost use Rattle.std.specs.Prelude.{option_map, slice_get, slice_set, sum_by, Some, None};
-ghost use Rattle.std.specs.Prelude.{IfOk, OnOk, OnErr};
+ghost use Rattle.std.specs.Prelude.{OnOk, OnErr};
 ghost use Rattle.proof_check.specs.Places.{nowhere, size, clause_at, IsPlace, IsRising};
 ghost use Rattle.proof_check.specs.Rows.{row_size};
 
@@ -121,15 +121,15 @@ impl Model for Table {
 }
 
 impl Table {
-    /// No rows, with room for so many.
-    pub fn make(alloc: Global, count: usize) -> Result<Table, Memory>
-        ensures { IfOk result (λ table. table ≡ []) }
+    /// No rows.
+    pub fn make(alloc: Global) -> Table
+        ensures { result ≡ [] }
     {
-        Ok(Table {
+        Table {
             lits: Vec::new(alloc),
-            places: Vec::with_capacity(alloc, count)?,
+            places: Vec::new(alloc),
             dropped: 0,
-        })
+        }
     }
 
     /// How many rows there are.
