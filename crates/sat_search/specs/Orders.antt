@@ -1,16 +1,28 @@
 -- The order in which variables are decided.
-use Rattle.std.specs.Prelude.{◌≡◌, ℕ, ◌+◌, ◌||◌, Bool, true, false, IsTrue, List, length}
+use Rattle.std.specs.Prelude.{◌≡◌, ℕ, ◌+◌, ◌/◌, ◌^◌, ◌||◌, Bool, true, false, IsTrue, nat_lt}
+use Rattle.std.specs.Prelude.{if◌then◌else◌, List, length, slice_index}
 use Rattle.cnf_types.specs.declared.literal.Lit.{Lit}
 use Rattle.cnf_types.specs.Literals.{literal}
 use Rattle.sat_core.specs.declared.assigned.Assigned.{Assigned}
 use Rattle.sat_core.specs.Trails.{is_on}
 use Rattle.sat_core.specs.States.{State}
+use Rattle.variable_heap.specs.Heaps.{IsOrdered}
 use Rattle.sat_search.specs.declared.order.Order.{Order}
 
--- the order is one of these variables
+-- the order is one of these variables, and in its heap none is more active than the one above it
 pub record IsOrder (vars : ℕ) (order : Order) : Type 0 where
   pub activity : length order.activity.items ≡ vars + 1
   pub saved : length order.saved.items ≡ vars + 1
+  pub limit : order.heap.limit ≡ vars + 1
+  pub ordered : IsOrdered order.activity.items order.heap.vars
+
+-- the activity after activities were made smaller
+abbrev pub scaled : ℕ → ℕ
+scaled a = if nat_lt 0 a then a / 2 ^ 40 + 1 else 0
+
+-- each activity was made smaller
+abbrev pub IsScaled : List ℕ → List ℕ → Type 0
+IsScaled old new = (k : ℕ) → slice_index new k ≡ scaled (slice_index old k)
 
 -- whether the trail assigns the variable
 abbrev pub is_set : List Assigned → ℕ → Bool

@@ -44,11 +44,7 @@ impl Order {
             IsSomeAnd (clause_at core.new.clauses held) (IsFalsified core.new.trail)) }
         ensures rest { IsNone result → IsAtRest core.new.clauses (is_on core.new.trail) }
     {
-        let vars = core.vars();
         while let Some(var) = self.heap.take_first(self.activity.as_slice()) {
-            if var == 0 || var > vars {
-                continue;
-            }
             if let Some(held) = self.assume(core, var) {
                 return Some(held);
             }

@@ -9,7 +9,6 @@ mod beginning;
 mod counting;
 mod deciding;
 mod found;
-mod heap;
 mod learner;
 mod lemmas;
 mod lesson;

@@ -1,16 +1,16 @@
 //! In which order variables are decided, and how: those that conflicts met most come first, late
 //! conflicts counting more (their activity), each with the value that it had last (phase saving).
-//! Nothing but speed depends on it.
+//! No answer depends on it, but speed does.
 ghost use Rattle.std.specs.Prelude.{◌≡◌, ◌<◌, ◌≤◌, ◌^◌, All, IfOk};
 ghost use Rattle.sat_core.specs.Trails.{IsOf};
 ghost use Rattle.sat_core.specs.States.{at_level};
-ghost use Rattle.sat_search.specs.Orders.{IsOrder};
+ghost use Rattle.sat_search.specs.Orders.{IsOrder, IsScaled, scaled};
 
-use crate::heap::Heap;
 use arc_base::Memory;
 use cnf_types::Lit;
 use sat_core::{Assigned, Core};
 use std::alloc::Global;
+use variable_heap::VariableHeap;
 
 /// What the first conflict adds to an activity.
 const FIRST_STEP: u64 = 1 << 10;
@@ -25,7 +25,7 @@ const SCALE: u64 = 1 << 40;
 #[derive(Debug, Drop)]
 pub(crate) struct Order {
     /// The variables that may be unset.
-    pub heap: Heap,
+    pub heap: VariableHeap,
     /// The activity of each variable, and 0 where no conflict met it.
     pub activity: Vec<u64>,
     /// What the next conflict adds to the activity of the variables that it meets.
@@ -40,7 +40,7 @@ impl Order {
         ensures { IfOk result (IsOrder vars) }
     {
         Ok(Order {
-            heap: Heap::make(alloc, vars)?,
+            heap: VariableHeap::make(alloc, vars)?,
             activity: vec![in alloc; 0; vars as usize + 1]?,
             step: FIRST_STEP,
             saved: vec![in alloc; false; vars as usize + 1]?,
@@ -112,10 +112,17 @@ impl Order {
 }
 
 /// Makes activities smaller, but none 0.
-fn scale(activities: &mut [u64]) {
+fn scale(activities: &mut [u64])
+    ensures { IsScaled activities.old activities.new }
+{
     for activity in activities.iter_mut() {
-        if *activity > 0 {
-            *activity = *activity / SCALE + 1;
-        }
+        *activity = smaller(*activity);
     }
+}
+
+/// An activity made smaller, but not 0.
+fn smaller(activity: u64) -> u64
+    ensures { result ≡ scaled activity }
+{
+    if activity > 0 { activity / SCALE + 1 } else { 0 }
 }

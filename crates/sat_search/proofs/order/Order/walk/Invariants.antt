@@ -14,4 +14,4 @@ invariant-loop-var l = record {
 }
 
 abbrev pub decreases-loop-var : goal.decreases-loop-var
-decreases-loop-var l = length l.self.heap.vars.items
+decreases-loop-var l = length l.self.heap.vars
