@@ -1,7 +1,7 @@
 -- What drop steps leave: which lemmas a log has, which may be dropped, and what a step that drops
 -- some does.
-use Rattle.std.specs.Prelude.{◌≡◌, ℕ, ◌+◌, ◌-◌, ◌*◌, ◌/◌, ◌^◌, min, ◌⊎◌, IsSome, List, [], ◌∷◌, ◌++◌}
-use Rattle.std.specs.Prelude.{length, reverse, All}
+use Rattle.std.specs.Prelude.{◌≡◌, ℕ, ◌+◌, ◌-◌, ◌*◌, ◌/◌, ◌^◌, min, ◌⊎◌, IsSome, List, [], ◌∷◌}
+use Rattle.std.specs.Prelude.{◌++◌, length, reverse, All}
 use Rattle.proof_log.specs.declared.steps.Step.{Step}
 use Rattle.proof_log.specs.declared.steps.Step.TheVariants.{Add, Drop, Bound}
 use Rattle.proof_check.specs.Knowledge.{without_clauses}
