@@ -1,8 +1,8 @@
 -- The order in which variables are decided.
-use Rattle.std.specs.Prelude.{◌≡◌, ℕ, ◌+◌, ◌/◌, ◌^◌, ◌||◌, Bool, true, false, IsTrue, nat_lt}
-use Rattle.std.specs.Prelude.{if◌then◌else◌, List, length, slice_index}
+use Rattle.std.specs.Prelude.{◌≡◌, ℕ, ◌+◌, ◌-◌, ◌/◌, ◌^◌, ◌||◌, min, nat_lt, Bool, true, false}
+use Rattle.std.specs.Prelude.{IsTrue, if◌then◌else◌, List, [], ◌∷◌, length, slice_index, slice_set}
 use Rattle.cnf_types.specs.declared.literal.Lit.{Lit}
-use Rattle.cnf_types.specs.Literals.{literal}
+use Rattle.cnf_types.specs.Literals.{literal, variable}
 use Rattle.sat_core.specs.declared.assigned.Assigned.{Assigned}
 use Rattle.sat_core.specs.Trails.{is_on}
 use Rattle.sat_core.specs.States.{State}
@@ -19,6 +19,29 @@ pub record IsOrder (vars : ℕ) (order : Order) : Type 0 where
 -- the activity after activities were made smaller
 abbrev pub scaled : ℕ → ℕ
 scaled a = if nat_lt 0 a then a / 2 ^ 40 + 1 else 0
+
+-- the activities after a conflict met a variable: its own grew by the step, as far as 64 bits hold
+abbrev pub met_once : ℕ → ℕ → List ℕ → List ℕ
+met_once step var activity =
+    slice_set activity var (min (slice_index activity var + step) (2 ^ 64 - 1))
+
+-- the activities after it met the variables of all these literals
+abbrev pub met_all : ℕ → List Lit → List ℕ → List ℕ
+met_all step [] activity = activity
+met_all step (l ∷ lits) activity = met_all step lits (met_once step (variable l) activity)
+
+-- the step with a sixteenth more, as far as 64 bits hold
+abbrev pub grown : ℕ → ℕ
+grown step = min (step + step / 16) (2 ^ 64 - 1)
+
+-- the step after a conflict: a sixteenth more, or much less where that is too much
+abbrev pub step_after : ℕ → ℕ
+step_after step = if nat_lt (2 ^ 50) (grown step) then grown step / 2 ^ 40 else grown step
+
+-- the activities after a conflict of this step are these, all made smaller where the step is
+abbrev pub AreActive : ℕ → List ℕ → List ℕ → Type 0
+AreActive step met new = (var : ℕ) → slice_index new var ≡
+    (if nat_lt (2 ^ 50) (grown step) then scaled (slice_index met var) else slice_index met var)
 
 -- each activity was made smaller
 abbrev pub IsScaled : List ℕ → List ℕ → Type 0

@@ -1,5 +1,7 @@
 //! Decisions: variables are set one after another, until there is a conflict or all are set.
 ghost use Rattle.std.specs.Prelude.{◌≡◌, ◌≤◌, ◌<◌, ℕ, IsTrue, IsNone, IfSome, IsSomeAnd};
+ghost use Rattle.std.specs.Prelude.{IsFalse, false, slice_index_or};
+ghost use Rattle.cnf_types.specs.Literals.{literal};
 ghost use Rattle.sat_core.specs.Trails.{is_on, clause_at, IsFalsified};
 ghost use Rattle.sat_core.specs.Rest.{IsAtRest};
 ghost use Rattle.sat_core.specs.States.{IsSound};
@@ -74,7 +76,7 @@ impl Order {
         None
     }
 
-    /// Decides a variable that is unset, and propagates.
+    /// Decides a variable, where it is unset, as the value that it had last, and propagates.
     fn assume(&self, core: &mut Core, var: u64) -> Option<Held>
         requires order { IsOrder core.old.vars self.now }
         requires least { 1 ≤ var }
@@ -88,6 +90,8 @@ impl Order {
             IsSomeAnd (clause_at core.new.clauses held) (IsFalsified core.new.trail)) }
         ensures rest { IsNone result → IsAtRest core.new.clauses (is_on core.new.trail) }
         ensures set { IsTrue (is_set core.new.trail var) }
+        ensures saved { IsFalse (is_set core.old.trail var) → IsTrue (is_on core.new.trail
+            (literal var (slice_index_or self.now.saved.items var false))) }
     {
         let lit = Lit::make(var, self.saved[var as usize]);
         if core.value(lit).is_some() {

@@ -1,10 +1,11 @@
 //! In which order variables are decided, and how: those that conflicts met most come first, late
 //! conflicts counting more (their activity), each with the value that it had last (phase saving).
-//! No answer depends on it, but speed does.
+//! That an answer is right does not rest on it, only how soon there is one.
 ghost use Rattle.std.specs.Prelude.{◌≡◌, ◌<◌, ◌≤◌, ◌^◌, All, IfOk};
 ghost use Rattle.sat_core.specs.Trails.{IsOf};
 ghost use Rattle.sat_core.specs.States.{at_level};
-ghost use Rattle.sat_search.specs.Orders.{IsOrder, IsScaled, scaled};
+ghost use Rattle.sat_search.specs.Orders.{IsOrder, IsScaled, scaled, step_after, met_once, met_all};
+ghost use Rattle.sat_search.specs.Orders.{AreActive};
 
 use arc_base::Memory;
 use cnf_types::Lit;
@@ -51,7 +52,11 @@ impl Order {
     pub fn remember(&mut self, vars: u64, met: &[Lit])
         requires order { IsOrder vars self.old }
         requires met { All (IsOf vars) met.now }
-        ensures { IsOrder vars self.new }
+        ensures order { IsOrder vars self.new }
+        ensures step { self.new.step ≡ step_after self.old.step }
+        ensures activity { AreActive self.old.step
+            (met_all self.old.step met.now self.old.activity.items) self.new.activity.items }
+        ensures saved { self.new.saved ≡ self.old.saved }
     {
         for lit in met {
             self.raise(vars, lit.var());
@@ -63,7 +68,11 @@ impl Order {
     fn raise(&mut self, vars: u64, var: u64)
         requires order { IsOrder vars self.old }
         requires range { var ≤ vars }
-        ensures { IsOrder vars self.new }
+        ensures order { IsOrder vars self.new }
+        ensures step { self.new.step ≡ self.old.step }
+        ensures activity { self.new.activity.items ≡
+            met_once self.old.step var self.old.activity.items }
+        ensures saved { self.new.saved ≡ self.old.saved }
     {
         let at = var as usize;
         self.activity[at] = self.activity[at].saturating_add(self.step);
@@ -101,7 +110,10 @@ impl Order {
     /// Lets the next conflict count more than this one.
     fn advance(&mut self, vars: u64)
         requires { IsOrder vars self.old }
-        ensures { IsOrder vars self.new }
+        ensures order { IsOrder vars self.new }
+        ensures step { self.new.step ≡ step_after self.old.step }
+        ensures activity { AreActive self.old.step self.old.activity.items self.new.activity.items }
+        ensures saved { self.new.saved ≡ self.old.saved }
     {
         self.step = self.step.saturating_add(self.step / 16);
         if self.step > GREATEST_STEP {
@@ -124,5 +136,9 @@ fn scale(activities: &mut [u64])
 fn smaller(activity: u64) -> u64
     ensures { result ≡ scaled activity }
 {
-    if activity > 0 { activity / SCALE + 1 } else { 0 }
+    if activity > 0 {
+        activity / SCALE + 1
+    } else {
+        0
+    }
 }

@@ -1,5 +1,11 @@
-use Rattle.sat_search.specs.Orders.{IsOrder}
+use Rattle.std.proofs.Common.{◌≡◌, drop}
+use Rattle.sat_search.specs.Orders.{IsOrder, met_all}
 use Rattle.sat_search.proofs.order.Order.remember.Given as goal
 
 abbrev pub invariant-loop-lit : goal.invariant-loop-lit
-invariant-loop-lit l = IsOrder l.vars l.self
+invariant-loop-lit l = record {
+  order : IsOrder l.vars l.self;
+  step : l.self.step ≡ l.initial.self.step;
+  saved : l.self.saved ≡ l.initial.self.saved;
+  left : met_all l.initial.self.step (drop l.lit-index l.met) l.self.activity.items ≡ met_all l.initial.self.step l.met l.initial.self.activity.items;
+}
