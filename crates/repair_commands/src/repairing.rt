@@ -1,13 +1,10 @@
 //! The command `repair DOC --out SUFFIX --proof NAME [--max-price N] [--conflicts N]`.
-ghost use Rattle.std.specs.Prelude.{◌≡◌, ◌≤◌, ◌⊎◌, length, All, IfOk, IfErr};
-ghost use Rattle.net_model.specs.Forwarding.{HasEnds};
-ghost use Rattle.net_model.specs.Packets.{subject};
-ghost use Rattle.net_model.specs.Validity.{IsValid};
+ghost use Rattle.std.specs.Prelude.{◌≡◌, ◌≤◌, ◌⊎◌, length, IfOk, IfErr};
 ghost use Rattle.edit_space.specs.declared.edit_kinds.EditFault.TheVariants as faults;
-ghost use Rattle.net_model.specs.Policies.{HasFewFailures};
 ghost use Rattle.arc_repair.specs.Answers.{IsRepairFault};
 ghost use Rattle.run_files.specs.Answers.{Answers, OnlyReads};
 ghost use Rattle.run_files.specs.Limits.{least_limit};
+ghost use Rattle.run_inputs.specs.Inputs.{AreFit};
 ghost use Rattle.repair_commands.specs.Repairs.{has_clash, IsRepaired, IsRepairRefusal};
 ghost use Rattle.repair_commands.specs.Repairs.{WritesCertificate};
 ghost use Rattle.repair_commands.specs.Steps.{IsFound, StopsFor};
@@ -53,10 +50,8 @@ fn find_repair(
     net: &Network,
     doc: &Document,
 ) -> Result<(List<Edit>, Answer), EditFault>
-    requires valid { IsValid net.now }
+    requires fit { AreFit doc.now net.now }
     requires policies { length doc.now.policies ≤ POLICY_LIMIT }
-    requires ends { All (λ policy. HasEnds net.now (subject policy)) doc.now.policies }
-    requires failures { All (λ policy. HasFewFailures policy.kind) doc.now.policies }
     requires bound { words.now.bound ≤ PRICE_LIMIT }
     requires most { words.now.conflicts ≤ CONFLICT_LIMIT }
     ensures found { IfOk result (λ found. IsFound words.now net.now doc.now found.0 found.1) }
