@@ -1,7 +1,7 @@
 -- What judging the certificate of a repair answers.
-use Rattle.std.proofs.Common.{◌≡◌, ℕ, ◌≤◌, inl, inr, List, [], length, refl, sym, subst}
+use Rattle.std.proofs.Common.{◌≡◌, ℕ, ◌≤◌, inl, inr, List, [], length, refl, sym, subst, arith}
 use Rattle.std.specs.Prelude.{Option, Some, None, IfSome, Result, Ok, Err}
-use Rattle.arc_base.specs.declared.limits.TheConstants.{EDIT_LIMIT}
+use Rattle.arc_base.specs.declared.limits.TheConstants.{EDIT_LIMIT, POLICY_LIMIT}
 use Rattle.arc_outside.specs.Files.{Files}
 use Rattle.net_model.specs.declared.policies.Document.{Document}
 use Rattle.net_model.specs.declared.rows.Network.{Network}
@@ -14,6 +14,7 @@ use Rattle.edit_space.specs.EditLists.{AreEdits, HasFewClasses, NamesLimit}
 use Rattle.policy_report.specs.Edits.{HasAddresses}
 use Rattle.report_check.specs.declared.outcome.Outcome.{Outcome}
 use Rattle.repair_check.specs.Certifies.{CertificatesAreAccepted, CertifiedClaimsAreTrue}
+use Rattle.repair_check.specs.Instances.{IsInstance}
 use Rattle.run_files.specs.declared.limits.Limits.TheVariants.{Editing}
 use Rattle.run_files.specs.declared.outcome.Done.{Done}
 use Rattle.run_files.specs.declared.outcome.FileRefusal.{FileRefusal}
@@ -24,13 +25,24 @@ use Rattle.run_files.specs.Judgements.{judgement_status, judgement_text}
 use Rattle.run_files.specs.Limits.{proof_limit}
 use Rattle.run_files.specs.Refusals.{bytes_at, read_refusal}
 use Rattle.run_inputs.specs.declared.inputs.Sources.{Sources}
-use Rattle.run_inputs.specs.Inputs.{HoldsDocument, ReadsSources}
+use Rattle.run_inputs.specs.Inputs.{AreFit, HoldsDocument, ReadsSources}
 use Rattle.verify_commands.specs.Checks.{judgement_of}
 use Rattle.check_commands.specs.Readings.{JudgesLines, JudgesRepair}
 use Rattle.check_commands.specs.RepairChecks.{IsRepairJudged, IsTextRefusal}
 use Rattle.repair_commands.specs.Steps.{StopsFor}
 
 -- ---- the judgement over the network
+
+-- the edits of a document that can be judged over the network
+pub instance : (net : Network) (doc : Document) (list : List Edit) → AreFit doc net → length doc.policies ≤ POLICY_LIMIT → HasFewClasses net doc → AreEdits net doc list → length list ≤ EDIT_LIMIT → IsInstance net doc list
+instance net doc list fit policies few_classes edits few = record {
+  judgeable = record { valid = fit.valid; ends = fit.ends };
+  policies = policies;
+  failures = fit.failures;
+  few_classes = few_classes;
+  edits = edits;
+  few = few;
+}
 
 module _ (document certificate : List ℕ) (net : Network) (doc : Document) where
   -- a count is at fault before a line is read
@@ -41,29 +53,28 @@ module _ (document certificate : List ℕ) (net : Network) (doc : Document) wher
   counts_stopped (Some files) (faults.Limit what count) stop names (inr told) = subst (λ (s : Stop). JudgesRepair document net doc certificate files (Err s)) (sym told) (inr (what, count, inl names, refl))
   counts_stopped (Some files) faults.Memory stop names memory = subst (λ (s : Stop). JudgesRepair document net doc certificate files (Err s)) (sym memory) tt
 
-  module _ (list : List Edit) (valid : IsValid net) (countable : IsCountable net) (addresses : HasAddresses net) (edits : AreEdits net doc list) (classes : HasFewClasses net doc) (few : length list ≤ EDIT_LIMIT)
-      (policies : length doc.policies ≤ 4294967295) (exactly : CertificatesAreAccepted) (are_true : CertifiedClaimsAreTrue) where
+  module _ (list : List Edit) (is : IsInstance net doc list) (countable : IsCountable net) (addresses : HasAddresses net) (exactly : CertificatesAreAccepted) (are_true : CertifiedClaimsAreTrue) where
     judged_here : (files : Files) (result : Result Outcome Stop) → JudgesLines proof_limit document net doc list certificate files result → JudgesRepair document net doc certificate files result
-    judged_here files (Ok outcome) is = record {
+    judged_here files (Ok outcome) told = record {
       list = list;
-      edits = edits;
-      classes = classes;
-      few = few;
-      counted = is.counted;
-      outcome_is = is.outcome;
-      accepted = exactly net doc list (bytes_at files certificate) outcome valid countable addresses edits policies is.outcome;
-      are_true = λ claim certifies. are_true net doc list (bytes_at files certificate) claim valid countable edits certifies;
+      edits = is.edits;
+      classes = is.few_classes;
+      few = is.few;
+      counted = told.counted;
+      outcome_is = told.outcome;
+      accepted = exactly net doc list (bytes_at files certificate) outcome is.judgeable.valid countable addresses is.edits (omega (arith, is.policies)) told.outcome;
+      are_true = λ claim certifies. are_true net doc list (bytes_at files certificate) claim is.judgeable.valid countable is.edits certifies;
     }
     judged_here files (Err (stops.Refused r)) (inl late) = inl late
-    judged_here files (Err (stops.Refused r)) (inr passed) = inr (passed.0, passed.1, inr (record { list = list; edits = edits; classes = classes; few = few; formula = passed.2 }), passed.3)
-    judged_here files (Err stops.Memory) is = tt
-    judged_here files (Err stops.Failed) is = tt
+    judged_here files (Err (stops.Refused r)) (inr passed) = inr (passed.0, passed.1, inr (record { list = list; edits = is.edits; classes = is.few_classes; few = is.few; formula = passed.2 }), passed.3)
+    judged_here files (Err stops.Memory) told = tt
+    judged_here files (Err stops.Failed) told = tt
 
     -- the lines are judged
     pub judged_lines : (held : Option Files) (result : Result Outcome Stop) → IfSome held (λ files. JudgesLines proof_limit document net doc list certificate files result) →
         IfSome held (λ files. JudgesRepair document net doc certificate files result)
-    judged_lines None result is = tt
-    judged_lines (Some files) result is = judged_here files result is
+    judged_lines None result told = tt
+    judged_lines (Some files) result told = judged_here files result told
 
 -- ---- the judgement from the files
 

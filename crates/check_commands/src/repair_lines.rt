@@ -1,16 +1,12 @@
 //! The second reading of a repair's certificate: its lines are judged one by one.
-ghost use Rattle.std.specs.Prelude.{◌≤◌, ◌<◌, ◌^◌, length, All, IfSome};
-ghost use Rattle.net_model.specs.Forwarding.{HasEnds};
-ghost use Rattle.net_model.specs.Packets.{subject};
-ghost use Rattle.net_model.specs.Policies.{HasFewFailures};
-ghost use Rattle.net_model.specs.Validity.{IsValid};
-ghost use Rattle.edit_space.specs.EditLists.{AreEdits, HasFewClasses};
+ghost use Rattle.std.specs.Prelude.{◌≤◌, ◌<◌, ◌^◌, length, IfSome};
+ghost use Rattle.repair_check.specs.Instances.{IsInstance};
 ghost use Rattle.run_files.specs.Answers.{OnlyReads};
 ghost use Rattle.run_files.specs.Limits.{least_limit};
 ghost use Rattle.run_inputs.specs.Inputs.{AreFit};
 ghost use Rattle.check_commands.specs.Readings.{JudgesLines, JudgesRepair};
 
-use arc_base::limits::{EDIT_LIMIT, POLICY_LIMIT, PROOF_LIMIT};
+use arc_base::limits::{POLICY_LIMIT, PROOF_LIMIT};
 use arc_base::{List, Name};
 use arc_outside::{Pieces, Store};
 use edit_space::{Edit, edits};
@@ -35,13 +31,7 @@ fn judge_lines<S: Store>(
     limit: u64,
     store: &mut S,
 ) -> Result<Outcome, Stop>
-    requires valid { IsValid net.now }
-    requires policies { length doc.now.policies ≤ POLICY_LIMIT }
-    requires ends { All (λ policy. HasEnds net.now (subject policy)) doc.now.policies }
-    requires failures { All (λ policy. HasFewFailures policy.kind) doc.now.policies }
-    requires edits { AreEdits net.now doc.now list.now }
-    requires few { length list.now ≤ EDIT_LIMIT }
-    requires few_classes { HasFewClasses net.now doc.now }
+    requires instance { IsInstance net.now doc.now list.now }
     requires limit { limit < 2 ^ 63 }
     ensures told { IfSome (S.held store.old) (λ files.
         JudgesLines limit document.now net.now doc.now list.now certificate.now files result) }

@@ -1,3 +1,4 @@
+pub mod Instances
 pub mod Outcomes
 pub mod Phases
 pub mod Certifies

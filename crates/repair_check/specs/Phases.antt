@@ -1,14 +1,11 @@
 -- The judgement line by line: what the lines so far leave to be judged.
 use Rattle.std.specs.Prelude.{◌≡◌, ℕ, ◌+◌, ◌<◌, ◌≤◌, Bool, Option, List, ◌∷◌}
-use Rattle.std.specs.Prelude.{length, All, MatchOption, Result, Ok, Err, IsFalse}
+use Rattle.std.specs.Prelude.{length, MatchOption, Result, Ok, Err, IsFalse}
 use Rattle.arc_base.specs.declared.limits.TheConstants.{PRICE_LIMIT}
 use Rattle.cnf_types.specs.declared.clauses.Formula.{Formula}
 use Rattle.cnf_types.specs.declared.literal.Lit.{Lit}
 use Rattle.net_model.specs.declared.policies.Document.{Document}
 use Rattle.net_model.specs.declared.rows.Network.{Network}
-use Rattle.net_model.specs.Forwarding.{HasEnds}
-use Rattle.net_model.specs.Packets.{subject}
-use Rattle.net_model.specs.Validity.{IsValid}
 use Rattle.edit_space.specs.declared.edit_kinds.Edit.{Edit}
 use Rattle.edit_space.specs.declared.edit_kinds.EditFault.{EditFault}
 use Rattle.edit_space.specs.After.{IsAfter}
@@ -30,6 +27,7 @@ use Rattle.repair_check.specs.declared.phases.Next.TheVariants.{Line, Done}
 use Rattle.repair_check.specs.declared.phases.Phase.{Phase}
 use Rattle.repair_check.specs.declared.phases.Phase.TheVariants as phases
 use Rattle.repair_check.specs.Certifies.{IsCounted, IsCountFault}
+use Rattle.repair_check.specs.Instances.{IsJudgeable}
 use Rattle.repair_check.specs.Outcomes.{Answers, is_edit_kind, IsHeadOutcome, IsAnswerOutcome}
 use Rattle.repair_check.specs.Outcomes.{IsEditsOutcome, IsBlocksOutcome, IsReadyOutcome}
 use Rattle.repair_check.specs.Outcomes.{IsLogOutcome, IsEnded}
@@ -60,11 +58,6 @@ pub record IsOpened (net : Network) (doc : Document) (list : List Edit) (price b
   pub needs : blocks.needs ≡ is_above_zero price
   pub judged : blocks.judged ≡ 0
   pub first : blocks.first ≡ number
-
--- the network in which verdicts are judged is valid, and has the ends of each policy
-pub record IsJudgeable (doc : Document) (now : Network) : Type 0 where
-  pub valid : IsValid now
-  pub ends : All (λ policy. HasEnds now (subject policy)) doc.policies
 
 -- the phase holds together
 abbrev pub IsGoing : Network → Document → List Edit → Phase → Type 0

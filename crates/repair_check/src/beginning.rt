@@ -1,21 +1,17 @@
 //! The lines before the blocks: what they claim, and what is judged once that is known.
-ghost use Rattle.std.specs.Prelude.{◌≡◌, ◌<◌, ◌≤◌, Some, None, List as Items, length, All, IfOk};
+ghost use Rattle.std.specs.Prelude.{◌≡◌, ◌<◌, ◌≤◌, Some, None, List as Items, length, IfOk};
 ghost use Rattle.std.specs.Prelude.{IfErr, IfSome, OnOk, MatchOption};
-ghost use Rattle.net_model.specs.Forwarding.{HasEnds};
-ghost use Rattle.net_model.specs.Packets.{subject};
-ghost use Rattle.net_model.specs.Validity.{IsValid};
-ghost use Rattle.edit_space.specs.EditLists.{AreEdits, HasFewClasses};
 ghost use Rattle.policy_encode.specs.Formulas.{IsFaultOf, IsWithin};
-ghost use Rattle.net_model.specs.Policies.{HasFewFailures};
 ghost use Rattle.arc_repair.specs.Checks.{IsMispriced};
 ghost use Rattle.arc_repair.specs.Repairs.{none_of};
 ghost use Rattle.price_descent.specs.Outcomes.{least_below};
+ghost use Rattle.repair_check.specs.Instances.{IsInstance, IsJudgeable};
 ghost use Rattle.repair_check.specs.Outcomes.{rejected};
-ghost use Rattle.repair_check.specs.Phases.{IsFaultAt, IsJudgeable, IsOpened, IsReady};
-ghost use Rattle.repair_check.specs.Phases.{IsReadyWithin, LeadsTo};
+ghost use Rattle.repair_check.specs.Phases.{IsFaultAt, IsOpened, IsReady, IsReadyWithin};
+ghost use Rattle.repair_check.specs.Phases.{LeadsTo};
 
 use crate::phases::{Blocks, Next, Phase};
-use arc_base::limits::{EDIT_LIMIT, POLICY_LIMIT, PRICE_LIMIT};
+use arc_base::limits::PRICE_LIMIT;
 use arc_base::{CertKind, List, Memory};
 use edit_laws::edits_keep_classes;
 use edit_space::{Edit, EditFault, price};
@@ -43,13 +39,7 @@ fn ready(
     bound: u32,
     least: Option<u32>,
 ) -> Result<Checker, EditFault>
-    requires valid { IsValid net.now }
-    requires policies { length doc.now.policies ≤ POLICY_LIMIT }
-    requires ends { All (λ policy. HasEnds net.now (subject policy)) doc.now.policies }
-    requires failures { All (λ policy. HasFewFailures policy.kind) doc.now.policies }
-    requires edits { AreEdits net.now doc.now list.now }
-    requires few { length list.now ≤ EDIT_LIMIT }
-    requires few_classes { HasFewClasses net.now doc.now }
+    requires instance { IsInstance net.now doc.now list.now }
     requires bound { bound ≤ PRICE_LIMIT }
     ensures ready { IfOk result (IsReady net.now doc.now list.now bound least) }
     ensures limits { OnOk result (IsWithin net.now doc.now list.now bound) }
@@ -84,13 +74,7 @@ fn begin_repair(
     bound: u32,
     number: u64,
 ) -> Result<Next, EditFault>
-    requires valid { IsValid net.now }
-    requires policies { length doc.now.policies ≤ POLICY_LIMIT }
-    requires ends { All (λ policy. HasEnds net.now (subject policy)) doc.now.policies }
-    requires failures { All (λ policy. HasFewFailures policy.kind) doc.now.policies }
-    requires edits { AreEdits net.now doc.now list.now }
-    requires few { length list.now ≤ EDIT_LIMIT }
-    requires few_classes { HasFewClasses net.now doc.now }
+    requires { IsInstance net.now doc.now list.now }
     ensures leads { IfOk result (LeadsTo net.now doc.now list.now Phase.Answer number
         (Ok (Got.Head (CertForm.Repaired price bound)))) }
     ensures fault { IfErr result (IsFaultAt net.now doc.now list.now Phase.Answer
@@ -114,13 +98,7 @@ fn begin_none(
     bound: u32,
     number: u64,
 ) -> Result<Next, EditFault>
-    requires valid { IsValid net.now }
-    requires policies { length doc.now.policies ≤ POLICY_LIMIT }
-    requires ends { All (λ policy. HasEnds net.now (subject policy)) doc.now.policies }
-    requires failures { All (λ policy. HasFewFailures policy.kind) doc.now.policies }
-    requires edits { AreEdits net.now doc.now list.now }
-    requires few { length list.now ≤ EDIT_LIMIT }
-    requires few_classes { HasFewClasses net.now doc.now }
+    requires { IsInstance net.now doc.now list.now }
     ensures leads { IfOk result (LeadsTo net.now doc.now list.now Phase.Answer number
         (Ok (Got.Head (CertForm.NoRepair bound)))) }
     ensures fault { IfErr result (IsFaultAt net.now doc.now list.now Phase.Answer
@@ -158,13 +136,7 @@ pub(crate) fn judge_answer(
     number: u64,
     told: Result<Got, CertFault>,
 ) -> Result<Next, EditFault>
-    requires valid { IsValid net.now }
-    requires policies { length doc.now.policies ≤ POLICY_LIMIT }
-    requires ends { All (λ policy. HasEnds net.now (subject policy)) doc.now.policies }
-    requires failures { All (λ policy. HasFewFailures policy.kind) doc.now.policies }
-    requires edits { AreEdits net.now doc.now list.now }
-    requires few { length list.now ≤ EDIT_LIMIT }
-    requires few_classes { HasFewClasses net.now doc.now }
+    requires { IsInstance net.now doc.now list.now }
     ensures leads { IfOk result (LeadsTo net.now doc.now list.now Phase.Answer number told) }
     ensures fault { IfErr result (IsFaultAt net.now doc.now list.now Phase.Answer told) }
 {
@@ -198,8 +170,7 @@ pub(crate) fn end_edits(
     log: Option<Checker>,
     number: u64,
 ) -> Result<Option<Blocks>, Memory>
-    requires valid { IsValid net.now }
-    requires ends { All (λ policy. HasEnds net.now (subject policy)) doc.now.policies }
+    requires judgeable { IsJudgeable doc.now net.now }
     requires flags { length chosen.items ≡ length list.now }
     requires ready { IsReadyWithin net.now doc.now list.now claimed bound log }
     ensures opened { IfOk result (λ opened.

@@ -1,19 +1,14 @@
 //! The judgement of a text that is at hand whole.
-ghost use Rattle.std.specs.Prelude.{◌≡◌, ◌↔◌, ◌≤◌, length, All, IfOk, IfErr};
-ghost use Rattle.net_model.specs.Forwarding.{HasEnds};
-ghost use Rattle.net_model.specs.Packets.{subject};
-ghost use Rattle.net_model.specs.Validity.{IsValid};
+ghost use Rattle.std.specs.Prelude.{◌≡◌, ◌↔◌, IfOk, IfErr};
 ghost use Rattle.edit_space.specs.Determined.{IsCountable};
-ghost use Rattle.edit_space.specs.EditLists.{AreEdits, HasFewClasses};
-ghost use Rattle.net_model.specs.Policies.{HasFewFailures};
 ghost use Rattle.repair_check.specs.Certifies.{IsCertified, IsCounted, IsCountFault, text_answers};
+ghost use Rattle.repair_check.specs.Instances.{IsInstance};
 ghost use Rattle.repair_check.specs.Outcomes.{IsOutcome};
 
 use crate::addresses::read_addresses;
 use crate::judge::RepairJudge;
 use crate::laws::certificates_are_accepted;
 use arc_base::List;
-use arc_base::limits::{EDIT_LIMIT, POLICY_LIMIT};
 use cnf_types::first_line;
 use edit_space::{Edit, EditFault};
 use net_model::{Document, Network};
@@ -30,13 +25,7 @@ pub fn check_repair(
     list: &List<Edit>,
     text: &[u8],
 ) -> Result<Outcome, EditFault>
-    requires valid { IsValid net.now }
-    requires policies { length doc.now.policies ≤ POLICY_LIMIT }
-    requires ends { All (λ policy. HasEnds net.now (subject policy)) doc.now.policies }
-    requires failures { All (λ policy. HasFewFailures policy.kind) doc.now.policies }
-    requires edits { AreEdits net.now doc.now list.now }
-    requires few { length list.now ≤ EDIT_LIMIT }
-    requires few_classes { HasFewClasses net.now doc.now }
+    requires instance { IsInstance net.now doc.now list.now }
     requires countable { IsCountable net.now }
     ensures outcome { IfOk result (IsOutcome net.now doc.now list.now text.now) }
     ensures accepted { IfOk result (λ o. (o ≡ Outcome.Accepted) ↔

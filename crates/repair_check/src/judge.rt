@@ -1,22 +1,17 @@
 //! The judgement of a text whose lines come one by one.
-ghost use Rattle.std.specs.Prelude.{◌≡◌, ◌+◌, ◌<◌, ◌≤◌, ◌∷◌, ℕ, [], List as Items, length, All};
-ghost use Rattle.std.specs.Prelude.{IfOk, IfErr, IfSome};
+ghost use Rattle.std.specs.Prelude.{◌≡◌, ◌+◌, ◌<◌, ◌∷◌, ℕ, [], List as Items, IfOk, IfErr};
+ghost use Rattle.std.specs.Prelude.{IfSome};
 ghost use Rattle.std.specs.ControlFlow.{continue_value, MatchControlFlow};
 ghost use Rattle.cnf_types.specs.Words.{lines};
-ghost use Rattle.net_model.specs.Forwarding.{HasEnds};
-ghost use Rattle.net_model.specs.Packets.{subject};
-ghost use Rattle.net_model.specs.Policies.{HasFewFailures};
-ghost use Rattle.net_model.specs.Validity.{IsValid};
-ghost use Rattle.edit_space.specs.EditLists.{AreEdits, HasFewClasses};
 ghost use Rattle.policy_report.specs.Steps.{standing, step};
 ghost use Rattle.repair_check.specs.Certifies.{IsCountFault, text_answers};
+ghost use Rattle.repair_check.specs.Instances.{IsInstance, IsJudgeable};
 ghost use Rattle.repair_check.specs.Outcomes.{rejected};
 ghost use Rattle.repair_check.specs.Phases.{IsFaultAt, IsGoing, IsPhaseOutcome, LeadsTo};
 
 use crate::beginning::{end_edits, judge_answer, judge_head};
 use crate::judging::{judge_block, judge_edits, judge_log, judge_ready};
 use crate::phases::{Next, Phase};
-use arc_base::limits::{EDIT_LIMIT, POLICY_LIMIT};
 use arc_base::{CertKind, List, Memory};
 use edit_space::{Edit, EditFault};
 use net_model::{Document, Network};
@@ -41,13 +36,7 @@ fn judge_line(
     number: u64,
     told: Result<Got, CertFault>,
 ) -> Result<Next, EditFault>
-    requires valid { IsValid net.now }
-    requires policies { length doc.now.policies ≤ POLICY_LIMIT }
-    requires ends { All (λ policy. HasEnds net.now (subject policy)) doc.now.policies }
-    requires failures { All (λ policy. HasFewFailures policy.kind) doc.now.policies }
-    requires edits { AreEdits net.now doc.now list.now }
-    requires few { length list.now ≤ EDIT_LIMIT }
-    requires few_classes { HasFewClasses net.now doc.now }
+    requires instance { IsInstance net.now doc.now list.now }
     requires number { number < 18446744073709551615 }
     requires going { IsGoing net.now doc.now list.now phase }
     ensures leads { IfOk result (LeadsTo net.now doc.now list.now phase number told) }
@@ -77,8 +66,7 @@ fn judge_end(
     phase: Phase,
     number: u64,
 ) -> Result<Outcome, Memory>
-    requires valid { IsValid net.now }
-    requires ends { All (λ policy. HasEnds net.now (subject policy)) doc.now.policies }
+    requires judgeable { IsJudgeable doc.now net.now }
     requires going { IsGoing net.now doc.now list.now phase }
     ensures { IfOk result (IsPhaseOutcome net.now doc.now list.now phase number []) }
 {
@@ -163,13 +151,7 @@ impl RepairJudge {
         list: &List<Edit>,
         line: &[u8],
     ) -> Result<ControlFlow<Outcome, RepairJudge>, EditFault>
-        requires valid { IsValid net.now }
-        requires policies { length doc.now.policies ≤ POLICY_LIMIT }
-        requires ends { All (λ policy. HasEnds net.now (subject policy)) doc.now.policies }
-        requires failures { All (λ policy. HasFewFailures policy.kind) doc.now.policies }
-        requires edits { AreEdits net.now doc.now list.now }
-        requires few { length list.now ≤ EDIT_LIMIT }
-        requires few_classes { HasFewClasses net.now doc.now }
+        requires instance { IsInstance net.now doc.now list.now }
         requires number { self.number < 18446744073709551615 }
         requires going { CanGoOn net.now doc.now list.now self }
         ensures judged { (text : Items ℕ) (rest : Items (Items ℕ)) →
@@ -206,8 +188,7 @@ impl RepairJudge {
         doc: &Document,
         list: &List<Edit>,
     ) -> Result<Outcome, Memory>
-        requires valid { IsValid net.now }
-        requires ends { All (λ policy. HasEnds net.now (subject policy)) doc.now.policies }
+        requires judgeable { IsJudgeable doc.now net.now }
         requires going { CanGoOn net.now doc.now list.now self }
         ensures { (text : Items ℕ) → HasComeTo net.now doc.now list.now text [] self →
             IfOk result (Judges net.now doc.now list.now text) }

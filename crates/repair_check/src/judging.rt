@@ -1,11 +1,8 @@
 //! The lines after the answer, one by one.
-ghost use Rattle.std.specs.Prelude.{◌≡◌, ◌<◌, ◌≤◌, List as Items, true, length, set, All};
-ghost use Rattle.std.specs.Prelude.{IfOk};
-ghost use Rattle.net_model.specs.Forwarding.{HasEnds};
-ghost use Rattle.net_model.specs.Packets.{subject};
-ghost use Rattle.net_model.specs.Validity.{IsValid};
+ghost use Rattle.std.specs.Prelude.{◌≡◌, ◌<◌, List as Items, true, length, set, IfOk};
+ghost use Rattle.repair_check.specs.Instances.{IsJudgeable};
 ghost use Rattle.repair_check.specs.Outcomes.{is_edit_kind};
-ghost use Rattle.repair_check.specs.Phases.{EndsEdits, IsJudgeable, IsReadyWithin, LeadsTo};
+ghost use Rattle.repair_check.specs.Phases.{EndsEdits, IsReadyWithin, LeadsTo};
 
 use crate::beginning::{end_edits, rejected};
 use crate::phases::{Blocks, Next, Phase};
@@ -166,8 +163,7 @@ fn judge_after_edits(
     number: u64,
     told: Result<Got, CertFault>,
 ) -> Result<Next, Memory>
-    requires valid { IsValid net.now }
-    requires ends { All (λ policy. HasEnds net.now (subject policy)) doc.now.policies }
+    requires judgeable { IsJudgeable doc.now net.now }
     requires flags { length chosen.items ≡ length list.now }
     requires ready { IsReadyWithin net.now doc.now list.now price bound log }
     requires number { number < 18446744073709551615 }
@@ -194,8 +190,7 @@ pub(crate) fn judge_edits(
     number: u64,
     told: Result<Got, CertFault>,
 ) -> Result<Next, Memory>
-    requires valid { IsValid net.now }
-    requires ends { All (λ policy. HasEnds net.now (subject policy)) doc.now.policies }
+    requires judgeable { IsJudgeable doc.now net.now }
     requires flags { length chosen.items ≡ length list.now }
     requires ready { IsReadyWithin net.now doc.now list.now price bound log }
     requires number { number < 18446744073709551615 }
