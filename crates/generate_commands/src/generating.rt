@@ -1,12 +1,9 @@
 //! The command `generate N --proof NAME`.
 ghost use Rattle.std.specs.Prelude.{◌≡◌, ◌≤◌, ◌<◌, ◌^◌, [], length, All, IfOk, IfErr};
-ghost use Rattle.net_model.specs.Forwarding.{HasEnds};
-ghost use Rattle.net_model.specs.Packets.{subject};
-ghost use Rattle.net_model.specs.Validity.{IsValid};
 ghost use Rattle.net_build.specs.Networks.{IsBuiltWithin};
-ghost use Rattle.net_model.specs.Policies.{HasFewFailures};
 ghost use Rattle.arc_repair.specs.Answers.{IsRepairFault};
 ghost use Rattle.run_files.specs.Answers.{Gives, HasStopCause};
+ghost use Rattle.run_inputs.specs.Inputs.{AreFit};
 ghost use Rattle.repair_commands.specs.Steps.{StopsFor};
 ghost use Rattle.generate_commands.specs.Generates.{default_bound, document_name};
 ghost use Rattle.generate_commands.specs.Generates.{IsGenerateRefusal, IsSummary};
@@ -44,9 +41,7 @@ fn build(alloc: Global, made: &Generated) -> Result<Built, Memory>
     requires links { length made.now.doc.links ≤ LINK_LIMIT }
     requires policies { length made.now.doc.policies ≤ POLICY_LIMIT }
     ensures built { IfOk result (IsBuiltWithin [] EDITED_ENTRY_LIMIT made.now.doc made.now.files) }
-    ensures valid { IfOk result (λ built. IsValid built.net) }
-    ensures ends { IfOk result (λ built.
-        All (λ policy. HasEnds built.net (subject policy)) made.now.doc.policies) }
+    ensures fit { IfOk result (λ built. AreFit made.now.doc built.net) }
 {
     generated_files_are_not_refused();
     let entries = Limits::Editing.entries();
@@ -63,10 +58,8 @@ fn find_repair(
     net: &Network,
     doc: &Document,
 ) -> Result<(List<Edit>, Answer), EditFault>
-    requires valid { IsValid net.now }
+    requires fit { AreFit doc.now net.now }
     requires policies { length doc.now.policies ≤ POLICY_LIMIT }
-    requires ends { All (λ policy. HasEnds net.now (subject policy)) doc.now.policies }
-    requires failures { All (λ policy. HasFewFailures policy.kind) doc.now.policies }
     ensures found { IfOk result (λ found. IsFound net.now doc.now found.0 found.1) }
     ensures fault { IfErr result (IsRepairFault net.now doc.now default_bound) }
 {

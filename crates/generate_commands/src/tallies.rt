@@ -1,12 +1,9 @@
 //! How many policies of a document a network meets.
-ghost use Rattle.std.specs.Prelude.{◌≡◌, ◌+◌, ◌<◌, ◌^◌, length, All, IfOk};
+ghost use Rattle.std.specs.Prelude.{◌≡◌, ◌+◌, ◌<◌, ◌^◌, length, IfOk};
 ghost use Rattle.std.specs.List.{AllZip};
-ghost use Rattle.net_model.specs.Forwarding.{HasEnds};
-ghost use Rattle.net_model.specs.Packets.{subject};
-ghost use Rattle.net_model.specs.Validity.{IsValid};
 ghost use Rattle.net_model.specs.Witnesses.{IsRight};
 ghost use Rattle.edit_space.specs.EditLists.{HasFewClasses};
-ghost use Rattle.net_model.specs.Policies.{HasFewFailures};
+ghost use Rattle.run_inputs.specs.Inputs.{AreFit};
 ghost use Rattle.generate_commands.specs.Tallies.{one_more, tally_of};
 
 use arc_base::{List, Memory};
@@ -57,9 +54,7 @@ pub fn counted(verdicts: &[Verdict]) -> Tally
 
 /// The verdict on each policy of the document, in order.
 pub fn judge_all(alloc: Global, net: &Network, doc: &Document) -> Result<List<Verdict>, Memory>
-    requires valid { IsValid net.now }
-    requires ends { All (λ policy. HasEnds net.now (subject policy)) doc.now.policies }
-    requires failures { All (λ policy. HasFewFailures policy.kind) doc.now.policies }
+    requires fit { AreFit doc.now net.now }
     requires classes { HasFewClasses net.now doc.now }
     ensures { IfOk result (AllZip (IsRight net.now) doc.now.policies) }
 {

@@ -1,24 +1,18 @@
 use Rattle.std.proofs.Common.{List, ℕ, arith}
 use Rattle.generate_commands.proofs.Answered.{counts_stopped, stop_cause, summed, whole}
-use Rattle.generate_commands.proofs.Made.{few_failures, well_formed}
+use Rattle.generate_commands.proofs.Made.{well_formed}
 use Rattle.generate_commands.proofs.generating.generate.Goals as goal
 
 pub build-requires-clause-generated : goal.build-requires-clause-generated
 build-requires-clause-generated c = (c.args.words.now.number, record { some = c.requires.some; few = c.requires.few; is = c.in_ok-made.ensures.generated })
 
-pub find_repair-requires-clause-failures : goal.find_repair-requires-clause-failures
-find_repair-requires-clause-failures c = few_failures c.args.words.now.number c.in_ok-made.made c.in_ok-made.ensures.generated
-
 pub returns-in-Err-clause-answer : goal.returns-in-Err-clause-answer
 returns-in-Err-clause-answer c =
     counts_stopped c.args.words.now c.in_ok-made.made c.in_ok-built.built c.in-Err.fault c.fault_stop.result
-    (record { generated = c.in_ok-made.ensures.generated; is_built = c.in_ok-built.ensures.built }) c.in_ok-built.ensures.valid c.in-Err.ensures.fault c.fault_stop.ensures
+    (record { generated = c.in_ok-made.ensures.generated; is_built = c.in_ok-built.ensures.built }) c.in_ok-built.ensures.fit.valid c.in-Err.ensures.fault c.fault_stop.ensures
 
 pub returns-in-Err-clause-cause : goal.returns-in-Err-clause-cause
 returns-in-Err-clause-cause c = stop_cause c.in-Err.fault c.fault_stop.result c.fault_stop.ensures
-
-pub judge_all-requires-clause-failures : goal.judge_all-requires-clause-failures
-judge_all-requires-clause-failures c = few_failures c.args.words.now.number c.in_ok-made.made c.in_ok-made.ensures.generated
 
 pub answer_done-requires-clause-whole : goal.answer_done-requires-clause-whole
 answer_done-requires-clause-whole c =
@@ -32,11 +26,7 @@ returns-clause-answer c =
     (record {
       well_formed = well_formed c.args.words.now.number c.in_ok-made.made (record { some = c.requires.some; few = c.requires.few; is = c.in_ok-made.ensures.generated })
           (omega (arith, c.in_ok-made.ensures.links, c.requires.few)) (omega (arith, c.in_ok-made.ensures.policies, c.requires.few));
-      fit = record {
-        valid = c.in_ok-built.ensures.valid;
-        ends = c.in_ok-built.ensures.ends;
-        failures = few_failures c.args.words.now.number c.in_ok-made.made c.in_ok-made.ensures.generated;
-      };
+      fit = c.in_ok-built.ensures.fit;
       countable = c.in-Ok.ensures.found.countable;
       is_built = c.in_ok-built.ensures.built;
       count = c.in_ok-made.ensures.files;

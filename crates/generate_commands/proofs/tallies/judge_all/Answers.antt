@@ -8,10 +8,10 @@ use Rattle.generate_commands.proofs.Answered.{few_each}
 use Rattle.generate_commands.proofs.tallies.judge_all.Goals as goal
 
 pub judge-requires-clause-ends : goal.judge-requires-clause-ends
-judge-requires-clause-ends c = at_place _ _ _ c.requires.ends
+judge-requires-clause-ends c = at_place _ _ _ c.requires.fit.ends
 
 pub judge-requires-clause-failures : goal.judge-requires-clause-failures
-judge-requires-clause-failures c = at_place _ _ _ c.requires.failures
+judge-requires-clause-failures c = at_place _ _ _ c.requires.fit.failures
 
 pub unreachable-requires : goal.unreachable-requires
 unreachable-requires c =
