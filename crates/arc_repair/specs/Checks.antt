@@ -1,6 +1,6 @@
 -- The check of a claim with its log: what is wrong with a claim, and what a check knows.
-use Rattle.std.specs.Prelude.{◌≡◌, ◌≢◌, ℕ, ◌<◌, ◌⊎◌, Bool, IsFalse, List, [], ◌∷◌, length}
-use Rattle.arc_base.specs.declared.limits.TheConstants.{PRICE_LIMIT}
+use Rattle.std.specs.Prelude.{◌≡◌, ◌≢◌, ℕ, ◌<◌, ◌≤◌, ◌⊎◌, Bool, IsFalse, List, [], ◌∷◌, length}
+use Rattle.arc_base.specs.declared.limits.TheConstants.{EDIT_LIMIT, PRICE_LIMIT}
 use Rattle.arc_base.specs.declared.certificate.CertKind.{CertKind}
 use Rattle.arc_base.specs.declared.certificate.CertKind.TheVariants as kinds
 use Rattle.cnf_types.specs.declared.literal.Lit.{Lit}
@@ -14,9 +14,9 @@ use Rattle.edit_space.specs.declared.claims.Claim.{Claim}
 use Rattle.edit_space.specs.declared.claims.Claim.TheVariants.{Repaired, NoRepair}
 use Rattle.edit_space.specs.declared.edit_kinds.Edit.{Edit}
 use Rattle.edit_space.specs.After.{IsAfter}
-use Rattle.edit_space.specs.EditLists.{AreEdits}
+use Rattle.edit_space.specs.EditLists.{AreEdits, HasFewClasses}
 use Rattle.edit_space.specs.Prices.{chosen_of}
-use Rattle.policy_encode.specs.Formulas.{IsRepairFormula}
+use Rattle.policy_encode.specs.Formulas.{IsRepairFormula, IsWithin}
 use Rattle.proof_check.specs.Knowledge.{Knowledge, start}
 use Rattle.proof_check.specs.View.{known}
 use Rattle.arc_repair.specs.declared.check.Check.{Check}
@@ -89,3 +89,11 @@ pub record IsBegun (net : Network) (doc : Document) (list : List Edit) (claim : 
 abbrev pub IsMade : Network → Document → List Edit → Claim → Made → Type 0
 IsMade net doc list claim (Good check) = IsBegun net doc list claim check
 IsMade net doc list claim (Bad kind) = IsDefect net doc list claim kind
+
+-- there are few classes and few edits, and where the claim's bound is at most PRICE_LIMIT, the
+-- formula is within its limits
+pub record ClaimKeepsLimits (net : Network) (doc : Document) (list : List Edit)
+    (claim : Claim) : Type 0 where
+  pub classes : HasFewClasses net doc
+  pub edits : length list ≤ EDIT_LIMIT
+  pub formula : claim_bound claim ≤ PRICE_LIMIT → IsWithin net doc list (claim_bound claim)

@@ -37,7 +37,7 @@ impl Check {
     ghost use Rattle.proof_check.specs.Knowledge.{step_fault, after, IsFirst};
     ghost use Rattle.net_model.specs.Policies.{HasFewFailures};
     ghost use Rattle.arc_repair.specs.Answers.{IsRepairFault};
-    ghost use Rattle.arc_repair.specs.Checks.{HasFlags, IsMade, knowledge};
+    ghost use Rattle.arc_repair.specs.Checks.{ClaimKeepsLimits, HasFlags, IsMade, knowledge};
     ghost use Rattle.arc_repair.specs.Claims.{claim_bound};
     ghost use Rattle.arc_repair.specs.Laws.{accepts};
 
@@ -59,6 +59,9 @@ impl Check {
         requires flags { HasFlags net.now doc.now claim.now }
         ensures made { IfOk result (λ made. (list : Items AnyEdit) → AreEdits net.now doc.now list →
             IsMade net.now doc.now list claim.now made) }
+        ensures limits { IfOk result (λ made.
+            (list : Items AnyEdit) → AreEdits net.now doc.now list →
+            ClaimKeepsLimits net.now doc.now list claim.now) }
         ensures fault { IfErr result (IsRepairFault net.now doc.now (claim_bound claim.now)) }
     {
         edit_lists_are_one();

@@ -1,10 +1,10 @@
 use Rattle.std.proofs.Common.{◌≡◌, ◌∙◌, ℕ, Option, inl, List, ap, subst, arith}
 use Rattle.std.proofs.lemmas.Result.{err_from_is_err_and}
 use Rattle.edit_space.specs.declared.edit_kinds.Edit.{Edit}
-use Rattle.policy_encode.specs.Formulas.{IsFaultOf, IsRepairFormula}
+use Rattle.policy_encode.specs.Formulas.{IsFaultOf, IsRepairFormula, IsWithin}
 use Rattle.proof_check.specs.Knowledge.{start}
 use Rattle.arc_repair.specs.Answers.{IsRepairFault}
-use Rattle.arc_repair.specs.Checks.{IsBegun, IsDefect}
+use Rattle.arc_repair.specs.Checks.{ClaimKeepsLimits, IsBegun, IsDefect}
 use Rattle.arc_repair.specs.Claims.{claim_bound}
 use Rattle.arc_repair.proofs.ClaimDefects.{beyond, flags_of, none_wrong, this_wrong}
 use Rattle.arc_repair.proofs.Glue.{formula_fault, of_each, out_of_memory}
@@ -12,6 +12,15 @@ use Rattle.arc_repair.proofs.check.Check.make.Goals as goal
 
 pub returns-then-bound-gt-PRICE_LIMIT-clause-made : goal.returns-then-bound-gt-PRICE_LIMIT-clause-made
 returns-then-bound-gt-PRICE_LIMIT-clause-made c = λ other others. beyond c.args.net.now c.args.doc.now other c.args.claim.now (omega (arith, c.bound_of-bound.ensures, c.if-bound-gt-PRICE_LIMIT.true))
+
+pub returns-then-bound-gt-PRICE_LIMIT-clause-limits : goal.returns-then-bound-gt-PRICE_LIMIT-clause-limits
+returns-then-bound-gt-PRICE_LIMIT-clause-limits c =
+    of_each c.edit_lists_are_one.ensures c.args.net.now c.args.doc.now c.in_ok-list.list c.requires.valid c.in_ok-list.ensures.edits (λ (list : List Edit). ClaimKeepsLimits c.args.net.now c.args.doc.now list c.args.claim.now)
+    (record {
+      classes = c.in_ok-list.ensures.few_classes;
+      edits = c.in_ok-list.ensures.few;
+      formula = λ low. absurd (omega (arith, c.bound_of-bound.ensures, c.if-bound-gt-PRICE_LIMIT.true, low));
+    })
 
 pub encode-requires-clause-failures : goal.encode-requires-clause-failures
 encode-requires-clause-failures c = c.requires.failures
@@ -48,6 +57,15 @@ returns-in-Some-clause-made c =
     of_each c.edit_lists_are_one.ensures c.args.net.now c.args.doc.now c.in_ok-list.list c.requires.valid c.in_ok-list.ensures.edits (λ (list : List Edit). IsDefect c.args.net.now c.args.doc.now list c.args.claim.now c.in-Some.kind)
     (this_wrong c.args.net.now c.args.doc.now c.in_ok-list.list c.args.claim.now c.in_ok-kind.field-0 c.in-Some.kind c.in-Some.is c.in_ok-kind.ensures)
 
+pub returns-in-Some-clause-limits : goal.returns-in-Some-clause-limits
+returns-in-Some-clause-limits c =
+    of_each c.edit_lists_are_one.ensures c.args.net.now c.args.doc.now c.in_ok-list.list c.requires.valid c.in_ok-list.ensures.edits (λ (list : List Edit). ClaimKeepsLimits c.args.net.now c.args.doc.now list c.args.claim.now)
+    (record {
+      classes = c.in_ok-list.ensures.few_classes;
+      edits = c.in_ok-list.ensures.few;
+      formula = λ low. subst (λ (bound : ℕ). IsWithin c.args.net.now c.args.doc.now c.in_ok-list.list bound) c.bound_of-bound.ensures c.in_ok-encoded.ensures.limits;
+    })
+
 pub returns-clause-made : goal.returns-clause-made
 returns-clause-made c =
     let same : c.bound_of-bound.result ≡ claim_bound c.args.claim.now = c.bound_of-bound.ensures in
@@ -59,4 +77,13 @@ returns-clause-made c =
       is_formula = subst (λ (bound : ℕ). IsRepairFormula c.args.net.now c.args.doc.now c.in_ok-list.list bound c.in_ok-encoded.encoded.formula c.in_ok-encoded.encoded.tops) same c.in_ok-encoded.ensures.formula;
       knows = c.in_ok-make.ensures ∙ ap (λ (least : Option ℕ). start c.in_ok-encoded.encoded.formula least c.in_ok-encoded.encoded.tops) c.least_bound-least.ensures;
       needs = c.needs_refutation.ensures;
+    })
+
+pub returns-clause-limits : goal.returns-clause-limits
+returns-clause-limits c =
+    of_each c.edit_lists_are_one.ensures c.args.net.now c.args.doc.now c.in_ok-list.list c.requires.valid c.in_ok-list.ensures.edits (λ (list : List Edit). ClaimKeepsLimits c.args.net.now c.args.doc.now list c.args.claim.now)
+    (record {
+      classes = c.in_ok-list.ensures.few_classes;
+      edits = c.in_ok-list.ensures.few;
+      formula = λ low. subst (λ (bound : ℕ). IsWithin c.args.net.now c.args.doc.now c.in_ok-list.list bound) c.bound_of-bound.ensures c.in_ok-encoded.ensures.limits;
     })
