@@ -27,3 +27,4 @@ pub mod Promises
 pub mod Outcomes
 pub mod Numbering
 pub mod FormulaClauses
+pub mod Releasing

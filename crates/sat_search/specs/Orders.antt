@@ -1,8 +1,9 @@
 -- The order in which variables are decided.
-use Rattle.std.specs.Prelude.{◌≡◌, ℕ, ◌+◌, ◌-◌, ◌/◌, ◌^◌, ◌||◌, min, nat_lt, Bool, true, false}
-use Rattle.std.specs.Prelude.{IsTrue, if◌then◌else◌, List, [], ◌∷◌, length, slice_index, slice_set}
+use Rattle.std.specs.Prelude.{◌≡◌, ◌≢◌, ℕ, ◌+◌, ◌-◌, ◌/◌, ◌^◌, ◌||◌, ◌⊎◌, ◌↔◌, min, nat_lt}
+use Rattle.std.specs.Prelude.{Bool, true, false, IsTrue, if◌then◌else◌, List, [], ◌∷◌, length}
+use Rattle.std.specs.Prelude.{slice_index, slice_index_or, slice_set, filter, map, All, Contains}
 use Rattle.cnf_types.specs.declared.literal.Lit.{Lit}
-use Rattle.cnf_types.specs.Literals.{literal, variable}
+use Rattle.cnf_types.specs.Literals.{literal, variable, is_positive}
 use Rattle.sat_core.specs.declared.assigned.Assigned.{Assigned}
 use Rattle.sat_core.specs.Trails.{is_on}
 use Rattle.sat_core.specs.States.{State}
@@ -42,6 +43,22 @@ step_after step = if nat_lt (2 ^ 50) (grown step) then grown step / 2 ^ 40 else 
 abbrev pub AreActive : ℕ → List ℕ → List ℕ → Type 0
 AreActive step met new = (var : ℕ) → slice_index new var ≡
     (if nat_lt (2 ^ 50) (grown step) then scaled (slice_index met var) else slice_index met var)
+
+-- the entries of the levels above this one
+abbrev pub above : List Assigned → ℕ → List Assigned
+above trail level = filter (λ e. nat_lt level e.level) trail
+
+-- the entries were taken back: the value of each is saved, and its variable is in the heap, as are
+-- those that were; nothing else changed
+pub record IsReleased (entries : List Assigned) (old new : Order) : Type 0 where
+  pub saved : All (λ e. slice_index_or new.saved.items (variable e.lit) false ≡ is_positive e.lit)
+      entries
+  pub others : (var : ℕ) → All (λ e. variable e.lit ≢ var) entries →
+      slice_index_or new.saved.items var false ≡ slice_index_or old.saved.items var false
+  pub waiting : (var : ℕ) → Contains new.heap.vars var ↔
+      (Contains old.heap.vars var ⊎ Contains (map (λ e. variable e.lit) entries) var)
+  pub activity : new.activity ≡ old.activity
+  pub step : new.step ≡ old.step
 
 -- each activity was made smaller
 abbrev pub IsScaled : List ℕ → List ℕ → Type 0

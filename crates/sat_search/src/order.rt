@@ -5,11 +5,11 @@ ghost use Rattle.std.specs.Prelude.{◌≡◌, ◌<◌, ◌≤◌, ◌^◌, All,
 ghost use Rattle.sat_core.specs.Trails.{IsOf};
 ghost use Rattle.sat_core.specs.States.{at_level};
 ghost use Rattle.sat_search.specs.Orders.{IsOrder, IsScaled, scaled, step_after, met_once, met_all};
-ghost use Rattle.sat_search.specs.Orders.{AreActive};
+ghost use Rattle.sat_search.specs.Orders.{AreActive, IsReleased, above};
 
 use arc_base::Memory;
 use cnf_types::Lit;
-use sat_core::{Assigned, Core};
+use sat_core::Core;
 use std::alloc::Global;
 use variable_heap::VariableHeap;
 
@@ -86,18 +86,20 @@ impl Order {
         requires below { level ≤ core.old.level }
         ensures taken { core.new ≡ at_level core.old level }
         ensures order { IsOrder core.old.vars self.new }
+        ensures released { IsReleased (above core.old.trail level) self.old self.new }
     {
-        self.release(core.vars(), core.trail(), level);
+        self.release(core, level);
         core.back_to(level);
     }
 
     /// Saves the values of the entries above a level, the last ones, and takes their variables for
     /// unset.
-    fn release(&mut self, vars: u64, trail: &[Assigned], level: u32)
-        requires range { All (λ e. IsOf vars e.lit) trail.now }
-        requires order { IsOrder vars self.old }
-        ensures { IsOrder vars self.new }
+    fn release(&mut self, core: &Core, level: u32)
+        requires { IsOrder core.now.vars self.old }
+        ensures order { IsOrder core.now.vars self.new }
+        ensures released { IsReleased (above core.now.trail level) self.old self.new }
     {
+        let trail = core.trail();
         let mut place = trail.len();
         while place > 0 && trail[place - 1].level > level {
             place -= 1;
