@@ -1,13 +1,14 @@
 -- The order in which variables are decided.
-use Rattle.std.specs.Prelude.{◌≡◌, ◌≢◌, ℕ, ◌+◌, ◌-◌, ◌/◌, ◌^◌, ◌||◌, ◌⊎◌, ◌↔◌, min, nat_lt}
-use Rattle.std.specs.Prelude.{Bool, true, false, IsTrue, if◌then◌else◌, List, [], ◌∷◌, length}
-use Rattle.std.specs.Prelude.{slice_index, slice_index_or, slice_set, filter, map, All, Contains}
+use Rattle.std.specs.Prelude.{◌≡◌, ◌≢◌, ◌≤◌, ℕ, ◌+◌, ◌-◌, ◌/◌, ◌^◌, ◌||◌, ◌⊎◌, ◌↔◌, min}
+use Rattle.std.specs.Prelude.{nat_lt, Bool, true, false, IsTrue, if◌then◌else◌, List, [], ◌∷◌}
+use Rattle.std.specs.Prelude.{length, slice_index, slice_index_or, slice_set, filter, map, All}
+use Rattle.std.specs.Prelude.{Contains}
 use Rattle.cnf_types.specs.declared.literal.Lit.{Lit}
 use Rattle.cnf_types.specs.Literals.{literal, variable, is_positive}
 use Rattle.sat_core.specs.declared.assigned.Assigned.{Assigned}
 use Rattle.sat_core.specs.Trails.{is_on}
 use Rattle.sat_core.specs.States.{State}
-use Rattle.variable_heap.specs.Heaps.{IsOrdered}
+use Rattle.variable_heap.specs.Heaps.{IsOrdered, AreIdle}
 use Rattle.sat_search.specs.declared.order.Order.{Order}
 
 -- the order is one of these variables, and in its heap none is more active than the one above it
@@ -16,6 +17,13 @@ pub record IsOrder (vars : ℕ) (order : Order) : Type 0 where
   pub saved : length order.saved.items ≡ vars + 1
   pub limit : order.heap.limit ≡ vars + 1
   pub ordered : IsOrdered order.activity.items order.heap.vars
+
+-- no conflict was met yet: no variable was active or has a saved value, and all are in the heap
+pub record IsFresh (vars : ℕ) (order : Order) : Type 0 where
+  pub idle : AreIdle order.activity.items
+  pub step : order.step ≡ 2 ^ 10
+  pub saved : (var : ℕ) → slice_index_or order.saved.items var false ≡ false
+  pub waiting : (var : ℕ) → Contains order.heap.vars var ↔ ((1 ≤ var) × (var ≤ vars))
 
 -- the activity after activities were made smaller
 abbrev pub scaled : ℕ → ℕ

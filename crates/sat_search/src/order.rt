@@ -5,7 +5,8 @@ ghost use Rattle.std.specs.Prelude.{◌≡◌, ◌<◌, ◌≤◌, ◌^◌, All,
 ghost use Rattle.sat_core.specs.Trails.{IsOf};
 ghost use Rattle.sat_core.specs.States.{at_level};
 ghost use Rattle.sat_search.specs.Orders.{IsOrder, IsScaled, scaled, step_after, met_once, met_all};
-ghost use Rattle.sat_search.specs.Orders.{AreActive, IsReleased, above};
+ghost use Rattle.sat_search.specs.Orders.{AreActive, IsFresh, IsReleased, above};
+ghost use Rattle.variable_heap.specs.Heaps.{HaveSame};
 
 use arc_base::Memory;
 use cnf_types::Lit;
@@ -38,7 +39,8 @@ impl Order {
     /// No conflict was met yet.
     pub fn make(alloc: Global, vars: u64) -> Result<Order, Memory>
         requires { vars < 2 ^ 25 }
-        ensures { IfOk result (IsOrder vars) }
+        ensures order { IfOk result (IsOrder vars) }
+        ensures fresh { IfOk result (IsFresh vars) }
     {
         Ok(Order {
             heap: VariableHeap::make(alloc, vars)?,
@@ -57,6 +59,7 @@ impl Order {
         ensures activity { AreActive self.old.step
             (met_all self.old.step met.now self.old.activity.items) self.new.activity.items }
         ensures saved { self.new.saved ≡ self.old.saved }
+        ensures same { HaveSame self.old.heap.vars self.new.heap.vars }
     {
         for lit in met {
             self.raise(vars, lit.var());
@@ -73,6 +76,7 @@ impl Order {
         ensures activity { self.new.activity.items ≡
             met_once self.old.step var self.old.activity.items }
         ensures saved { self.new.saved ≡ self.old.saved }
+        ensures same { HaveSame self.old.heap.vars self.new.heap.vars }
     {
         let at = var as usize;
         self.activity[at] = self.activity[at].saturating_add(self.step);
@@ -116,6 +120,7 @@ impl Order {
         ensures step { self.new.step ≡ step_after self.old.step }
         ensures activity { AreActive self.old.step self.old.activity.items self.new.activity.items }
         ensures saved { self.new.saved ≡ self.old.saved }
+        ensures heap { self.new.heap ≡ self.old.heap }
     {
         self.step = self.step.saturating_add(self.step / 16);
         if self.step > GREATEST_STEP {

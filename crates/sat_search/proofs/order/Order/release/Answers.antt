@@ -1,4 +1,4 @@
-use Rattle.std.proofs.Common.{◌≡◌, ℕ, ◌+◌, ◌-◌, ◌<◌, ◌≤◌, length, arith, None, rules, get_or, ap, sym, ◌∙◌, refl}
+use Rattle.std.proofs.Common.{arith, None, rules, refl}
 use Rattle.sat_core.specs.declared.assigned.Assigned.{Assigned}
 use Rattle.sat_search.proofs.Releasing.{range_before, above_more, released_more, released_all}
 use Rattle.sat_search.proofs.order.Order.release.Goals as goal
