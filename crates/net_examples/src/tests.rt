@@ -1,6 +1,2 @@
-mod graphs;
-mod judged;
-mod model;
-mod reports;
-mod traces;
-mod witnesses;
+mod lists;
+mod routes;

@@ -29,6 +29,13 @@ const BLOCKED: &str = r#"{"version": 1, "routers": ["r1.cfg", "r2.cfg"],
  "links": [{"a": "r1:GigabitEthernet0/1", "b": "r2:GigabitEthernet0/1"}],
  "policies": [{"kind": "blocked", "from": "10.1.0.0/24", "to": "10.2.0.0/24"}]}"#;
 
+const OF_EACH_KIND: &str = r#"{"version": 1, "routers": ["r1.cfg", "r2.cfg"],
+ "links": [{"a": "r1:GigabitEthernet0/1", "b": "r2:GigabitEthernet0/1"}],
+ "policies": [{"kind": "blocked", "from": "10.1.0.0/24", "to": "10.2.0.0/24"},
+ {"kind": "through", "from": "10.1.0.0/24", "to": "10.2.0.0/24"},
+ {"kind": "reach", "from": "10.1.0.0/24", "to": "10.2.0.0/24", "failures": 0},
+ {"kind": "reach", "from": "10.1.0.0/24", "to": "10.2.0.0/24", "failures": 1}]}"#;
+
 const BLOCKED_AND_WEIGHED: &str = r#"{"version": 1, "routers": ["r1.cfg", "r2.cfg"],
  "links": [{"a": "r1:GigabitEthernet0/1", "b": "r2:GigabitEthernet0/1"}],
  "policies": [{"kind": "blocked", "from": "10.1.0.0/24", "to": "10.2.0.0/24"}],
@@ -54,9 +61,11 @@ const FOUR_REFUTED: &str = "5 1 0 1 2 0\n6 0 5 3 4 0\n";
 
 pub const CASES: [Case; 11] = [
     Case {
-        files: &[("net.json", BLOCKED), ("r1.cfg", R1), ("r2.cfg", R2)],
+        files: &[("net.json", OF_EACH_KIND), ("r1.cfg", R1), ("r2.cfg", R2)],
         words: &["verify", "net.json"],
-        text: WALK,
+        text: "arc-report 1\n1 blocked no 1\nwalk 10.1.0.0/24 10.2.0.0/24 1\n\
+            2 through no 1\nwalk 10.1.0.0/24 10.2.0.0/24 1\n3 reach yes 1\npath 1\n\
+            4 reach no 2\ncut 1\nside r1\nend\n",
         code: 1,
         calls: 6,
         outputs: &[],

@@ -1,5 +1,0 @@
-use Rattle.net_examples.proofs.Ends.{asked_have_ends}
-use Rattle.net_examples.proofs.tests.reports.judged.Goals as goal
-
-pub check_report-requires-clause-ends : goal.check_report-requires-clause-ends
-check_report-requires-clause-ends c = asked_have_ends c.in_ok-net.net c.in_ok-doc.doc.policies c.in_ok-net.ensures.ends c.in_ok-doc.ensures

@@ -1,2 +1,0 @@
-pub mod TwoRouters
-pub mod Square
