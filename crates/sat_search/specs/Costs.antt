@@ -1,10 +1,13 @@
 -- Which clauses may be dropped, and what they cost: the greater the cost, the less a clause is
 -- worth.
-use Rattle.std.specs.Prelude.{ℕ, zero, suc, ◌+◌, ◌<◌, ◌^◌, ◌==◌, ◌||◌, nat_le, Bool, true, false}
+use Rattle.std.specs.Prelude.{◌≡◌, ℕ, zero, suc, ◌+◌, ◌<◌, ◌^◌, ◌==◌, ◌||◌, nat_le, ℤ, pos, negsuc}
+use Rattle.std.specs.Prelude.{Bool, true, false}
 use Rattle.std.specs.Prelude.{if◌then◌else◌, List, length, take, position, slice_get}
 use Rattle.std.specs.Prelude.{slice_index_or, AllPairs, Option, Some, None}
 use Rattle.std.specs.List.{list_any}
 use Rattle.std.specs.Option.{is_some, option_map, option_and_then}
+use Rattle.proof_log.specs.declared.steps.Step.{Step}
+use Rattle.proof_log.specs.declared.steps.Step.TheVariants.{Add, Drop, Bound}
 use Rattle.sat_core.specs.declared.assigned.Assigned.{Assigned}
 use Rattle.sat_core.specs.declared.assigned.Held.{Held}
 use Rattle.sat_core.specs.declared.numbered.Numbered.{Numbered}
@@ -30,6 +33,23 @@ place_among ids old reason c =
 abbrev pub dropping_place : List ℕ → ℕ → State → ℕ → Option ℕ
 dropping_place ids old s at =
     option_and_then (place_among ids old (is_reason s.trail at)) (slice_get s.clauses at)
+
+-- whether the hint is the id of a clause
+abbrev pub is_hint_of : ℕ → ℤ → Bool
+is_hint_of id (pos n) = n == id
+is_hint_of id (negsuc n) = false
+
+-- whether a hint of the step is
+abbrev pub uses : ℕ → Step → Bool
+uses id (Add of lits hints) = list_any (is_hint_of id) hints
+uses id (Drop ids) = false
+uses id (Bound of price) = false
+
+-- the flags, which stand for the first ids, are now set also where the test passes
+abbrev pub AreSetToo : List ℕ → (ℕ → Bool) → List Bool → List Bool → Type 0
+AreSetToo ids test old new =
+    (place id : ℕ) → place < length old → slice_get ids place ≡ Some id →
+    slice_index_or new place true ≡ (slice_index_or old place true || test id)
 
 -- a lemma costs as much as the levels that it joined, and 2^32 more where it was not used lately
 abbrev pub cost_at : List ℕ → List Bool → ℕ → ℕ

@@ -1,10 +1,11 @@
 //! The lemmas of a log, and when and which of them are dropped. A search with fewer lemmas looks at
 //! fewer clauses; those that join few levels, or were used lately, are worth most. Which are
 //! dropped bears on nothing but speed.
-ghost use Rattle.std.specs.Prelude.{◌≡◌, ◌≢◌, ◌+◌, ◌-◌, ◌*◌, ◌<◌, ◌≤◌, ◌⊎◌, ◌^◌, ◌∷◌, ◌++◌, []};
+ghost use Rattle.std.specs.Prelude.{◌≡◌, ◌≢◌, ◌+◌, ◌-◌, ◌*◌, ◌<◌, ◌≤◌, ◌^◌, ◌∷◌, ◌++◌, []};
 ghost use Rattle.std.specs.Prelude.{length, take, All, AllPairs, Contains, Some, IsSome, IfSome};
 ghost use Rattle.std.specs.Prelude.{IsSomeAnd, IfOk, OnOk, OnErr, slice_get, nat_le, ◌==◌, ◌/◌, ℕ};
-ghost use Rattle.std.specs.Prelude.{sum_by};
+ghost use Rattle.std.specs.Prelude.{sum_by, slice_index_or, true};
+ghost use Rattle.std.specs.List.{list_any};
 ghost use Rattle.std.specs.List.Sorted.{IsNonDecreasing};
 ghost use Rattle.sat_core.specs.Trails.{id_at};
 ghost use Rattle.sat_core.specs.Forgotten.{IsNoReason};
@@ -12,7 +13,7 @@ ghost use Rattle.sat_search.specs.Dropping.{AreLemmas, Drops, Forgets, ForgetsMo
 ghost use Rattle.sat_search.specs.Dropping.{sizes, gap_after, wait_after, old_lemmas};
 ghost use Rattle.sat_search.specs.Dropping.{HalvesDroppable, WaitsAgain};
 ghost use Rattle.sat_search.specs.Costs.{cost_of, costing, counts, droppable, is_as_much, one_if};
-ghost use Rattle.sat_search.specs.Costs.{Rise};
+ghost use Rattle.sat_search.specs.Costs.{AreSetToo, is_hint_of, uses, Rise};
 
 use arc_base::{List, Memory};
 use proof_log::{Log, Step};
@@ -133,27 +134,42 @@ impl Lemmas {
 
     /// Which of the first lemmas the hints of these steps name.
     fn used(&self, steps: &[Step], old: usize) -> Result<Vec<bool>, Memory>
-        ensures { IfOk result (λ used. length used.items ≡ old) }
+        ensures size { IfOk result (λ used. length used.items ≡ old) }
+        ensures used { Rise self.now.ids.items → IfOk result (λ used. (place id : ℕ) →
+            place < old → slice_get self.now.ids.items place ≡ Some id →
+            slice_index_or used.items place true ≡ list_any (uses id) steps.now) }
     {
         let mut used = vec![in self.alloc; false; old]?;
         for step in steps {
-            self.use_hints(&mut used, step, old);
+            self.use_hints(used.as_mut_slice(), step);
         }
         Ok(used)
     }
 
-    /// Marks the first lemmas that the hints of a step name.
-    fn use_hints(&self, used: &mut [bool], step: &Step, old: usize)
-        ensures { length used.new ≡ length used.old }
+    /// Marks those of the first lemmas that the hints of a step name.
+    fn use_hints(&self, used: &mut [bool], step: &Step)
+        ensures size { length used.new ≡ length used.old }
+        ensures used { Rise self.now.ids.items →
+            AreSetToo self.now.ids.items (λ id. uses id step.now) used.old used.new }
     {
         if let Step::Add { hints, .. } = step {
             for hint in hints.slice() {
-                if let Some(place) = self.place_of((*hint).max(0) as u64, old) {
-                    if place < used.len() {
-                        used[place] = true;
-                    }
-                }
+                self.use_hint(used, *hint);
             }
+        }
+    }
+
+    /// Marks that of the first lemmas that a hint names, if it names one.
+    fn use_hint(&self, used: &mut [bool], hint: i64)
+        ensures size { length used.new ≡ length used.old }
+        ensures used { Rise self.now.ids.items →
+            AreSetToo self.now.ids.items (λ id. is_hint_of id hint) used.old used.new }
+    {
+        if hint < 0 {
+            return;
+        }
+        if let Some(place) = self.place_of(hint as u64, used.len()) {
+            used[place] = true;
         }
     }
 
@@ -201,7 +217,8 @@ impl Lemmas {
         Ok(costs)
     }
 
-    /// Forgets the half of the clauses that may be dropped that costs most, and tells their ids.
+    /// Forgets half of the clauses that may be dropped, none that costs less than the one in the
+    /// middle, and tells their ids.
     fn forget_half(&self, core: &mut Core, used: &[bool]) -> Result<List<u64>, Memory>
         requires { AllPairs (λ c d. c.id ≢ d.id) core.old.clauses }
         ensures forgets { IfOk result (λ ids. Forgets core.old ids core.new) }

@@ -1,6 +1,6 @@
 //! A variable that is moved up or down to where its activity belongs: the variables that it passes
 //! move by one place each.
-ghost use Rattle.std.specs.Prelude.{◌≡◌, ◌+◌, ◌*◌, ◌<◌, ◌≤◌, ◌^◌, ◌↔◌, ◌≢◌, ℕ, length, IsTrue};
+ghost use Rattle.std.specs.Prelude.{◌+◌, ◌*◌, ◌<◌, ◌≤◌, ◌^◌, ◌↔◌, ◌≢◌, ℕ, length, IsTrue};
 ghost use Rattle.std.specs.Prelude.{slice_index, slice_set, MatchOption};
 ghost use Rattle.variable_heap.specs.Heaps.{ComesBefore, IsFirstBelow, IsInverse, HaveSamePlaced};
 ghost use Rattle.variable_heap.specs.Heaps.{IsOrdered, IsOrderedButUp, IsOrderedButDown};

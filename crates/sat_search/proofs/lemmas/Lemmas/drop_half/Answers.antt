@@ -20,12 +20,12 @@ returns-clause-drops c =
     let old = c.args.log.now.steps in
     let items = c.args.self.now.ids.items in
     let ids = c.in_ok-ids.ids in
-    let first = subst (λ (n : ℕ). All (Contains (take n items)) ids) (ap length c.as_slice.ensures.value ∙ c.in_ok-used.ensures) c.in_ok-ids.ensures.old in
+    let first = subst (λ (n : ℕ). All (Contains (take n items)) ids) (ap length c.as_slice.ensures.value ∙ c.in_ok-used.ensures.size) c.in_ok-ids.ensures.old in
     let may_go = first_go old c.args.self.now c.old.result ids c.requires.lemmas c.old.ensures first in
     drops_some c.args.core.now c.forget_half.new.core c.compact.new.self old c.push.new.self ids c.in_ok-ids.ensures.forgets c.compact.ensures may_go c.in_ok-push.ensures.ok
 
 pub returns-clause-half : goal.returns-clause-half
 returns-clause-half c = λ rise.
-    let size : length c.as_slice.result.now ≡ old_lemmas c.args.self.now = ap length c.as_slice.ensures.value ∙ c.in_ok-used.ensures ∙ c.old.ensures in
+    let size : length c.as_slice.result.now ≡ old_lemmas c.args.self.now = ap length c.as_slice.ensures.value ∙ c.in_ok-used.ensures.size ∙ c.old.ensures in
     let many = ap (λ (n : ℕ). droppable c.args.self.now.ids.items n c.args.core.now) size in
     omega (arith, c.in_ok-ids.ensures.half rise, c.in_ok-ids.ensures.fewer, many, ap (λ (s : State). length s.clauses) c.compact.ensures)
