@@ -11,11 +11,12 @@ use Rattle.cnf_types.specs.declared.literal.Lit.{Lit}
 use Rattle.proof_log.specs.declared.steps.Step.{Step}
 use Rattle.proof_log.specs.declared.steps.Step.TheVariants.{Add, Drop, Bound}
 use Rattle.proof_check.specs.Knowledge.{without_clauses}
+use Rattle.sat_core.specs.declared.assigned.Assigned.{Assigned}
 use Rattle.sat_core.specs.declared.assigned.Held.{Held}
 use Rattle.sat_core.specs.declared.numbered.Numbered.{Numbered}
 use Rattle.sat_core.specs.States.{State, at_level}
-use Rattle.sat_core.specs.Trails.{id_at}
-use Rattle.sat_core.specs.Forgotten.{without_at, without_clause}
+use Rattle.sat_core.specs.Trails.{id_at, is_on}
+use Rattle.sat_core.specs.Forgotten.{without_at, without_clause, moved_entries}
 use Rattle.sat_core.proofs.Removed.{from_removed, to_removed, pairs_removed}
 use Rattle.clean_logs.specs.CleanLogs.{added_after, drops_after, added_by, dropped_by}
 use Rattle.sat_search.specs.Live.{clause_in}
@@ -91,7 +92,12 @@ module _ (xs : List Numbered) (different : AllPairs (λ c d. c.id ≢ d.id) xs) 
 
 -- nothing is forgotten
 pub forgets_none : (s : State) → Forgets s [] s
-forgets_none s = record { live = All-nil _; clauses = λ id. refl; vars = refl; last_id = refl; level = refl }
+forgets_none s = record { live = All-nil _; clauses = λ id. refl; vars = refl; last_id = refl; level = refl; trail = λ l on. on }
+
+-- other reasons leave what is true
+moved-on : (last at : ℕ) (trail : List Assigned) (l : Lit) → is_on (moved_entries last at trail) l ≡ is_on trail l
+moved-on last at [] l = refl
+moved-on last at (e ∷ trail) l = ap (λ (b : Bool). (e.lit.code == l.code) || b) (moved-on last at trail l)
 
 -- a clause is forgotten
 pub forgets_one : (s : State) (h : Held) (id : ℕ) → AllPairs (λ c d. c.id ≢ d.id) s.clauses → id_at s.clauses h ≡ Some id → Forgets s (id ∷ []) (without_clause s h)
@@ -103,6 +109,7 @@ forgets_one s h id different is =
       vars = refl;
       last_id = refl;
       level = refl;
+      trail = λ l on. moved-on (length s.clauses - 1) h.0 s.trail l ∙ on;
     })
 
 pub different_then : (s : State) (h : Held) (id : ℕ) → AllPairs (λ c d. c.id ≢ d.id) s.clauses → id_at s.clauses h ≡ Some id → AllPairs (λ c d. c.id ≢ d.id) (without_clause s h).clauses
@@ -132,6 +139,7 @@ forgets_more s mid now ids new before more =
       vars = more.forgets.vars ∙ before.vars;
       last_id = more.forgets.last_id ∙ before.last_id;
       level = more.forgets.level ∙ before.level;
+      trail = λ l on. more.forgets.trail l (before.trail l on);
     })
 
 pub more_none : (s : State) (ids : List ℕ) → ForgetsMore s ids s ids

@@ -29,3 +29,4 @@ pub mod Outcomes
 pub mod Numbering
 pub mod FormulaClauses
 pub mod Releasing
+pub mod Unset

@@ -24,7 +24,7 @@ clause_same a b vars (l ∷ ls) range agree =
     ap (λ (x : Bool). x || clause_value a ls) (value-same a b l (agree (variable l) here.least here.most)) ∙ ap (λ (x : Bool). value b l || x) (clause_same a b vars ls (All-tail (IsOf vars) l ls range) agree)
 
 -- a variable that is set has no unset literal
-variable-of : (v : ℕ) (b : Bool) → variable (literal v b) ≡ v
+pub variable-of : (v : ℕ) (b : Bool) → variable (literal v b) ≡ v
 variable-of v true = omega arith
 variable-of v false = omega arith
 

@@ -10,6 +10,7 @@ use Rattle.clean_logs.specs.CleanLogs.{added_by, dropped_by}
 use Rattle.sat_search.specs.Live.{clause_in}
 use Rattle.sat_search.specs.Searches.{IsOld}
 use Rattle.sat_search.specs.Costs.{droppable}
+use Rattle.sat_search.specs.Orders.{KeepsTrue}
 use Rattle.sat_search.specs.declared.lemmas.Lemmas.{Lemmas}
 
 -- the lemmas are those of the log
@@ -58,13 +59,14 @@ WaitsAgain old new steps =
 abbrev pub MayGo : List Step → ℕ → Type 0
 MayGo steps id = IsOld (added_by [] steps) (dropped_by 0 steps) id
 
--- the core forgot these clauses, which were live
+-- the core forgot these clauses, which were live, and what is true stays so
 pub record Forgets (s : State) (ids : List ℕ) (now : State) : Type 0 where
   pub live : All (λ id. IsSome (clause_in s.clauses id)) ids
   pub clauses : (id : ℕ) → clause_in now.clauses id ≡ without_clauses (clause_in s.clauses) ids id
   pub vars : now.vars ≡ s.vars
   pub last_id : now.last_id ≡ s.last_id
   pub level : now.level ≡ s.level
+  pub trail : KeepsTrue s.trail now.trail
 
 -- the core forgot those by which the list of ids grew
 pub record ForgetsMore (s : State) (old : List ℕ) (now : State) (new : List ℕ) : Type 0 where

@@ -85,3 +85,8 @@ pub record KeepsClauses (old new : State) : Type 0 where
 -- what is true stays so
 abbrev pub KeepsTrue : List Assigned → List Assigned → Type 0
 KeepsTrue old new = (l : Lit) → IsTrue (is_on old l) → IsTrue (is_on new l)
+
+-- each variable that the trail leaves unset is in the heap
+abbrev pub HoldsUnset : ℕ → List Assigned → Order → Type 0
+HoldsUnset vars trail order =
+    (var : ℕ) → 1 ≤ var → var ≤ vars → IsTrue (is_set trail var) ⊎ Contains order.heap.vars var

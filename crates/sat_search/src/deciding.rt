@@ -5,7 +5,7 @@ ghost use Rattle.cnf_types.specs.Literals.{literal};
 ghost use Rattle.sat_core.specs.Trails.{is_on, clause_at, IsFalsified};
 ghost use Rattle.sat_core.specs.Rest.{IsAtRest};
 ghost use Rattle.sat_core.specs.States.{IsSound};
-ghost use Rattle.sat_search.specs.Orders.{IsOrder, is_set, KeepsClauses, KeepsTrue};
+ghost use Rattle.sat_search.specs.Orders.{IsOrder, HoldsUnset, is_set, KeepsClauses, KeepsTrue};
 
 use crate::order::Order;
 use cnf_types::Lit;
@@ -15,8 +15,10 @@ impl Order {
     /// Propagates and decides until a clause is falsified, which is then the answer, or all
     /// variables are set.
     pub fn dive(&mut self, core: &mut Core) -> Option<Held>
-        requires { IsOrder core.old.vars self.old }
+        requires order { IsOrder core.old.vars self.old }
+        requires waiting { HoldsUnset core.old.vars core.old.trail self.old }
         ensures order { IsOrder core.old.vars self.new }
+        ensures waiting { HoldsUnset core.new.vars core.new.trail self.new }
         ensures sound { IsSound core.new }
         ensures kept { KeepsClauses core.old core.new }
         ensures conflict { IfSome result (λ held.
@@ -28,37 +30,17 @@ impl Order {
         if let Some(held) = core.propagate() {
             return Some(held);
         }
-        if let Some(held) = self.walk(core) {
-            return Some(held);
-        }
-        self.scan(core)
+        self.walk(core)
     }
 
-    /// Sets the variables that may be unset, the most active first.
+    /// Sets the variables that are unset, the most active first.
     fn walk(&mut self, core: &mut Core) -> Option<Held>
         requires order { IsOrder core.old.vars self.old }
+        requires waiting { HoldsUnset core.old.vars core.old.trail self.old }
         requires sound { IsSound core.old }
         requires rest { IsAtRest core.old.clauses (is_on core.old.trail) }
         ensures order { IsOrder core.old.vars self.new }
-        ensures sound { IsSound core.new }
-        ensures kept { KeepsClauses core.old core.new }
-        ensures conflict { IfSome result (λ held.
-            IsSomeAnd (clause_at core.new.clauses held) (IsFalsified core.new.trail)) }
-        ensures rest { IsNone result → IsAtRest core.new.clauses (is_on core.new.trail) }
-    {
-        while let Some(var) = self.heap.take_first(self.activity.as_slice()) {
-            if let Some(held) = self.assume(core, var) {
-                return Some(held);
-            }
-        }
-        None
-    }
-
-    /// Sets all variables that are left.
-    fn scan(&self, core: &mut Core) -> Option<Held>
-        requires order { IsOrder core.old.vars self.now }
-        requires sound { IsSound core.old }
-        requires rest { IsAtRest core.old.clauses (is_on core.old.trail) }
+        ensures waiting { HoldsUnset core.new.vars core.new.trail self.new }
         ensures sound { IsSound core.new }
         ensures kept { KeepsClauses core.old core.new }
         ensures conflict { IfSome result (λ held.
@@ -67,8 +49,7 @@ impl Order {
         ensures all_set { IsNone result →
             (var : ℕ) → 1 ≤ var → var ≤ core.new.vars → IsTrue (is_set core.new.trail var) }
     {
-        let vars = core.vars();
-        for var in 1..vars + 1 {
+        while let Some(var) = self.heap.take_first(self.activity.as_slice()) {
             if let Some(held) = self.assume(core, var) {
                 return Some(held);
             }

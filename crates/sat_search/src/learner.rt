@@ -8,6 +8,7 @@ ghost use Rattle.sat_core.specs.States.{IsSound};
 ghost use Rattle.sat_search.specs.Live.{clause_in};
 ghost use Rattle.sat_search.specs.Learners.{IsReady};
 ghost use Rattle.sat_search.specs.Dropping.{Drops, HalvesDroppable, WaitsAgain};
+ghost use Rattle.sat_search.specs.Orders.{IsOrder, IsFresh, HoldsUnset};
 ghost use Rattle.sat_search.specs.Costs.{Rise};
 ghost use Rattle.sat_search.specs.Restarting.{after_conflict, ends_gap};
 ghost use Rattle.sat_search.specs.Searches.{Gains, IsLearnt, Teaches};
@@ -37,7 +38,8 @@ impl Learner {
     /// What a search that goes on from a log begins with.
     pub fn make(alloc: Global, vars: u64, steps: &[Step]) -> Result<Learner, Memory>
         requires { vars < 2 ^ 25 }
-        ensures { IfOk result (IsReady vars steps.now) }
+        ensures ready { IfOk result (IsReady vars steps.now) }
+        ensures fresh { IfOk result (λ learner. IsFresh vars learner.order) }
     {
         Ok(Learner {
             alloc,
@@ -52,11 +54,14 @@ impl Learner {
     /// or at level 0, and the log. It tells whether it is empty.
     pub fn learn(&mut self, core: &mut Core, log: &mut Log, conflict: Held) -> Result<bool, Memory>
         requires ready { IsReady core.old.vars log.old.steps self.old }
+        requires waiting { HoldsUnset core.old.vars core.old.trail self.old.order }
         requires conflict { IsSomeAnd (clause_at core.old.clauses conflict)
             (IsFalsified core.old.trail) }
         requires ids { core.old.last_id + 1 < 2 ^ 63 }
         requires short { length log.old.steps < 2 ^ 32 - 1 }
         ensures ready { IfOk result (λ empty. IsReady core.new.vars log.new.steps self.new) }
+        ensures waiting { IfOk result (λ empty.
+            HoldsUnset core.new.vars core.new.trail self.new.order) }
         ensures teaches { IfOk result (Teaches core.old log.old.steps core.new log.new.steps) }
         ensures restarts { IfOk result (λ empty.
             self.new.restarts ≡ after_conflict self.old.restarts) }
@@ -77,7 +82,7 @@ impl Learner {
         };
         self.order.take_back(core, level);
         self.lemmas.add(core.last_id() + 1, levels)?;
-        enter(core, log, lits, hints)
+        enter(core, &mut self.order, log, lits, hints)
     }
 
     /// Drops lemmas, where it is time and the level is 0.
@@ -95,6 +100,7 @@ impl Learner {
         ensures later { (0 < self.old.lemmas.wait) ⊎ (0 < core.old.level) →
             (self.new ≡ self.old) × (core.new ≡ core.old) }
         ensures restarts { self.new.restarts ≡ self.old.restarts }
+        ensures order { self.new.order ≡ self.old.order }
         ensures err { OnErr result (log.new.steps ≡ log.old.steps) }
     {
         if !self.lemmas.is_due() || core.level() > 0 {
@@ -136,27 +142,41 @@ fn second_level(core: &Core, lits: &[Lit]) -> u32
 
 /// Adds a lemma to the core, on the current level where it implies its first literal there, and on
 /// level 0 otherwise.
-fn join(core: &mut Core, id: u64, lits: &[Lit]) -> Result<(), Memory>
+fn join(core: &mut Core, order: &mut Order, id: u64, lits: &[Lit]) -> Result<(), Memory>
+    requires order { IsOrder core.old.vars order.old }
+    requires waiting { HoldsUnset core.old.vars core.old.trail order.old }
     requires range { All (IsOf core.old.vars) lits.now }
     requires few_literals { length lits.now < 2 ^ 32 }
     requires few_clauses { length core.old.clauses < 2 ^ 32 - 1 }
     requires fresh { All (λ c. c.id ≢ id) core.old.clauses }
+    ensures order { IsOrder core.old.vars order.new }
+    ensures waiting { OnOk result (HoldsUnset core.new.vars core.new.trail order.new) }
     ensures gains { OnOk result (Gains core.old id lits.now core.new) }
     ensures level { OnOk result (core.new.level ≤ core.old.level) }
 {
     if core.is_asserting(lits) {
         return core.learn(id, lits);
     }
-    core.back_to(0);
+    order.take_back(core, 0);
     core.add(id, lits)
 }
 
 /// Adds a lemma to the core under the next id, and to the log. It tells whether it is empty.
-fn enter(core: &mut Core, log: &mut Log, lits: List<Lit>, hints: List<i64>) -> Result<bool, Memory>
+fn enter(
+    core: &mut Core,
+    order: &mut Order,
+    log: &mut Log,
+    lits: List<Lit>,
+    hints: List<i64>,
+) -> Result<bool, Memory>
+    requires order { IsOrder core.old.vars order.old }
+    requires waiting { HoldsUnset core.old.vars core.old.trail order.old }
     requires ids { core.old.last_id + 1 < 2 ^ 63 }
     requires known { All (λ c. c.id ≤ core.old.last_id) core.old.clauses }
     requires short { length log.old.steps < 2 ^ 32 - 1 }
     requires learnt { IsLearnt (clause_in core.old.clauses) core.old.vars lits hints }
+    ensures order { IsOrder core.old.vars order.new }
+    ensures waiting { IfOk result (λ empty. HoldsUnset core.new.vars core.new.trail order.new) }
     ensures teaches { IfOk result (Teaches core.old log.old.steps core.new log.new.steps) }
     ensures level { IfOk result (λ empty. core.new.level ≤ core.old.level) }
     ensures err { OnErr result (log.new.steps ≡ log.old.steps) }
@@ -166,7 +186,7 @@ fn enter(core: &mut Core, log: &mut Log, lits: List<Lit>, hints: List<i64>) -> R
     }
     let id = core.last_id() + 1;
     let empty = lits.is_empty();
-    join(core, id, lits.slice())?;
+    join(core, order, id, lits.slice())?;
     log.steps.push(Step::Add { id, lits, hints })?;
     Ok(empty)
 }

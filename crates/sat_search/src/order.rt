@@ -5,7 +5,7 @@ ghost use Rattle.std.specs.Prelude.{◌≡◌, ◌<◌, ◌≤◌, ◌^◌, All,
 ghost use Rattle.sat_core.specs.Trails.{IsOf};
 ghost use Rattle.sat_core.specs.States.{at_level};
 ghost use Rattle.sat_search.specs.Orders.{IsOrder, IsScaled, scaled, step_after, met_once, met_all};
-ghost use Rattle.sat_search.specs.Orders.{AreActive, IsFresh, IsReleased, above};
+ghost use Rattle.sat_search.specs.Orders.{AreActive, IsFresh, IsReleased, HoldsUnset, above};
 ghost use Rattle.variable_heap.specs.Heaps.{HaveSame};
 
 use arc_base::Memory;
@@ -91,6 +91,8 @@ impl Order {
         ensures taken { core.new ≡ at_level core.old level }
         ensures order { IsOrder core.old.vars self.new }
         ensures released { IsReleased (above core.old.trail level) self.old self.new }
+        ensures waiting { HoldsUnset core.old.vars core.old.trail self.old →
+            HoldsUnset core.new.vars core.new.trail self.new }
     {
         self.release(core, level);
         core.back_to(level);

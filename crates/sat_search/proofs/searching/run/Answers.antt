@@ -1,7 +1,20 @@
-use Rattle.std.proofs.Common.{ap, arith, rules}
+use Rattle.std.proofs.Common.{ℕ, ap, arith, rules, subst}
 use Rattle.clean_logs.specs.CleanLogs.{additions}
-use Rattle.sat_search.proofs.Following.{follows_taught, taught_log, taught_few, taught_more, taught_empty, follows_dropped, dropped_additions, log_same, log_short, log_additions, taught_different}
+use Rattle.sat_search.specs.Orders.{IsFresh}
+use Rattle.sat_search.proofs.Following.{follows_start, follows_taught, taught_log, taught_few, taught_more, taught_empty, follows_dropped, dropped_additions, log_same, log_short, log_additions, taught_different}
+use Rattle.sat_search.proofs.Unset.{fresh_waits, waits_dropped}
 use Rattle.sat_search.proofs.searching.run.Goals as goal
+
+pub loop-conflict-init : goal.loop-conflict-init
+loop-conflict-init c =
+    let order = c.in_ok-learner.learner.order in
+    record {
+      follows = follows_start c.args.core.now c.args.log.now.steps;
+      ready = search rules;
+      waiting = fresh_waits c.args.core.now.vars c.args.core.now.trail order (subst (λ (n : ℕ). IsFresh n order) c.vars.ensures.value c.in_ok-learner.ensures.fresh);
+      added = search rules;
+      most = search rules;
+    }
 
 pub learn-requires-clause-ids : goal.learn-requires-clause-ids
 learn-requires-clause-ids c =
@@ -74,6 +87,7 @@ loop-conflict-preserved c =
     record {
       follows = follows_dropped s c.learn.new.core c.drop_lemmas.new.core c.args.log.now.steps c.learn.new.log.steps c.drop_lemmas.new.log.steps next few drops;
       ready = c.in_ok-drop_lemmas.ensures.ready;
+      waiting = waits_dropped c.learn.new.core c.drop_lemmas.new.core c.learn.new.log.steps c.drop_lemmas.new.log.steps c.learn.new.self.order c.drop_lemmas.new.self.order c.in_ok-learn.ensures.waiting drops c.drop_lemmas.ensures.order;
       added = omega (arith, more, same, c.loop-conflict.invariant.added);
       most = omega (arith, c.loop-conflict.invariant.most, c.if-added-limit.false);
     }

@@ -1,0 +1,16 @@
+use Rattle.std.proofs.Common.{rules}
+use Rattle.sat_search.proofs.Unset.{waits_without}
+use Rattle.sat_search.proofs.order.Order.walk.Goals as goal
+
+pub returns-in-Some-assume-clause-waiting : goal.returns-in-Some-assume-clause-waiting
+returns-in-Some-assume-clause-waiting c =
+    waits_without c.loop-var.core c.assume.new.core c.loop-var.self (record c.loop-var.self { heap = c.take_first.new.self }) c.in-Some.var c.loop-var.invariant.waiting c.assume.ensures.kept.vars c.assume.ensures.stays c.in-Some.ensures.taken.gone c.assume.ensures.set
+
+pub loop-var-preserved : goal.loop-var-preserved
+loop-var-preserved c = record {
+  order = search rules;
+  waiting = waits_without c.loop-var.core c.assume.new.core c.loop-var.self (record c.loop-var.self { heap = c.take_first.new.self }) c.in-Some.var c.loop-var.invariant.waiting c.assume.ensures.kept.vars c.assume.ensures.stays c.in-Some.ensures.taken.gone c.assume.ensures.set;
+  sound = search rules;
+  kept = search rules;
+  rest = search rules;
+}
