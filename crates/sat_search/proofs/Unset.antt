@@ -1,18 +1,18 @@
 -- The variables that a trail leaves unset are in the heap.
-use Rattle.std.proofs.Common.{◌≡◌, ◌≢◌, ℕ, zero, suc, ◌<◌, ◌↔◌, inl, inr, Bool, true, false, cond, IsTrue, List, [], ◌∷◌, map, slice_get, Contains, ap, sym, ◌∙◌, subst, arith, ltb, Some}
+use Rattle.std.proofs.Common.{◌≡◌, ◌≢◌, ℕ, zero, suc, ◌<◌, ◌≤◌, ◌↔◌, inl, inr, Bool, true, false, cond, IsTrue, List, [], ◌∷◌, map, slice_get, get_or, All, Contains, ap, sym, ◌∙◌, subst, arith, ltb, Some}
 use Rattle.std.proofs.lemmas.Bool.{cases_eq, cases_lt, lt-ltb, or_cases, or_left, or_right}
 use Rattle.std.proofs.lemmas.Option.{none-some, same_Some}
-use Rattle.std.proofs.lemmas.List.Elements.{Contains-append_right}
+use Rattle.std.proofs.lemmas.List.Elements.{All-contains, Contains-get_or, Contains-append_right}
 use Rattle.cnf_types.specs.declared.literal.Lit.{Lit}
 use Rattle.cnf_types.specs.Literals.{literal, variable}
 use Rattle.proof_log.specs.declared.steps.Step.{Step}
 use Rattle.sat_core.specs.declared.assigned.Assigned.{Assigned}
 use Rattle.sat_core.specs.States.{State}
 use Rattle.sat_core.specs.Trails.{is_on, up_to}
-use Rattle.variable_heap.specs.Heaps.{HaveSame}
+use Rattle.variable_heap.specs.Heaps.{HaveSame, IsTaken}
 use Rattle.sat_search.specs.declared.order.Order.{Order}
 use Rattle.sat_search.specs.Dropping.{Drops}
-use Rattle.sat_search.specs.Orders.{IsFresh, IsReleased, above, is_set, KeepsTrue, HoldsUnset}
+use Rattle.sat_search.specs.Orders.{IsFresh, IsMostActive, IsReleased, above, is_set, KeepsTrue, HoldsUnset}
 use Rattle.sat_search.proofs.Models.{variable-of}
 use Rattle.sat_search.proofs.Sound.{up_to_on}
 use Rattle.sat_search.proofs.Trails.{on-set}
@@ -55,6 +55,11 @@ waits_without s now was order first waiting vars keeps gone done var least most 
     | inr other ↦ inr ((gone var).1 (held, other))
   ]
 ]
+
+-- the one that leaves is as active as any that stays
+pub active_first : (was order : Order) (activity : List ℕ) (first : ℕ) → activity ≡ order.activity.items → IsTaken activity was.heap order.heap first → IsMostActive order first
+active_first was order activity first is taken = subst (λ (ns : List ℕ). All (λ w. get_or ns w 0 ≤ get_or ns first 0) order.heap.vars) is
+    (λ k d low. All-contains (λ w. get_or activity w 0 ≤ get_or activity first 0) was.heap.vars (get_or order.heap.vars k d) taken.most ((taken.gone (get_or order.heap.vars k d)).0 (Contains-get_or order.heap.vars k d low)).0)
 
 -- the heap may have the same variables in another order
 pub waits_same : (vars : ℕ) (trail : List Assigned) (old new : Order) → HoldsUnset vars trail old → HaveSame old.heap.vars new.heap.vars → HoldsUnset vars trail new

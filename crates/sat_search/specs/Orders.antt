@@ -18,6 +18,12 @@ pub record IsOrder (vars : ℕ) (order : Order) : Type 0 where
   pub limit : order.heap.limit ≡ vars + 1
   pub ordered : IsOrdered order.activity.items order.heap.vars
 
+-- no variable of the heap is more active than this one
+abbrev pub IsMostActive : Order → ℕ → Type 0
+IsMostActive order var =
+    All (λ w. slice_index order.activity.items w ≤ slice_index order.activity.items var)
+    order.heap.vars
+
 -- no conflict was met yet: no variable was active or has a saved value, and all are in the heap
 pub record IsFresh (vars : ℕ) (order : Order) : Type 0 where
   pub idle : AreIdle order.activity.items

@@ -5,7 +5,8 @@ ghost use Rattle.cnf_types.specs.Literals.{literal};
 ghost use Rattle.sat_core.specs.Trails.{is_on, clause_at, IsFalsified};
 ghost use Rattle.sat_core.specs.Rest.{IsAtRest};
 ghost use Rattle.sat_core.specs.States.{IsSound};
-ghost use Rattle.sat_search.specs.Orders.{IsOrder, HoldsUnset, is_set, KeepsClauses, KeepsTrue};
+ghost use Rattle.sat_search.specs.Orders.{IsOrder, IsMostActive, HoldsUnset, is_set};
+ghost use Rattle.sat_search.specs.Orders.{KeepsClauses, KeepsTrue};
 
 use crate::order::Order;
 use cnf_types::Lit;
@@ -57,11 +58,13 @@ impl Order {
         None
     }
 
-    /// Decides a variable, where it is unset, as the value that it had last, and propagates.
+    /// Decides a variable, where it is unset, as the value that it had last, and propagates. None
+    /// of the heap is more active.
     fn assume(&self, core: &mut Core, var: u64) -> Option<Held>
         requires order { IsOrder core.old.vars self.now }
         requires least { 1 ≤ var }
         requires most { var ≤ core.old.vars }
+        requires active { IsMostActive self.now var }
         requires sound { IsSound core.old }
         requires rest { IsAtRest core.old.clauses (is_on core.old.trail) }
         ensures sound { IsSound core.new }

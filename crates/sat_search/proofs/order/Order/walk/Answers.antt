@@ -1,6 +1,10 @@
 use Rattle.std.proofs.Common.{rules}
-use Rattle.sat_search.proofs.Unset.{waits_without}
+use Rattle.sat_search.proofs.Unset.{active_first, waits_without}
 use Rattle.sat_search.proofs.order.Order.walk.Goals as goal
+
+pub assume-requires-clause-active : goal.assume-requires-clause-active
+assume-requires-clause-active c =
+    active_first c.loop-var.self (record c.loop-var.self { heap = c.take_first.new.self }) c.as_slice.result.now c.in-Some.var c.as_slice.ensures.value c.in-Some.ensures.taken
 
 pub returns-in-Some-assume-clause-waiting : goal.returns-in-Some-assume-clause-waiting
 returns-in-Some-assume-clause-waiting c =
