@@ -19,6 +19,7 @@ impl Order {
         requires order { IsOrder core.old.vars self.old }
         requires waiting { HoldsUnset core.old.vars core.old.trail self.old }
         ensures order { IsOrder core.old.vars self.new }
+        ensures rates { self.new ≡ record self.old { heap = self.new.heap } }
         ensures waiting { HoldsUnset core.new.vars core.new.trail self.new }
         ensures sound { IsSound core.new }
         ensures kept { KeepsClauses core.old core.new }
@@ -41,6 +42,7 @@ impl Order {
         requires sound { IsSound core.old }
         requires rest { IsAtRest core.old.clauses (is_on core.old.trail) }
         ensures order { IsOrder core.old.vars self.new }
+        ensures rates { self.new ≡ record self.old { heap = self.new.heap } }
         ensures waiting { HoldsUnset core.new.vars core.new.trail self.new }
         ensures sound { IsSound core.new }
         ensures kept { KeepsClauses core.old core.new }

@@ -1,4 +1,5 @@
-use Rattle.std.proofs.Common.{rules}
+use Rattle.std.proofs.Common.{ap, rules}
+use Rattle.sat_search.specs.declared.order.Order.{Order}
 use Rattle.sat_search.proofs.Unset.{active_first, waits_without}
 use Rattle.sat_search.proofs.order.Order.walk.Goals as goal
 
@@ -13,6 +14,7 @@ returns-in-Some-assume-clause-waiting c =
 pub loop-var-preserved : goal.loop-var-preserved
 loop-var-preserved c = record {
   order = search rules;
+  rates = ap (λ (o : Order). record o { heap = c.take_first.new.self }) c.loop-var.invariant.rates;
   waiting = waits_without c.loop-var.core c.assume.new.core c.loop-var.self (record c.loop-var.self { heap = c.take_first.new.self }) c.in-Some.var c.loop-var.invariant.waiting c.assume.ensures.kept.vars c.assume.ensures.stays c.in-Some.ensures.taken.gone c.assume.ensures.set;
   sound = search rules;
   kept = search rules;
