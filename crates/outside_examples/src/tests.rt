@@ -200,6 +200,6 @@ fn disk_and_standard_output(rt: HostRuntime) -> Result<(), Fail> {
     );
     fs::remove_file(&rt, path)?;
     let mut out = StdSink::make(rt);
-    assert!(rt; out.put(b"put\n")? <= 4);
+    assert_eq!(rt; out.put(b"put\n")?, 4);
     Ok(())
 }

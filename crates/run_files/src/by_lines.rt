@@ -7,9 +7,9 @@ ghost use Rattle.run_files.specs.Answers.{OnlyReads};
 ghost use Rattle.run_files.specs.ReadingLines.{IsReadPast, IsWithinLimit, MovesOn};
 
 use crate::outcome::Stop;
-use crate::refusals::refused;
+use crate::refusals::stop_of;
+use arc_base::Name;
 use arc_base::limits::PIECE_LENGTH;
-use arc_base::{Kind, Name};
 use arc_outside::{Fault, Pieces, ReadAll, Store};
 use std::alloc::Global;
 
@@ -34,10 +34,7 @@ pub fn next_line<S: Store>(
 {
     match pieces.next(store, name) {
         Ok(found) => Ok(found),
-        Err(ReadAll::TooLong) => Err(refused(alloc, name, 0, Kind::TooLong)),
-        Err(ReadAll::Fault(Fault::Missing)) => Err(refused(alloc, name, 0, Kind::Missing)),
-        Err(ReadAll::Fault(Fault::Failed)) => Err(Stop::Failed),
-        Err(ReadAll::Fault(Fault::Memory)) => Err(Stop::Memory),
+        Err(fault) => Err(stop_of(alloc, name, fault)),
     }
 }
 
@@ -76,9 +73,6 @@ pub fn try_file<S: Store>(alloc: Global, store: &mut S, name: &Name, limit: u64)
 {
     match read_past(alloc, store, name, limit) {
         Ok(()) => Ok(()),
-        Err(ReadAll::TooLong) => Err(refused(alloc, name, 0, Kind::TooLong)),
-        Err(ReadAll::Fault(Fault::Missing)) => Err(refused(alloc, name, 0, Kind::Missing)),
-        Err(ReadAll::Fault(Fault::Failed)) => Err(Stop::Failed),
-        Err(ReadAll::Fault(Fault::Memory)) => Err(Stop::Memory),
+        Err(fault) => Err(stop_of(alloc, name, fault)),
     }
 }

@@ -6,10 +6,10 @@ ghost use Rattle.run_files.specs.Reading.{ReadsFile, ReadsRouters};
 
 use crate::limits::Limits;
 use crate::outcome::Stop;
-use crate::refusals::refused;
+use crate::refusals::stop_of;
 use arc_base::limits::ROUTER_FILE_LIMIT;
-use arc_base::{Kind, List, Memory, Name};
-use arc_outside::{Fault, ReadAll, Store, read_all};
+use arc_base::{List, Memory, Name};
+use arc_outside::{Store, read_all};
 use std::alloc::Global;
 
 /// Reads a file whole, or refuses it.
@@ -27,10 +27,7 @@ pub fn read_file<S: Store>(
 {
     match read_all(alloc, store, name, limit) {
         Ok(bytes) => Ok(bytes),
-        Err(ReadAll::TooLong) => Err(refused(alloc, name, 0, Kind::TooLong)),
-        Err(ReadAll::Fault(Fault::Missing)) => Err(refused(alloc, name, 0, Kind::Missing)),
-        Err(ReadAll::Fault(Fault::Failed)) => Err(Stop::Failed),
-        Err(ReadAll::Fault(Fault::Memory)) => Err(Stop::Memory),
+        Err(fault) => Err(stop_of(alloc, name, fault)),
     }
 }
 

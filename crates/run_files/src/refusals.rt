@@ -1,9 +1,11 @@
 //! Refusals, and the line that tells one.
 ghost use Rattle.std.specs.Prelude.{◌≡◌, ◌⊎◌, IfOk};
+ghost use Rattle.run_files.specs.Reading.{StopsFor};
 ghost use Rattle.run_files.specs.Refusals.{reason_words, refusal_line, refusal_of};
 
 use crate::outcome::{FileRefusal, Reason, Stop};
 use arc_base::{Kind, Memory, Name};
+use arc_outside::{Fault, ReadAll};
 use std::alloc::{AllocError, Global};
 
 /// The refusal of a file for this, at a number.
@@ -17,6 +19,18 @@ pub fn refused(alloc: Global, file: &Name, number: u32, kind: Kind) -> Stop
             reason: Reason::Kind(kind),
         }),
         Err(Memory) => Stop::Memory,
+    }
+}
+
+/// How a command stops where a file was not read whole.
+pub(crate) fn stop_of(alloc: Global, file: &Name, fault: ReadAll) -> Stop
+    ensures { StopsFor file.now fault result }
+{
+    match fault {
+        ReadAll::TooLong => refused(alloc, file, 0, Kind::TooLong),
+        ReadAll::Fault(Fault::Missing) => refused(alloc, file, 0, Kind::Missing),
+        ReadAll::Fault(Fault::Failed) => Stop::Failed,
+        ReadAll::Fault(Fault::Memory) => Stop::Memory,
     }
 }
 
