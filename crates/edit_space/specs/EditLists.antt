@@ -111,11 +111,12 @@ abbrev pub fault_of : ClassFault → EditFault
 fault_of (classes.TooMany count) = Limit limits.Classes count
 fault_of classes.Memory = Memory
 
--- the fault names the limit that is passed: more than CLASS_LIMIT classes, or more than
--- EDIT_LIMIT edits
+-- the fault names the first limit that is passed: more than CLASS_LIMIT classes, or no more and
+-- then more than EDIT_LIMIT edits
 abbrev pub NamesLimit : Network → Document → EditFault → Type 0
 NamesLimit net doc (Limit limits.Classes count) =
     FirstHaveMore net doc.policies count × (CLASS_LIMIT < count)
-NamesLimit net doc (Limit limits.Edits count) = HasEdits net doc count × (EDIT_LIMIT < count)
+NamesLimit net doc (Limit limits.Edits count) =
+    HasFewClasses net doc × HasEdits net doc count × (EDIT_LIMIT < count)
 NamesLimit net doc (Limit other count) = ⊥
 NamesLimit net doc Memory = Unit {0}
