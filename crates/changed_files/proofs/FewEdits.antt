@@ -16,7 +16,7 @@ pub few_or_limit : (net : Network) (doc : Document) (list : List Edit) → IsVal
 few_or_limit net doc list valid are few classes Classes count names =
     few_or_many net doc.policies count (record { classes = are.classes; are = are.classes_are; few = classes are.classes are.classes_are }) (record { first = names.0; many = names.1 })
 few_or_limit net doc list valid are few classes Edits count names =
-    let same : list ≡ names.0.list = edit_lists_are_one net doc list names.0.list valid are names.0.are in
-    let long : length list ≡ length names.0.list = ap length same in
-    absurd (omega (arith, long, names.0.counted, names.1, few))
+    let same : list ≡ names.1.list = edit_lists_are_one net doc list names.1.list valid are names.1.are in
+    let long : length list ≡ length names.1.list = ap length same in
+    absurd (omega (arith, long, names.1.counted, names.2, few))
 few_or_limit net doc list valid are few classes other count names = absurd names

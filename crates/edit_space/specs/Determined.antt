@@ -1,7 +1,9 @@
 -- Laws of the network after edits and of the list of edits: each is there, and is one.
-use Rattle.std.specs.Prelude.{◌≡◌, ℕ, ◌<◌, ◌^◌, List, length}
+use Rattle.std.specs.Prelude.{◌≡◌, ℕ, ◌<◌, ◌^◌, List, length, All}
 use Rattle.net_model.specs.declared.policies.Document.{Document}
 use Rattle.net_model.specs.declared.rows.Network.{Network}
+use Rattle.net_model.specs.Forwarding.{HasEnds}
+use Rattle.net_model.specs.Packets.{subject}
 use Rattle.net_model.specs.Validity.{IsValid}
 use Rattle.edit_space.specs.declared.edit_kinds.Edit.{Edit}
 use Rattle.edit_space.specs.After.{IsAfter}
@@ -38,6 +40,13 @@ AfterIsOne =
     (net : Network) → IsValid net → IsCountable net →
     (chosen : List Edit) (after other : Network) → IsAfter net chosen after →
     IsAfter net chosen other → after ≡ other
+
+-- there is a list of the edits of a network for a document whose policies have their ends
+abbrev pub EditListsAreThere : Type 0
+EditListsAreThere =
+    (net : Network) (doc : Document) →
+    All (λ policy. HasEnds net (subject policy)) doc.policies →
+    (list : List Edit) × AreEdits net doc list
 
 -- a valid network has one list of edits for a document
 abbrev pub EditListsAreOne : Type 0

@@ -130,8 +130,8 @@ no-limit : (n : ℕ) (net : Network) (doc : Document) → n ≤ 40 → ((count :
 no-limit n net doc few classes edits Memory names = refl
 no-limit n net doc few classes edits (Limit limits.Classes count) names = let most = classes count names.0 in let more : 4096 < count = names.1 in absurd (omega arith)
 no-limit n net doc few classes edits (Limit limits.Edits count) names =
-    let has : HasEdits net doc count = names.0 in
-    let more : 8192 < count = names.1 in
+    let has : HasEdits net doc count = names.1 in
+    let more : 8192 < count = names.2 in
     let most = edits has.list has.are in
     let counted : length has.list ≡ count = has.counted in
     absurd (omega arith)

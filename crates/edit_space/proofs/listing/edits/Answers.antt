@@ -1,12 +1,14 @@
 use Rattle.std.proofs.Common.{◌≡◌, ℕ, ◌∙◌, ◌^◌, ◌++◌, ◌≤◌, List, length, map, ap, refl, arith}
 use Rattle.std.specs.List.{flat_map}
 use Rattle.net_model.specs.declared.policies.Class.{Class}
+use Rattle.net_model.specs.declared.policies.Document.{Document}
 use Rattle.net_model.specs.declared.rows.Network.{Network}
 use Rattle.arc_base.specs.declared.prefix.Prefix.{Prefix}
+use Rattle.traffic_classes.specs.AllClasses.{AreAllClasses}
 use Rattle.traffic_classes.proofs.Unions.{have_one_list}
 use Rattle.edit_space.specs.declared.edit_kinds.Edit.{Edit}
 use Rattle.edit_space.specs.declared.sites.Site.{Site}
-use Rattle.edit_space.specs.EditLists.{all_edits, link_edits, route_edit, packet_edit, writable_classes}
+use Rattle.edit_space.specs.EditLists.{all_edits, link_edits, route_edit, packet_edit, writable_classes, HasFewClasses}
 use Rattle.edit_space.specs.Sites.{route_sites}
 use Rattle.edit_space.proofs.Counts.{counted_all, few_writable, small_product, have_hosts}
 use Rattle.edit_space.proofs.listing.edits.Goals as goal
@@ -53,11 +55,16 @@ overflow_add-count-2 c =
       c.in_ok-list.list.small,
     )
 
+-- the classes are few, whoever lists them
+few_of_one : (net : Network) (doc : Document) (classes : List Class) → AreAllClasses net doc.policies doc.policies classes → length classes ≤ 4096 → HasFewClasses net doc
+few_of_one net doc classes are few = λ other others. omega (arith, ap length ((have_one_list net doc.policies doc.policies).1 other classes others are), few)
+
 pub returns-then-count-gt-EDIT_LIMIT-clause-limit : goal.returns-then-count-gt-EDIT_LIMIT-clause-limit
 returns-then-count-gt-EDIT_LIMIT-clause-limit c =
     let net : Network = c.args.net.now in
     let destinations : List Prefix = c.in_ok-destinations.destinations.items in
     let classes : List Class = c.in_ok-classes.classes in (
+      few_of_one net c.args.doc.now classes c.in_ok-classes.ensures.classes c.in_ok-classes.ensures.few,
       record {
         list = all_edits net destinations classes;
         are = record { destinations = destinations; classes = classes; destinations_are = c.in_ok-destinations.ensures.are; classes_are = c.in_ok-classes.ensures.classes; all = refl };
@@ -104,5 +111,4 @@ returns-clause-few c =
     )
 
 pub returns-clause-few_classes : goal.returns-clause-few_classes
-returns-clause-few_classes c = λ classes are.
-    omega (arith, ap length ((have_one_list c.args.net.now c.args.doc.now.policies c.args.doc.now.policies).1 classes c.in_ok-classes.classes are c.in_ok-classes.ensures.classes), c.in_ok-classes.ensures.few)
+returns-clause-few_classes c = few_of_one c.args.net.now c.args.doc.now c.in_ok-classes.classes c.in_ok-classes.ensures.classes c.in_ok-classes.ensures.few
