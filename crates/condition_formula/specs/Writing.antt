@@ -1,7 +1,7 @@
 -- How clauses are written one after the other, and their literals counted. Contracts of helpers
 -- cite these.
 use Rattle.std.specs.Prelude.{◌≡◌, ℕ, ◌+◌, ◌-◌, ◌<◌, ◌≤◌, ◌^◌, min, ◌==◌, Bool, List, [], ◌∷◌, ◌++◌}
-use Rattle.std.specs.Prelude.{length, map, filter, slice_index_or, All}
+use Rattle.std.specs.Prelude.{map, filter, slice_index_or, slice_set, All}
 use Rattle.arc_base.specs.declared.limits.TheConstants.{LITERAL_LIMIT}
 use Rattle.condition_formula.specs.declared.part.Part.{Part}
 use Rattle.condition_formula.specs.declared.part.Part.TheVariants.{Fixed, Literal}
@@ -27,11 +27,15 @@ pub record Adds (old new : Writer) (clauses : List (List Part)) : Type 0 where
   pub counted : new.literals ≡ min (old.literals + literal_count clauses) (2 ^ 64 - 1)
   pub kept : new.literals ≤ LITERAL_LIMIT → new.clauses ≡ old.clauses ++ written_clauses clauses
 
+-- the number of the node or link that the arc is picked by
+abbrev pub number_of : Pick → ConditionArc → ℕ
+number_of OutOf arc = arc.tail
+number_of Into arc = arc.head
+number_of Over arc = arc.link.0
+
 -- whether the arc is one of those that are meant
 abbrev pub picks : Pick → ℕ → ConditionArc → Bool
-picks OutOf number arc = arc.tail == number
-picks Into number arc = arc.head == number
-picks Over number arc = arc.link.0 == number
+picks pick number arc = number_of pick arc == number
 
 -- the places of the arcs that are meant
 abbrev pub picked : Question → Pick → ℕ → List ℕ
@@ -44,6 +48,15 @@ rows_of q pick count = map (λ number. record { places = picked q pick number })
 -- the places of a number
 abbrev pub row_at : List Row → ℕ → List ℕ
 row_at rows number = (slice_index_or rows number (record { places = [] })).places
+
+-- so many rows without places
+abbrev pub empty_rows : ℕ → List Row
+empty_rows count = map (λ number. record { places = [] }) (upto count)
+
+-- the rows, with the place at the end of the number's row
+abbrev pub with_place : List Row → ℕ → ℕ → List Row
+with_place rows number place =
+    slice_set rows number (record { places = row_at rows number ++ place ∷ [] })
 
 -- the rows are those of the question's arcs
 pub record IsIndex (q : Question) (nodes links : ℕ) (index : Index) : Type 0 where

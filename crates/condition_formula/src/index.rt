@@ -3,8 +3,8 @@ ghost use Rattle.std.specs.Prelude.{◌≡◌, ◌<◌, ◌^◌, [], ◌∷◌, 
 ghost use Rattle.std.specs.Prelude.{IfOk};
 ghost use Rattle.condition_formula.specs.Formulas.{cell};
 ghost use Rattle.condition_formula.specs.Reaching.{arc_at};
-ghost use Rattle.condition_formula.specs.Writing.{AreSmall, picks, picked, rows_of, row_at};
-ghost use Rattle.condition_formula.specs.Writing.{IsIndex};
+ghost use Rattle.condition_formula.specs.Writing.{AreSmall, number_of, picks, picked, rows_of};
+ghost use Rattle.condition_formula.specs.Writing.{row_at, empty_rows, with_place, IsIndex};
 
 use crate::draft::push;
 use crate::network::{ConditionArc, Question};
@@ -14,14 +14,25 @@ use crate::table::Table;
 use arc_base::{List, Memory};
 use std::alloc::Global;
 
-/// Whether an arc is one of those that are meant.
-fn picks(pick: Pick, number: u32, arc: &ConditionArc) -> bool
-    ensures { result ≡ picks pick number arc.now }
+/// The number of the node or link that an arc is picked by.
+fn number_of(pick: Pick, arc: &ConditionArc) -> u32
+    ensures { result ≡ number_of pick arc.now }
 {
     match pick {
-        Pick::OutOf => arc.tail == number,
-        Pick::Into => arc.head == number,
-        Pick::Over => arc.link.0 == number,
+        Pick::OutOf => arc.tail,
+        Pick::Into => arc.head,
+        Pick::Over => arc.link.0,
+    }
+}
+
+/// The number that the arc at a place is picked by.
+fn number_at(pick: Pick, q: &Question, place: u32) -> u32
+    requires { place < length q.now.arcs }
+    ensures { result ≡ number_of pick (arc_at q.now place) }
+{
+    match q.arcs.get(place) {
+        Some(arc) => number_of(pick, arc),
+        None => 0,
     }
 }
 
@@ -30,10 +41,7 @@ fn picks_at(pick: Pick, number: u32, q: &Question, place: u32) -> bool
     requires { place < length q.now.arcs }
     ensures { result ≡ picks pick number (arc_at q.now place) }
 {
-    match q.arcs.get(place) {
-        Some(arc) => picks(pick, number, arc),
-        None => false,
-    }
+    number_at(pick, q, place) == number
 }
 
 /// Adds a place where it is wanted.
@@ -57,16 +65,41 @@ fn picked(alloc: Global, q: &Question, pick: Pick, number: u32) -> Result<List<u
     Ok(places)
 }
 
+/// So many rows without places.
+fn empty_rows(alloc: Global, count: u32) -> Result<Vec<Row>, Memory>
+    ensures { IfOk result (λ rows. rows.items ≡ empty_rows count) }
+{
+    let mut rows = Vec::new(alloc);
+    for _ in 0..count {
+        rows.push(Row {
+            places: List::make(alloc),
+        })?;
+    }
+    Ok(rows)
+}
+
+/// Puts a place at the end of the row of a number, if there is one.
+fn add_place(rows: &mut Vec<Row>, number: u32, place: u32) -> Result<(), Memory>
+    ensures { OnOk result (rows.new.items ≡ with_place rows.old.items number place) }
+{
+    let at = number as usize;
+    if at < rows.len() {
+        let row = &mut rows[at];
+        push(&mut row.places, place)?;
+    }
+    Ok(())
+}
+
 /// The places for each number below the count.
 fn rows(alloc: Global, q: &Question, pick: Pick, count: u32) -> Result<List<Row>, Memory>
     ensures { IfOk result (λ rows. rows ≡ rows_of q.now pick count) }
 {
-    let mut rows = List::make(alloc);
-    for number in 0..count {
-        let places = picked(alloc, q, pick, number)?;
-        push(&mut rows, Row { places })?;
+    let mut rows = empty_rows(alloc, count)?;
+    for place in 0..q.arcs.len() {
+        add_place(&mut rows, number_at(pick, q, place), place)?;
     }
-    Ok(rows)
+    let all = List::of(rows)?;
+    Ok(all)
 }
 
 /// The places of all arcs.
