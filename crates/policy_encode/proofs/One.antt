@@ -1,7 +1,8 @@
 -- There is one network of conditions, and so one repair formula.
-use Rattle.std.proofs.Common.{◌≡◌, ℕ, Some, List, [], ◌∷◌, refl, sym, ◌∙◌, ap}
-use Rattle.std.specs.Prelude.{slice_get}
+use Rattle.std.proofs.Common.{◌≡◌, ℕ, Some, List, [], ◌∷◌, length, map, refl, sym, ◌∙◌, ap}
+use Rattle.std.specs.Prelude.{All, slice_get}
 use Rattle.std.specs.List.{AllZip}
+use Rattle.std.proofs.lemmas.List.Elements.{All-head, All-tail}
 use Rattle.std.proofs.lemmas.Option.{same_Some}
 use Rattle.arc_base.specs.declared.place.Face.{Face}
 use Rattle.arc_base.specs.declared.prefix.Prefix.{Prefix}
@@ -11,14 +12,18 @@ use Rattle.net_model.specs.declared.policies.Policy.{Policy}
 use Rattle.net_model.specs.declared.policies.PolicyKind.{PolicyKind}
 use Rattle.net_model.specs.declared.rows.FaceRow.{FaceRow}
 use Rattle.net_model.specs.declared.rows.Network.{Network}
+use Rattle.net_model.specs.Forwarding.{HasEnds, IsHostFace}
+use Rattle.net_model.specs.Packets.{subject}
 use Rattle.net_model.specs.Validity.{IsValid}
-use Rattle.net_model.proofs.Hosts.{one_host}
+use Rattle.net_model.proofs.Hosts.{one_host, source_face, target_face}
+use Rattle.net_model.proofs.Readings.{place_of_item}
 use Rattle.traffic_classes.proofs.MakingUp.{has_one_list}
 use Rattle.condition_formula.specs.declared.network.ConditionNet.{ConditionNet}
 use Rattle.condition_formula.specs.declared.network.Question.{Question}
 use Rattle.condition_formula.specs.Formulas.{repair_formula, tops_of}
 use Rattle.edit_space.specs.declared.edit_kinds.Edit.{Edit}
-use Rattle.policy_encode.specs.Laws.{HaveOneFormula}
+use Rattle.edit_space.specs.Prices.{weight}
+use Rattle.policy_encode.specs.Laws.{FormulasAreThere, HaveOneFormula}
 use Rattle.policy_encode.specs.Questions.{question_of, IsQuestion, AreConditions}
 
 same_parts : (net : Network) (list : List Edit) (kind : PolicyKind) (s t : Face) (f g h k : FaceRow) (p q : Prefix) (cs ds : List Class) → s ≡ t → f ≡ g → h ≡ k → p ≡ q → cs ≡ ds →
@@ -66,3 +71,40 @@ one_formula net doc list most formula other tops others valid a b =
       a.formula_is ∙ ap (λ (c : ConditionNet). repair_formula c most) same ∙ sym b.formula_is,
       a.tops_are ∙ ap (λ (c : ConditionNet). tops_of c most) same ∙ sym b.tops_are,
     )
+
+-- a policy with ends has a question
+some_question : (net : Network) (policies : List Policy) (list : List Edit) (policy : Policy) → HasEnds net (subject policy) → (q : Question) × IsQuestion net policies list policy q
+some_question net policies list policy has =
+    let from : IsHostFace net policy.from has.ends.source = source_face net (subject policy) has.ends has.are_ends in
+    let to : IsHostFace net policy.to has.ends.target = target_face net (subject policy) has.ends has.are_ends in
+    let i = place_of_item net.faces has.ends.source from.is_face in
+    let j = place_of_item net.faces has.ends.target to.is_face in
+    let face : ℕ → Face = λ n. record { 0 = n } in
+    let classes = (has_one_list net policies policy).0 in (
+      question_of net list policy.kind (face i.0) has.ends.source has.ends.target has.ends.to classes.0,
+      record {
+        source = face i.0;
+        target = face j.0;
+        to = has.ends.to;
+        classes = classes.0;
+        source_is = record { face = has.ends.source; at_place = i.1; lies = from.lies };
+        target_is = record { face = has.ends.target; at_place = j.1; lies = to.lies };
+        to_is = has.are_ends.host;
+        classes_are = classes.1;
+        is = refl;
+      },
+    )
+
+some_questions : (net : Network) (policies some : List Policy) (list : List Edit) → All (λ policy. HasEnds net (subject policy)) some → (qs : List Question) × AllZip (IsQuestion net policies list) some qs
+some_questions net policies [] list has = ([], tt)
+some_questions net policies (p ∷ ps) list has =
+    let first = some_question net policies list p (All-head (λ (q : Policy). HasEnds net (subject q)) p ps has) in
+    let rest = some_questions net policies ps list (All-tail (λ (q : Policy). HasEnds net (subject q)) p ps has) in
+    (first.0 ∷ rest.0, (first.1, rest.1))
+
+pub formulas_are_there : FormulasAreThere
+formulas_are_there net doc list most has =
+    let questions = some_questions net doc.policies doc.policies list has in
+    let conditions : ConditionNet = record { nodes = length net.routers; links = length net.links; weights = map (weight doc.weights) list; questions = questions.0 } in
+    let are : AreConditions net doc list conditions = record { nodes = refl; links = refl; weights = refl; questions = questions.1 } in
+    (repair_formula conditions most, tops_of conditions most, record { conditions = conditions; are = are; formula_is = refl; tops_are = refl })

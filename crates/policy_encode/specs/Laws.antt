@@ -7,7 +7,7 @@ use Rattle.net_model.specs.declared.policies.Policy.{Policy}
 use Rattle.net_model.specs.declared.rows.Network.{Network}
 use Rattle.net_model.specs.Packets.{subject}
 use Rattle.net_model.specs.Policies.{Meets, MeetsDocument}
-use Rattle.net_model.specs.Forwarding.{Ends, AreEnds}
+use Rattle.net_model.specs.Forwarding.{Ends, AreEnds, HasEnds}
 use Rattle.net_model.specs.Validity.{IsValid}
 use Rattle.cnf_types.specs.Formulas.{Satisfies}
 use Rattle.cnf_types.specs.declared.literal.Lit.{Lit}
@@ -116,6 +116,13 @@ FormulasAreSearchable =
     (net : Network) (doc : Document) (list : List Edit) (most : ℕ) (formula : Formula)
     (tops : List Lit) → IsValid net → IsRepairFormula net doc list most formula tops →
     IsSearchable formula tops (length list) most
+
+-- a network, a document whose policies have their ends and a list of edits have a repair formula
+abbrev pub FormulasAreThere : Type 0
+FormulasAreThere =
+    (net : Network) (doc : Document) (list : List Edit) (most : ℕ) →
+    All (λ policy. HasEnds net (subject policy)) doc.policies →
+    (formula : Formula) × (tops : List Lit) × IsRepairFormula net doc list most formula tops
 
 -- a network, a document and a list of edits have at most one repair formula
 abbrev pub HaveOneFormula : Type 0

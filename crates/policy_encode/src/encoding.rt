@@ -8,6 +8,7 @@ ghost use Rattle.net_model.specs.Validity.{IsValid};
 ghost use Rattle.edit_space.specs.declared.edit_kinds.Edit.{Edit as AnyEdit};
 ghost use Rattle.edit_space.specs.EditLists.{AreEdits, HasFewClasses};
 ghost use Rattle.edit_space.specs.Prices.{weight};
+ghost use Rattle.traffic_classes.specs.Classes.{AreMarks};
 ghost use Rattle.policy_encode.specs.Finding.{IsIndexOf};
 ghost use Rattle.policy_encode.specs.Formulas.{IsRepairFormula, IsWithin, IsFaultOf};
 ghost use Rattle.net_model.specs.Policies.{HasFewFailures};
@@ -22,6 +23,7 @@ use condition_formula::{ConditionNet, EncodeFault, Encoded, Question};
 use edit_space::{Edit, EditFault, weight};
 use net_model::{Document, Network};
 use std::alloc::Global;
+use traffic_classes::Marks;
 
 /// What each edit costs.
 fn all_weights(alloc: Global, doc: &Document, edits: &List<Edit>) -> Result<List<u32>, Memory>
@@ -40,7 +42,9 @@ fn questions(
     net: &Network,
     doc: &Document,
     index: &EditIndex,
+    marks: &Marks,
 ) -> Result<List<Question>, Memory>
+    requires marks { AreMarks net.now doc.now.policies marks.now }
     requires ends { All (λ policy. HasEnds net.now (subject policy)) doc.now.policies }
     requires failures { All (λ policy. HasFewFailures policy.kind) doc.now.policies }
     requires few { HasFewClasses net.now doc.now }
@@ -49,10 +53,10 @@ fn questions(
         AllZip (IsQuestion net.now doc.now.policies list) doc.now.policies qs) }
 {
     let mut questions = List::make(alloc);
-    for (which, policy) in doc.policies.slice().iter().enumerate() {
+    for policy in doc.policies.slice() {
         push(
             &mut questions,
-            question(alloc, net, doc, index, which as u32, policy)?,
+            question(alloc, net, doc, index, marks, policy)?,
         )?;
     }
     Ok(questions)
@@ -73,7 +77,8 @@ fn conditions(
     ensures { IfOk result (AreConditions net.now doc.now edits.now) }
 {
     let index = EditIndex::of(alloc, edits.slice())?;
-    let questions = questions(alloc, net, doc, &index)?;
+    let marks = Marks::of(alloc, net, &doc.policies)?;
+    let questions = questions(alloc, net, doc, &index, &marks)?;
     let weights = all_weights(alloc, doc, edits)?;
     Ok(ConditionNet {
         nodes: net.routers.len(),

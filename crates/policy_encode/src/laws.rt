@@ -1,7 +1,7 @@
 //! Laws over the definitions alone: each is the contract of a function that does nothing.
 ghost use Rattle.policy_encode.specs.Laws.{QuestionsMirrorNetworks, QuestionsArePolicies};
 ghost use Rattle.policy_encode.specs.Laws.{ModelsAreRepairs, OneModelServes, FormulasAreSearchable};
-ghost use Rattle.policy_encode.specs.Laws.{HaveOneFormula};
+ghost use Rattle.policy_encode.specs.Laws.{FormulasAreThere, HaveOneFormula};
 
 /// The question of a policy stands for the network after any edits, arc by arc and class by class.
 pub fn questions_mirror_networks()
@@ -31,7 +31,12 @@ pub fn formulas_are_searchable()
     ensures { FormulasAreSearchable }
 {}
 
-/// There is one repair formula.
+/// There is a repair formula.
+pub fn formulas_are_there()
+    ensures { FormulasAreThere }
+{}
+
+/// There is no more than one repair formula.
 pub fn one_formula()
     ensures { HaveOneFormula }
 {}

@@ -1,12 +1,12 @@
 //! The questions of policies.
-ghost use Rattle.std.specs.Prelude.{◌≡◌, ◌<◌, ◌≤◌, ◌^◌, map, List, length, slice_get, Some, All};
+ghost use Rattle.std.specs.Prelude.{◌≡◌, ◌<◌, ◌≤◌, ◌^◌, map, List, length, All, Contains};
 ghost use Rattle.std.specs.Prelude.{IfOk, IfErr, IfSome};
 ghost use Rattle.std.specs.List.{AllZip};
 ghost use Rattle.edit_space.specs.declared.edit_kinds.Edit.{Edit as AnyEdit};
 ghost use Rattle.edit_space.specs.EditLists.{HasFewClasses};
 ghost use Rattle.net_model.specs.Forwarding.{HasHost, HasEnds, IsHostOf};
 ghost use Rattle.net_model.specs.Packets.{subject};
-ghost use Rattle.traffic_classes.specs.Classes.{AreClasses};
+ghost use Rattle.traffic_classes.specs.Classes.{AreClasses, AreMarks};
 ghost use Rattle.policy_encode.specs.Answers.{class_ends};
 ghost use Rattle.net_model.specs.Policies.{HasFewFailures};
 ghost use Rattle.policy_encode.specs.Questions.{demand_of, IsQuestion};
@@ -20,7 +20,7 @@ use arc_base::{Face, List, Memory, Prefix};
 use condition_formula::{ClassEnds, Demand, Question};
 use net_model::{Class, Document, FaceRow, Network, Policy, PolicyKind};
 use std::alloc::Global;
-use traffic_classes::{ClassFault, classes};
+use traffic_classes::{ClassFault, Marks};
 
 /// What the policy demands: for reach one path more than links may fail.
 fn demand_of(kind: PolicyKind) -> Demand
@@ -69,35 +69,37 @@ fn all_ends(
     Ok(ends)
 }
 
-/// The classes of the policy at a place, which are few.
+/// The classes of a policy, which are few, under the marks of the network with all policies.
 fn few_classes(
     alloc: Global,
     net: &Network,
     doc: &Document,
-    which: u32,
+    marks: &Marks,
+    policy: &Policy,
 ) -> Result<List<Class>, Memory>
-    requires place { which < length doc.now.policies }
+    requires marks { AreMarks net.now doc.now.policies marks.now }
+    requires one { Contains doc.now.policies policy.now }
     requires few { HasFewClasses net.now doc.now }
-    ensures { IfOk result (λ cs.
-        IfSome (slice_get doc.now.policies which) (λ p. AreClasses net.now doc.now.policies p cs)) }
+    ensures { IfOk result (AreClasses net.now doc.now.policies policy.now) }
 {
-    match classes(alloc, net, &doc.policies, which) {
+    match marks.classes(alloc, policy) {
         Ok(parts) => Ok(parts),
         Err(ClassFault::TooMany(_)) => unreachable!(),
         Err(ClassFault::Memory) => Err(Memory),
     }
 }
 
-/// The question of the policy at a place.
+/// The question of a policy, under the marks of the network with all policies.
 pub(crate) fn question(
     alloc: Global,
     net: &Network,
     doc: &Document,
     index: &EditIndex,
-    which: u32,
+    marks: &Marks,
     policy: &Policy,
 ) -> Result<Question, Memory>
-    requires at_place { slice_get doc.now.policies which ≡ Some policy.now }
+    requires marks { AreMarks net.now doc.now.policies marks.now }
+    requires one { Contains doc.now.policies policy.now }
     requires ends { HasEnds net.now (subject policy.now) }
     requires failures { HasFewFailures policy.now.kind }
     requires few { HasFewClasses net.now doc.now }
@@ -116,7 +118,7 @@ pub(crate) fn question(
     let Some(to) = target_row.host else {
         unreachable!()
     };
-    let classes = few_classes(alloc, net, doc, which)?;
+    let classes = few_classes(alloc, net, doc, marks, policy)?;
     let arcs = arcs_to(alloc, net, index, to, &classes)?;
     let ends = all_ends(alloc, net, index, source, source_row, target_row, &classes)?;
     Ok(Question {

@@ -6,15 +6,21 @@ use Rattle.policy_encode.specs.Questions.{IsQuestion}
 use Rattle.policy_encode.proofs.Making.{zip_more}
 use Rattle.policy_encode.proofs.encoding.questions.Goals as goal
 
+pub question-requires-clause-one : goal.question-requires-clause-one
+question-requires-clause-one c =
+    let low : c.loop-policy.policy-index < length c.args.doc.now.policies = omega (arith, c.loop-policy-test.true, ap length c.slice-policy-items.ensures.items) in
+    let is = c.policy-item.is ∙ ap (λ (l : List Policy). get_or l c.loop-policy.policy-index c.policy-item.result) c.slice-policy-items.ensures.items in
+    (c.loop-policy.policy-index, low, sym is)
+
 pub question-requires-clause-ends : goal.question-requires-clause-ends
 question-requires-clause-ends c =
-    let low : c.loop-which.which < length c.args.doc.now.policies = omega (arith, c.loop-which-test.true, ap length c.slice-policy-items.ensures.items) in
-    let is = c.policy-item.is ∙ ap (λ (l : List Policy). get_or l c.loop-which.which c.policy-item.result) c.slice-policy-items.ensures.items in
-    subst (λ (p : Policy). HasEnds c.args.net.now (subject p)) (sym is) (c.requires.ends c.loop-which.which c.policy-item.result low)
+    let low : c.loop-policy.policy-index < length c.args.doc.now.policies = omega (arith, c.loop-policy-test.true, ap length c.slice-policy-items.ensures.items) in
+    let is = c.policy-item.is ∙ ap (λ (l : List Policy). get_or l c.loop-policy.policy-index c.policy-item.result) c.slice-policy-items.ensures.items in
+    subst (λ (p : Policy). HasEnds c.args.net.now (subject p)) (sym is) (c.requires.ends c.loop-policy.policy-index c.policy-item.result low)
 
-pub loop-which-preserved : goal.loop-which-preserved
-loop-which-preserved c = λ list is.
-    let low : c.loop-which.which < length c.args.doc.now.policies = omega (arith, c.loop-which-test.true, ap length c.slice-policy-items.ensures.items) in
-    let item = c.policy-item.is ∙ ap (λ (l : List Policy). get_or l c.loop-which.which c.policy-item.result) c.slice-policy-items.ensures.items in
-    zip_more (IsQuestion c.args.net.now c.args.doc.now.policies list) c.args.doc.now.policies c.loop-which.questions c.push.new.items c.loop-which.which c.policy-item.result c.in_ok-question.field-0
-    low item (c.loop-which.invariant list is) (c.in_ok-question.ensures list is) c.in_ok-push.ensures.ok
+pub loop-policy-preserved : goal.loop-policy-preserved
+loop-policy-preserved c = λ list is.
+    let low : c.loop-policy.policy-index < length c.args.doc.now.policies = omega (arith, c.loop-policy-test.true, ap length c.slice-policy-items.ensures.items) in
+    let item = c.policy-item.is ∙ ap (λ (l : List Policy). get_or l c.loop-policy.policy-index c.policy-item.result) c.slice-policy-items.ensures.items in
+    zip_more (IsQuestion c.args.net.now c.args.doc.now.policies list) c.args.doc.now.policies c.loop-policy.questions c.push.new.items c.loop-policy.policy-index c.policy-item.result c.in_ok-question.field-0
+    low item (c.loop-policy.invariant list is) (c.in_ok-question.ensures list is) c.in_ok-push.ensures.ok

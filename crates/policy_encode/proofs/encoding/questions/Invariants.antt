@@ -5,5 +5,5 @@ use Rattle.policy_encode.specs.Questions.{IsQuestion}
 use Rattle.policy_encode.specs.Finding.{IsIndexOf}
 use Rattle.policy_encode.proofs.encoding.questions.Given as goal
 
-abbrev pub invariant-loop-which : goal.invariant-loop-which
-invariant-loop-which l = (list : List Edit) → IsIndexOf list l.index → AllZip (IsQuestion l.net l.doc.policies list) (take l.which l.doc.policies) l.questions
+abbrev pub invariant-loop-policy : goal.invariant-loop-policy
+invariant-loop-policy l = (list : List Edit) → IsIndexOf list l.index → AllZip (IsQuestion l.net l.doc.policies list) (take l.policy-index l.doc.policies) l.questions
