@@ -13,24 +13,17 @@ use Rattle.arc_repair.specs.declared.answer.Answer.{Answer}
 use Rattle.arc_repair.specs.Answers.{IsUntouched, IsRepairFault}
 use Rattle.arc_repair.specs.Repairs.{Mends, none_of}
 
-module _ (one : EditListsAreOne) (net : Network) (doc : Document) (list : List Edit) (valid : IsValid net) (are : AreEdits net doc list) where
-  -- what holds of one list of the edits holds of each
-  pub of_each : (P : List Edit → Type 0) → P list → (other : List Edit) → AreEdits net doc other → P other
-  of_each P h other others = subst P (one net doc list other valid are others) h
+-- what holds of one list of the edits holds of each
+pub of_each : EditListsAreOne → (net : Network) (doc : Document) (list : List Edit) → IsValid net → AreEdits net doc list → (P : List Edit → Type 0) → P list → (other : List Edit) → AreEdits net doc other → P other
+of_each one net doc list valid are P h other others = subst P (one net doc list other valid are others) h
 
-  -- where no edits at all do not mend the network, whatever is answered is right where they do
-  pub never_mended : (none : List Bool) (answer : Answer) → none ≡ none_of list → ¬ Mends net doc list none → (other : List Edit) → AreEdits net doc other → Mends net doc other (none_of other) → IsUntouched other answer
-  never_mended none answer is wrong other others mends =
-      let here : Mends net doc list (none_of list) = subst (λ (l : List Edit). Mends net doc l (none_of l)) (sym (one net doc list other valid are others)) mends in
-      absurd (wrong (subst (λ (flags : List Bool). Mends net doc list flags) (sym is) here))
+-- where no edits at all do not mend the network, whatever is answered is right where they do
+pub never_mended : (net : Network) (doc : Document) (list : List Edit) (none : List Bool) (answer : Answer) → none ≡ none_of list → ¬ Mends net doc list none → Mends net doc list (none_of list) → IsUntouched list answer
+never_mended net doc list none answer is wrong mends = absurd (wrong (subst (λ (flags : List Bool). Mends net doc list flags) (sym is) mends))
 
-  -- where no edits mend the network and the answer says so, it is right for each list of the edits
-  pub untouched : (answer : Answer) → IsUntouched list answer → (other : List Edit) → AreEdits net doc other → Mends net doc other (none_of other) → IsUntouched other answer
-  untouched answer is other others mends = of_each (λ (l : List Edit). IsUntouched l answer) is other others
-
-  -- a fault of the formula comes after those of the classes and of the edits
-  pub formula_fault : (bound : ℕ) (fault : EditFault) → HasFewClasses net doc → length list ≤ 8192 → encoded.IsFaultOf net doc list bound fault → IsRepairFault net doc bound fault
-  formula_fault bound fault classes few wrong = inr (record { list = list; are = are; classes = classes; edits = few; formula = wrong })
+-- a fault of the formula comes after those of the classes and of the edits
+pub formula_fault : (net : Network) (doc : Document) (list : List Edit) → AreEdits net doc list → (bound : ℕ) (fault : EditFault) → HasFewClasses net doc → length list ≤ 8192 → encoded.IsFaultOf net doc list bound fault → IsRepairFault net doc bound fault
+formula_fault net doc list are bound fault classes few wrong = inr (record { list = list; are = are; classes = classes; edits = few; formula = wrong })
 
 -- and one of memory may come at any time
 pub out_of_memory : (net : Network) (doc : Document) (bound : ℕ) → IsRepairFault net doc bound Memory

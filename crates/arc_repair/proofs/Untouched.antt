@@ -7,15 +7,19 @@ use Rattle.cnf_types.specs.declared.clauses.Formula.{Formula}
 use Rattle.net_model.specs.declared.policies.Document.{Document}
 use Rattle.net_model.specs.declared.rows.Network.{Network}
 use Rattle.net_model.specs.declared.verdicts.Verdict.{Verdict}
+use Rattle.net_model.specs.Policies.{MeetsDocument}
+use Rattle.net_model.specs.Validity.{IsValid}
 use Rattle.edit_space.specs.declared.claims.Claim.TheVariants.{Repaired}
 use Rattle.edit_space.specs.declared.edit_kinds.Edit.{Edit}
 use Rattle.edit_space.specs.After.{IsAfter}
+use Rattle.edit_space.specs.Ordered.{IsInOrder}
+use Rattle.edit_laws.proofs.NoEdits.{none_change}
 use Rattle.edit_laws.specs.Laws.{NoEditsChangeNothing}
 use Rattle.edit_space.specs.Prices.{chosen_of, price_of}
 use Rattle.policy_encode.specs.Formulas.{IsRepairFormula}
 use Rattle.arc_repair.specs.Claims.{Shows}
 use Rattle.arc_repair.specs.Laws.{MetNetworksNeedNoEdits}
-use Rattle.arc_repair.specs.Repairs.{cost, none_of}
+use Rattle.arc_repair.specs.Repairs.{cost, Mends, none_of}
 
 pub none_chosen : (list : List Edit) → chosen_of list (none_of list) ≡ []
 none_chosen [] = refl
@@ -39,3 +43,6 @@ met_networks nothing net doc list valid names packets routes meets = record {
   is_after = subst (λ (chosen : List Edit). IsAfter net chosen net) (sym (none_chosen list)) (nothing net valid names packets routes);
   meets = meets;
 }
+
+pub met_in_order : (net : Network) (doc : Document) (list : List Edit) → IsValid net → IsInOrder net → MeetsDocument net doc → Mends net doc list (none_of list)
+met_in_order net doc list valid order meets = met_networks none_change net doc list valid order.names order.packet_lists order.route_lists meets

@@ -19,7 +19,8 @@ use edited_networks::after;
 use net_laws::verdicts_are_right;
 use net_model::{Document, Network, Policy, Verdict};
 use std::alloc::Global;
-use verdicts::{JudgeFault, judge};
+use traffic_classes::Marks;
+use verdicts::{JudgeFault, judge_under};
 
 /// Whether the verdict is a yes.
 pub(crate) fn is_yes(verdict: &Verdict) -> bool
@@ -44,9 +45,10 @@ fn yeses(
     ensures none { IfOk result (λ verdicts. IsNone verdicts → ¬ All (Meets net.now) policies.now) }
 {
     verdicts_are_right();
+    let marks = Marks::of(alloc, net, policies)?;
     let mut verdicts = List::make(alloc);
     for which in 0..policies.len() {
-        match judge(alloc, net, policies, which) {
+        match judge_under(alloc, net, policies, &marks, which) {
             Ok(verdict) => {
                 if !is_yes(&verdict) {
                     return Ok(None);

@@ -15,4 +15,4 @@ mod searching;
 
 pub use answer::Answer;
 pub use check::{Check, Made};
-pub use repairing::repair;
+pub use repairing::{repair, repair_of};

@@ -8,9 +8,10 @@ ghost use Rattle.edit_space.specs.declared.claims.Claim.TheVariants.{Repaired};
 ghost use Rattle.edit_space.specs.declared.edit_kinds.Edit.{Edit as AnyEdit};
 ghost use Rattle.edit_space.specs.Determined.{IsCountable};
 ghost use Rattle.edit_space.specs.EditLists.{AreEdits, HasFewClasses};
+ghost use Rattle.edit_space.specs.Ordered.{IsInOrder};
 ghost use Rattle.price_descent.specs.Outcomes.{found_steps};
 ghost use Rattle.proof_log.specs.Texts.{HasLine};
-ghost use Rattle.net_model.specs.Policies.{HasFewFailures};
+ghost use Rattle.net_model.specs.Policies.{HasFewFailures, MeetsDocument};
 ghost use Rattle.arc_repair.specs.declared.answer.Answer.TheVariants.{Done};
 ghost use Rattle.arc_repair.specs.Answers.{AnswersFew, IsAnswer, answer_steps, IsUntouched};
 ghost use Rattle.arc_repair.specs.Answers.{KeepsLimits, IsRepairFault};
@@ -20,7 +21,7 @@ ghost use Rattle.arc_repair.specs.Search.{IsSearched};
 use crate::answer::Answer;
 use crate::judging::yeses_after;
 use crate::searching::cheapest;
-use arc_base::limits::{CONFLICT_LIMIT, POLICY_LIMIT, PRICE_LIMIT};
+use arc_base::limits::{CONFLICT_LIMIT, EDIT_LIMIT, POLICY_LIMIT, PRICE_LIMIT};
 use arc_base::{List, Memory};
 use edit_space::laws::edit_lists_are_one;
 use edit_space::{Claim, Edit, EditFault, edits};
@@ -130,6 +131,8 @@ pub fn repair(
         IsAnswer net.now doc.now list bound limit answer) }
     ensures met { IfOk result (λ answer. (list : Items AnyEdit) → AreEdits net.now doc.now list →
         Mends net.now doc.now list (none_of list) → IsUntouched list answer) }
+    ensures meets { IfOk result (λ answer. (list : Items AnyEdit) → AreEdits net.now doc.now list →
+        IsInOrder net.now → MeetsDocument net.now doc.now → IsUntouched list answer) }
     ensures lines { IfOk result (λ answer. All HasLine (answer_steps answer)) }
     ensures few { IfOk result AnswersFew }
     ensures within { IfOk result (λ answer. additions (answer_steps answer) ≤ limit) }
@@ -139,12 +142,47 @@ pub fn repair(
 {
     edit_lists_are_one();
     let list = edits(alloc, net, doc)?;
-    let encoded = encode(alloc, net, doc, &list, bound)?;
-    let none = no_flags(alloc, &list)?;
-    if let Some(verdicts) = yeses_after(alloc, net, doc, &list, none.slice())? {
+    let answer = repair_of(alloc, net, doc, &list, bound, limit)?;
+    Ok(answer)
+}
+
+/// The answer that `repair` gives, where these are the edits of the network for the document, and
+/// they and the classes are within their limits.
+pub fn repair_of(
+    alloc: Global,
+    net: &Network,
+    doc: &Document,
+    list: &List<Edit>,
+    bound: u32,
+    limit: u64,
+) -> Result<Answer, EditFault>
+    requires valid { IsValid net.now }
+    requires countable { IsCountable net.now }
+    requires few { length doc.now.policies ≤ POLICY_LIMIT }
+    requires ends { All (λ policy. HasEnds net.now (subject policy)) doc.now.policies }
+    requires failures { All (λ policy. HasFewFailures policy.kind) doc.now.policies }
+    requires classes { HasFewClasses net.now doc.now }
+    requires edits { AreEdits net.now doc.now list.now }
+    requires few_edits { length list.now ≤ EDIT_LIMIT }
+    requires bound { bound ≤ PRICE_LIMIT }
+    requires limit { limit ≤ CONFLICT_LIMIT }
+    ensures answer { IfOk result (IsAnswer net.now doc.now list.now bound limit) }
+    ensures met { IfOk result (λ answer.
+        Mends net.now doc.now list.now (none_of list.now) → IsUntouched list.now answer) }
+    ensures meets { IfOk result (λ answer.
+        IsInOrder net.now → MeetsDocument net.now doc.now → IsUntouched list.now answer) }
+    ensures lines { IfOk result (λ answer. All HasLine (answer_steps answer)) }
+    ensures few { IfOk result AnswersFew }
+    ensures within { IfOk result (λ answer. additions (answer_steps answer) ≤ limit) }
+    ensures limits { IfOk result (λ answer. KeepsLimits net.now doc.now list.now bound) }
+    ensures fault { IfErr result (IsRepairFault net.now doc.now bound) }
+{
+    let encoded = encode(alloc, net, doc, list, bound)?;
+    let none = no_flags(alloc, list)?;
+    if let Some(verdicts) = yeses_after(alloc, net, doc, list, none.slice())? {
         return Ok(untouched(alloc, bound, none, verdicts));
     }
-    let found = cheapest(alloc, net, doc, &list, &encoded, bound, limit)?;
-    let answer = answer_of(alloc, net, doc, &list, bound, limit, found)?;
+    let found = cheapest(alloc, net, doc, list, &encoded, bound, limit)?;
+    let answer = answer_of(alloc, net, doc, list, bound, limit, found)?;
     Ok(answer)
 }

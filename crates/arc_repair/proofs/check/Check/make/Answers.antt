@@ -37,7 +37,7 @@ returns-in_err-encoded-clause-fault c =
     let fault : IsFaultOf c.args.net.now c.args.doc.now c.in_ok-list.list (claim_bound c.args.claim.now) c.in_err-encoded.field-0.0 =
     subst (λ (bound : ℕ). IsFaultOf c.args.net.now c.args.doc.now c.in_ok-list.list bound c.in_err-encoded.field-0.0) c.bound_of-bound.ensures c.in_err-encoded.ensures.fault in
     rw (p.1, p.2)
-    (formula_fault c.edit_lists_are_one.ensures c.args.net.now c.args.doc.now c.in_ok-list.list c.requires.valid c.in_ok-list.ensures.edits (claim_bound c.args.claim.now) c.in_err-encoded.field-0.0 c.in_ok-list.ensures.few_classes c.in_ok-list.ensures.few fault)
+    (formula_fault c.args.net.now c.args.doc.now c.in_ok-list.list c.in_ok-list.ensures.edits (claim_bound c.args.claim.now) c.in_err-encoded.field-0.0 c.in_ok-list.ensures.few_classes c.in_ok-list.ensures.few fault)
 
 pub returns-in_err-kind-clause-fault : goal.returns-in_err-kind-clause-fault
 returns-in_err-kind-clause-fault c =
