@@ -9,7 +9,8 @@ ghost use Rattle.generate_commands.specs.Tallies.{one_more, tally_of};
 use arc_base::{List, Memory};
 use net_model::{Document, Network, Verdict};
 use std::alloc::Global;
-use verdicts::{JudgeFault, judge};
+use traffic_classes::Marks;
+use verdicts::{JudgeFault, judge_under};
 
 /// How many policies a network meets, how many it breaks, and how many are not clear in it.
 #[derive(Clone, Copy, Debug, PartialEq, Eq)]
@@ -58,9 +59,10 @@ pub fn judge_all(alloc: Global, net: &Network, doc: &Document) -> Result<List<Ve
     requires classes { HasFewClasses net.now doc.now }
     ensures { IfOk result (AllZip (IsRight net.now) doc.now.policies) }
 {
+    let marks = Marks::of(alloc, net, &doc.policies)?;
     let mut verdicts = List::make(alloc);
     for which in 0..doc.policies.len() {
-        match judge(alloc, net, &doc.policies, which) {
+        match judge_under(alloc, net, &doc.policies, &marks, which) {
             Ok(verdict) => verdicts.push(verdict)?,
             Err(JudgeFault::TooMany(_)) => unreachable!(),
             Err(JudgeFault::Memory) => return Err(Memory),

@@ -7,11 +7,11 @@ use Rattle.arc_base.proofs.Zips.{at_place, AllZip-next}
 use Rattle.generate_commands.proofs.Answered.{few_each}
 use Rattle.generate_commands.proofs.tallies.judge_all.Goals as goal
 
-pub judge-requires-clause-ends : goal.judge-requires-clause-ends
-judge-requires-clause-ends c = at_place _ _ _ c.requires.fit.ends
+pub judge_under-requires-clause-ends : goal.judge_under-requires-clause-ends
+judge_under-requires-clause-ends c = at_place _ _ _ c.requires.fit.ends
 
-pub judge-requires-clause-failures : goal.judge-requires-clause-failures
-judge-requires-clause-failures c = at_place _ _ _ c.requires.fit.failures
+pub judge_under-requires-clause-failures : goal.judge_under-requires-clause-failures
+judge_under-requires-clause-failures c = at_place _ _ _ c.requires.fit.failures
 
 pub unreachable-requires : goal.unreachable-requires
 unreachable-requires c =
