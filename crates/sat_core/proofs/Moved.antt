@@ -1,10 +1,11 @@
 -- Trails whose reasons moved: nothing else changes.
-use Rattle.std.proofs.Common.{◌≡◌, ℕ, zero, suc, ◌+◌, ◌<◌, ◌≤◌, ◌==◌, Bool, true, false, ◌||◌, cond, List, [], ◌∷◌, ◌++◌, length, map, get_or, set, take, drop, Contains, Option, Some, None, is_none, vec_capacity, leb, length-append, refl, sym, ap, ◌∙◌, subst, arith}
+use Rattle.std.proofs.Common.{◌≡◌, ◌≢◌, ℕ, zero, suc, ◌+◌, ◌<◌, ◌≤◌, ◌==◌, Bool, true, false, ◌||◌, cond, List, [], ◌∷◌, ◌++◌, length, map, get_or, set, take, drop, Contains, Option, Some, None, is_none, vec_capacity, leb, eqb, length-append, refl, sym, ap, ◌∙◌, subst, arith}
 use Rattle.std.specs.List.{slice_get}
 use Rattle.std.specs.Option.{option_map}
+use Rattle.std.proofs.lemmas.Bool.{cond-false, ne_eqb}
 use Rattle.std.proofs.lemmas.List.{take-map, length-map, take-append-drop, take_all, drop_all, append-nil}
 use Rattle.std.proofs.lemmas.List.Sums.{sum_by-cons}
-use Rattle.std.proofs.lemmas.List.Elements.{Contains-append_right}
+use Rattle.std.proofs.lemmas.List.Elements.{All-head, All-tail, Contains-append_right}
 use Rattle.std.proofs.lemmas.Option.{slice_get-map, slice_get-get_or, get_or_from_slice_get}
 use Rattle.arc_base.proofs.Items.{Contains-head}
 use Rattle.cnf_types.specs.declared.literal.Lit.{Lit}
@@ -16,7 +17,7 @@ use Rattle.sat_core.specs.Trails.{EachFollows, IsUnset, is_on, up_to, decisions}
 use Rattle.sat_core.specs.Kept.{ArePlaces, IsKeptTrail}
 use Rattle.sat_core.proofs.Rising.{decisions-push}
 use Rattle.sat_core.specs.Assignments.{Stands, is_set}
-use Rattle.sat_core.specs.Forgotten.{moved_entry, moved_entries, moved_reason}
+use Rattle.sat_core.specs.Forgotten.{moved_entry, moved_entries, moved_reason, IsNoReason}
 
 pub none-moved : (last at : ℕ) (r : Option Held) → is_none (moved_reason last at r) ≡ is_none r
 none-moved last at None = refl
@@ -94,6 +95,19 @@ each-moved R S last at xs step each before after e h =
     let p = parts (moved_entry last at) xs before e after h in
     let held : Contains xs p.item = subst (λ (ys : List Assigned). Contains ys p.item) (sym p.is) (Contains-append_right p.front (p.item ∷ p.rest) p.item (Contains-head p.item p.rest)) in
     subst (λ (y : Assigned). S before y) p.item_is (subst (λ (ys : List Assigned). S ys (moved_entry last at p.item)) p.before_is (step p.front p.item held (each p.front p.rest p.item p.is)))
+
+-- where the last clause is no reason, nothing moves
+same-reason : (last at : ℕ) (r : Option Held) → r ≢ Some (record { 0 = last }) → moved_reason last at r ≡ r
+same-reason last at None other = refl
+same-reason last at (Some h) other =
+    let with_place : ℕ → Option Held = λ k. Some (record { 0 = k }) in
+    ap with_place (cond-false (eqb h.0 last) at h.0 (ne_eqb h.0 last (λ e. other (ap with_place e))))
+
+pub none-to-move : (last at : ℕ) (xs : List Assigned) → IsNoReason xs (record { 0 = last }) → moved_entries last at xs ≡ xs
+none-to-move last at [] none = refl
+none-to-move last at (x ∷ xs) none =
+    let here : moved_entry last at x ≡ x = ap (λ (r : Option Held). let e : Assigned = record x { reason = r } in e) (same-reason last at x.reason (All-head (λ (e : Assigned). e.reason ≢ Some (record { 0 = last })) x xs none)) in
+    ap (λ (e : Assigned). e ∷ moved_entries last at xs) here ∙ ap (λ (ys : List Assigned). x ∷ ys) (none-to-move last at xs (All-tail (λ (e : Assigned). e.reason ≢ Some (record { 0 = last })) x xs none))
 
 -- the list with its first items changed
 abbrev pub mixed : {X : Type 0} → (X → X) → ℕ → List X → List X

@@ -1,9 +1,9 @@
 //! How a clause is forgotten, and how the gaps that forgotten clauses leave are closed.
-ghost use Rattle.std.specs.Prelude.{◌≡◌, ◌≢◌, ℕ, ◌-◌, ◌<◌, length, All, Contains, Some, IsNone};
-ghost use Rattle.std.specs.Prelude.{IfSome, IsSomeAnd, IsTrue, IsFalse, slice_index_or};
+ghost use Rattle.std.specs.Prelude.{◌≡◌, ◌≢◌, ℕ, ◌-◌, ◌<◌, ◌≤◌, length, All, Contains, Some};
+ghost use Rattle.std.specs.Prelude.{IsNone, IfSome, IsSomeAnd, IsTrue, IsFalse, slice_index_or};
 ghost use Rattle.std.specs.List.{Any};
 ghost use Rattle.cnf_types.specs.Literals.{variable};
-ghost use Rattle.sat_core.specs.Trails.{IsOf, entry_of};
+ghost use Rattle.sat_core.specs.Trails.{IsOf, IsTrail, entry_of};
 ghost use Rattle.std.specs.Option.{option_and_then};
 ghost use Rattle.cnf_types.specs.declared.literal.Lit.{Lit};
 ghost use Rattle.clause_pool.specs.declared.place.Place.{Place};
@@ -11,7 +11,7 @@ ghost use Rattle.clause_pool.specs.Pools.{Entry, IsSound as IsSoundPool, IsFresh
 ghost use Rattle.clause_pool.specs.Pools.{IsOf as IsOfPool, chain, clause_at as clause_in};
 ghost use Rattle.sat_core.specs.Progressing.{AreInRange};
 ghost use Rattle.sat_core.specs.Watches.{IsLinked};
-ghost use Rattle.sat_core.specs.Forgotten.{IsFreed, IsMoved, IsRenumbered};
+ghost use Rattle.sat_core.specs.Forgotten.{IsFreed, IsMoved, IsRenumbered, moved_entries};
 
 use crate::assigned::{Assigned, Held};
 use crate::engine::Core;
@@ -43,9 +43,9 @@ impl Core {
         ensures { self.new ≡ without_clause self.old held }
     {
         take_out(&self.store, &mut self.pool, held);
+        rename(&self.store, &mut self.trail, held);
         self.store.remove(held);
         let last = self.store.len();
-        self.trail.rename(last, held.0);
         self.progress = self.progress.forgotten(last);
     }
 
@@ -88,6 +88,21 @@ fn implied(trail: &Trail, lits: &[Lit], held: Held) -> bool
         }
     }
     false
+}
+
+/// Gives each entry whose reason is the last clause of the list the place that this one is to take.
+/// It goes through the trail only where there is such an entry.
+fn rename(store: &Store, trail: &mut Trail, held: Held)
+    requires some { 1 ≤ length store.now.clauses }
+    requires range { AreInRange trail.old.vars store.now.clauses }
+    requires trail { IsTrail store.now.clauses trail.old.vars trail.old.entries trail.old.level }
+    ensures { trail.new ≡ record trail.old
+        { entries = moved_entries (length store.now.clauses - 1) held.0 trail.old.entries } }
+{
+    let last = Held(store.len() - 1);
+    if implied(trail, store.lits(last), last) {
+        trail.rename(last.0, held.0);
+    }
 }
 
 /// The place in a literal's chain of the clause with an id.
