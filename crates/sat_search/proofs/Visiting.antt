@@ -67,13 +67,6 @@ reason_below s sound first a at h some =
     held-below None e p = absurd p
     held-below (Some ls) e p = slice_get_within s.clauses h.0 (clause_found s.clauses h ls e).0 (clause_found s.clauses h ls e).1
 
-pub some-below : (s : State) (sound : IsSound s) (first : ℕ) (a : Assigned) → slice_get s.trail first ≡ Some a → IfSome a.reason (λ h. h.0 < length s.clauses)
-some-below s sound first a at = each a.reason (λ h is. reason_below s sound first a at h is)
-  where
-    each : (o : Option Held) → ((h : Held) → o ≡ Some h → h.0 < length s.clauses) → IfSome o (λ h. h.0 < length s.clauses)
-    each None f = tt
-    each (Some h) f = f h refl
-
 module _ (s : State) (sound : IsSound s) (first : ℕ) (flags : List Bool) (lits : List Lit) (hints : List ℤ) (current : ℕ) (a : Assigned) (at : slice_get s.trail first ≡ Some a) (was : is_marked flags (negated a.lit) ≡ true) (pass : IsPass s (first + 1) flags lits hints current) (more : List Bool) (clears : IsCleared flags more (negated a.lit)) where
   -- before a decision nothing of its level is open
   alone : (rest : ℕ) → a.reason ≡ None → a.level ≡ s.level → current ≡ rest + once (a.level == s.level) → current ≤ 1

@@ -18,6 +18,7 @@ use crate::lesson::{Lesson, level_of_false};
 use crate::marks::Marks;
 use crate::order::Order;
 use crate::restarts::Restarts;
+use crate::sparing::Spares;
 use arc_base::{List, Memory};
 use cnf_types::Lit;
 use proof_log::{Log, Step};
@@ -29,6 +30,7 @@ use std::alloc::Global;
 pub(crate) struct Learner {
     pub alloc: Global,
     pub marks: Marks,
+    pub spares: Spares,
     pub order: Order,
     pub restarts: Restarts,
     pub lemmas: Lemmas,
@@ -44,6 +46,7 @@ impl Learner {
         Ok(Learner {
             alloc,
             marks: Marks::make(alloc, vars)?,
+            spares: Spares::make(alloc, vars)?,
             order: Order::make(alloc, vars)?,
             restarts: Restarts::make(),
             lemmas: Lemmas::of(alloc, steps)?,
@@ -71,7 +74,13 @@ impl Learner {
             IfOk result (λ empty. core.new.level ≡ 0) }
         ensures err { OnErr result (log.new.steps ≡ log.old.steps) }
     {
-        let lesson = Lesson::of(self.alloc, &mut self.marks, core, conflict)?;
+        let lesson = Lesson::of(
+            self.alloc,
+            &mut self.marks,
+            &mut self.spares,
+            core,
+            conflict,
+        )?;
         self.order.remember(core.vars(), &lesson.met);
         let (lits, hints) = lesson.into_parts()?;
         let levels = joined_levels(core, lits.slice());

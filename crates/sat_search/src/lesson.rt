@@ -15,6 +15,7 @@ ghost use Rattle.sat_search.specs.Live.{clause_in};
 ghost use Rattle.sat_search.specs.Searches.{IsLearnt};
 
 use crate::marks::Marks;
+use crate::sparing::Spares;
 use arc_base::{List, Memory};
 use cnf_types::Lit;
 use sat_core::{Assigned, Core, Held};
@@ -22,7 +23,7 @@ use std::alloc::Global;
 
 /// What a conflict teaches, while the pass through the trail goes on: the literals that stay, the
 /// ids of the clauses that were resolved, the conflict's first, how many marked literals are of the
-/// current level, and the literals that were met.
+/// current level, and the literals that were met, but for those of level 0.
 #[derive(Debug, Drop)]
 pub(crate) struct Lesson {
     pub lits: Vec<Lit>,
@@ -55,22 +56,13 @@ pub(crate) fn level_of_false(core: &Core, lit: Lit) -> u32
     }
 }
 
-/// Whether the literals that an entry's reason brings in its place are in the clause so far, or
-/// false since level 0.
-fn is_spared(marks: &Marks, core: &Core, entry: Assigned) -> bool
+/// Whether the literal of an entry between level 0 and the current one is implied by the clause so
+/// far.
+fn is_spared(spares: &mut Spares, marks: &Marks, core: &Core, entry: Assigned) -> bool
     requires sound { IsSound core.now }
     requires room { HasRoom core.now marks.now }
-    requires held { IfSome entry.reason (λ h. h.0 < length core.now.clauses) }
 {
-    let Some(held) = entry.reason else {
-        return false;
-    };
-    for lit in core.clause(held) {
-        if lit.code != entry.lit.code && !marks.has(*lit) && level_of_false(core, *lit) > 0 {
-            return false;
-        }
-    }
-    true
+    entry.level > 0 && entry.level < core.level() && spares.ask(marks, core, entry.lit.var())
 }
 
 /// The hint that names a clause.
@@ -120,10 +112,13 @@ impl Lesson {
         if marks.has(lit) || !is_false(core, lit) {
             return Ok(());
         }
-        self.met.push(lit)?;
         marks.mark(lit);
-        if core.level_of(lit.var()) == core.level() {
+        let level = core.level_of(lit.var());
+        if level == core.level() {
             self.current += 1;
+        }
+        if level > 0 {
+            self.met.push(lit)?;
         }
         Ok(())
     }
@@ -174,7 +169,13 @@ impl Lesson {
 
     /// Goes through the entry of the trail at a place. Where its negation is in the clause so far,
     /// the entry is resolved away with its reason, or the negation stays.
-    fn visit(&mut self, marks: &mut Marks, core: &Core, place: usize) -> Result<(), Memory>
+    fn visit(
+        &mut self,
+        marks: &mut Marks,
+        spares: &mut Spares,
+        core: &Core,
+        place: usize,
+    ) -> Result<(), Memory>
         requires place { place < length core.now.trail }
         requires sound { IsSound core.now }
         requires room { HasRoom core.now marks.old }
@@ -192,7 +193,7 @@ impl Lesson {
         if !marks.has(negation) {
             return Ok(());
         }
-        let spared = is_spared(marks, core, entry);
+        let spared = is_spared(spares, marks, core, entry);
         let reason = self.resolving_reason(entry, core.level(), spared);
         self.leave(marks, core.level(), entry);
         match reason {
@@ -210,6 +211,7 @@ impl Lesson {
     pub fn of(
         alloc: Global,
         marks: &mut Marks,
+        spares: &mut Spares,
         core: &Core,
         conflict: Held,
     ) -> Result<Lesson, Memory>
@@ -233,8 +235,9 @@ impl Lesson {
             current: 0,
         };
         lesson.join(marks, core, conflict)?;
+        spares.begin();
         for place in (0..entries).rev() {
-            lesson.visit(marks, core, place)?;
+            lesson.visit(marks, spares, core, place)?;
         }
         lesson.hints.reverse();
         Ok(lesson)

@@ -16,6 +16,7 @@ mod marks;
 mod order;
 mod restarts;
 mod searching;
+mod sparing;
 mod values;
 
 pub use beginning::core_of;

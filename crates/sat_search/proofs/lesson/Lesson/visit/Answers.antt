@@ -3,7 +3,7 @@ use Rattle.cnf_types.specs.declared.literal.Lit.{Lit}
 use Rattle.sat_core.specs.declared.assigned.Assigned.{Assigned}
 use Rattle.sat_search.specs.Passes.{is_marked}
 use Rattle.sat_search.proofs.Passing.{pass_skips}
-use Rattle.sat_search.proofs.Visiting.{some-below, visited_keeps, visited_resolves, leave_counted, reason_held, visited, in_range, negated_below}
+use Rattle.sat_search.proofs.Visiting.{visited_keeps, visited_resolves, leave_counted, reason_held, visited, in_range, negated_below}
 use Rattle.sat_search.proofs.lesson.Lesson.visit.Goals as goal
 
 abbrev unset : Assigned
@@ -56,9 +56,3 @@ returns-in_ok-push-in-None-clause-pass c =
     c.level.result c.level-2.result c.leave.new.self.current c.is_spared-spared.result c.push.new.self.items (reverse c.leave.new.self.hints.items) c.level.ensures c.level-2.ensures c.leave.ensures.size c.leave.ensures.less (sym c.resolving_reason-reason.ensures ∙ c.in-None.is)
     (c.in_ok-push-in-None.ensures.items ∙ ap (λ (ls : List Lit). ls ++ c.negated-negation.result ∷ []) c.leave.ensures.lits ∙ ap (λ (l : Lit). c.args.self.now.lits.items ++ l ∷ []) c.negated-negation.ensures)
     (ap reverse c.leave.ensures.hints)
-
-pub is_spared-spared-requires-clause-held : goal.is_spared-spared-requires-clause-held
-is_spared-spared-requires-clause-held c =
-    let a : Assigned = get_or c.trail.result.now c.args.place unset in
-    let at = visited c.args.core.now.trail c.trail.result.now c.args.place unset c.trail.ensures.entries c.requires.place in
-    some-below c.args.core.now c.requires.sound c.args.place a at

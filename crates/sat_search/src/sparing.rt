@@ -1,0 +1,124 @@
+//! Which literals a lemma can leave out, since its others imply them: those whose reasons lead, by
+//! reasons of their own, to literals of the lemma and to such as are false since level 0. Nothing
+//! but speed depends on it, so its contracts say nothing of the answer, and each look-up allows for
+//! a variable that is not there.
+ghost use Rattle.std.specs.Prelude.{◌<◌, ◌^◌};
+ghost use Rattle.sat_core.specs.States.{IsSound};
+ghost use Rattle.sat_search.specs.Passes.{HasRoom};
+
+use crate::lesson::level_of_false;
+use crate::marks::Marks;
+use arc_base::Memory;
+use sat_core::Core;
+use std::alloc::Global;
+
+/// What is known of the variables at one conflict.
+#[derive(Debug, Drop)]
+pub(crate) struct Spares {
+    /// For each variable the number of the last conflict at which its literal was implied.
+    implied: Vec<u64>,
+    /// The variables that are taken for implied while one question is open, and those of them whose
+    /// reasons are still to be looked at.
+    supposed: Vec<u64>,
+    waiting: Vec<u64>,
+    conflict: u64,
+}
+
+impl Spares {
+    /// Nothing is known.
+    pub fn make(alloc: Global, vars: u64) -> Result<Spares, Memory>
+        requires { vars < 2 ^ 25 }
+    {
+        Ok(Spares {
+            implied: vec![in alloc; 0; vars as usize + 1]?,
+            supposed: Vec::new(alloc),
+            waiting: Vec::new(alloc),
+            conflict: 0,
+        })
+    }
+
+    /// Begins with another conflict, of which nothing is known.
+    pub fn begin(&mut self) {
+        self.conflict = self.conflict.saturating_add(1);
+    }
+
+    fn is_implied(&self, var: u64) -> bool {
+        self.implied.get(var as usize).copied().unwrap_or(0) == self.conflict
+    }
+
+    fn set(&mut self, var: u64, conflict: u64) {
+        if (var as usize) < self.implied.len() {
+            self.implied[var as usize] = conflict;
+        }
+    }
+
+    /// Takes a variable for implied, where there is memory for it.
+    fn suppose(&mut self, var: u64) -> bool {
+        if self.supposed.push(var).is_err() || self.waiting.push(var).is_err() {
+            return false;
+        }
+        self.set(var, self.conflict);
+        true
+    }
+
+    /// Whether a variable has a reason whose other literals are in the lemma, false since level 0,
+    /// or taken for implied from now on.
+    fn look(&mut self, marks: &Marks, core: &Core, var: u64) -> bool
+        requires sound { IsSound core.now }
+        requires room { HasRoom core.now marks.now }
+    {
+        if var > core.vars() {
+            return false;
+        }
+        let Some(held) = core.reason(var) else {
+            return false;
+        };
+        if held.0 >= core.clauses() {
+            return false;
+        }
+        for lit in core.clause(held) {
+            let other = lit.var();
+            let is_left = other != var && !marks.has(*lit) && level_of_false(core, *lit) > 0;
+            if is_left && !self.is_implied(other) && !self.suppose(other) {
+                return false;
+            }
+        }
+        true
+    }
+
+    /// Whether a variable's literal is implied.
+    pub fn ask(&mut self, marks: &Marks, core: &Core, var: u64) -> bool
+        requires sound { IsSound core.now }
+        requires room { HasRoom core.now marks.now }
+    {
+        if self.is_implied(var) {
+            return true;
+        }
+        self.supposed.clear();
+        self.waiting.clear();
+        let mut holds = self.suppose(var);
+        for _ in 0..core.trail().len() {
+            let Some(next) = self.waiting.pop() else {
+                break;
+            };
+            if !self.look(marks, core, next) {
+                holds = false;
+                break;
+            }
+        }
+        if !holds {
+            self.take_back();
+        }
+        holds
+    }
+
+    /// Nothing is known of the variables that were taken for implied.
+    fn take_back(&mut self) {
+        for _ in 0..self.supposed.len() {
+            let Some(var) = self.supposed.pop() else {
+                return;
+            };
+            self.set(var, 0);
+        }
+    }
+}
