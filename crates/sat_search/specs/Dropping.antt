@@ -25,10 +25,10 @@ sizes (Add id lits hints ∷ steps) = length lits ∷ sizes steps
 sizes (Drop ids ∷ steps) = sizes steps
 sizes (Bound id price ∷ steps) = sizes steps
 
--- how many clauses are added after so many drop steps until the next one comes: 1,500 j before the
--- j-th, as far as 64 bits count
+-- how many clauses are added after so many drop steps until the next one comes: 2,500 + 500 j
+-- before the j-th, as far as 64 bits count
 abbrev pub gap_after : ℕ → ℕ
-gap_after drops = min (1500 * (drops + 1)) (2 ^ 64 - 1)
+gap_after drops = min (500 * drops + 3000) (2 ^ 64 - 1)
 
 -- how many are still to be added after steps, where so many drop steps came before them and so many
 -- clauses were still to be added
@@ -42,17 +42,17 @@ wait_after drops wait (Bound id price ∷ steps) = wait_after drops wait steps
 abbrev pub old_lemmas : Lemmas → ℕ
 old_lemmas lemmas = length lemmas.ids.items - 1000 * (lemmas.drops + 1)
 
--- half of the clauses that may be dropped are gone, rounded up
-abbrev pub HalvesDroppable : Lemmas → State → State → Type 0
-HalvesDroppable lemmas s now =
-    length now.clauses + (droppable lemmas.ids.items (old_lemmas lemmas) s + 1) / 2
-    ≡ length s.clauses
+-- of the clauses that may be dropped a quarter stays, rounded down, and all others stay
+abbrev pub DropsMost : Lemmas → State → State → Type 0
+DropsMost lemmas s now =
+    length now.clauses + droppable lemmas.ids.items (old_lemmas lemmas) s
+    ≡ length s.clauses + droppable lemmas.ids.items (old_lemmas lemmas) s / 4
 
 -- the wait after a drop step is that of the next one, which looks at the steps from there on; where
--- there was none, it is 1,500
+-- there was none, it is 3,000
 abbrev pub WaitsAgain : Lemmas → Lemmas → List Step → Type 0
 WaitsAgain old new steps =
-    ((new.drops ≡ old.drops) × (new.wait ≡ 1500) × (new.from ≡ old.from)) ⊎
+    ((new.drops ≡ old.drops) × (new.wait ≡ 3000) × (new.from ≡ old.from)) ⊎
     ((new.drops ≡ old.drops + 1) × (new.wait ≡ gap_after new.drops) × (new.from ≡ length steps))
 
 -- the log added the clause, and it is none of those that its next drop step has to leave
