@@ -2,7 +2,7 @@
 ghost use Rattle.std.specs.Prelude.{◌≡◌, ◌↔◌, IsTrue, All, AllPairs};
 ghost use Rattle.net_model.specs.Validity.{IsValid};
 ghost use Rattle.witness_check.specs.Cases.{IsTold, ends_of};
-ghost use Rattle.witness_check.specs.Trails.{IsTrail, IsTrailOnce, Avoids};
+ghost use Rattle.witness_check.specs.Trails.{IsTrail};
 ghost use Rattle.arc_nodecut.specs.NodeWitnesses.{GoesBy, IsRightApart};
 ghost use Rattle.arc_nodecut.specs.NodePaths.{MayPass, KeepsOff, GoesOff};
 
@@ -10,47 +10,6 @@ use crate::cases::is_served;
 use arc_base::{Link, List, Router};
 use net_model::LinkPath;
 use witness_check::Case;
-
-/// Whether the links lead from the one router to the target, and no arc leads to the other router.
-fn avoids(case: &Case<'_>, from: Router, links: &[Link], other: Router) -> bool
-    requires told { IsTold case.now }
-    requires valid { IsValid case.now.net.now }
-    ensures { IsTrue result ↔ IsTrail case.now.net.now case.now.to (Avoids other.0) from.0 links.now
-        case.now.target.now.router.0 }
-{
-    let mut router = from;
-    for link in links {
-        let Some(arc) = case.step(router, *link) else {
-            return false;
-        };
-        if arc.head.router.0 == other.0 {
-            return false;
-        }
-        router = arc.head.router;
-    }
-    router.0 == case.target.router.0
-}
-
-/// Whether the links lead from the source to the target, and no router stands twice on the way.
-/// Each router is looked for among those that follow it.
-fn goes_once(case: &Case<'_>, links: &[Link]) -> bool
-    requires told { IsTold case.now }
-    requires valid { IsValid case.now.net.now }
-    ensures { IsTrue result ↔ IsTrailOnce case.now.net.now case.now.to case.now.source.now.router.0
-        links.now case.now.target.now.router.0 }
-{
-    let mut router = case.source.router;
-    for (place, link) in links.iter().enumerate() {
-        if !avoids(case, router, &links[place..], router) {
-            return false;
-        }
-        let Some(arc) = case.step(router, *link) else {
-            return false;
-        };
-        router = arc.head.router;
-    }
-    router.0 == case.target.router.0
-}
 
 /// Whether the path goes by other routers than the ends, and by none of them twice.
 fn goes_by(case: &Case<'_>, path: &LinkPath) -> bool
@@ -61,7 +20,7 @@ fn goes_by(case: &Case<'_>, path: &LinkPath) -> bool
     if path.links.len() == 1 {
         return false;
     }
-    goes_once(case, path.links.slice())
+    case.goes_once(path.links.slice())
 }
 
 /// Whether each of these paths does.
@@ -91,7 +50,7 @@ fn may_pass(case: &Case<'_>, path: &LinkPath, router: Router) -> bool
     if router.0 == case.target.router.0 {
         return true;
     }
-    avoids(case, case.source.router, path.links.slice(), router)
+    case.avoids(case.source.router, path.links.slice(), router)
 }
 
 /// Whether the links lead from the source to the target over routers that they may pass beside the

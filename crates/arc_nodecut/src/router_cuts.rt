@@ -2,24 +2,13 @@
 ghost use Rattle.std.specs.Prelude.{◌≡◌, ◌≢◌, ◌↔◌, ◌<◌, ◌≤◌, ◌-◌, ◌+◌, ℕ, Bool, IsTrue, All};
 ghost use Rattle.std.specs.Prelude.{Contains, length, map};
 ghost use Rattle.std.specs.List.Sorted.{IsStrictlyIncreasing};
-ghost use Rattle.net_model.specs.Witnesses.{IsOn};
 ghost use Rattle.arc_nodecut.specs.NodeWitnesses.{PartsAt, IsRightCut};
 ghost use Rattle.witness_check.specs.Cases.{IsTold, ends_of};
 ghost use Rattle.arc_nodecut.specs.CutParts.{KeepsOver, KeepsBoth, IsInner, IsOff};
 
 use crate::cases::hop;
 use arc_base::{Link, List, Router};
-use witness_check::Case;
-
-/// Whether the router is on the side.
-fn is_on(side: &List<bool>, router: Router) -> bool
-    ensures { IsTrue result ↔ IsOn side.now router.0 }
-{
-    match side.get(router.0) {
-        Some(flag) => *flag,
-        None => false,
-    }
-}
+use witness_check::{Case, is_on};
 
 /// Whether the router is one of these.
 fn contains(routers: &[Router], router: Router) -> bool

@@ -1,6 +1,6 @@
--- Of a list of classes, the first link that denies any, and some class that a link denies.
+-- Of a list of classes, the first link that denies any, and the first class that it denies.
 use Rattle.std.specs.Prelude.{◌≡◌, ℕ, ◌<◌, nat_le, if◌then◌else◌, Option, Some, None, MatchOption}
-use Rattle.std.specs.Prelude.{List, length, slice_get, Contains}
+use Rattle.std.specs.Prelude.{List, slice_get}
 use Rattle.arc_base.specs.declared.place.Link.{Link}
 use Rattle.arc_base.specs.declared.prefix.Prefix.{Prefix}
 use Rattle.net_model.specs.declared.policies.Class.{Class}
@@ -31,13 +31,3 @@ lower_of best None class = best
 lower_of None (Some link) class = Some (record { link = link; class = class })
 lower_of (Some d) (Some link) class =
     if nat_le d.link.0 link.0 then Some d else Some (record { link = link; class = class })
-
--- the denial's link denies its class, which is one of these
-pub record IsDenial (net : Network) (to : Prefix) (classes : List Class) (d : Denial) : Type 0 where
-  pub one : Contains classes d.class
-  pub denied : IsDeniedOn net to d.class d.link.0
-
--- it is such a denial, or there is none
-abbrev pub IsSomeDenial : Network → Prefix → List Class → Option Denial → Type 0
-IsSomeDenial net to classes found =
-    MatchOption found (HasNoDenial net to classes (length classes)) (IsDenial net to classes)

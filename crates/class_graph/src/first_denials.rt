@@ -1,8 +1,8 @@
-//! The first denial of a list of classes: by links, or by classes.
+//! The first denial of a list of classes.
 ghost use Rattle.std.specs.Prelude.{◌≡◌, length, IfOk};
 ghost use Rattle.class_graph.specs.Classes.{AreAllUniform};
 ghost use Rattle.class_graph.specs.Hosts.{HasHostPair};
-ghost use Rattle.class_graph.specs.FirstDenials.{IsFirstDenial, IsSomeDenial, lower_of};
+ghost use Rattle.class_graph.specs.FirstDenials.{IsFirstDenial, lower_of};
 
 use crate::denials::denied_link;
 use crate::hosts::HostPair;
@@ -46,27 +46,4 @@ fn lower(best: Option<Denial>, found: Option<Link>, class: Class) -> Option<Deni
         Some(denial) if denial.link.0 <= link.0 => Some(denial),
         _ => Some(Denial { link, class }),
     }
-}
-
-/// The first class that some link denies, with the first such link. It stops there.
-pub fn some_denial(
-    alloc: Global,
-    net: &Network,
-    pair: &HostPair,
-    classes: &List<Class>,
-) -> Result<Option<Denial>, Memory>
-    requires pair { HasHostPair net.now pair.now }
-    requires uniform { AreAllUniform net.now classes.now }
-    ensures { IfOk result (IsSomeDenial net.now pair.now.to classes.now) }
-{
-    for class in classes.slice() {
-        let found = denied_link(alloc, net, pair, *class)?;
-        if let Some(link) = found {
-            return Ok(Some(Denial {
-                link,
-                class: *class,
-            }));
-        }
-    }
-    Ok(None)
 }

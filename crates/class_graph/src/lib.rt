@@ -15,6 +15,6 @@ pub use answers::list_answers;
 pub use arcs::{cost, leads};
 pub use building::{ClassGraph, build, build_between, routed_graph};
 pub use denials::denied_link;
-pub use first_denials::{Denial, first_denial, some_denial};
+pub use first_denials::{Denial, first_denial};
 pub use hosts::{End, HostPair, host_pair};
 pub use modes::Mode;

@@ -15,7 +15,7 @@ use arc_base::{Link, List, Router};
 use net_model::{Class, Packet};
 
 /// Whether the router is on the side.
-pub(crate) fn is_on(side: &List<bool>, router: Router) -> bool
+pub fn is_on(side: &List<bool>, router: Router) -> bool
     ensures { IsTrue result ↔ IsOn side.now router.0 }
 {
     match side.get(router.0) {

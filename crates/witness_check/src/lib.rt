@@ -23,4 +23,5 @@ pub use arcs::RoutedArc;
 pub use boxes::{entry_class, halve_towards, splits};
 pub use cases::Case;
 pub use clearness::{arc_permits_each, clear, permits_each, permitted};
+pub use cuts::is_on;
 pub use packets::lies_in;

@@ -118,7 +118,7 @@ impl<'a> Case<'a> {
 
     /// Whether the links lead from the one router to the target, and no arc leads to the other
     /// router.
-    fn avoids(&self, from: Router, links: &[Link], other: Router) -> bool
+    pub fn avoids(&self, from: Router, links: &[Link], other: Router) -> bool
         requires told { IsTold self.now }
         requires valid { IsValid self.now.net.now }
         ensures { IsTrue result ↔ IsTrail self.now.net.now self.now.to (Avoids other.0) from.0
@@ -139,7 +139,7 @@ impl<'a> Case<'a> {
 
     /// Whether the links lead from the source to the target, and no router stands twice on the way.
     /// Each router is looked for among those that follow it.
-    pub(crate) fn goes_once(&self, links: &[Link]) -> bool
+    pub fn goes_once(&self, links: &[Link]) -> bool
         requires told { IsTold self.now }
         requires valid { IsValid self.now.net.now }
         ensures { IsTrue result ↔ IsTrailOnce self.now.net.now self.now.to
