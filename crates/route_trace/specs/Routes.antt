@@ -11,7 +11,7 @@ use Rattle.net_model.specs.Routing.{Arc, FailureSet, DistanceMap, IsUsable, IsSt
 use Rattle.net_model.specs.Routing.{head_router}
 use Rattle.net_model.specs.Forwarding.{Attains}
 
--- the failure set that flags of the links show: a link has failed where its flag is up
+-- the failure set that flags of the links show: a link has failed where its flag is set
 abbrev pub flagged : List Bool → FailureSet
 flagged down link = slice_index_or down link false
 

@@ -9,7 +9,7 @@ use arc_base::{List, Memory, Prefix, Router};
 use net_model::{FaceRow, Network};
 use std::alloc::Global;
 
-/// The stable distances to a host network, where the links whose flag is up have failed: for each
+/// The stable distances to a host network, where the links whose flag is set have failed: for each
 /// router the cost of its shortest paths to the owner, or none. There is one flag for each link.
 pub fn distances(
     alloc: Global,

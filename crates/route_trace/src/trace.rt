@@ -17,7 +17,7 @@ use std::alloc::Global;
 
 /// The text of `arcv trace`: the line `trace FROM ROUTER TO ROUTER`, and then a line for each
 /// router, in order, with its name, its distance to the host network of `to` and the links of its
-/// next hops, counted from 1. The links whose flag is up have failed.
+/// next hops, counted from 1. The links whose flag is set have failed.
 pub fn trace_text(
     alloc: Global,
     net: &Network,
