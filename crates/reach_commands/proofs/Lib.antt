@@ -1,4 +1,5 @@
 pub mod OneInput
+pub mod OneRefusal
 pub mod NodesTold
 pub mod NamedRouters
 pub mod PrefersTold

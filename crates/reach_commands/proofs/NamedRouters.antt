@@ -60,6 +60,22 @@ known_or_unknown net names wanted place named first =
     let found = named_at net names wanted place first.name named first.at_place in
     first.unknown found.0 found.1
 
+-- one name at most is the first that no router has
+not_later : (net : Network) (names : List (List ℕ)) (place other : ℕ) → IsFirstUnknown net names place → IsFirstUnknown net names other → place < other → ⊥
+not_later net names place other first second low =
+    let found = second.before place first.name low first.at_place in
+    first.unknown found.0 found.1
+
+pub one_unknown : (net : Network) (names : List (List ℕ)) (place other : ℕ) → IsFirstUnknown net names place → IsFirstUnknown net names other → place ≡ other
+one_unknown net names place other first second =
+    elim (cases_lt place other) [
+      | inl low ↦ absurd (not_later net names place other first second low)
+      | inr high ↦ elim (cases_lt other place) [
+        | inl low ↦ absurd (not_later net names other place second first low)
+        | inr same ↦ omega (arith, high, same)
+      ]
+    ]
+
 -- a name that none of all routers has is unknown
 pub unknown_if : (net : Network) (name : List ℕ) (n : ℕ) → length net.routers ≤ n → ((k : ℕ) → k < n → ¬ IsNamed net name (record { 0 = k })) → IsUnknown net name
 unknown_if net name n all none router named =

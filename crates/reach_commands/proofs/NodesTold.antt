@@ -1,5 +1,5 @@
 -- What the status of `nodes` tells.
-use Rattle.std.proofs.Common.{◌≡◌, inl, inr, Bool, true, false, [], refl, sym, ◌∙◌, ap, arith}
+use Rattle.std.proofs.Common.{◌≡◌, ◌⊎◌, inl, inr, Bool, true, false, [], refl, sym, ◌∙◌, ap, arith}
 use Rattle.std.specs.Prelude.{if◌then◌else◌}
 use Rattle.std.proofs.lemmas.Bool.{false≢true}
 use Rattle.arc_outside.specs.Files.{Files}
@@ -16,25 +16,40 @@ use Rattle.run_files.specs.declared.outcome.FileRefusal.{FileRefusal}
 use Rattle.run_files.specs.Answers.{IsTold}
 use Rattle.run_inputs.specs.Counts.{HasFewClasses}
 use Rattle.run_inputs.specs.Inputs.{HoldsInput}
-use Rattle.run_inputs.proofs.ClassCounts.{few_or_many}
-use Rattle.run_inputs.proofs.Determined.{determined}
-use Rattle.reach_commands.specs.Added.{judged}
+use Rattle.reach_commands.specs.Added.{judged, RefusesClassesWith}
 use Rattle.reach_commands.specs.Nodes.{nodes_policy, IsNodesRefusal, IsNodesAnswer, NodesSayYes, NodesSayNo, TellsNodes}
 use Rattle.reach_commands.proofs.OneInput.{one_input}
+use Rattle.reach_commands.proofs.OneRefusal.{Early, early_none, early_once, classes_none, classes_once}
 
 module _ (words : NodesWords) (files : Files) where
   yes_or_no : NodesSayYes words files → NodesSayNo words files → ⊥
   yes_or_no yes' no' =
       no'.meets_not (one_input words.document files yes'.doc no'.doc yes'.net no'.net yes'.input no'.input (λ d n. MeetsPast n (nodes_policy words)) yes'.meets)
 
-  held_or_refused : (doc : Document) (net : Network) → HoldsInput Judging [] words.document files doc net → HasEndpoints net words.from words.to →
+  -- the refusal is an early one, or that of the classes
+  stage : (r : FileRefusal) → IsNodesRefusal words files r → Early words.document (nodes_policy words) files r ⊎ RefusesClassesWith words.document (nodes_policy words) files r
+  stage r (inl u) = inl (inl u)
+  stage r (inr (inl u)) = inl (inr u)
+  stage r (inr (inr u)) = inr u
+
+  pub refused_once : (r s : FileRefusal) → IsNodesRefusal words files r → IsNodesRefusal words files s → r ≡ s
+  refused_once r s u v = elim (stage r u) [
+    | inl early ↦ elim (stage s v) [
+      | inl other ↦ early_once words.document (nodes_policy words) files r s early other
+      | inr many ↦ absurd (early_none words.document (nodes_policy words) files many.doc many.net many.input many.ends r early)
+    ]
+    | inr many ↦ elim (stage s v) [
+      | inl early ↦ absurd (early_none words.document (nodes_policy words) files many.doc many.net many.input many.ends s early)
+      | inr other ↦ classes_once words.document (nodes_policy words) files r s many other
+    ]
+  ]
+
+  pub held_or_refused : (doc : Document) (net : Network) → HoldsInput Judging [] words.document files doc net → HasEndpoints net words.from words.to →
       HasFewClasses net (judged doc (nodes_policy words)) → (r : FileRefusal) → IsNodesRefusal words files r → ⊥
-  held_or_refused doc net input ends classes r (inl refused) = (determined Judging [] words.document files).not_both doc net r input refused
-  held_or_refused doc net input ends classes r (inr (inl u)) =
-      u.ends (one_input words.document files doc u.doc net u.net input u.input (λ d n. HasEndpoints n words.from words.to) ends)
-  held_or_refused doc net input ends classes r (inr (inr u)) =
-      few_or_many u.net (judged u.doc (nodes_policy words)) u.count
-      (one_input words.document files doc u.doc net u.net input u.input (λ d n. HasFewClasses n (judged d (nodes_policy words))) classes) u.many
+  held_or_refused doc net input ends classes r refused = elim (stage r refused) [
+    | inl early ↦ early_none words.document (nodes_policy words) files doc net input ends r early
+    | inr many ↦ classes_none words.document (nodes_policy words) files doc net input classes r many
+  ]
 
   told_as : (d : Done) (done : IsNodesAnswer words files d) (b : Bool) → is_yes done.verdict ≡ b → TellsNodes words d.status files
   told_as d done true is =

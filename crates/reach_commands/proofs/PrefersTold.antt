@@ -1,8 +1,9 @@
 -- What the status of `prefers` tells.
-use Rattle.std.proofs.Common.{◌≡◌, inl, inr, List, [], refl, sym, ◌∙◌, ap, subst, arith}
+use Rattle.std.proofs.Common.{◌≡◌, ℕ, ◌+◌, ◌⊎◌, inl, inr, List, [], refl, sym, ◌∙◌, ap, subst, arith}
 use Rattle.std.specs.Prelude.{Option, Some, None, is_some}
 use Rattle.std.proofs.lemmas.Bool.{false≢true}
 use Rattle.arc_base.specs.declared.place.Router.{Router}
+use Rattle.arc_base.specs.declared.refusal.Kind.TheVariants.{UnknownRouter}
 use Rattle.arc_outside.specs.Files.{Files}
 use Rattle.net_model.specs.declared.policies.Document.{Document}
 use Rattle.net_model.specs.declared.rows.Network.{Network}
@@ -16,14 +17,14 @@ use Rattle.run_files.specs.declared.limits.Limits.TheVariants.{Judging}
 use Rattle.run_files.specs.declared.outcome.Done.{Done}
 use Rattle.run_files.specs.declared.outcome.FileRefusal.{FileRefusal}
 use Rattle.run_files.specs.Answers.{IsTold}
+use Rattle.run_files.specs.Refusals.{refusal_of}
 use Rattle.run_inputs.specs.Counts.{HasFewClasses}
 use Rattle.run_inputs.specs.Inputs.{HoldsInput}
-use Rattle.run_inputs.proofs.ClassCounts.{few_or_many}
-use Rattle.run_inputs.proofs.Determined.{determined}
 use Rattle.reach_commands.specs.Added.{judged}
-use Rattle.reach_commands.specs.PreferRuns.{prefers_policy, prefers_status, AreNamed, IsPrefersRefusal, IsPrefersAnswer, PrefersSaysYes, PrefersSaysNo, TellsPrefers}
+use Rattle.reach_commands.specs.PreferRuns.{prefers_policy, prefers_status, AreNamed, IsFirstUnknown, RefusesRouter, RefusesPreferClasses, IsPrefersRefusal, IsPrefersAnswer, PrefersSaysYes, PrefersSaysNo, TellsPrefers}
 use Rattle.reach_commands.proofs.OneInput.{one_input}
-use Rattle.reach_commands.proofs.NamedRouters.{one_list, known_or_unknown}
+use Rattle.reach_commands.proofs.OneRefusal.{Early, early_none, early_once, classes_none, classes_once}
+use Rattle.reach_commands.proofs.NamedRouters.{one_list, known_or_unknown, one_unknown}
 
 module _ (words : PrefersWords) (files : Files) where
   -- the list that is preferred is the one of the names
@@ -35,17 +36,46 @@ module _ (words : PrefersWords) (files : Files) where
       one_input words.document files yes'.doc no'.doc yes'.net no'.net yes'.input no'.input (λ d n. Prefers n (prefers_policy words) yes'.wanted) yes'.prefers in
       no'.prefers_not (subst (λ (ws : List Router). Prefers no'.net (prefers_policy words) ws) (one_list no'.net valid words.routers yes'.wanted no'.wanted named no'.named) prefers)
 
-  held_or_refused : (doc : Document) (net : Network) (wanted : List Router) → HoldsInput Judging [] words.document files doc net → HasEndpoints net words.from words.to → AreNamed net words.routers wanted →
+  -- the refusal is an early one, or that of a name, or that of the classes
+  stage : (r : FileRefusal) → IsPrefersRefusal words files r → Early words.document (prefers_policy words) files r ⊎ (RefusesRouter words files r ⊎ RefusesPreferClasses words files r)
+  stage r (inl u) = inl (inl u)
+  stage r (inr (inl u)) = inl (inr u)
+  stage r (inr (inr u)) = inr u
+
+  early_or : (doc : Document) (net : Network) → HoldsInput Judging [] words.document files doc net → HasEndpoints net words.from words.to → (r : FileRefusal) → Early words.document (prefers_policy words) files r → ⊥
+  early_or = early_none words.document (prefers_policy words) files
+
+  named_or : (doc : Document) (net : Network) (wanted : List Router) → HoldsInput Judging [] words.document files doc net → AreNamed net words.routers wanted → (r : FileRefusal) → RefusesRouter words files r → ⊥
+  named_or doc net wanted input named r u =
+      known_or_unknown u.net words.routers wanted u.place (one_input words.document files doc u.doc net u.net input u.input (λ d n. AreNamed n words.routers wanted) named) u.first
+
+  once : (r s : FileRefusal) → Early words.document (prefers_policy words) files r ⊎ (RefusesRouter words files r ⊎ RefusesPreferClasses words files r) →
+      Early words.document (prefers_policy words) files s ⊎ (RefusesRouter words files s ⊎ RefusesPreferClasses words files s) → r ≡ s
+  once r s (inl u) (inl v) = early_once words.document (prefers_policy words) files r s u v
+  once r s (inl u) (inr (inl v)) = absurd (early_or v.doc v.net v.input v.ends r u)
+  once r s (inl u) (inr (inr v)) = absurd (early_or v.many.doc v.many.net v.many.input v.many.ends r u)
+  once r s (inr (inl u)) (inl v) = absurd (early_or u.doc u.net u.input u.ends s v)
+  once r s (inr (inl u)) (inr (inl v)) =
+      let first : IsFirstUnknown v.net words.routers u.place =
+      one_input words.document files u.doc v.doc u.net v.net u.input v.input (λ d n. IsFirstUnknown n words.routers u.place) u.first in
+      u.told ∙ ap (λ (place : ℕ). refusal_of words.document (place + 1) UnknownRouter) (one_unknown v.net words.routers u.place v.place first v.first) ∙ sym v.told
+  once r s (inr (inl u)) (inr (inr v)) = absurd (named_or v.many.doc v.many.net v.wanted v.many.input v.named r u)
+  once r s (inr (inr u)) (inl v) = absurd (early_or u.many.doc u.many.net u.many.input u.many.ends s v)
+  once r s (inr (inr u)) (inr (inl v)) = absurd (named_or u.many.doc u.many.net u.wanted u.many.input u.named s v)
+  once r s (inr (inr u)) (inr (inr v)) = classes_once words.document (prefers_policy words) files r s u.many v.many
+
+  pub refused_once : (r s : FileRefusal) → IsPrefersRefusal words files r → IsPrefersRefusal words files s → r ≡ s
+  refused_once r s u v = once r s (stage r u) (stage s v)
+
+  pub held_or_refused : (doc : Document) (net : Network) (wanted : List Router) → HoldsInput Judging [] words.document files doc net → HasEndpoints net words.from words.to → AreNamed net words.routers wanted →
       HasFewClasses net (judged doc (prefers_policy words)) → (r : FileRefusal) → IsPrefersRefusal words files r → ⊥
-  held_or_refused doc net wanted input ends named classes r (inl refused) = (determined Judging [] words.document files).not_both doc net r input refused
-  held_or_refused doc net wanted input ends named classes r (inr (inl u)) =
-      u.ends (one_input words.document files doc u.doc net u.net input u.input (λ d n. HasEndpoints n words.from words.to) ends)
-  held_or_refused doc net wanted input ends named classes r (inr (inr (inl u))) =
-      known_or_unknown u.net words.routers wanted u.place
-      (one_input words.document files doc u.doc net u.net input u.input (λ d n. AreNamed n words.routers wanted) named) u.first
-  held_or_refused doc net wanted input ends named classes r (inr (inr (inr u))) =
-      few_or_many u.many.net (judged u.many.doc (prefers_policy words)) u.many.count
-      (one_input words.document files doc u.many.doc net u.many.net input u.many.input (λ d n. HasFewClasses n (judged d (prefers_policy words))) classes) u.many.many
+  held_or_refused doc net wanted input ends named classes r refused = elim (stage r refused) [
+    | inl early ↦ early_or doc net input ends r early
+    | inr later ↦ elim later [
+      | inl unknown ↦ named_or doc net wanted input named r unknown
+      | inr many ↦ classes_none words.document (prefers_policy words) files doc net input classes r many.many
+    ]
+  ]
 
   told_as : (d : Done) (done : IsPrefersAnswer words files d) (fault : Option Stray) → done.answer.fault ≡ fault → TellsPrefers words d.status files
   told_as d done None is =

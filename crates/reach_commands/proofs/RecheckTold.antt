@@ -1,5 +1,5 @@
 -- What the status of `recheck` tells.
-use Rattle.std.proofs.Common.{◌≡◌, ℕ, zero, suc, inl, inr, Bool, true, false, List, [], ◌∷◌, length, refl, sym, ◌∙◌, ap, arith}
+use Rattle.std.proofs.Common.{◌≡◌, ◌⊎◌, ℕ, zero, suc, inl, inr, Bool, true, false, List, [], ◌∷◌, length, refl, sym, ◌∙◌, ap, arith}
 use Rattle.std.specs.Prelude.{if◌then◌else◌, Option, Some, None, All, IsSomeAnd, slice_get, ◌&&◌}
 use Rattle.std.specs.List.{AllZip, list_all}
 use Rattle.std.proofs.lemmas.Bool.{false≢true, and_parts}
@@ -19,12 +19,12 @@ use Rattle.run_files.specs.declared.limits.Limits.TheVariants.{Judging}
 use Rattle.run_files.specs.declared.outcome.Done.{Done}
 use Rattle.run_files.specs.declared.outcome.FileRefusal.{FileRefusal}
 use Rattle.run_files.specs.Answers.{IsTold}
-use Rattle.run_inputs.specs.Counts.{HasFewClasses}
-use Rattle.run_inputs.specs.Inputs.{HoldsInput}
+use Rattle.run_inputs.specs.Counts.{HasFewClasses, IsJudgingRefusal, RefusesClasses}
+use Rattle.run_inputs.specs.Inputs.{HoldsInput, IsFilesRefusal}
 use Rattle.run_files.specs.Limits.{proof_limit}
 use Rattle.run_files.specs.Refusals.{read_refusal}
-use Rattle.run_inputs.proofs.Determined.{determined, judged_once}
-use Rattle.reach_commands.specs.RecheckRuns.{IsRecheckRefusal, IsRecheckAnswer, RecheckSaysYes, RecheckSaysNo, TellsRecheck}
+use Rattle.run_inputs.proofs.Determined.{judged_once, document_none, held_none, no_value, one_value}
+use Rattle.reach_commands.specs.RecheckRuns.{RefusesReport, IsRecheckRefusal, IsRecheckAnswer, RecheckSaysYes, RecheckSaysNo, TellsRecheck}
 use Rattle.reach_commands.proofs.OneInput.{one_input}
 
 -- the rechecked verdict is right
@@ -67,24 +67,40 @@ yes_if net valid (policy ∷ policies) (r ∷ rs) right met =
     both_true (yes r) (list_all yes rs) ((right_verdicts_decide net valid policy r.verdict right.0).1 (met 0 policy (omega arith)))
     (yes_if net valid policies rs right.1 (λ k d within. met (suc k) d (omega (arith, within))))
 
-refused_none : (o : Option FileRefusal) (r : FileRefusal) → o ≡ None → o ≡ Some r → ⊥
-refused_none o r e f = absurd (cc)
-
 module _ (words : RecheckWords) (files : Files) where
   yes_or_no : RecheckSaysYes words files → RecheckSaysNo words files → ⊥
   yes_or_no yes' no' =
       no'.meets_not (one_input words.document files yes'.doc no'.doc yes'.net no'.net yes'.input no'.input (λ d n. MeetsDocument n d) yes'.meets)
 
-  held_or_refused : (doc : Document) (net : Network) → HoldsInput Judging [] words.document files doc net → read_refusal proof_limit files words.report ≡ None → HasFewClasses net doc.policies →
+  -- a refusal is the old report's, or one of a command that judges, and then the old report is not refused before it
+  abbrev Stage : FileRefusal → Type 0
+  Stage r = RefusesReport words files r ⊎ (IsJudgingRefusal Judging words.document files r × ((s : FileRefusal) → RefusesReport words files s → ⊥))
+
+  behind : (r : FileRefusal) → IsFilesRefusal Judging [] words.document files r ⊎ RefusesClasses Judging words.document files r → IsJudgingRefusal Judging words.document files r
+  behind r (inl u) = inl (inr (inr u))
+  behind r (inr u) = inr u
+
+  stage : (r : FileRefusal) → IsRecheckRefusal words files r → Stage r
+  stage r (inl e) = inr (inl (inl e), λ s v. held_none Judging [] words.document files r v.document_is.held e)
+  stage r (inr (inl u)) = inr (inl (inr (inl u)), λ s v. document_none Judging [] words.document files v.doc r v.document_is u)
+  stage r (inr (inr (inl u))) = inl u
+  stage r (inr (inr (inr u))) = inr (behind r u.refused, λ s v. no_value (read_refusal proof_limit files words.report) s v.refused u.held)
+
+  once : (r s : FileRefusal) → Stage r → Stage s → r ≡ s
+  once r s (inl u) (inl v) = one_value (read_refusal proof_limit files words.report) r s u.refused v.refused
+  once r s (inl u) (inr v) = absurd (v.1 r u)
+  once r s (inr u) (inl v) = absurd (u.1 s v)
+  once r s (inr u) (inr v) = (judged_once Judging words.document files).one_refusal r s u.0 v.0
+
+  pub refused_once : (r s : FileRefusal) → IsRecheckRefusal words files r → IsRecheckRefusal words files s → r ≡ s
+  refused_once r s u v = once r s (stage r u) (stage s v)
+
+  pub held_or_refused : (doc : Document) (net : Network) → HoldsInput Judging [] words.document files doc net → read_refusal proof_limit files words.report ≡ None → HasFewClasses net doc.policies →
       (r : FileRefusal) → IsRecheckRefusal words files r → ⊥
-  held_or_refused doc net input held classes r (inl e) = (determined Judging [] words.document files).not_both doc net r input (inl e)
-  held_or_refused doc net input held classes r (inr (inl u)) = (determined Judging [] words.document files).not_both doc net r input (inr (inl u))
-  held_or_refused doc net input held classes r (inr (inr (inl u))) = refused_none (read_refusal proof_limit files words.report) r held u.refused
-  held_or_refused doc net input held classes r (inr (inr (inr u))) =
-      elim u.refused [
-        | inl behind ↦ (determined Judging [] words.document files).not_both doc net r input (inr (inr behind))
-        | inr many ↦ (judged_once Judging words.document files).not_both doc net r input classes (inr many)
-      ]
+  held_or_refused doc net input held classes r refused = elim (stage r refused) [
+    | inl u ↦ no_value (read_refusal proof_limit files words.report) r u.refused held
+    | inr judging ↦ (judged_once Judging words.document files).not_both doc net r input classes judging.0
+  ]
 
   rights : (d : Done) (done : IsRecheckAnswer words files d) → AllZip (IsRightOn done.net) done.doc.policies done.rechecked
   rights d done = all_right done.net done.doc.policies done.rechecked done.are_rechecked.count
