@@ -21,8 +21,8 @@ use Rattle.net_laws.proofs.RightCuts.{right_denials_break_reach}
 use Rattle.class_graph.specs.Hosts.{IsHostPair, IsHostPairOf}
 use Rattle.class_graph.specs.Passing.{EachPasses}
 use Rattle.class_graph.specs.declared.hosts.HostPair.{HostPair}
-use Rattle.verdicts.specs.Fixed.{IsFixed, IsFixedFor, IsFixedReach}
-use Rattle.traffic_classes.specs.Classes.{AreClasses, told}
+use Rattle.verdicts.specs.Fixed.{IsFixed}
+use Rattle.traffic_classes.specs.Classes.{told}
 use Rattle.verdicts.proofs.Lists.{rising_numbers}
 use Rattle.net_laws.specs.Breaking.{no_link}
 use Rattle.net_laws.specs.Routes.{just, HasRoute}
@@ -30,6 +30,7 @@ use Rattle.arc_recheck.specs.Needed.{AreNeeded, IsNeededAnswer}
 use Rattle.arc_recheck.specs.Singles.{HoldsBut, HoldsNot, IsAloneAnswer, HasFewClasses, is_reach, shows_routes}
 use Rattle.net_laws.proofs.LeftRoutes.{routes_decide}
 use Rattle.net_laws.proofs.AllUp.{routes_decide_all_up}
+use Rattle.arc_recheck.proofs.Passing.{passes_when_reached}
 
 module _ (net : Network) (valid : IsValid net) (policy : Policy) (ends : Ends) (are : AreEnds net (subject policy) ends)
     (clear : IsClear net ends (subject policy)) (passes : EachPasses net ends (subject policy)) where
@@ -69,15 +70,14 @@ module _ (net : Network) (valid : IsValid net) (policy : Policy) (ends : Ends) (
   answered k reach None none = holds_not none
   answered k reach (Some links) needed = holds_but k reach links needed
 
--- a verdict with paths or a cut shows that the policy is clear, and that its packets enter and leave
-shown_clear : (net : Network) (ends : Ends) (k : ℕ) (whole : Class) (classes : List Class) (v : Verdict) → IsRightReach net ends k whole v →
-    IsFixedReach net ends whole classes v → shows_routes v ≡ true → IsClear net ends whole × EachPasses net ends whole
-shown_clear net ends k whole classes (Paths paths) right fixed shows = (right.clear, λ p of. (right.enters p of, right.leaves p of))
-shown_clear net ends k whole classes (Cut links side) right fixed shows = (right.clear, fixed.passes)
-shown_clear net ends k whole classes (Closed sides) right fixed shows = absurd right
-shown_clear net ends k whole classes (Walk class path) right fixed shows = absurd right
-shown_clear net ends k whole classes (Denied class) right fixed shows = absurd (false≢true shows)
-shown_clear net ends k whole classes (Refused p link) right fixed shows = absurd (false≢true shows)
+-- a verdict with paths or a cut shows that the policy is clear
+shown_clear : (net : Network) (ends : Ends) (k : ℕ) (whole : Class) (v : Verdict) → IsRightReach net ends k whole v → shows_routes v ≡ true → IsClear net ends whole
+shown_clear net ends k whole (Paths paths) right shows = right.clear
+shown_clear net ends k whole (Cut links side) right shows = right.clear
+shown_clear net ends k whole (Closed sides) right shows = absurd right
+shown_clear net ends k whole (Walk class path) right shows = absurd right
+shown_clear net ends k whole (Denied class) right shows = absurd (false≢true shows)
+shown_clear net ends k whole (Refused p link) right shows = absurd (false≢true shows)
 
 -- any other shows that it is not clear or does not hold
 shown_broken : (net : Network) → IsValid net → (ends : Ends) (k : ℕ) (whole : Class) → AreEnds net whole ends → (v : Verdict) → IsRightReach net ends k whole v →
@@ -108,36 +108,32 @@ none_of_verdict net valid policy kind v right shows others holds =
     shown_broken net valid right.ends reach.0 (subject policy) right.are_ends v shown shows
     (subst (λ (e : Ends). IsClear net e (subject policy)) same holds.clear) (subst (λ (e : Ends). Reaches net e (subject policy) 0) same holds.holds)
 
--- a policy whose verdict does
-pub alone_of_needed : (net : Network) → IsValid net → (policies : List Policy) (policy : Policy) → is_reach policy.kind ≡ true → (v : Verdict) → IsRight net policy v → IsFixed net policies policy v →
-    shows_routes v ≡ true → (class : Class) → class ≡ subject policy → (pair : HostPair) → IsHostPairOf net class pair → (found : Option (List Link)) →
-    ((ends : Ends) → IsHostPair net ends pair → IsNeededAnswer net ends found) → IsAloneAnswer net policy found
-alone_of_needed net valid policies policy kind v right fixed shows class whole pair is found needed =
+-- a policy of which not each packet enters and leaves
+pub none_of_passes : (net : Network) → IsValid net → (policy : Policy) (ends : Ends) → AreEnds net (subject policy) ends → (EachPasses net ends (subject policy) → ⊥) → HoldsNot net policy
+none_of_passes net valid policy ends are kept others holds =
+    let same : others ≡ ends = one_pair_of_ends net valid (subject policy) others ends holds.are_ends are in
+    kept (subst (λ (e : Ends). EachPasses net e (subject policy)) same (passes_when_reached net valid others (subject policy) holds.are_ends holds.clear holds.holds))
+
+-- a policy whose verdict does, and whose packets enter and leave
+pub alone_of_needed : (net : Network) → IsValid net → (policy : Policy) → is_reach policy.kind ≡ true → (v : Verdict) → IsRight net policy v → shows_routes v ≡ true →
+    (ends : Ends) → AreEnds net (subject policy) ends → EachPasses net ends (subject policy) → (class : Class) → class ≡ subject policy → (pair : HostPair) → IsHostPairOf net class pair →
+    (found : Option (List Link)) → ((ends : Ends) → IsHostPair net ends pair → IsNeededAnswer net ends found) → IsAloneAnswer net policy found
+alone_of_needed net valid policy kind v right shows ends are passes class whole pair is found needed =
     let reach : (k : ℕ) × (policy.kind ≡ Reach k) = reach_of policy.kind kind in
     let of_policy : IsHostPairOf net (subject policy) pair = subst (λ (c : Class). IsHostPairOf net c pair) whole is in
-    let ends : Ends = right.ends in
-    let from_fixed : fixed.ends ≡ right.ends = one_pair_of_ends net valid (subject policy) fixed.ends right.ends fixed.are_ends right.are_ends in
-    let from_pair : of_policy.ends ≡ right.ends = one_pair_of_ends net valid (subject policy) of_policy.ends right.ends of_policy.are_ends right.are_ends in
+    let from_right : right.ends ≡ ends = one_pair_of_ends net valid (subject policy) right.ends ends right.are_ends are in
+    let from_pair : of_policy.ends ≡ ends = one_pair_of_ends net valid (subject policy) of_policy.ends ends of_policy.are_ends are in
     let shown : IsRightReach net right.ends reach.0 (subject policy) v =
     subst (λ (kind : PolicyKind). IsRightFor net right.ends kind (subject policy) v) reach.1 right.right in
-    let given_here : IsFixedFor net right.ends policy.kind (subject policy) fixed.classes v =
-    subst (λ (e : Ends). IsFixedFor net e policy.kind (subject policy) fixed.classes v) from_fixed fixed.fixed in
-    let given_reach : IsFixedReach net right.ends (subject policy) fixed.classes v =
-    subst (λ (kind : PolicyKind). IsFixedFor net right.ends kind (subject policy) fixed.classes v) reach.1 given_here in
-    let both : IsClear net right.ends (subject policy) × EachPasses net right.ends (subject policy) =
-    shown_clear net right.ends reach.0 (subject policy) fixed.classes v shown given_reach shows in
-    answered net valid policy right.ends right.are_ends both.0 both.1 reach.0 reach.1 found
+    let clear : IsClear net ends (subject policy) =
+    subst (λ (e : Ends). IsClear net e (subject policy)) from_right (shown_clear net right.ends reach.0 (subject policy) v shown shows) in
+    answered net valid policy ends are clear passes reach.0 reach.1 found
     (subst (λ (e : Ends). IsNeededAnswer net e found) from_pair (needed of_policy.ends of_policy.is_pair))
 
--- few classes are few as they are told, too
-pub few_of_parts : (net : Network) (policies : List Policy) (policy : Policy) (parts : List Class) → AreClasses net policies policy parts → length parts ≤ 4096 →
-    HasFewClasses net policies policy
-few_of_parts net policies policy parts are few = record {
-  count = told (length parts);
-  classes = record { classes = parts; are = are; counted = refl };
-  few = let less : told (length parts) ≤ length parts = min-le_left (length parts) (2 ^ 64 - 1) in omega (arith, less, few);
-}
-
--- the verdict was given of few classes
+-- the verdict was given of few classes, which are few as they are told, too
 pub few_of_fixed : (net : Network) (policies : List Policy) (policy : Policy) (v : Verdict) → IsFixed net policies policy v → HasFewClasses net policies policy
-few_of_fixed net policies policy v fixed = few_of_parts net policies policy fixed.classes fixed.are_classes fixed.few
+few_of_fixed net policies policy v fixed = record {
+  count = told (length fixed.classes);
+  classes = record { classes = fixed.classes; are = fixed.are_classes; counted = refl };
+  few = let less : told (length fixed.classes) ≤ length fixed.classes = min-le_left (length fixed.classes) (2 ^ 64 - 1) in omega (arith, less, fixed.few);
+}

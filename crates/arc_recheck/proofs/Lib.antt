@@ -1,5 +1,6 @@
 pub mod Ways
 pub mod NeededLists
+pub mod Passing
 pub mod Hanging
 pub mod BlocksTaken
 pub mod OneAnswer

@@ -64,8 +64,7 @@ abbrev pub is_reach : PolicyKind → Bool
 is_reach (Reach k) = true
 is_reach _ = false
 
--- whether the verdict shows paths or a cut, so that the policy is clear and its packets enter and
--- leave
+-- whether the verdict shows paths or a cut, so that the policy is clear
 abbrev pub shows_routes : Verdict → Bool
 shows_routes (Paths paths) = true
 shows_routes (Cut links side) = true

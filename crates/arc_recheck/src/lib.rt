@@ -13,6 +13,6 @@ mod singles;
 mod texts;
 
 pub use held::HeldBlocks;
-pub use rechecking::{Rechecked, recheck};
-pub use singles::alone;
+pub use rechecking::{Rechecked, recheck, recheck_under};
+pub use singles::{alone, alone_given};
 pub use texts::recheck_text;

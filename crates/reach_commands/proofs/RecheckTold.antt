@@ -1,19 +1,17 @@
 -- What the status of `recheck` tells.
-use Rattle.std.proofs.Common.{◌≡◌, ◌⊎◌, ℕ, zero, suc, inl, inr, Bool, true, false, List, [], ◌∷◌, length, refl, sym, ◌∙◌, ap, arith}
-use Rattle.std.specs.Prelude.{if◌then◌else◌, Option, Some, None, All, IsSomeAnd, slice_get, ◌&&◌}
+use Rattle.std.proofs.Common.{◌≡◌, ◌⊎◌, zero, suc, inl, inr, Bool, true, false, List, [], ◌∷◌, refl, sym, ◌∙◌, ap, arith}
+use Rattle.std.specs.Prelude.{if◌then◌else◌, None, All, ◌&&◌}
 use Rattle.std.specs.List.{AllZip, list_all}
 use Rattle.std.proofs.lemmas.Bool.{false≢true, and_parts}
 use Rattle.arc_outside.specs.Files.{Files}
 use Rattle.net_model.specs.declared.policies.Document.{Document}
 use Rattle.net_model.specs.declared.policies.Policy.{Policy}
 use Rattle.net_model.specs.declared.rows.Network.{Network}
-use Rattle.net_model.specs.declared.verdicts.Verdict.{Verdict}
 use Rattle.net_model.specs.Policies.{Meets, MeetsDocument}
 use Rattle.net_model.specs.Validity.{IsValid}
-use Rattle.net_model.specs.Witnesses.{is_yes, IsRight}
+use Rattle.net_model.specs.Witnesses.{is_yes}
 use Rattle.net_laws.proofs.RightVerdicts.{right_verdicts_decide}
 use Rattle.arc_recheck.specs.declared.rechecking.Rechecked.{Rechecked}
-use Rattle.arc_recheck.specs.Rechecks.{IsRechecked}
 use Rattle.command_words.specs.declared.commands.RecheckWords.{RecheckWords}
 use Rattle.run_files.specs.declared.limits.Limits.TheVariants.{Judging}
 use Rattle.run_files.specs.declared.outcome.Done.{Done}
@@ -24,24 +22,9 @@ use Rattle.run_inputs.specs.Inputs.{HoldsInput, IsFilesRefusal}
 use Rattle.run_files.specs.Limits.{proof_limit}
 use Rattle.run_files.specs.Refusals.{read_refusal}
 use Rattle.run_inputs.proofs.Determined.{judged_once, document_none, held_none, no_value, one_value}
-use Rattle.reach_commands.specs.RecheckRuns.{RefusesReport, IsRecheckRefusal, IsRecheckAnswer, RecheckSaysYes, RecheckSaysNo, TellsRecheck}
+use Rattle.reach_commands.specs.RecheckRuns.{IsRightOn, RefusesReport, IsRecheckRefusal, IsRecheckAnswer, RecheckSaysYes, RecheckSaysNo, TellsRecheck}
 use Rattle.reach_commands.proofs.OneInput.{one_input}
-
--- the rechecked verdict is right
-abbrev pub IsRightOn : Network → Policy → Rechecked → Type 0
-IsRightOn net policy r = IsRight net policy r.verdict
-
-all_right : (net : Network) (policies : List Policy) (rs : List Rechecked) → length rs ≡ length policies →
-    ((k : ℕ) (policy : Policy) → slice_get policies k ≡ Some policy → IsSomeAnd (slice_get rs k) (IsRightOn net policy)) → AllZip (IsRightOn net) policies rs
-all_right net [] [] count each = tt
-all_right net [] (r ∷ rs) count each = absurd (omega (arith, count))
-all_right net (policy ∷ policies) [] count each = absurd (omega (arith, count))
-all_right net (policy ∷ policies) (r ∷ rs) count each =
-    (each 0 policy refl, all_right net policies rs (omega (arith, count)) (λ k p at. each (suc k) p at))
-
-right_of : (net : Network) (policies : List Policy) (policy : Policy) (old : Option Verdict) (o : Option Rechecked) → IsSomeAnd o (IsRechecked net policies policy old) → IsSomeAnd o (IsRightOn net policy)
-right_of net policies policy old None h = absurd h
-right_of net policies policy old (Some r) h = h.right
+use Rattle.reach_commands.proofs.RecheckedEach.{are_right}
 
 abbrev pub yes : Rechecked → Bool
 yes r = is_yes r.verdict
@@ -103,8 +86,7 @@ module _ (words : RecheckWords) (files : Files) where
   ]
 
   rights : (d : Done) (done : IsRecheckAnswer words files d) → AllZip (IsRightOn done.net) done.doc.policies done.rechecked
-  rights d done = all_right done.net done.doc.policies done.rechecked done.are_rechecked.count
-      (λ k policy at. right_of done.net done.doc.policies policy _ (slice_get done.rechecked k) (done.are_rechecked.each k policy at))
+  rights d done = are_right done.net done.doc.policies _ done.rechecked done.are_rechecked
 
   told_as : (d : Done) (done : IsRecheckAnswer words files d) (b : Bool) → list_all yes done.rechecked ≡ b → TellsRecheck words d.status files
   told_as d done true is =

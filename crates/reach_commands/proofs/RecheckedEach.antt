@@ -1,18 +1,21 @@
 -- Policies that are rechecked one after another.
-use Rattle.std.proofs.Common.{◌≡◌, ℕ, ◌+◌, ◌<◌, inl, inr, List, [], ◌∷◌, ◌++◌, length, refl, sym, ◌∙◌, ap, subst, arith, length-append}
+use Rattle.std.proofs.Common.{◌≡◌, ℕ, suc, ◌+◌, ◌<◌, inl, inr, List, [], ◌∷◌, ◌++◌, length, refl, sym, ◌∙◌, ap, subst, arith, length-append}
 use Rattle.std.specs.Prelude.{Option, Some, None, IfSome, IsSomeAnd, slice_get}
 use Rattle.std.proofs.lemmas.Bool.{cases_lt}
-use Rattle.std.proofs.lemmas.Option.{slice_get_within}
+use Rattle.std.specs.List.{AllZip}
+use Rattle.std.proofs.lemmas.Option.{same_Some, slice_get_within}
 use Rattle.net_model.specs.declared.policies.Policy.{Policy}
 use Rattle.net_model.specs.declared.rows.Network.{Network}
 use Rattle.net_model.specs.declared.verdicts.Verdict.{Verdict}
+use Rattle.net_model.specs.Witnesses.{IsRight}
+use Rattle.arc_base.proofs.Zips.{AllZip-right}
 use Rattle.arc_recheck.specs.declared.rechecking.Rechecked.{Rechecked}
 use Rattle.arc_recheck.specs.Rechecks.{IsRechecked, HasClassesAnew}
 use Rattle.traffic_classes.specs.Classes.{HasClasses}
 use Rattle.verdicts.specs.declared.fault.JudgeFault.{JudgeFault}
 use Rattle.verdicts.specs.declared.fault.JudgeFault.TheVariants.{TooMany, Memory}
 use Rattle.verdicts.specs.Judged.{CountsMore}
-use Rattle.reach_commands.specs.RecheckRuns.{AreRechecked}
+use Rattle.reach_commands.specs.RecheckRuns.{AreRechecked, IsRightOn}
 use Rattle.reach_commands.proofs.AddedPolicy.{read_before, read_last}
 
 -- the first policies, so many, are rechecked
@@ -63,3 +66,26 @@ pub classes_anew : (net : Network) (policies : List Policy) (o : Option Policy) 
 classes_anew net policies None old (TooMany count) more = (tt, more.1)
 classes_anew net policies (Some p) old (TooMany count) more = (more.0.classes, more.1)
 classes_anew net policies o old Memory more = tt
+
+-- rechecked verdicts are right, place by place
+all_right : (net : Network) (policies : List Policy) (rs : List Rechecked) → length rs ≡ length policies →
+    ((k : ℕ) (policy : Policy) → slice_get policies k ≡ Some policy → IsSomeAnd (slice_get rs k) (IsRightOn net policy)) → AllZip (IsRightOn net) policies rs
+all_right net [] [] count each = tt
+all_right net [] (r ∷ rs) count each = absurd (omega (arith, count))
+all_right net (policy ∷ policies) [] count each = absurd (omega (arith, count))
+all_right net (policy ∷ policies) (r ∷ rs) count each =
+    (each 0 policy refl, all_right net policies rs (omega (arith, count)) (λ k p at. each (suc k) p at))
+
+right_of : (net : Network) (policies : List Policy) (policy : Policy) (old : Option Verdict) (o : Option Rechecked) → IsSomeAnd o (IsRechecked net policies policy old) → IsSomeAnd o (IsRightOn net policy)
+right_of net policies policy old None h = absurd h
+right_of net policies policy old (Some r) h = h.right
+
+pub are_right : (net : Network) (policies : List Policy) (held : List Verdict) (rs : List Rechecked) → AreRechecked net policies held rs → AllZip (IsRightOn net) policies rs
+are_right net policies held rs are =
+    all_right net policies rs are.count (λ k policy at. right_of net policies policy (slice_get held k) (slice_get rs k) (are.each k policy at))
+
+pub right_at : (net : Network) (policies : List Policy) (rs : List Rechecked) (k : ℕ) (policy : Policy) (r : Rechecked) → AllZip (IsRightOn net) policies rs →
+    slice_get policies k ≡ Some policy → slice_get rs k ≡ Some r → IsRight net policy r.verdict
+right_at net policies rs k policy r right at_policy at =
+    let found = AllZip-right (IsRightOn net) policies rs right k policy at_policy in
+    subst (λ (x : Rechecked). IsRight net policy x.verdict) (same_Some found.0 r (sym found.1 ∙ at)) found.2

@@ -11,7 +11,7 @@ use Rattle.net_model.specs.declared.rows.Network.{Network}
 use Rattle.net_model.specs.declared.verdicts.Verdict.{Verdict}
 use Rattle.net_model.specs.Policies.{MeetsDocument}
 use Rattle.net_model.specs.Validity.{IsValid}
-use Rattle.net_model.specs.Witnesses.{is_yes}
+use Rattle.net_model.specs.Witnesses.{is_yes, IsRight}
 use Rattle.policy_report.specs.Steps.{start}
 use Rattle.policy_report.specs.Rereading.{answers}
 use Rattle.arc_recheck.specs.declared.rechecking.Rechecked.{Rechecked}
@@ -59,6 +59,10 @@ pub record AreRechecked (net : Network) (policies : List Policy) (held : List Ve
   pub count : length rechecked ≡ length policies
   pub each : (k : ℕ) (policy : Policy) → slice_get policies k ≡ Some policy →
       IsSomeAnd (slice_get rechecked k) (IsRechecked net policies policy (slice_get held k))
+
+-- the rechecked verdict is right for the policy
+abbrev pub IsRightOn : Network → Policy → Rechecked → Type 0
+IsRightOn net policy r = IsRight net policy r.verdict
 
 -- 0 where each verdict is a yes, and else 1
 abbrev pub rechecked_status : List Rechecked → ℕ

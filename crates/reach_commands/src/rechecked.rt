@@ -1,5 +1,5 @@
 //! The command `recheck DOC REPORT`.
-ghost use Rattle.std.specs.Prelude.{◌≡◌, ◌≤◌, length, IfOk};
+ghost use Rattle.std.specs.Prelude.{◌≡◌, ◌<◌, ◌≤◌, length, slice_get, IfOk, IfSome};
 ghost use Rattle.std.specs.List.{AllZip, list_all};
 ghost use Rattle.net_model.specs.Witnesses.{is_yes};
 ghost use Rattle.arc_recheck.specs.Singles.{IsAloneAnswer};
@@ -7,19 +7,20 @@ ghost use Rattle.run_inputs.specs.Counts.{HasFewClasses};
 ghost use Rattle.run_inputs.specs.Inputs.{IsFit};
 ghost use Rattle.run_files.specs.Answers.{Answers, IsJudging, OnlyReads};
 ghost use Rattle.run_files.specs.Limits.{least_limit};
-ghost use Rattle.reach_commands.specs.RecheckRuns.{AreRechecked, rechecked_status};
+ghost use Rattle.reach_commands.specs.RecheckRuns.{AreRechecked, IsRightOn, rechecked_status};
 ghost use Rattle.reach_commands.specs.RecheckRuns.{IsRecheckRefusal, IsRecheckAnswer};
 
 use crate::report_lines::read_held;
 use arc_base::limits::PROOF_LIMIT;
 use arc_base::{Link, List, Memory, Name};
 use arc_outside::Store;
-use arc_recheck::{Rechecked, alone, recheck_text};
+use arc_recheck::{Rechecked, alone_given, recheck_text, recheck_under};
 use command_words::RecheckWords;
 use net_model::Verdict;
 use run_files::{Done, Limits, Stop, try_file};
 use run_inputs::{Input, count_classes, read_document, read_files};
 use std::alloc::Global;
+use traffic_classes::Marks;
 use verdicts::JudgeFault;
 
 /// Rechecks each policy in order against the block that is held for it. All classes are few, and no
@@ -33,10 +34,11 @@ fn recheck_all(
     requires few { HasFewClasses input.now.net input.now.doc.policies }
     ensures { IfOk result (AreRechecked input.now.net input.now.doc.policies held.now) }
 {
+    let marks = Marks::of(alloc, &input.net, &input.doc.policies)?;
     let mut rechecked = List::make(alloc);
     for which in 0..input.doc.policies.len() {
         let old = held.get(which);
-        match arc_recheck::recheck(alloc, &input.net, &input.doc.policies, which, old) {
+        match recheck_under(alloc, &input.net, &input.doc.policies, &marks, which, old) {
             Ok(one) => rechecked.push(one)?,
             Err(JudgeFault::TooMany(_)) => unreachable!(),
             Err(JudgeFault::Memory) => return Err(Memory),
@@ -45,21 +47,45 @@ fn recheck_all(
     Ok(rechecked)
 }
 
-/// For each policy in order the links whose failure alone breaks it, if it has an answer.
-fn alone_all(alloc: Global, input: &Input) -> Result<List<Option<List<Link>>>, Memory>
+/// For each policy in order the links whose failure alone breaks it, if it has an answer. The
+/// rechecked verdicts are right.
+fn alone_all(
+    alloc: Global,
+    input: &Input,
+    rechecked: &List<Rechecked>,
+) -> Result<List<Option<List<Link>>>, Memory>
     requires fit { IsFit input.now }
-    requires few { HasFewClasses input.now.net input.now.doc.policies }
+    requires right { AllZip (IsRightOn input.now.net) input.now.doc.policies rechecked.now }
     ensures { IfOk result (AllZip (IsAloneAnswer input.now.net) input.now.doc.policies) }
 {
     let mut found = List::make(alloc);
     for which in 0..input.doc.policies.len() {
-        match alone(alloc, &input.net, &input.doc.policies, which) {
-            Ok(links) => found.push(links)?,
-            Err(JudgeFault::TooMany(_)) => unreachable!(),
-            Err(JudgeFault::Memory) => return Err(Memory),
-        }
+        let links = alone_at(alloc, input, rechecked, which)?;
+        found.push(links)?;
     }
     Ok(found)
+}
+
+/// The links whose failure alone breaks the policy at this place, if it has an answer.
+fn alone_at(
+    alloc: Global,
+    input: &Input,
+    rechecked: &List<Rechecked>,
+    which: u32,
+) -> Result<Option<List<Link>>, Memory>
+    requires fit { IsFit input.now }
+    requires right { AllZip (IsRightOn input.now.net) input.now.doc.policies rechecked.now }
+    requires place { which < length input.now.doc.policies }
+    ensures { IfOk result (λ found. IfSome (slice_get input.now.doc.policies which)
+        (λ p. IsAloneAnswer input.now.net p found)) }
+{
+    let Some(policy) = input.doc.policies.get(which) else {
+        unreachable!()
+    };
+    let Some(one) = rechecked.get(which) else {
+        unreachable!()
+    };
+    alone_given(alloc, &input.net, policy, &one.verdict)
 }
 
 /// Whether the verdict is a yes.
@@ -107,7 +133,7 @@ pub fn recheck<S: Store>(alloc: Global, words: &RecheckWords, store: &mut S) -> 
         store,
     )?;
     let rechecked = recheck_all(alloc, &input, &held)?;
-    let found = alone_all(alloc, &input)?;
+    let found = alone_all(alloc, &input, &rechecked)?;
     let text = recheck_text(alloc, &input.net, &input.doc.policies, &rechecked, &found)?;
     Ok(Done {
         text: Name::of(text),

@@ -2,6 +2,7 @@ use Rattle.std.proofs.Common.{◌∙◌, ap}
 use Rattle.std.proofs.lemmas.Result.{err_from_is_err_and}
 use Rattle.reach_commands.specs.RecheckRuns.{rechecked_status}
 use Rattle.reach_commands.proofs.RecheckAnswered.{answered, classes_stopped, reading_stopped}
+use Rattle.reach_commands.proofs.RecheckedEach.{are_right}
 use Rattle.reach_commands.proofs.rechecked.recheck.Goals as goal
 
 pub returns-in_err-count_classes-clause-answer : goal.returns-in_err-count_classes-clause-answer
@@ -17,6 +18,10 @@ returns-in_err-held-clause-answer g c =
     rw (p.1, p.2) (reading_stopped (g.S.Store.held c.args.store.now) (g.S.Store.held c.read_document.new.store) (g.S.Store.held c.try_file.new.store) (g.S.Store.held c.read_files.new.store)
     c.in_ok-doc.ensures.reads.same c.in_ok-try_file.ensures.reads.same c.in_ok-input.ensures.reads.same
     c.args.words.now c.in_ok-input.input c.in_err-held.field-0.0 c.in_ok-try_file.ensures.told c.in_err-held.ensures.told)
+
+pub alone_all-requires-clause-right : goal.alone_all-requires-clause-right
+alone_all-requires-clause-right g c =
+    are_right c.in_ok-input.input.net c.in_ok-input.input.doc.policies c.in_ok-held.held c.in_ok-rechecked.rechecked c.in_ok-rechecked.ensures
 
 pub recheck_text-requires : goal.recheck_text-requires
 recheck_text-requires g c = c.in_ok-rechecked.ensures.count

@@ -10,11 +10,11 @@ use Rattle.reach_commands.proofs.rechecked.recheck_all.Goals as goal
 pub loop-which-init : goal.loop-which-init
 loop-which-init c = none_rechecked c.args.input.now.net c.args.input.now.doc.policies c.args.held.now c.make-rechecked.result c.make-rechecked.ensures
 
-pub recheck-requires-clause-ends : goal.recheck-requires-clause-ends
-recheck-requires-clause-ends c = at_place _ _ _ c.requires.fit.ends
+pub recheck_under-requires-clause-ends : goal.recheck_under-requires-clause-ends
+recheck_under-requires-clause-ends c = at_place _ _ _ c.requires.fit.ends
 
-pub recheck-requires-clause-failures : goal.recheck-requires-clause-failures
-recheck-requires-clause-failures c = at_place _ _ _ c.requires.fit.failures
+pub recheck_under-requires-clause-failures : goal.recheck_under-requires-clause-failures
+recheck_under-requires-clause-failures c = at_place _ _ _ c.requires.fit.failures
 
 pub unreachable-requires : goal.unreachable-requires
 unreachable-requires c =
