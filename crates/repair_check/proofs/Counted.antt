@@ -17,7 +17,7 @@ use Rattle.std.proofs.lemmas.List.{length-map}
 use Rattle.arc_repair.specs.Repairs.{none_of}
 use Rattle.repair_check.specs.declared.phases.Phase.{Phase}
 use Rattle.repair_check.specs.declared.phases.Phase.TheVariants as phases
-use Rattle.repair_check.specs.Certifies.{HasBound, IsCounted}
+use Rattle.repair_check.specs.Certifies.{CountsBound, HasBound, IsCounted}
 use Rattle.repair_check.specs.Outcomes.{Answers, IsEditsOutcome, IsReadyOutcome}
 use Rattle.repair_check.specs.Phases.{Goes, IsAt, IsFaultAt, IsReady, IsReadyWithin}
 
@@ -36,6 +36,12 @@ one_bound form bound other (inr e) is = bound_of_none bound other (subst (HasBou
 
 same_form : (form other : CertForm) (rest others : Answers) → Ok More ∷ Ok (Head form) ∷ rest ≡ Ok More ∷ Ok (Head other) ∷ others → other ≡ form
 same_form form other rest others e = cc
+
+-- what is counted is the formula of one bound
+pub counted_once : (told : Answers) (m n : ℕ) → CountsBound told m → CountsBound told n → m ≡ n
+counted_once told m n a b =
+    let forms : a.form ≡ b.form = same_form b.form a.form b.rest a.rest (sym b.begins ∙ a.begins) in
+    one_bound b.form n m b.has_bound (subst (HasBound m) forms a.has_bound)
 
 module _ (net : Network) (doc : Document) (list : List Edit) where
   -- where the formula of the answer's bound is within its limits, it is counted

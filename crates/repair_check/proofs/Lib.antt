@@ -8,3 +8,5 @@ pub mod Leading
 pub mod Feeding
 pub mod Written
 pub mod Bounded
+pub mod OneOutcome
+pub mod OneFault

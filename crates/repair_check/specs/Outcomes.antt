@@ -14,8 +14,10 @@ use Rattle.cnf_types.specs.Words.{lines}
 use Rattle.net_model.specs.declared.policies.Document.{Document}
 use Rattle.net_model.specs.declared.policies.Policy.{Policy}
 use Rattle.net_model.specs.declared.rows.Network.{Network}
+use Rattle.net_model.specs.Validity.{IsValid}
 use Rattle.edit_space.specs.declared.edit_kinds.Edit as edits
 use Rattle.edit_space.specs.After.{IsAfter}
+use Rattle.edit_space.specs.Determined.{IsCountable}
 use Rattle.edit_space.specs.Prices.{chosen_of}
 use Rattle.policy_encode.specs.Formulas.{IsRepairFormula}
 use Rattle.price_descent.specs.Outcomes.{least_below}
@@ -163,3 +165,10 @@ IsHeadOutcome net doc list number (Ok other ∷ rest) o = o ≡ rejected number 
 abbrev pub IsOutcome : Network → Document → List edits.Edit → List ℕ → Outcome → Type 0
 IsOutcome net doc list text o =
     IsHeadOutcome net doc list 1 (answers net doc list reader.start (lines text)) o
+
+-- a text has one outcome, over a valid network whose interfaces, sessions and names can be counted
+abbrev pub HasOneOutcome : Type 0
+HasOneOutcome =
+    (net : Network) (doc : Document) (list : List edits.Edit) (text : List ℕ) (o p : Outcome) →
+    IsValid net → IsCountable net → IsOutcome net doc list text o →
+    IsOutcome net doc list text p → o ≡ p

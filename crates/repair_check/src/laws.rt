@@ -1,6 +1,7 @@
 //! Laws over the definitions alone: each is the contract of a function that does nothing.
 ghost use Rattle.repair_check.specs.Certifies.{CertificatesAreAccepted, CertificatesNameTheirBound};
 ghost use Rattle.repair_check.specs.Certifies.{CertifiedClaimsAreTrue, WrittenClaimsAreCertified};
+ghost use Rattle.repair_check.specs.Outcomes.{HasOneOutcome};
 
 use arc_repair::laws::certificates_are_true;
 use edited_networks::laws::networks_after_edits_are_valid;
@@ -18,6 +19,14 @@ pub fn certificates_are_accepted()
     certificates_are_read_again();
     only_certificates_are_taken();
     edits_are_told_apart();
+}
+
+/// A text has one outcome.
+pub fn outcome_is_unique()
+    ensures { HasOneOutcome }
+{
+    networks_after_edits_are_valid();
+    one_formula();
 }
 
 /// A claim with a certificate is true.
