@@ -1,2 +1,3 @@
 mod Marked
 mod LinesRead
+pub mod Placed

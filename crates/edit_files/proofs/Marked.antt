@@ -14,7 +14,7 @@ use Rattle.edit_space.specs.declared.edit_kinds.Edit.TheVariants.{Session}
 use Rattle.policy_report.specs.Edits.{edit_of, edit_text}
 use Rattle.edit_files.specs.EditFiles.{is_blank_line, named_by, is_at, AreEditLines, AreMarked}
 
-last_of : {X : Type 0} (xs : List X) (x d : X) → get_or (xs ++ x ∷ []) (length xs) d ≡ x
+pub last_of : {X : Type 0} (xs : List X) (x d : X) → get_or (xs ++ x ∷ []) (length xs) d ≡ x
 last_of xs x d = get_or-append_right xs (x ∷ []) (length xs) (length xs) d refl (omega arith) ∙ ap (λ (n : ℕ). get_or (x ∷ []) n d) (zero_rest (length xs))
   where
     zero_rest : (n : ℕ) → n - n ≡ 0

@@ -1,1 +1,2 @@
 pub mod EditFiles
+pub mod Places

@@ -3,6 +3,7 @@
 //! before names.
 #![tactic(auto)]
 
+mod places;
 mod reading;
 
 pub use reading::{Named, named_edits};

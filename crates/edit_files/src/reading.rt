@@ -1,13 +1,15 @@
 //! The edits that an edit file names.
-ghost use Rattle.std.specs.Prelude.{◌≡◌, ◌^◌, ◌<◌, ◌++◌, [], ◌∷◌, List, ℕ, length, IfOk, MatchBool};
+ghost use Rattle.std.specs.Prelude.{◌≡◌, ◌^◌, ◌<◌, ◌++◌, [], ◌∷◌, ℕ, List as Items, length, IfOk};
+ghost use Rattle.std.specs.Prelude.{MatchBool};
 ghost use Rattle.edit_files.specs.EditFiles.{is_blank_line, AreEditLines, AreMarked, HasFlags};
 ghost use Rattle.edit_files.specs.EditFiles.{ReadsEdits};
+ghost use Rattle.edit_files.specs.Places.{AreBelow, FindsEdits};
 
+use crate::places::{TextPlaces, edit_texts};
 use arc_base::{List, Memory};
 use cnf_types::{first_line, without_return};
 use edit_space::Edit;
 use net_model::Network;
-use policy_report::edit_line;
 use std::alloc::Global;
 
 /// What an edit file names.
@@ -28,36 +30,30 @@ fn is_blank_line(line: &[u8]) -> bool
 
 /// Marks the edit that the line names. It answers `false` where the line is not blank and names no
 /// edit, or one that is marked.
-fn mark(
-    alloc: Global,
-    net: &Network,
-    edits: &List<Edit>,
-    line: &[u8],
-    chosen: &mut Vec<bool>,
-) -> Result<bool, Memory>
-    requires { length chosen.old.items ≡ length edits.now }
-    ensures whole { length chosen.new.items ≡ length edits.now }
-    ensures marked { IfOk result (λ right. (before : List (List ℕ)) →
-        AreMarked net.now edits.now before chosen.old.items →
-        MatchBool right (AreMarked net.now edits.now (before ++ line.now ∷ []) chosen.new.items)
-        (¬ AreEditLines net.now edits.now (before ++ line.now ∷ []))) }
+fn mark(places: &TextPlaces<'_>, line: &[u8], chosen: &mut Vec<bool>) -> bool
+    requires { AreBelow (length chosen.old.items) places.now }
+    ensures whole { length chosen.new.items ≡ length chosen.old.items }
+    ensures marked { (net : Network) (edits : Items Edit) (before : Items (Items ℕ)) →
+        FindsEdits net edits places.now → AreMarked net edits before chosen.old.items →
+        MatchBool result (AreMarked net edits (before ++ line.now ∷ []) chosen.new.items)
+        (¬ AreEditLines net edits (before ++ line.now ∷ [])) }
 {
     if is_blank_line(line) {
-        return Ok(true);
+        return true;
     }
-    let Some(place) = edit_line(alloc, net, edits, line)? else {
-        return Ok(false);
+    let Some(place) = places.get(line) else {
+        return false;
     };
     if chosen[place as usize] {
-        return Ok(false);
+        return false;
     }
     chosen[place as usize] = true;
-    Ok(true)
+    true
 }
 
 /// The edits that the lines of a text name, each line one by its text. Lines may end in a carriage
-/// return and a line feed, and lines of spaces and tabs alone are skipped. The time is that of a
-/// look at each edit for each line.
+/// return and a line feed, and lines of spaces and tabs alone are skipped. The time is linear in
+/// the texts of all edits and in the bytes of the text.
 pub fn named_edits(
     alloc: Global,
     net: &Network,
@@ -68,13 +64,15 @@ pub fn named_edits(
     ensures answer { IfOk result (ReadsEdits net.now edits.now text.now) }
     ensures flags { IfOk result (HasFlags edits.now) }
 {
+    let texts = edit_texts(alloc, net, edits)?;
+    let places = TextPlaces::of(alloc, texts.slice())?;
     let mut chosen = Vec::from_elem(alloc, false, edits.len() as usize)?;
     let mut rest = text;
     let mut number = 0;
     while !rest.is_empty() {
         let (line, after) = first_line(rest);
         number += 1;
-        if !mark(alloc, net, edits, without_return(line), &mut chosen)? {
+        if !mark(&places, without_return(line), &mut chosen) {
             return Ok(Named::Wrong(number));
         }
         rest = after;

@@ -4,9 +4,16 @@ use Rattle.std.proofs.lemmas.Bool.{MatchBool-at_true, MatchBool-at_false}
 use Rattle.std.proofs.lemmas.List.{length-replicate, get_or-replicate}
 use Rattle.cnf_types.specs.Words.{without_return}
 use Rattle.edit_files.specs.EditFiles.{line_texts, AreEditLines, AreMarked, chosen_by}
+use Rattle.edit_files.specs.Places.{FindsEdits}
 use Rattle.edit_files.proofs.Marked.{none_marked}
+use Rattle.edit_files.proofs.Placed.{are_below}
 use Rattle.edit_files.proofs.LinesRead.{MovesOn, moved, all_taken, nothing_left}
 use Rattle.edit_files.proofs.reading.named_edits.Goals as goal
+
+pub mark-requires : goal.mark-requires
+mark-requires c =
+    are_below c.args.net.now c.args.edits.now c.in_ok-places.places (length c.loop-rest.chosen.items) c.loop-rest.invariant.whole
+    (c.in_ok-places.ensures c.args.net.now c.args.edits.now (c.slice.ensures.items ∙ c.in_ok-texts.ensures))
 
 pub loop-rest-init : goal.loop-rest-init
 loop-rest-init c =
@@ -20,11 +27,12 @@ loop-rest-init c =
       few = omega arith;
     }
 
-pub returns-then-not-branch-clause-answer : goal.returns-then-not-branch-clause-answer
-returns-then-not-branch-clause-answer c =
+pub returns-then-not-mark-clause-answer : goal.returns-then-not-mark-clause-answer
+returns-then-not-mark-clause-answer c =
     let net = c.args.net.now in
     let edits = c.args.edits.now in
     let texts : List (List ℕ) = line_texts c.args.text.now in
+    let finds : FindsEdits net edits c.in_ok-places.places = c.in_ok-places.ensures net edits (c.slice.ensures.items ∙ c.in_ok-texts.ensures) in
     let line : List ℕ = c.without_return.result.now in
     let rest : List (List ℕ) = line_texts c.first_line.result.1.now in
     let next : MovesOn texts c.loop-rest.number line rest =
@@ -35,7 +43,7 @@ returns-then-not-branch-clause-answer c =
       number_is = refl;
       right_before = c.loop-rest.invariant.marked.lines;
       wrong = subst (λ (ls : List (List ℕ)). AreEditLines net edits ls → ⊥) (sym next.taken)
-          (MatchBool-at_false _ _ c.if-not-branch.true (c.in_ok-mark.ensures.marked (take c.loop-rest.number texts) c.loop-rest.invariant.marked));
+          (MatchBool-at_false _ _ c.if-not-mark.true (c.mark.ensures.marked net edits (take c.loop-rest.number texts) finds c.loop-rest.invariant.marked));
     }
 
 pub loop-rest-preserved : goal.loop-rest-preserved
@@ -43,6 +51,7 @@ loop-rest-preserved c =
     let net = c.args.net.now in
     let edits = c.args.edits.now in
     let texts : List (List ℕ) = line_texts c.args.text.now in
+    let finds : FindsEdits net edits c.in_ok-places.places = c.in_ok-places.ensures net edits (c.slice.ensures.items ∙ c.in_ok-texts.ensures) in
     let line : List ℕ = c.without_return.result.now in
     let rest : List (List ℕ) = line_texts c.first_line.result.1.now in
     let next : MovesOn texts c.loop-rest.number line rest =
@@ -50,8 +59,8 @@ loop-rest-preserved c =
     record {
       left = next.dropped;
       marked = subst (λ (ls : List (List ℕ)). AreMarked net edits ls c.mark.new.chosen.items) (sym next.taken)
-          (MatchBool-at_true _ _ c.if-not-branch.false (c.in_ok-mark.ensures.marked (take c.loop-rest.number texts) c.loop-rest.invariant.marked));
-      whole = c.in_ok-mark.ensures.whole;
+          (MatchBool-at_true _ _ c.if-not-mark.false (c.mark.ensures.marked net edits (take c.loop-rest.number texts) finds c.loop-rest.invariant.marked));
+      whole = c.mark.ensures.whole ∙ c.loop-rest.invariant.whole;
       few = omega (arith, c.first_line.ensures.rest, c.loop-rest.invariant.few);
     }
 
