@@ -60,6 +60,7 @@ module _ (document certificate : List ℕ) (net : Network) (doc : Document) wher
       edits = is.edits;
       classes = is.few_classes;
       few = is.few;
+      countable = countable;
       counted = told.counted;
       outcome_is = told.outcome;
       accepted = exactly net doc list (bytes_at files certificate) outcome is.judgeable.valid countable addresses is.edits (omega (arith, is.policies)) told.outcome;

@@ -3,3 +3,5 @@ pub mod HeadRead
 pub mod Judged
 pub mod LineByLine
 pub mod Told
+pub mod OneFault
+pub mod OneCheck

@@ -35,7 +35,7 @@ none_refused o r e f = absurd (cc)
 module _ (document certificate : List ℕ) (files : Files) where
   -- ---- the first refusal of another text is that of a report
 
-  as_report : (HoldsRepair certificate files → ⊥) → (r : FileRefusal) → IsAnyRefusal document certificate files r → IsCheckRefusal document certificate files r
+  pub as_report : (HoldsRepair certificate files → ⊥) → (r : FileRefusal) → IsAnyRefusal document certificate files r → IsCheckRefusal document certificate files r
   as_report differs r (inl e) = inl e
   as_report differs r (inr (inl u)) = inr (inl u)
   as_report differs r (inr (inr (inl u))) = inr (inr (inl u))
@@ -59,7 +59,7 @@ module _ (document certificate : List ℕ) (files : Files) where
         let P : Document → Type 0 = λ d. HoldsInput Editing [] document files d net in
         (determined Editing [] document files).one_network other net last (subst P (docs other last h) input) h
 
-    moved : (Q : Document → Network → Type 0) (other : Document) (last : Network) → HoldsInput Editing [] document files other last → Q other last → Q doc net
+    pub moved : (Q : Document → Network → Type 0) (other : Document) (last : Network) → HoldsInput Editing [] document files other last → Q other last → Q doc net
     moved Q other last h q =
         let P : Document → Type 0 = λ d. Q d last in
         let R : Network → Type 0 = λ n. Q doc n in
@@ -76,7 +76,7 @@ module _ (document certificate : List ℕ) (files : Files) where
         let P : List Edit → Type 0 = λ l. IsCounted net doc l (text_answers net doc l (bytes_at files certificate)) in
         within_or_passed net doc passes.list passes.formula.0 valid (subst P same j.counted passes.formula.0 passes.formula.1) what count passes.formula.2
 
-    judged_or_refused : (r : FileRefusal) → IsAnyRefusal document certificate files r → ⊥
+    pub judged_or_refused : (r : FileRefusal) → IsAnyRefusal document certificate files r → ⊥
     judged_or_refused r (inl e) = (determined Editing [] document files).not_both doc net r j.input (inl e)
     judged_or_refused r (inr (inl u)) = (determined Editing [] document files).not_both doc net r j.input (inr (inl u))
     judged_or_refused r (inr (inr (inl u))) = none_refused (read_refusal proof_limit files certificate) r j.holds.held u.refused
@@ -89,7 +89,7 @@ module _ (document certificate : List ℕ) (files : Files) where
   -- ---- the certificate of a repair
 
   module _ (d : Done) (holds : HoldsRepair certificate files) (done : IsRepairJudged document (bytes_at files certificate) files d) where
-    judgeable : IsJudgeable document certificate files done.doc done.net done.judged.list
+    pub judgeable : IsJudgeable document certificate files done.doc done.net done.judged.list
     judgeable = record { holds = holds; input = done.input; edits = done.judged.edits; classes = done.judged.classes; few = done.judged.few; counted = done.judged.counted }
 
     -- whoever judges it finds it certified, or finds it not, as here

@@ -14,6 +14,7 @@ use Rattle.edit_space.specs.declared.claims.Claim.{Claim}
 use Rattle.edit_space.specs.declared.edit_kinds.Edit.{Edit}
 use Rattle.edit_space.specs.declared.edit_kinds.EditFault.{EditFault}
 use Rattle.edit_space.specs.declared.edit_kinds.EditFault.TheVariants as faults
+use Rattle.edit_space.specs.Determined.{IsCountable}
 use Rattle.edit_space.specs.EditLists.{AreEdits, HasFewClasses, NamesLimit}
 use Rattle.report_check.specs.declared.outcome.Outcome.{Outcome}
 use Rattle.report_check.specs.declared.outcome.Outcome.TheVariants.{Accepted}
@@ -75,8 +76,8 @@ RefusesJudging document certificate files r =
     (HoldsRepair certificate files × IsTextRefusal document (bytes_at files certificate) files r) ⊎
     ((¬ HoldsRepair certificate files) × RefusesBehind document certificate files r)
 
--- The judgement of the text over the network: that it is accepted, or the first line that is
--- rejected. It is accepted exactly where it is the certificate of a claim, and each such claim is
+-- The judgement of the text over the network, whose interfaces, sessions and names can be counted:
+-- that it is accepted, or the first line that is rejected. It is accepted exactly where it is the certificate of a claim, and each such claim is
 -- true.
 pub record IsJudged (net : Network) (doc : Document) (text : List ℕ)
     (outcome : Outcome) : Type 0 where
@@ -84,6 +85,7 @@ pub record IsJudged (net : Network) (doc : Document) (text : List ℕ)
   pub edits : AreEdits net doc list
   pub classes : HasFewClasses net doc
   pub few : length list ≤ EDIT_LIMIT
+  pub countable : IsCountable net
   pub counted : IsCounted net doc list (text_answers net doc list text)
   pub outcome_is : IsOutcome net doc list text outcome
   pub accepted : (outcome ≡ Accepted) ↔ IsCertified net doc list text
