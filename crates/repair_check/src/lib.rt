@@ -1,18 +1,15 @@
 //! The judgement of the certificate of a repair, line by line: its price, its verdicts in the
 //! network after its edits, and its log for the repair formula. A text is accepted exactly where it
 //! is the certificate of a claim, and such a claim is true; of any other text the first line is
-//! told that is rejected. A `RepairJudge` takes the lines one by one; `check_repair` has them at
-//! hand.
+//! told that is rejected. A `RepairJudge` takes the lines one by one.
 #![tactic(auto)]
 
 mod addresses;
 mod beginning;
-mod checking;
 mod judge;
 mod judging;
 pub mod laws;
 mod phases;
 
 pub use addresses::read_addresses;
-pub use checking::check_repair;
 pub use judge::RepairJudge;
