@@ -59,9 +59,9 @@ module _ (net : Network) (doc : Document) (list : List Edit) where
 
   -- the answer that there is a repair leads to its edits
   pub repair_begun : (price bound number : ℕ) (flags : Vec Bool Global) (log : Option Checker) → flags.items ≡ none_of list → IsReadyWithin net doc list price bound log → (bound ≤ 512 → IsWithin net doc list bound) →
-      Goes net doc list phases.Answer number (Ok (Head (Repaired price bound))) (phases.Edits price bound flags log)
+      Goes net doc list phases.Answer number (Ok (Head (Repaired price bound))) (phases.Edits (record { price = price; bound = bound; chosen = flags; log = log }))
   repair_begun price bound number flags log none ready within = record {
-    going = (ap length none ∙ length-map list (λ e. false), ready);
+    going = record { flags = ap length none ∙ length-map list (λ e. false); ready = ready };
     outcome = λ rest o h. subst (λ (f : List Bool). IsEditsOutcome net doc list price bound f (number + 1) rest o) none h;
     at = λ all rest e. counted (Repaired price bound) bound all rest (inl (price, refl)) within e;
   }
@@ -91,7 +91,7 @@ module _ (net : Network) (doc : Document) (list : List Edit) where
     where
       alone : (form : CertForm) (rest : Answers) → Ok More ∷ [] ≡ Ok More ∷ Ok (Head form) ∷ rest → ⊥
       alone form rest k = absurd (cc)
-  ends_counted (phases.Edits price bound chosen log) all h = h
+  ends_counted (phases.Edits claim) all h = h
   ends_counted (phases.Blocks blocks) all h = h
   ends_counted (phases.Ready checker) all h = h
   ends_counted (phases.Log needs checker) all h = h

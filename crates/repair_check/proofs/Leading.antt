@@ -1,14 +1,12 @@
 -- What the lines of a repair lead to.
-use Rattle.std.proofs.Common.{◌≡◌, ℕ, Bool, inl, inr, Option, List, ◌∷◌, refl, sym, subst}
-use Rattle.std.specs.Prelude.{MatchBool, Result, Ok, Err, Vec}
-use Rattle.std.specs.declared.alloc.Global.{Global}
+use Rattle.std.proofs.Common.{◌≡◌, ℕ, Bool, inl, inr, List, ◌∷◌, refl, sym, subst}
+use Rattle.std.specs.Prelude.{MatchBool, Result, Ok, Err}
 use Rattle.arc_base.specs.declared.certificate.CertKind.TheVariants as kinds
 use Rattle.net_model.specs.declared.policies.Document.{Document}
 use Rattle.net_model.specs.declared.rows.Network.{Network}
 use Rattle.net_model.specs.declared.verdicts.Verdict as verdicts
 use Rattle.edit_space.specs.declared.edit_kinds.Edit as edits
 use Rattle.price_descent.specs.Outcomes.{least_below}
-use Rattle.proof_check.specs.declared.checker.Checker.{Checker}
 use Rattle.proof_check.specs.Knowledge.{Knowledge, start}
 use Rattle.proof_check.specs.View.{known}
 use Rattle.policy_report.specs.declared.got.Got.{Got}
@@ -17,15 +15,15 @@ use Rattle.policy_report.specs.declared.got.CertFault.{CertFault}
 use Rattle.report_check.specs.declared.outcome.Outcome.{Outcome}
 use Rattle.report_check.specs.declared.outcome.Outcome.TheVariants.{Rejected}
 use Rattle.report_check.specs.Outcomes.{IsRightAt}
-use Rattle.arc_repair.specs.Checks.{IsMispriced}
 use Rattle.arc_repair.specs.Claims.{is_above_zero}
 use Rattle.repair_check.specs.declared.phases.Blocks.{Blocks}
 use Rattle.repair_check.specs.declared.phases.Next.{Next}
 use Rattle.repair_check.specs.declared.phases.Next.TheVariants.{Line, Done}
 use Rattle.repair_check.specs.declared.phases.Phase.{Phase}
 use Rattle.repair_check.specs.declared.phases.Phase.TheVariants as phases
+use Rattle.repair_check.specs.declared.phases.RepairClaim.{RepairClaim}
 use Rattle.repair_check.specs.Outcomes.{Answers, IsBlocksOutcome, IsEditsEnd, IsEditsOutcome, rejected}
-use Rattle.repair_check.specs.Phases.{EndsEdits, IsBlocksLeft, IsOpened, LeadsTo}
+use Rattle.repair_check.specs.Phases.{EndsEdits, IsBlocksLeft, IsMispricedClaim, IsOpened, LeadsTo}
 
 module _ (net : Network) (doc : Document) (list : List edits.Edit) where
   -- the same phase, line and outcome
@@ -53,23 +51,23 @@ module _ (net : Network) (doc : Document) (list : List edits.Edit) where
   ends_there price bound flags number (Err fault) rest o ends h =
       subst (λ (b : Bool). MatchBool b (o ≡ Rejected fault) (IsEditsEnd net doc list price bound flags number (Err fault ∷ rest) o)) (sym ends) h
 
-  module _ (price bound : ℕ) (flags : Vec Bool Global) (log : Option Checker) (number : ℕ) (told : Result Got CertFault) (ends : EndsEdits told) where
+  module _ (claim : RepairClaim) (number : ℕ) (told : Result Got CertFault) (ends : EndsEdits told) where
     -- the price is wrong
-    pub mispriced_leads : (next : Next) → next ≡ Done (rejected 2 kinds.Price) → IsMispriced doc list price bound flags.items → LeadsTo net doc list (phases.Edits price bound flags log) number told next
+    pub mispriced_leads : (next : Next) → next ≡ Done (rejected 2 kinds.Price) → IsMispricedClaim doc list claim → LeadsTo net doc list (phases.Edits claim) number told next
     mispriced_leads next e wrong =
-        subst (LeadsTo net doc list (phases.Edits price bound flags log) number told) (sym e)
-        (record { outcome = λ rest. ends_there price bound flags.items number told rest (rejected 2 kinds.Price) ends (inl (wrong, refl)); at = λ all rest h. h })
+        subst (LeadsTo net doc list (phases.Edits claim) number told) (sym e)
+        (record { outcome = λ rest. ends_there claim.price claim.bound claim.chosen.items number told rest (rejected 2 kinds.Price) ends (inl (wrong, refl)); at = λ all rest h. h })
 
     -- the price is right, and the line is judged behind the edits
-    module _ (blocks : Blocks) (opened : IsOpened net doc list price bound flags.items number blocks) where
-      after_edits : (rest : Answers) (o : Outcome) → IsBlocksLeft doc blocks number (told ∷ rest) o → IsEditsOutcome net doc list price bound flags.items number (told ∷ rest) o
+    module _ (blocks : Blocks) (opened : IsOpened net doc list claim number blocks) where
+      after_edits : (rest : Answers) (o : Outcome) → IsBlocksLeft doc blocks number (told ∷ rest) o → IsEditsOutcome net doc list claim.price claim.bound claim.chosen.items number (told ∷ rest) o
       after_edits rest o h =
-          let knows : known blocks.checker ≡ start opened.ready.formula (least_below price) opened.ready.tops = opened.ready.knows in
+          let knows : known blocks.checker ≡ start opened.ready.formula (least_below claim.price) opened.ready.tops = opened.ready.knows in
           let one = subst (λ (n : Bool). IsBlocksOutcome blocks.now doc.policies n (known blocks.checker) blocks.judged blocks.first number (told ∷ rest) o) opened.needs h in
-          let two = subst (λ (k : Knowledge). IsBlocksOutcome blocks.now doc.policies (is_above_zero price) k blocks.judged blocks.first number (told ∷ rest) o) knows one in
-          let three = subst (λ (j : ℕ). IsBlocksOutcome blocks.now doc.policies (is_above_zero price) (start opened.ready.formula (least_below price) opened.ready.tops) j blocks.first number (told ∷ rest) o) opened.judged two in
-          let four = subst (λ (f : ℕ). IsBlocksOutcome blocks.now doc.policies (is_above_zero price) (start opened.ready.formula (least_below price) opened.ready.tops) 0 f number (told ∷ rest) o) opened.first three in
-          ends_there price bound flags.items number told rest o ends
+          let two = subst (λ (k : Knowledge). IsBlocksOutcome blocks.now doc.policies (is_above_zero claim.price) k blocks.judged blocks.first number (told ∷ rest) o) knows one in
+          let three = subst (λ (j : ℕ). IsBlocksOutcome blocks.now doc.policies (is_above_zero claim.price) (start opened.ready.formula (least_below claim.price) opened.ready.tops) j blocks.first number (told ∷ rest) o) opened.judged two in
+          let four = subst (λ (f : ℕ). IsBlocksOutcome blocks.now doc.policies (is_above_zero claim.price) (start opened.ready.formula (least_below claim.price) opened.ready.tops) 0 f number (told ∷ rest) o) opened.first three in
+          ends_there claim.price claim.bound claim.chosen.items number told rest o ends
           (inr (record {
             priced = opened.priced;
             now = blocks.now;
@@ -80,6 +78,6 @@ module _ (net : Network) (doc : Document) (list : List edits.Edit) where
             outcome = four;
           }))
 
-      pub opened_leads : (next : Next) → LeadsTo net doc list (phases.Blocks blocks) number told next → LeadsTo net doc list (phases.Edits price bound flags log) number told next
+      pub opened_leads : (next : Next) → LeadsTo net doc list (phases.Blocks blocks) number told next → LeadsTo net doc list (phases.Edits claim) number told next
       opened_leads (Line next) g = record { going = g.going; outcome = λ rest o h. after_edits rest o (g.outcome rest o h); at = g.at }
       opened_leads (Done o) s = record { outcome = λ rest. after_edits rest o (s.outcome rest); at = s.at }

@@ -1,5 +1,5 @@
 -- The judgement line by line: what the lines so far leave to be judged.
-use Rattle.std.specs.Prelude.{◌≡◌, ℕ, ◌+◌, ◌<◌, ◌≤◌, Bool, Option, List, ◌∷◌}
+use Rattle.std.specs.Prelude.{◌≡◌, ℕ, ◌+◌, ◌<◌, ◌≤◌, Option, List, ◌∷◌}
 use Rattle.std.specs.Prelude.{length, MatchOption, Result, Ok, Err, IsFalse}
 use Rattle.arc_base.specs.declared.limits.TheConstants.{PRICE_LIMIT}
 use Rattle.cnf_types.specs.declared.clauses.Formula.{Formula}
@@ -26,6 +26,7 @@ use Rattle.repair_check.specs.declared.phases.Next.{Next}
 use Rattle.repair_check.specs.declared.phases.Next.TheVariants.{Line, Done}
 use Rattle.repair_check.specs.declared.phases.Phase.{Phase}
 use Rattle.repair_check.specs.declared.phases.Phase.TheVariants as phases
+use Rattle.repair_check.specs.declared.phases.RepairClaim.{RepairClaim}
 use Rattle.repair_check.specs.Certifies.{IsCounted, IsCountFault}
 use Rattle.repair_check.specs.Instances.{IsJudgeable}
 use Rattle.repair_check.specs.Outcomes.{Answers, is_edit_kind, IsHeadOutcome, IsAnswerOutcome}
@@ -48,21 +49,30 @@ abbrev pub IsReadyWithin : Network → Document → List Edit → ℕ → ℕ �
 IsReadyWithin net doc list price bound log =
     MatchOption log (PRICE_LIMIT < bound) (IsReady net doc list bound (least_below price))
 
+-- the claim has a flag for each edit, and the checker is ready for its log
+pub record IsClaimed (net : Network) (doc : Document) (list : List Edit)
+    (claim : RepairClaim) : Type 0 where
+  pub flags : length claim.chosen.items ≡ length list
+  pub ready : IsReadyWithin net doc list claim.price claim.bound claim.log
+
+-- what is claimed of the price of the edits that are chosen is wrong
+abbrev pub IsMispricedClaim : Document → List Edit → RepairClaim → Type 0
+IsMispricedClaim doc list claim = IsMispriced doc list claim.price claim.bound claim.chosen.items
+
 -- what is judged after the edits: the network after them, in which no policy is judged yet, and the
 -- checker before the log
-pub record IsOpened (net : Network) (doc : Document) (list : List Edit) (price bound : ℕ)
-    (flags : List Bool) (number : ℕ) (blocks : Blocks) : Type 0 where
-  pub priced : ¬ IsMispriced doc list price bound flags
-  pub is_after : IsAfter net (chosen_of list flags) blocks.now
-  pub ready : IsReady net doc list bound (least_below price) blocks.checker
-  pub needs : blocks.needs ≡ is_above_zero price
+pub record IsOpened (net : Network) (doc : Document) (list : List Edit) (claim : RepairClaim)
+    (number : ℕ) (blocks : Blocks) : Type 0 where
+  pub priced : ¬ IsMispricedClaim doc list claim
+  pub is_after : IsAfter net (chosen_of list claim.chosen.items) blocks.now
+  pub ready : IsReady net doc list claim.bound (least_below claim.price) blocks.checker
+  pub needs : blocks.needs ≡ is_above_zero claim.price
   pub judged : blocks.judged ≡ 0
   pub first : blocks.first ≡ number
 
 -- the phase holds together
 abbrev pub IsGoing : Network → Document → List Edit → Phase → Type 0
-IsGoing net doc list (phases.Edits price bound chosen log) =
-    (length chosen.items ≡ length list) × IsReadyWithin net doc list price bound log
+IsGoing net doc list (phases.Edits claim) = IsClaimed net doc list claim
 IsGoing net doc list (phases.Blocks blocks) = IsJudgeable doc blocks.now
 IsGoing net doc list other = Unit {0}
 
@@ -74,8 +84,8 @@ IsBlocksLeft doc b number told o =
 abbrev pub IsPhaseOutcome : Network → Document → List Edit → Phase → ℕ → Answers → Outcome → Type 0
 IsPhaseOutcome net doc list phases.Head number told o = IsHeadOutcome net doc list number told o
 IsPhaseOutcome net doc list phases.Answer number told o = IsAnswerOutcome net doc list number told o
-IsPhaseOutcome net doc list (phases.Edits price bound chosen log) number told o =
-    IsEditsOutcome net doc list price bound chosen.items number told o
+IsPhaseOutcome net doc list (phases.Edits claim) number told o =
+    IsEditsOutcome net doc list claim.price claim.bound claim.chosen.items number told o
 IsPhaseOutcome net doc list (phases.Blocks blocks) number told o =
     IsBlocksLeft doc blocks number told o
 IsPhaseOutcome net doc list (phases.Ready checker) number told o =

@@ -1,16 +1,15 @@
 //! The lines before the blocks: what they claim, and what is judged once that is known.
-ghost use Rattle.std.specs.Prelude.{◌≡◌, ◌<◌, ◌≤◌, Some, None, List as Items, length, IfOk};
+ghost use Rattle.std.specs.Prelude.{◌≡◌, ◌<◌, ◌≤◌, Some, None, List as Items, IfOk};
 ghost use Rattle.std.specs.Prelude.{IfErr, IfSome, OnOk, MatchOption};
 ghost use Rattle.policy_encode.specs.Formulas.{IsFaultOf, IsWithin};
-ghost use Rattle.arc_repair.specs.Checks.{IsMispriced};
 ghost use Rattle.arc_repair.specs.Repairs.{none_of};
 ghost use Rattle.price_descent.specs.Outcomes.{least_below};
 ghost use Rattle.repair_check.specs.Instances.{IsInstance, IsJudgeable};
 ghost use Rattle.repair_check.specs.Outcomes.{rejected};
-ghost use Rattle.repair_check.specs.Phases.{IsFaultAt, IsOpened, IsReady, IsReadyWithin};
-ghost use Rattle.repair_check.specs.Phases.{LeadsTo};
+ghost use Rattle.repair_check.specs.Phases.{IsClaimed, IsFaultAt, IsMispricedClaim, IsOpened};
+ghost use Rattle.repair_check.specs.Phases.{IsReady, LeadsTo};
 
-use crate::phases::{Blocks, Next, Phase};
+use crate::phases::{Blocks, Next, Phase, RepairClaim};
 use arc_base::limits::PRICE_LIMIT;
 use arc_base::{CertKind, List, Memory};
 use edit_laws::edits_keep_classes;
@@ -85,8 +84,13 @@ fn begin_repair(
     } else {
         None
     };
-    let flags = unchosen(alloc, list.slice())?;
-    Ok(Next::Line(Phase::Edits(price, bound, flags, log)))
+    let chosen = unchosen(alloc, list.slice())?;
+    Ok(Next::Line(Phase::Edits(RepairClaim {
+        price,
+        bound,
+        chosen,
+        log,
+    })))
 }
 
 // What is judged after the answer that there is no repair.
@@ -164,21 +168,23 @@ pub(crate) fn end_edits(
     net: &Network,
     doc: &Document,
     list: &List<Edit>,
-    claimed: u32,
-    bound: u32,
-    chosen: Vec<bool>,
-    log: Option<Checker>,
+    claim: RepairClaim,
     number: u64,
 ) -> Result<Option<Blocks>, Memory>
     requires judgeable { IsJudgeable doc.now net.now }
-    requires flags { length chosen.items ≡ length list.now }
-    requires ready { IsReadyWithin net.now doc.now list.now claimed bound log }
+    requires claim { IsClaimed net.now doc.now list.now claim }
     ensures opened { IfOk result (λ opened.
-        MatchOption opened (IsMispriced doc.now list.now claimed bound chosen.items)
-        (IsOpened net.now doc.now list.now claimed bound chosen.items number)) }
+        MatchOption opened (IsMispricedClaim doc.now list.now claim)
+        (IsOpened net.now doc.now list.now claim number)) }
     ensures judgeable { IfOk result (λ opened.
         IfSome opened (λ blocks. IsJudgeable doc.now blocks.now)) }
 {
+    let RepairClaim {
+        price: claimed,
+        bound,
+        chosen,
+        log,
+    } = claim;
     let Some(checker) = log else {
         return Ok(None);
     };

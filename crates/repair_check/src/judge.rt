@@ -45,11 +45,7 @@ fn judge_line(
     match phase {
         Phase::Head => Ok(judge_head(number, told)),
         Phase::Answer => judge_answer(alloc, net, doc, list, number, told),
-        Phase::Edits(price, bound, chosen, log) => {
-            Ok(judge_edits(
-                alloc, net, doc, list, price, bound, chosen, log, number, told,
-            )?)
-        }
+        Phase::Edits(claim) => Ok(judge_edits(alloc, net, doc, list, claim, number, told)?),
         Phase::Blocks(blocks) => Ok(judge_block(doc, blocks, number, told)),
         Phase::Ready(checker) => Ok(judge_ready(checker, number, told)),
         Phase::Log(needs, checker) => Ok(judge_log(needs, checker, number, told)?),
@@ -71,12 +67,10 @@ fn judge_end(
     ensures { IfOk result (IsPhaseOutcome net.now doc.now list.now phase number []) }
 {
     match phase {
-        Phase::Edits(price, bound, chosen, log) => {
-            match end_edits(alloc, net, doc, list, price, bound, chosen, log, number)? {
-                Some(_blocks) => Ok(rejected(number, CertKind::NoEnd)),
-                None => Ok(rejected(2, CertKind::Price)),
-            }
-        }
+        Phase::Edits(claim) => match end_edits(alloc, net, doc, list, claim, number)? {
+            Some(_blocks) => Ok(rejected(number, CertKind::NoEnd)),
+            None => Ok(rejected(2, CertKind::Price)),
+        },
         Phase::Ended => Ok(Outcome::Accepted),
         Phase::Head => Ok(rejected(number, CertKind::NoEnd)),
         Phase::Answer => Ok(rejected(number, CertKind::NoEnd)),

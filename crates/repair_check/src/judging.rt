@@ -2,10 +2,10 @@
 ghost use Rattle.std.specs.Prelude.{◌≡◌, ◌<◌, List as Items, true, length, set, IfOk};
 ghost use Rattle.repair_check.specs.Instances.{IsJudgeable};
 ghost use Rattle.repair_check.specs.Outcomes.{is_edit_kind};
-ghost use Rattle.repair_check.specs.Phases.{EndsEdits, IsReadyWithin, LeadsTo};
+ghost use Rattle.repair_check.specs.Phases.{EndsEdits, IsClaimed, LeadsTo};
 
 use crate::beginning::{end_edits, rejected};
-use crate::phases::{Blocks, Next, Phase};
+use crate::phases::{Blocks, Next, Phase, RepairClaim};
 use arc_base::{CertKind, List, Memory};
 use edit_space::Edit;
 use net_model::{Document, Network, Verdict};
@@ -156,22 +156,18 @@ fn judge_after_edits(
     net: &Network,
     doc: &Document,
     list: &List<Edit>,
-    price: u32,
-    bound: u32,
-    chosen: Vec<bool>,
-    log: Option<Checker>,
+    claim: RepairClaim,
     number: u64,
     told: Result<Got, CertFault>,
 ) -> Result<Next, Memory>
     requires judgeable { IsJudgeable doc.now net.now }
-    requires flags { length chosen.items ≡ length list.now }
-    requires ready { IsReadyWithin net.now doc.now list.now price bound log }
+    requires claim { IsClaimed net.now doc.now list.now claim }
     requires number { number < 18446744073709551615 }
     requires ends_edits { EndsEdits told }
     ensures { IfOk result
-        (LeadsTo net.now doc.now list.now (Phase.Edits price bound chosen log) number told) }
+        (LeadsTo net.now doc.now list.now (Phase.Edits claim) number told) }
 {
-    match end_edits(alloc, net, doc, list, price, bound, chosen, log, number)? {
+    match end_edits(alloc, net, doc, list, claim, number)? {
         Some(blocks) => Ok(judge_block(doc, blocks, number, told)),
         None => Ok(rejected(2, CertKind::Price)),
     }
@@ -183,52 +179,31 @@ pub(crate) fn judge_edits(
     net: &Network,
     doc: &Document,
     list: &List<Edit>,
-    price: u32,
-    bound: u32,
-    chosen: Vec<bool>,
-    log: Option<Checker>,
+    claim: RepairClaim,
     number: u64,
     told: Result<Got, CertFault>,
 ) -> Result<Next, Memory>
     requires judgeable { IsJudgeable doc.now net.now }
-    requires flags { length chosen.items ≡ length list.now }
-    requires ready { IsReadyWithin net.now doc.now list.now price bound log }
+    requires claim { IsClaimed net.now doc.now list.now claim }
     requires number { number < 18446744073709551615 }
     ensures { IfOk result
-        (LeadsTo net.now doc.now list.now (Phase.Edits price bound chosen log) number told) }
+        (LeadsTo net.now doc.now list.now (Phase.Edits claim) number told) }
 {
     match told {
         Ok(Got::Edit(place)) => {
-            Ok(Next::Line(Phase::Edits(price, bound, choose(chosen, place), log)))
+            Ok(Next::Line(Phase::Edits(RepairClaim {
+                price: claim.price,
+                bound: claim.bound,
+                chosen: choose(claim.chosen, place),
+                log: claim.log,
+            })))
         }
-        Ok(got) => judge_after_edits(
-            alloc,
-            net,
-            doc,
-            list,
-            price,
-            bound,
-            chosen,
-            log,
-            number,
-            Ok(got),
-        ),
+        Ok(got) => judge_after_edits(alloc, net, doc, list, claim, number, Ok(got)),
         Err(fault) => {
             if is_edit_kind(fault.kind) {
                 return Ok(Next::Done(Outcome::Rejected(fault)));
             }
-            judge_after_edits(
-                alloc,
-                net,
-                doc,
-                list,
-                price,
-                bound,
-                chosen,
-                log,
-                number,
-                Err(fault),
-            )
+            judge_after_edits(alloc, net, doc, list, claim, number, Err(fault))
         }
     }
 }

@@ -19,6 +19,19 @@ pub(crate) struct Blocks {
     pub checker: Checker,
 }
 
+/// The claim that there is a repair, as far as it is read.
+#[derive(Drop)]
+pub(crate) struct RepairClaim {
+    /// The price that is claimed.
+    pub price: u32,
+    /// The bound that is claimed.
+    pub bound: u32,
+    /// The edits that are chosen so far: a flag for each.
+    pub chosen: Vec<bool>,
+    /// What the log will be judged by, where the bound is at most `PRICE_LIMIT`.
+    pub log: Option<Checker>,
+}
+
 /// What the lines so far leave to be judged.
 #[derive(Drop)]
 pub(crate) enum Phase {
@@ -26,9 +39,8 @@ pub(crate) enum Phase {
     Head,
     /// The answer, and what follows it.
     Answer,
-    /// Edits: the price and the bound that are claimed, the edits that are chosen so far, and what
-    /// the log will be judged by, where the bound is at most `PRICE_LIMIT`.
-    Edits(u32, u32, Vec<bool>, Option<Checker>),
+    /// The edits of a repair.
+    Edits(RepairClaim),
     /// The blocks of the policies.
     Blocks(Blocks),
     /// The line before the log of a claim that there is no repair.

@@ -16,14 +16,14 @@ returns-in_err-ready-clause-fault c =
 
 pub returns-clause-leads : goal.returns-clause-leads
 returns-clause-leads c =
-    let none : c.in_ok-flags.flags.items ≡ none_of c.args.list.now = c.in_ok-flags.ensures ∙ ap none_of c.slice.ensures.items in
+    let none : c.in_ok-chosen.chosen.items ≡ none_of c.args.list.now = c.in_ok-chosen.ensures ∙ ap none_of c.slice.ensures.items in
     let P : Option Checker → Type 0 = λ log. IsReadyWithin c.args.net.now c.args.doc.now c.args.list.now c.args.price c.args.bound log in
     elim c.if-bound-le-PRICE_LIMIT.branch [
       | then-bound-le-PRICE_LIMIT+in_ok-ready w ↦
           let Q : Option ℕ → Type 0 = λ least. IsReady c.args.net.now c.args.doc.now c.args.list.now c.args.bound least w.in_ok-ready.field-0 in
-          repair_begun c.args.net.now c.args.doc.now c.args.list.now c.args.price c.args.bound c.args.number c.in_ok-flags.flags c.if-bound-le-PRICE_LIMIT.log none
+          repair_begun c.args.net.now c.args.doc.now c.args.list.now c.args.price c.args.bound c.args.number c.in_ok-chosen.chosen c.if-bound-le-PRICE_LIMIT.log none
           (subst P (sym w.log-is) (subst Q w.least_below.ensures w.in_ok-ready.ensures.ready)) (λ few. w.in_ok-ready.ensures.limits)
       | else-bound-le-PRICE_LIMIT w ↦
-          repair_begun c.args.net.now c.args.doc.now c.args.list.now c.args.price c.args.bound c.args.number c.in_ok-flags.flags c.if-bound-le-PRICE_LIMIT.log none
+          repair_begun c.args.net.now c.args.doc.now c.args.list.now c.args.price c.args.bound c.args.number c.in_ok-chosen.chosen c.if-bound-le-PRICE_LIMIT.log none
           (subst P (sym w.log-is) w.if-bound-le-PRICE_LIMIT.false) (λ few. absurd (omega (arith, few, w.if-bound-le-PRICE_LIMIT.false)))
     ]
