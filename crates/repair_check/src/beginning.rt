@@ -122,12 +122,8 @@ pub(crate) fn judge_head(number: u64, told: Result<Got, CertFault>) -> Next
 {
     match told {
         Ok(Got::More) => Next::Line(Phase::Answer),
-        Ok(Got::Head(_form)) => rejected(number, CertKind::Form),
-        Ok(Got::Verdict(_which, _verdict)) => rejected(number, CertKind::Form),
-        Ok(Got::Edit(_place)) => rejected(number, CertKind::Form),
-        Ok(Got::Step(_step)) => rejected(number, CertKind::Form),
-        Ok(Got::End) => rejected(number, CertKind::Form),
         Err(fault) => Next::Done(Outcome::Rejected(fault)),
+        _ => rejected(number, CertKind::Form),
     }
 }
 
@@ -151,13 +147,8 @@ pub(crate) fn judge_answer(
         Ok(Got::Head(CertForm::NoRepair(bound))) => {
             begin_none(alloc, net, doc, list, bound, number)
         }
-        Ok(Got::Head(CertForm::Report)) => Ok(rejected(number, CertKind::Form)),
-        Ok(Got::More) => Ok(rejected(number, CertKind::Form)),
-        Ok(Got::Verdict(_which, _verdict)) => Ok(rejected(number, CertKind::Form)),
-        Ok(Got::Edit(_place)) => Ok(rejected(number, CertKind::Form)),
-        Ok(Got::Step(_step)) => Ok(rejected(number, CertKind::Form)),
-        Ok(Got::End) => Ok(rejected(number, CertKind::Form)),
         Err(fault) => Ok(Next::Done(Outcome::Rejected(fault))),
+        _ => Ok(rejected(number, CertKind::Form)),
     }
 }
 

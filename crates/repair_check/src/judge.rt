@@ -72,11 +72,7 @@ fn judge_end(
             None => Ok(rejected(2, CertKind::Price)),
         },
         Phase::Ended => Ok(Outcome::Accepted),
-        Phase::Head => Ok(rejected(number, CertKind::NoEnd)),
-        Phase::Answer => Ok(rejected(number, CertKind::NoEnd)),
-        Phase::Blocks(_blocks) => Ok(rejected(number, CertKind::NoEnd)),
-        Phase::Ready(_checker) => Ok(rejected(number, CertKind::NoEnd)),
-        Phase::Log(_needs, _checker) => Ok(rejected(number, CertKind::NoEnd)),
+        _ => Ok(rejected(number, CertKind::NoEnd)),
     }
 }
 

@@ -60,10 +60,8 @@ pub(crate) fn judge_log(
                 Ok(rejected(number, CertKind::NotRefuted))
             }
         }
-        Ok(Got::Head(_form)) => Ok(rejected(number, CertKind::Form)),
-        Ok(Got::Verdict(_which, _verdict)) => Ok(rejected(number, CertKind::Form)),
-        Ok(Got::Edit(_place)) => Ok(rejected(number, CertKind::Form)),
         Err(fault) => Ok(Next::Done(Outcome::Rejected(fault))),
+        _ => Ok(rejected(number, CertKind::Form)),
     }
 }
 
@@ -74,12 +72,8 @@ pub(crate) fn judge_ready(checker: Checker, number: u64, told: Result<Got, CertF
 {
     match told {
         Ok(Got::More) => Next::Line(Phase::Log(true, checker)),
-        Ok(Got::Head(_form)) => rejected(number, CertKind::Form),
-        Ok(Got::Verdict(_which, _verdict)) => rejected(number, CertKind::Form),
-        Ok(Got::Edit(_place)) => rejected(number, CertKind::Form),
-        Ok(Got::Step(_step)) => rejected(number, CertKind::Form),
-        Ok(Got::End) => rejected(number, CertKind::Form),
         Err(fault) => Next::Done(Outcome::Rejected(fault)),
+        _ => rejected(number, CertKind::Form),
     }
 }
 
@@ -131,11 +125,8 @@ pub(crate) fn judge_block(
     match told {
         Ok(Got::More) => go_on(doc, blocks, number),
         Ok(Got::Verdict(which, verdict)) => judge_verdict(doc, blocks, number, which, &verdict),
-        Ok(Got::Head(_form)) => rejected(number, CertKind::Form),
-        Ok(Got::Edit(_place)) => rejected(number, CertKind::Form),
-        Ok(Got::Step(_step)) => rejected(number, CertKind::Form),
-        Ok(Got::End) => rejected(number, CertKind::Form),
         Err(fault) => Next::Done(Outcome::Rejected(fault)),
+        _ => rejected(number, CertKind::Form),
     }
 }
 
