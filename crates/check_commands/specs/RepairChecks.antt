@@ -41,8 +41,8 @@ pub record HoldsRepair (certificate : List ℕ) (files : Files) : Type 0 where
   pub held : read_refusal proof_limit files certificate ≡ None
   pub begins : begins_repair (lines (bytes_at files certificate)) ≡ true
 
--- a count passes its limit: of classes or of edits; or, with few of both, of the variables or
--- literals of the formula for the bound of the answer
+-- there are few classes and few edits, and the variables or literals of the formula for the bound
+-- of the answer pass their limit
 pub record PassesCounted (net : Network) (doc : Document) (text : List ℕ)
     (fault : EditFault) : Type 0 where
   pub list : List Edit
@@ -51,6 +51,8 @@ pub record PassesCounted (net : Network) (doc : Document) (text : List ℕ)
   pub few : length list ≤ EDIT_LIMIT
   pub formula : IsCountFault net doc list (text_answers net doc list text) fault
 
+-- the first count that passes its limit: of classes, of edits, or of the formula for the bound of
+-- the answer
 abbrev pub IsTextFault : Network → Document → List ℕ → EditFault → Type 0
 IsTextFault net doc text fault = NamesLimit net doc fault ⊎ PassesCounted net doc text fault
 

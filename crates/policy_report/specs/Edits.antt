@@ -25,10 +25,11 @@ use Rattle.policy_report.specs.Reports.{class_words}
 abbrev pub router_name : Network → Router → List ℕ
 router_name net router = option_map_or (λ r. r.name) (slice_get net.routers router.0) []
 
--- the name of the interface's router, and its own
+-- the name of the interface's router
 abbrev pub owner_name : Network → Face → List ℕ
 owner_name net face = option_map_or (λ f. router_name net f.router) (slice_get net.faces face.0) []
 
+-- the name of the interface
 abbrev pub face_name : Network → Face → List ℕ
 face_name net face = option_map_or (λ f. f.name) (slice_get net.faces face.0) []
 

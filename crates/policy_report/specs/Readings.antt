@@ -105,13 +105,14 @@ abbrev pub after_word : List ℕ → List (List ℕ) → Option (List (List ℕ)
 after_word first [] = None
 after_word first (word ∷ words) = if bytes_eq word first then Some words else None
 
--- `closed FROM TO [SERVICE] ROUTERS..`
+-- a class, and the names of the routers on a side
 abbrev pub side_shown : Network → List (List ℕ) → Option ClassSide
 side_shown net words = do
   found ← class_at words
   side ← side_of net.routers found.1
   Some (record { class = found.0; side = side })
 
+-- `closed FROM TO [SERVICE] ROUTERS..`
 abbrev pub closed_of : Network → List (List ℕ) → Option ClassSide
 closed_of net words = do
   rest ← after_word (codes "closed") words
@@ -124,24 +125,26 @@ path_of net words = do
   links ← all_links (length net.links) numbers
   Some (record { links = links })
 
--- `walk FROM TO [SERVICE] LINKS..`
+-- a class, and the links of a walk
 abbrev pub walk_shown : Network → List (List ℕ) → Option (Class × LinkPath)
 walk_shown net words = do
   found ← class_at words
   links ← all_links (length net.links) found.1
   Some (found.0, record { links = links })
 
+-- `walk FROM TO [SERVICE] LINKS..`
 abbrev pub walk_of : Network → List (List ℕ) → Option (Class × LinkPath)
 walk_of net words = do
   rest ← after_word (codes "walk") words
   walk_shown net rest
 
--- `denied FROM TO [SERVICE]`
+-- a class, and nothing after it
 abbrev pub class_shown : List (List ℕ) → Option Class
 class_shown words = do
   found ← class_at words
   if length found.1 == 0 then Some found.0 else None
 
+-- `denied FROM TO [SERVICE]`
 abbrev pub denied_of : List (List ℕ) → Option Class
 denied_of words = do
   rest ← after_word (codes "denied") words
@@ -159,13 +162,14 @@ side_line_of net words = do
   names ← after_word (codes "side") words
   side_of net.routers names
 
--- `acl-on-routed-link FROMADDR TOADDR [POINT] LINK`
+-- a packet, and the link on which it is denied
 abbrev pub packet_shown : Network → List (List ℕ) → Option (Packet × Link)
 packet_shown net words = do
   found ← packet_at words
   link ← lone_link (length net.links) found.1
   Some (found.0, link)
 
+-- `acl-on-routed-link FROMADDR TOADDR [POINT] LINK`
 abbrev pub refused_of : Network → List (List ℕ) → Option (Packet × Link)
 refused_of net words = do
   rest ← after_word (codes "acl-on-routed-link") words

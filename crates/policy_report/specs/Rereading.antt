@@ -68,17 +68,18 @@ abbrev pub more : {X : Type 0} → List X → List (Result Got CertFault)
 more [] = []
 more (line ∷ ls) = Ok More ∷ more ls
 
--- the answers to a block, to the blocks from this place on and the lines after them, and to a
--- report
+-- the answers to a block
 abbrev pub block_answers : Network → ℕ → verdicts.Verdict → List (Result Got CertFault)
 block_answers net which v = more (witness_lines net v) ++ Ok (Verdict which v) ∷ []
 
+-- the answers to the blocks from this place on and the lines after them
 abbrev pub blocks_answers : Network → ℕ → List verdicts.Verdict → List (Result Got CertFault) →
     List (Result Got CertFault)
 blocks_answers net which [] rest = rest
 blocks_answers net which (v ∷ vs) rest =
     block_answers net which v ++ blocks_answers net (which + 1) vs rest
 
+-- the answers to a report
 abbrev pub report_answers : Network → List verdicts.Verdict → List (Result Got CertFault)
 report_answers net vs = Ok (Head Report) ∷ blocks_answers net 0 vs (Ok End ∷ [])
 

@@ -54,6 +54,7 @@ pub record Standing : Type 0 where
   pub line : ℕ
   pub stage : Stage
 
+-- where this reader stands
 abbrev pub standing : Reader → Standing
 standing r = record { line = r.line; stage = r.stage }
 
@@ -86,12 +87,13 @@ goes_on line text which (Open draft) = goes line (stages.Within text which draft
 goes_on line text which (Whole verdict) =
     goes line (stages.Between text (which + 1)) (Verdict which verdict)
 
--- one more side, or path
+-- one more side
 abbrev pub with_side : ℕ → List ClassSide → ClassSide → Block
 with_side left sides shown =
     if nat_le left 1 then Whole (verdicts.Closed (sides ++ shown ∷ []))
     else Open (drafts.Sides (left - 1) (sides ++ shown ∷ []))
 
+-- one more path
 abbrev pub with_path : ℕ → List LinkPath → LinkPath → Block
 with_path left paths path =
     if nat_le left 1 then Whole (verdicts.Paths (paths ++ path ∷ []))
@@ -128,12 +130,14 @@ asks_same asks.Through asks.Through = true
 asks_same asks.Reach asks.Reach = true
 asks_same _ _ = false
 
--- whether the block with this first line is that of the policy, which has this place
+-- whether the block with this first line is that of the policy, which has this place, if there is
+-- one
 abbrev pub is_of_policy : Option policies.Policy → ℕ → Heading → Bool
 is_of_policy None which heading = false
 is_of_policy (Some policy) which heading =
     (heading.number == which + 1) && asks_same heading.asked (asked_by policy.kind)
 
+-- whether the block with this first line is that of the policy at this place
 abbrev pub is_of : List policies.Policy → ℕ → Heading → Bool
 is_of all which heading = is_of_policy (slice_get all which) which heading
 
@@ -178,11 +182,12 @@ between doc line text which bytes =
     then (if nat_lt which (length doc.policies) then fails line Policy else logs line text)
     else begun doc line text which (heading_of (line_words bytes))
 
--- a line of a block
+-- a line of a block, which gives this block, if it is of the form that comes next
 abbrev pub went_on : ℕ → Text → ℕ → Option Block → Step
 went_on line text which None = fails line Form
 went_on line text which (Some block) = goes_on line text which block
 
+-- a line of a block
 abbrev pub within : Network → ℕ → Text → ℕ → Draft → List ℕ → Step
 within net line text which draft bytes =
     went_on line text which (grown net draft (line_words bytes))

@@ -76,11 +76,12 @@ IsGoing net doc list (phases.Edits claim) = IsClaimed net doc list claim
 IsGoing net doc list (phases.Blocks blocks) = IsJudgeable doc blocks.now
 IsGoing net doc list other = Unit {0}
 
--- the outcome by the lines that are left, in this phase
+-- the outcome by the lines that are left of the blocks, and those after them
 abbrev pub IsBlocksLeft : Document → Blocks → ℕ → Answers → Outcome → Type 0
 IsBlocksLeft doc b number told o =
     IsBlocksOutcome b.now doc.policies b.needs (known b.checker) b.judged b.first number told o
 
+-- the outcome by the lines that are left, in this phase
 abbrev pub IsPhaseOutcome : Network → Document → List Edit → Phase → ℕ → Answers → Outcome → Type 0
 IsPhaseOutcome net doc list phases.Head number told o = IsHeadOutcome net doc list number told o
 IsPhaseOutcome net doc list phases.Answer number told o = IsAnswerOutcome net doc list number told o
