@@ -47,10 +47,11 @@ prefix_line place list entry =
     top_line (prefix_line_words list.name (order_at place 5 entry.0)
     (opposite_route_entry list.entries entry.1).permit entry.1)
 
--- the lines of the new entries of a packet list, and of a route list
+-- the lines of the new entries of a packet list
 abbrev pub class_lines : ListPlace → PacketList → List Class → List (List ℕ)
 class_lines place list classes = map (class_line place list) (enumerate_from 1 classes)
 
+-- the lines of the new entries of a route list
 abbrev pub prefix_lines : ListPlace → RouteList → List Prefix → List (List ℕ)
 prefix_lines place list prefixes = map (prefix_line place list) (enumerate_from 1 prefixes)
 
@@ -60,11 +61,12 @@ is_packet_form Block = true
 is_packet_form Lines = true
 is_packet_form PrefixLines = false
 
--- where a file has its packet list of this name, and its route list
+-- where a file has its packet list of this name
 abbrev pub packet_place : Places → List ℕ → Option ListPlace
 packet_place own name =
     find (λ place. bytes_eq place.name name && is_packet_form place.form) own.lists
 
+-- where a file has its route list of this name
 abbrev pub route_place : Places → List ℕ → Option ListPlace
 route_place own name =
     find (λ place. bytes_eq place.name name && not (is_packet_form place.form)) own.lists
@@ -88,20 +90,22 @@ abbrev pub new_numbers : ListPlace → ℕ → ℕ → ℕ → List (ℕ × NewN
 new_numbers place word step count =
     if place.numbered then map (new_number word step count) (enumerate_from 1 place.entries) else []
 
--- the packet list at this place, with its router, if edits put entries into it; and the route list
+-- the packet list at this place, with its router, if edits put entries into it
 abbrev pub edited_packet_list : List Edit → ℕ × PacketList → Option (ℕ × ℕ)
 edited_packet_list chosen list =
     if is_empty (list_classes chosen list.0) then None else Some (list.1.router.0, list.0)
 
+-- the route list at this place, with its router, if edits put entries into it
 abbrev pub edited_route_list : List Edit → ℕ × RouteList → Option (ℕ × ℕ)
 edited_route_list chosen list =
     if is_empty (list_prefixes chosen list.0) then None else Some (list.1.router.0, list.0)
 
--- the packet lists of a router that edits put entries into, and its route lists
+-- the packet lists of a router that edits put entries into
 abbrev pub edited_packet_lists : Network → List Edit → ℕ → List ℕ
 edited_packet_lists net chosen router =
     of_number router (filter_map (edited_packet_list chosen) (placed net.packet_lists))
 
+-- the route lists of a router that edits put entries into
 abbrev pub edited_route_lists : Network → List Edit → ℕ → List ℕ
 edited_route_lists net chosen router =
     of_number router (filter_map (edited_route_list chosen) (placed net.route_lists))
