@@ -1,5 +1,5 @@
 -- What the status of `solve` says of the formula and of the proof that was written.
-use Rattle.std.proofs.Common.{◌≡◌, ◌∙◌, ℕ, ◌≤◌, inl, inr, Bool, true, false, List, [], ◌∷◌, map, length, Option, Some, None, Ok, refl, ap, subst, arith}
+use Rattle.std.proofs.Common.{◌≡◌, ◌∙◌, ℕ, ◌≤◌, inl, inr, Bool, true, false, List, [], ◌∷◌, map, length, Option, Some, None, Ok, refl, sym, ap, subst, arith, rules}
 use Rattle.std.specs.Prelude.{unwrap_or, nat_lt}
 use Rattle.std.specs.Str.{bytes_eq}
 use Rattle.std.proofs.lemmas.Bool.{le-ltb}
@@ -23,7 +23,7 @@ use Rattle.run_files.specs.declared.outcome.Done.{Done}
 use Rattle.run_files.specs.declared.outcome.FileRefusal.{FileRefusal}
 use Rattle.run_files.specs.Answers.{IsTold}
 use Rattle.cnf_commands.specs.Formulas.{cnf_limit, cnf_refusal, formula_refusal}
-use Rattle.cnf_commands.specs.Solves.{IsSatisfiable, IsUnsatisfiable, IsSolveRefused, HoldsSpentLog, TellsSolution, SolvedIsRefuted}
+use Rattle.cnf_commands.specs.Solves.{IsSatisfiable, IsUnsatisfiable, IsSolveRefused, HoldsLog, HoldsSpentLog, TellsSolution, SolvedIsRefuted}
 use Rattle.cnf_commands.specs.Lrats.{IsRefuted}
 use Rattle.cnf_commands.specs.Lrats.{lrat_refusal}
 use Rattle.run_files.specs.Limits.{proof_limit}
@@ -63,6 +63,11 @@ written files name bytes = rw ((bytes_eq-Decides name name).1 refl) refl
 kept : (files : Files) (name other bytes : List ℕ) → bytes_eq name other ≡ false → with_file files name bytes other ≡ files other
 kept files name other bytes e = rw e refl
 
+differ : (name other : List ℕ) → ¬ (other ≡ name) → bytes_eq name other ≡ false
+differ name other apart_are =
+    let never : name ≡ other → ⊥ = λ e. apart_are (sym e) in
+    search (rules, bytes_eq-Decides, never)
+
 same_refusal : (cnf : List ℕ) (before after : Files) → after cnf ≡ before cnf → cnf_refusal cnf after ≡ cnf_refusal cnf before
 same_refusal cnf before after same = ap (λ (o : Option (List ℕ)). option_or (refusal_within cnf_limit cnf o) (formula_refusal cnf (reading (unwrap_or o [])))) same
 
@@ -95,8 +100,16 @@ module _ (words : SolveWords) (files : Files) (d : Done) (done : IsSolved words 
   proof_written : after words.proof ≡ Some (log_text done.log)
   proof_written = ap (λ (f : Files). f words.proof) after_is ∙ written files words.proof (log_text done.log)
 
+  others_kept : (name : List ℕ) → ¬ (name ≡ words.proof) → with_files d.writes files name ≡ files name
+  unfolding after
+  others_kept name other = ap (λ (f : Files). f name) after_is ∙ kept files words.proof name (log_text done.log) (differ words.proof name other)
+
   formula_after : reading (bytes_at after words.formula) ≡ Ok done.formula
   formula_after = ap (λ (o : Option (List ℕ)). reading (unwrap_or o [])) formula_kept ∙ done.formula_is
+
+  log_held : HoldsLog words files (with_files d.writes files)
+  unfolding after
+  log_held = record { formula = done.formula; formula_is = done.formula_is; log = done.log; log_is = done.log_is; few = done.few; written = proof_written }
 
   proof_bytes : bytes_at after words.proof ≡ log_text done.log
   proof_bytes = ap (λ (o : Option (List ℕ)). unwrap_or o []) proof_written
@@ -160,7 +173,10 @@ module _ (words : SolveWords) (files : Files) (d : Done) (done : IsSolved words 
         satisfiable = λ e. says;
         unsatisfiable = λ e. absurd (omega (arith, zero', e));
         undecided = λ e. absurd (omega (arith, zero', e));
+        written = λ e. log_held;
+        kept = others_kept;
         refused_exactly = (λ e. absurd (omega (arith, zero', e)), λ r. absurd (not_refused r));
+        nothing_written = λ e. absurd (omega (arith, zero', e));
         zero_or_three = λ s. inl zero';
         two_or_three = λ s. absurd (both says s);
         nothing_else = inl zero';
@@ -173,7 +189,10 @@ module _ (words : SolveWords) (files : Files) (d : Done) (done : IsSolved words 
         satisfiable = λ e. absurd (omega (arith, two, e));
         unsatisfiable = λ e. (says, refuted is);
         undecided = λ e. absurd (omega (arith, two, e));
+        written = λ e. log_held;
+        kept = others_kept;
         refused_exactly = (λ e. absurd (omega (arith, two, e)), λ r. absurd (not_refused r));
+        nothing_written = λ e. absurd (omega (arith, two, e));
         zero_or_three = λ s. absurd (both s says);
         two_or_three = λ s. inl two;
         nothing_else = inr (inl two);
@@ -184,7 +203,10 @@ module _ (words : SolveWords) (files : Files) (d : Done) (done : IsSolved words 
         satisfiable = λ e. absurd (omega (arith, three, e));
         unsatisfiable = λ e. absurd (omega (arith, three, e));
         undecided = λ e. spent is;
+        written = λ e. log_held;
+        kept = others_kept;
         refused_exactly = (λ e. absurd (omega (arith, three, e)), λ r. absurd (not_refused r));
+        nothing_written = λ e. absurd (omega (arith, three, e));
         zero_or_three = λ s. inr three;
         two_or_three = λ s. inr three;
         nothing_else = inr (inr (inl three));
@@ -205,7 +227,10 @@ told_refused words files r refused = record {
   satisfiable = λ e. absurd (omega arith);
   unsatisfiable = λ e. absurd (omega arith);
   undecided = λ e. absurd (omega arith);
+  written = λ other. absurd (other refl);
+  kept = λ name other. refl;
   refused_exactly = (λ e. record { refusal = r; refused = refused }, λ s. refl);
+  nothing_written = λ e. refl;
   zero_or_three = λ s. absurd (refused_none (solve_refusal words files) r s.held refused);
   two_or_three = λ s. absurd (refused_none (solve_refusal words files) r s.held refused);
   nothing_else = inr (inr (inr refl));

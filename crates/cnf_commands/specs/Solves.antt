@@ -55,6 +55,7 @@ found_text (Model values) = codes "s SATISFIABLE\nv " ++ values_text values ++ c
 found_text Refuted = codes "s UNSATISFIABLE\n"
 found_text Budget = codes "s UNKNOWN\n"
 
+-- the status that tells it
 abbrev pub found_status : Found → ℕ
 found_status (Model values) = 0
 found_status Refuted = 2
@@ -133,15 +134,29 @@ pub record HoldsSpentLog (words : SolveWords) (files : Files) : Type 0 where
   pub spent : IsSpent formula None [] words.conflicts steps
   pub variables : formula.vars ≤ 6 → words.conflicts < 3 ^ formula.vars
 
+-- the formula is held, and after it the text of a log that is accepted for it and adds at most as
+-- many clauses as the words allow
+pub record HoldsLog (words : SolveWords) (before after : Files) : Type 0 where
+  pub formula : Formula
+  pub formula_is : reading (bytes_at before words.formula) ≡ Ok formula
+  pub log : Log
+  pub log_is : IsLogFor formula log
+  pub few : additions log.steps ≤ words.conflicts
+  pub written : after words.proof ≡ Some (log_text log)
+
 -- What the status tells, of the files before and after: 0 for satisfiable, 2 for unsatisfiable, and
 -- then `lrat` accepts what was written, 3 in place of either where what was written is a spent log,
--- and 5 for refused.
+-- and 5 for refused, with nothing written. The proof is written in all other cases, and all names
+-- but its own hold what they held.
 pub record TellsSolution (words : SolveWords) (status : ℕ) (before after : Files) : Type 0 where
   pub satisfiable : status ≡ 0 → IsSatisfiable words before
   pub unsatisfiable : status ≡ 2 →
       IsUnsatisfiable words before × IsRefuted words.formula words.proof after
   pub undecided : status ≡ 3 → HoldsSpentLog words after
+  pub written : ¬ (status ≡ 5) → HoldsLog words before after
+  pub kept : (name : List ℕ) → ¬ (name ≡ words.proof) → after name ≡ before name
   pub refused_exactly : (status ≡ 5) ↔ IsSolveRefused words before
+  pub nothing_written : status ≡ 5 → after ≡ before
   pub zero_or_three : IsSatisfiable words before → (status ≡ 0) ⊎ (status ≡ 3)
   pub two_or_three : IsUnsatisfiable words before → (status ≡ 2) ⊎ (status ≡ 3)
   pub nothing_else : (status ≡ 0) ⊎ ((status ≡ 2) ⊎ ((status ≡ 3) ⊎ (status ≡ 5)))
