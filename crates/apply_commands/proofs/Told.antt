@@ -14,7 +14,7 @@ use Rattle.edit_files.specs.EditFiles.{AreEditLines, chosen_by}
 use Rattle.output_files.specs.Outputs.{clashes, copy_names}
 use Rattle.changed_files.proofs.FewEdits.{few_or_limit}
 use Rattle.changed_files.specs.Changes.{AreLeftPatched}
-use Rattle.changed_files.proofs.Patched.{left_patched_is_read_again}
+use Rattle.changed_files.proofs.Patched.{patches_have_the_network}
 use Rattle.changed_files.proofs.ReadAgain.{texts_left, unchanged_kept}
 use Rattle.command_words.specs.declared.commands.ApplyWords.{ApplyWords}
 use Rattle.run_files.specs.declared.limits.Limits.TheVariants.{Editing}
@@ -22,7 +22,7 @@ use Rattle.run_files.specs.declared.outcome.Done.{Done}
 use Rattle.run_files.specs.declared.outcome.FileRefusal.{FileRefusal}
 use Rattle.run_files.specs.Answers.{IsTold}
 use Rattle.run_files.specs.Refusals.{bytes_at, read_refusal}
-use Rattle.run_inputs.specs.Inputs.{HoldsInput}
+use Rattle.run_inputs.specs.Inputs.{HoldsInput, contents}
 use Rattle.run_inputs.proofs.Determined.{determined, no_value}
 use Rattle.apply_commands.specs.Applies.{edit_file_limit, edit_texts, has_clash, named_edits, CanBeApplied, CannotBeApplied, HasNetwork, HasWrongLine, IsApplied, IsApplyRefusal, IsLeftApplied, IsReadyRefusal, PassesLimit, TellsApply}
 use Rattle.apply_commands.proofs.FirstLines.{first_lines}
@@ -92,8 +92,8 @@ module _ (words : ApplyWords) (files : Files) where
           patched = are;
           changed = there.0;
           is_after = there.1.is_after;
-          read_again = left_patched_is_read_again words.suffix done.doc done.built files (with_files d.writes files) done.list
-              (chosen_by done.built.net done.list (edit_texts words files)) there.0 done.editable done.edits.are done.edits.few are there.1.is_after;
+          read_again = patches_have_the_network done.doc done.built (contents files done.doc) done.changes.new done.list
+              (chosen_by done.built.net done.list (edit_texts words files)) there.0 done.editable done.edits.are done.edits.few done.changes.patched there.1.is_after;
           kept = unchanged_kept words.suffix done.doc done.built chosen d.writes files done.changes;
         }
 

@@ -10,6 +10,7 @@ use Rattle.net_model.specs.declared.policies.Document.{Document}
 use Rattle.net_model.specs.declared.rows.Network.{Network}
 use Rattle.net_model.specs.Validity.{IsValid}
 use Rattle.net_build.specs.declared.built.Built.{Built}
+use Rattle.net_build.specs.Networks.{IsNetworkOf}
 use Rattle.edit_space.specs.declared.edit_kinds.Edit.{Edit}
 use Rattle.edit_space.specs.declared.edit_kinds.EditFault.TheVariants as faults
 use Rattle.edit_space.specs.After.{IsAfter}
@@ -17,8 +18,7 @@ use Rattle.edit_space.specs.EditLists.{AreEdits, HasFewClasses, NamesLimit}
 use Rattle.edit_space.specs.Prices.{chosen_of}
 use Rattle.edit_files.specs.EditFiles.{line_texts, chosen_by, AreEditLines, IsWrongLine}
 use Rattle.output_files.specs.Outputs.{clashes, copy_names, wrote_lines, IsCopyName}
-use Rattle.changed_files.specs.Changes.{changed_names, AreLeftPatched, AreReadAgain, Changes}
-use Rattle.changed_files.specs.Changes.{IsEditable}
+use Rattle.changed_files.specs.Changes.{changed_names, AreLeftPatched, Changes, IsEditable}
 use Rattle.command_words.specs.declared.commands.ApplyWords.{ApplyWords}
 use Rattle.run_files.specs.declared.limits.Limits.TheVariants.{Editing}
 use Rattle.run_files.specs.declared.outcome.Done.{Done}
@@ -101,6 +101,7 @@ pub record HasWrongLine (words : ApplyWords) (net : Network) (doc : Document) (t
   pub wrong : IsWrongLine net list (line_texts text) number
   pub told : r ≡ refusal_of words.edits number EditLine
 
+-- they have a network, and its classes or its edits are too many
 pub record RefusesCounts (words : ApplyWords) (files : Files) (r : FileRefusal) : Type 0 where
   pub doc : Document
   pub net : Network
@@ -108,6 +109,7 @@ pub record RefusesCounts (words : ApplyWords) (files : Files) (r : FileRefusal) 
   pub valid : IsValid net
   pub passes : PassesLimit words net doc r
 
+-- they have a network with few classes and edits, and a line of the edit file is wrong
 pub record RefusesLine (words : ApplyWords) (files : Files) (r : FileRefusal) : Type 0 where
   pub doc : Document
   pub net : Network
@@ -162,8 +164,8 @@ pub record CanBeApplied (words : ApplyWords) (files : Files) : Type 0 where
   pub lines : AreEditLines net list (edit_texts words files)
 
 -- And the router files as the command left them are the patches by these edits of those that were
--- read; read again, they have exactly the network after these edits. All names but those of the
--- copies of changed files hold what they held.
+-- read; these patches, read again, have exactly the network after these edits. All names but those
+-- of the copies of changed files hold what they held.
 pub record IsLeftApplied (words : ApplyWords) (before after : Files) : Type 0 where
   pub doc : Document
   pub built : Built
@@ -176,7 +178,7 @@ pub record IsLeftApplied (words : ApplyWords) (before after : Files) : Type 0 wh
       AreLeftPatched words.suffix doc built before after (named_edits words before built.net list)
   pub changed : Network
   pub is_after : IsAfter built.net (named_edits words before built.net list) changed
-  pub read_again : AreReadAgain words.suffix doc before after changed
+  pub read_again : IsNetworkOf doc patched.new changed
   pub kept : (name : List ℕ) → ¬ Contains (changed_names words.suffix doc before patched.new) name →
       after name ≡ before name
 

@@ -25,6 +25,7 @@ pub record HoldsReady (words : ApplyWords) (files : Files) (ready : Ready) : Typ
   pub is_ready : IsReady words files ready.doc
   pub text : ready.text.items ≡ bytes_at files words.edits
 
+-- what reading the document and the edit file answers
 abbrev pub ReadsReady : ApplyWords → Files → Result Ready Stop → Type 0
 ReadsReady words files result = Gives (IsReadyRefusal words files) (HoldsReady words files) result
 
@@ -36,6 +37,7 @@ pub record IsChoice (net : Network) (doc : Document) (text : List ℕ)
   pub lines : AreEditLines net chosen.list (line_texts text)
   pub flags : chosen.flags ≡ chosen_by net chosen.list (line_texts text)
 
+-- what choosing the edits that the text names answers
 abbrev pub Chooses : ApplyWords → Network → Document → List ℕ → Result Chosen Stop → Type 0
 Chooses words net doc text (Ok chosen) = IsChoice net doc text chosen
 Chooses words net doc text (Err (stops.Refused r)) =

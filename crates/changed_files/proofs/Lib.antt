@@ -1,4 +1,5 @@
 pub mod ReadAgain
 pub mod Patched
+pub mod SomePatches
 pub mod FewEdits
 pub mod OneMore

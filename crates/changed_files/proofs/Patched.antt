@@ -1,5 +1,5 @@
 -- Patched files have the network after the edits.
-use Rattle.std.proofs.Common.{◌≡◌, ℕ, ◌+◌, ◌≤◌, Bool, true, false, Option, Some, None, List, [], ◌∷◌, length, refl, sym, arith}
+use Rattle.std.proofs.Common.{◌≡◌, ◌+◌, Bool, true, false, Option, Some, None, List, [], ◌∷◌, length, refl, sym, arith}
 use Rattle.std.specs.Prelude.{cond, nat_lt, find}
 use Rattle.std.proofs.lemmas.Bool.{ltb-true, lt-ltb, false≢true}
 use Rattle.std.proofs.lemmas.Option.{none-some}
@@ -15,7 +15,7 @@ use Rattle.net_build.specs.Order.{tries, AreClear, Refuses, RefusesWithin}
 use Rattle.net_rows.specs.Reasons.{IsClear}
 use Rattle.patched_settings.proofs.Room.{room_within}
 use Rattle.patched_texts.proofs.EditedFiles.{edited_files_have_the_network}
-use Rattle.changed_files.specs.Changes.{LeftPatchedIsReadAgain, PatchesHaveTheNetwork}
+use Rattle.changed_files.specs.Changes.{PatchesHaveTheNetwork}
 
 -- ---- lists that are short for a repair are short
 
@@ -97,10 +97,3 @@ patches_have_the_network doc built olds new list flags after editable are few pa
     } in
     edited_files_have_the_network doc olds new built was list flags after editable.fit.valid editable.countable editable.fit.ends are
     (room_within within.configs list flags (no_long_list doc within.configs within.clear) few) patched is
-
-pub left_patched_is_read_again : LeftPatchedIsReadAgain
-left_patched_is_read_again suffix doc built before after list flags now editable are few left is = record {
-  texts = left.new;
-  left = left.left;
-  network = patches_have_the_network doc built _ left.new list flags now editable are few left.patched is;
-}

@@ -61,7 +61,14 @@ ChangesAreLeft =
     Changes suffix doc built (contents before doc) chosen writes →
     AreLeftPatched suffix doc built before (with_files writes before) chosen
 
--- the patches of files have the network after the edits
+-- files of which a network was built have patches by all edits
+abbrev pub PatchesAreThere : Type 0
+PatchesAreThere =
+    (down : List ℕ) (most_entries : ℕ) (doc : Document) (built : Built) (olds : List (List ℕ))
+    (chosen : List Edit) → IsBuiltWithin down most_entries doc olds built →
+    (new : List (List ℕ)) × ArePatched built chosen olds new
+
+-- the patches of files, read again, have exactly the network after the edits
 abbrev pub PatchesHaveTheNetwork : Type 0
 PatchesHaveTheNetwork =
     (doc : Document) (built : Built) (olds new : List (List ℕ)) (list : List Edit)
@@ -69,21 +76,3 @@ PatchesHaveTheNetwork =
     IsEditable doc built olds → AreEdits built.net doc list → length list ≤ EDIT_LIMIT →
     ArePatched built (chosen_of list flags) olds new →
     IsAfter built.net (chosen_of list flags) after → IsNetworkOf doc new after
-
--- The router files as a command left them, read again, have this network: each is its copy, or the
--- file as it was where there is nothing to change.
-pub record AreReadAgain (suffix : List ℕ) (doc : Document) (before after : Files)
-    (net : Network) : Type 0 where
-  pub texts : List (List ℕ)
-  pub left : AllZip (IsLeft suffix before after) doc.routers texts
-  pub network : IsNetworkOf doc texts net
-
--- files that were left patched, read again, have the network after the edits
-abbrev pub LeftPatchedIsReadAgain : Type 0
-LeftPatchedIsReadAgain =
-    (suffix : List ℕ) (doc : Document) (built : Built) (before after : Files) (list : List Edit)
-    (flags : List Bool) (now : Network) →
-    IsEditable doc built (contents before doc) →
-    AreEdits built.net doc list → length list ≤ EDIT_LIMIT →
-    AreLeftPatched suffix doc built before after (chosen_of list flags) →
-    IsAfter built.net (chosen_of list flags) now → AreReadAgain suffix doc before after now

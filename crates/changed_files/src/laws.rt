@@ -1,5 +1,5 @@
 //! Laws over the definitions alone: each is the contract of a function that does nothing.
-ghost use Rattle.changed_files.specs.Changes.{ChangesAreLeft, LeftPatchedIsReadAgain};
+ghost use Rattle.changed_files.specs.Changes.{ChangesAreLeft, PatchesAreThere};
 ghost use Rattle.changed_files.specs.Changes.{PatchesHaveTheNetwork};
 
 /// Once the copies of the changed files are written, the router files are left patched.
@@ -7,9 +7,9 @@ pub fn changes_are_left()
     ensures { ChangesAreLeft }
 {}
 
-/// Patched router files have exactly the network after the edits, and so have those that were left
-/// patched, read again.
+/// Router files from which a network was built have patches by all edits, and these, read again,
+/// have exactly the network after the edits.
 pub fn patches_have_the_network()
-    ensures patches { PatchesHaveTheNetwork }
-    ensures left { LeftPatchedIsReadAgain }
+    ensures there { PatchesAreThere }
+    ensures network { PatchesHaveTheNetwork }
 {}

@@ -14,6 +14,7 @@ use Rattle.edit_space.specs.declared.claims.Claim.{Claim}
 use Rattle.edit_space.specs.declared.claims.Claim.TheVariants.{Repaired, NoRepair}
 use Rattle.edit_space.specs.declared.edit_kinds.Edit.{Edit}
 use Rattle.edit_space.specs.EditLists.{AreEdits}
+use Rattle.edit_space.specs.Prices.{chosen_of}
 use Rattle.edit_space.proofs.OneEditList.{edit_lists_are_one}
 use Rattle.proof_log.specs.declared.steps.Log.{Log}
 use Rattle.proof_log.specs.Texts.{HasLine}
@@ -24,6 +25,7 @@ use Rattle.arc_repair.specs.Answers.{IsAnswer, IsUntouched, KeepsLimits, answer_
 use Rattle.arc_repair.specs.Repairs.{Mends, cost, none_of}
 use Rattle.changed_files.proofs.OneMore.{is_written, other_kept}
 use Rattle.changed_files.proofs.Patched.{patches_have_the_network}
+use Rattle.changed_files.proofs.SomePatches.{patches_are_there}
 use Rattle.command_words.specs.declared.commands.GenerateWords.{GenerateWords}
 use Rattle.run_files.specs.declared.outcome.Done.{Done}
 use Rattle.run_files.specs.declared.outcome.FileRefusal.{FileRefusal}
@@ -112,6 +114,7 @@ module _ (words : GenerateWords) where
         let claim : Claim = Repaired price default_bound flags verdicts in
         let answer = answered_as (Claimed claim log) is in
         let mends = answer.is_true.mends in
+        let patches = patches_are_there [] 2048 done.made.doc done.built done.made.files (chosen_of done.list flags) done.is_made.is_built in
         record {
           made = done.made;
           built = done.built;
@@ -125,9 +128,10 @@ module _ (words : GenerateWords) where
           repaired = mends.after;
           is_after = mends.is_after;
           meets = mends.meets;
-          read_again = λ new patched.
-              patches_have_the_network done.made.doc done.built done.made.files new done.list flags mends.after
-              done.editable done.answered.edits done.answered.limits.edits patched mends.is_after;
+          new = patches.0;
+          patched = patches.1;
+          read_again = patches_have_the_network done.made.doc done.built done.made.files patches.0 done.list flags mends.after
+              done.editable done.answered.edits done.answered.limits.edits patches.1 mends.is_after;
           verdicts = verdicts;
           certified = certified claim log is;
           kept = kept;
@@ -152,6 +156,7 @@ module _ (words : GenerateWords) where
       repairable = is_repairable;
       log = log;
       spent = answered_as (Budget log) is;
+      lines = lines_as (Budget log) is;
       written = written (Budget log) is;
       broken = λ meets. untouched_as (Budget log) is
           (met_by_none [] 2048 done.made.doc done.made.files done.built.net done.list done.is_made.is_built.network done.editable.fit.valid meets);

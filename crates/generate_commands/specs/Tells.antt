@@ -62,8 +62,9 @@ pub record HasCheapest (words : GenerateWords) (before after : Files) : Type 0 w
   pub repaired : Network
   pub is_after : IsAfter built.net (chosen_of list flags) repaired
   pub meets : MeetsDocument repaired made.doc
-  pub read_again : (new : List (List ℕ)) → ArePatched built (chosen_of list flags) made.files new →
-      IsNetworkOf made.doc new repaired
+  pub new : List (List ℕ)
+  pub patched : ArePatched built (chosen_of list flags) made.files new
+  pub read_again : IsNetworkOf made.doc new repaired
   pub verdicts : List Verdict
   pub certified : HoldsCertificate words built.net made.doc list
       (Repaired price default_bound flags verdicts) after
@@ -81,9 +82,9 @@ pub record HasNone (words : GenerateWords) (before after : Files) : Type 0 where
   pub certified : HoldsCertificate words built.net made.doc list (NoRepair default_bound) after
   pub kept : KeepsOthers words before after
 
--- what was written is a log that is spent for the repair formula, and nothing else: each of its
--- bounds is the one that holds where none is named, or one less than the price of edits after which
--- the network meets every policy, and as it is it does not
+-- what was written is a log that is spent for the repair formula, with a line for each step, and
+-- nothing else: each of its bounds is the one that holds where none is named, or one less than the
+-- price of edits after which the network meets every policy, and as it is it does not
 pub record HoldsSpentLog (words : GenerateWords) (before after : Files) : Type 0 where
   pub made : Generated
   pub built : Built
@@ -91,6 +92,7 @@ pub record HoldsSpentLog (words : GenerateWords) (before after : Files) : Type 0
   pub repairable : IsRepairable words made built list
   pub log : Log
   pub spent : IsOutOfBudget built.net made.doc list default_bound default_conflicts log.steps
+  pub lines : All HasLine log.steps
   pub written : after words.proof ≡ Some (budget_text default_conflicts default_bound log)
   pub broken : ¬ MeetsDocument built.net made.doc
   pub kept : KeepsOthers words before after

@@ -24,7 +24,7 @@ use Rattle.arc_repair.specs.Repairs.{Mends, cost, none_of}
 use Rattle.output_files.specs.Outputs.{copy_names, IsLeft}
 use Rattle.changed_files.proofs.OneMore.{IsFreeLast, free_last, is_written, other_kept, still_left, written_last}
 use Rattle.changed_files.specs.Changes.{AreLeftPatched}
-use Rattle.changed_files.proofs.Patched.{left_patched_is_read_again}
+use Rattle.changed_files.proofs.Patched.{patches_have_the_network}
 use Rattle.changed_files.proofs.ReadAgain.{texts_left, unchanged_kept}
 use Rattle.command_words.specs.declared.commands.RepairWords.{RepairWords}
 use Rattle.run_files.specs.declared.limits.Limits.TheVariants.{Editing}
@@ -154,8 +154,8 @@ module _ (words : RepairWords) (files : Files) where
           is_after = mends.is_after;
           meets = mends.meets;
           patched = are;
-          read_again = left_patched_is_read_again words.suffix done.doc done.built files (with_files d.writes files) done.list flags mends.after
-              done.editable done.answered.edits done.answered.limits.edits are mends.is_after;
+          read_again = patches_have_the_network done.doc done.built (contents files done.doc) writes.changes.new done.list flags mends.after
+              done.editable done.answered.edits done.answered.limits.edits writes.changes.patched mends.is_after;
           verdicts = verdicts;
           certified = certified claim log is (written _ writes.changed (certificate_text done.built.net done.doc done.list claim log) 0 writes.writes);
           kept = λ name other none.
@@ -188,6 +188,7 @@ module _ (words : RepairWords) (files : Files) where
           repairable = is_repairable;
           log = log;
           spent = answered_as (Budget log) is;
+          lines = lines_as (Budget log) is;
           written = written _ [] (budget_text words.conflicts words.bound log) 3 writes;
           broken = λ meets. broken_as (Budget log) is
               (met_by_none [] 2048 done.doc (contents files done.doc) done.built.net done.list done.has.input.network done.editable.fit.valid meets);

@@ -6,6 +6,7 @@ use Rattle.net_model.specs.declared.rows.Network.{Network}
 use Rattle.net_model.specs.declared.verdicts.Verdict.{Verdict}
 use Rattle.net_model.specs.Policies.{MeetsDocument}
 use Rattle.net_build.specs.declared.built.Built.{Built}
+use Rattle.net_build.specs.Networks.{IsNetworkOf}
 use Rattle.clean_logs.specs.CleanLogs.{additions}
 use Rattle.edit_space.specs.declared.claims.Claim.{Claim}
 use Rattle.edit_space.specs.declared.claims.Claim.TheVariants.{Repaired, NoRepair}
@@ -19,7 +20,7 @@ use Rattle.policy_report.specs.Certificates.{budget_text, certificate_text}
 use Rattle.arc_repair.specs.Answers.{IsOutOfBudget, KeepsLimits}
 use Rattle.arc_repair.specs.Claims.{IsCertificate}
 use Rattle.arc_repair.specs.Repairs.{IsLeast, Mends, cost}
-use Rattle.changed_files.specs.Changes.{changed_names, AreLeftPatched, AreReadAgain, IsEditable}
+use Rattle.changed_files.specs.Changes.{changed_names, AreLeftPatched, IsEditable}
 use Rattle.command_words.specs.declared.commands.RepairWords.{RepairWords}
 use Rattle.run_files.specs.declared.outcome.FileRefusal.{FileRefusal}
 use Rattle.run_inputs.specs.Inputs.{contents}
@@ -44,9 +45,9 @@ pub record HoldsCertificate (words : RepairWords) (net : Network) (doc : Documen
 
 -- These are the edits of the network that are the cheapest after which it meets every policy, at a
 -- price within the bound. The router files as the command left them are the patches by these edits
--- of those that were read; read again, they have exactly the network after these edits, which meets
--- every policy. The certificate of this was written, and all names but its own and those of the
--- copies of changed files hold what they held.
+-- of those that were read; these patches, read again, have exactly the network after these edits,
+-- which meets every policy. The certificate of this was written, and all names but its own and
+-- those of the copies of changed files hold what they held.
 pub record HasCheapest (words : RepairWords) (before after : Files) : Type 0 where
   pub doc : Document
   pub built : Built
@@ -62,7 +63,7 @@ pub record HasCheapest (words : RepairWords) (before after : Files) : Type 0 whe
   pub is_after : IsAfter built.net (chosen_of list flags) repaired
   pub meets : MeetsDocument repaired doc
   pub patched : AreLeftPatched words.suffix doc built before after (chosen_of list flags)
-  pub read_again : AreReadAgain words.suffix doc before after repaired
+  pub read_again : IsNetworkOf doc patched.new repaired
   pub verdicts : List Verdict
   pub certified :
       HoldsCertificate words built.net doc list (Repaired price words.bound flags verdicts) after
@@ -81,9 +82,9 @@ pub record HasNone (words : RepairWords) (before after : Files) : Type 0 where
   pub certified : HoldsCertificate words net doc list (NoRepair words.bound) after
   pub kept : (name : List ℕ) → ¬ (name ≡ words.proof) → after name ≡ before name
 
--- what was written is a log that is spent for the repair formula, and nothing else: each of its
--- bounds is that of the words, or one less than the price of edits after which the network meets
--- every policy, and as it is it does not
+-- what was written is a log that is spent for the repair formula, with a line for each step, and
+-- nothing else: each of its bounds is that of the words, or one less than the price of edits after
+-- which the network meets every policy, and as it is it does not
 pub record HoldsSpentLog (words : RepairWords) (before after : Files) : Type 0 where
   pub doc : Document
   pub net : Network
@@ -91,6 +92,7 @@ pub record HoldsSpentLog (words : RepairWords) (before after : Files) : Type 0 w
   pub repairable : IsRepairable words before doc net list
   pub log : Log
   pub spent : IsOutOfBudget net doc list words.bound words.conflicts log.steps
+  pub lines : All HasLine log.steps
   pub written : after words.proof ≡ Some (budget_text words.conflicts words.bound log)
   pub broken : ¬ MeetsDocument net doc
   pub kept : (name : List ℕ) → ¬ (name ≡ words.proof) → after name ≡ before name
