@@ -1,5 +1,5 @@
 -- A number of routers has one document, and one list of files.
-use Rattle.std.proofs.Common.{◌≡◌, ◌∙◌, ℕ, List, [], ◌∷◌, refl, sym, ap, ap₂, subst}
+use Rattle.std.proofs.Common.{◌≡◌, ◌∙◌, ℕ, List, [], ◌∷◌, refl, sym, ap, ap₂}
 use Rattle.std.specs.List.{AllZip}
 use Rattle.arc_base.specs.declared.prefix.Prefix.{Prefix}
 use Rattle.arc_base.proofs.SamePrefix.{same_prefix}
@@ -9,7 +9,7 @@ use Rattle.net_model.specs.declared.policies.Policy.{Policy}
 use Rattle.net_model.specs.declared.policies.PolicyKind.{PolicyKind}
 use Rattle.net_model.specs.declared.policies.Weights.{Weights}
 use Rattle.net_model.specs.declared.services.Service.{Service}
-use Rattle.net_gen.specs.Generated.{Asked, Asks, asked, IsDocument, IsGenerated, IsHostNetwork}
+use Rattle.net_gen.specs.Generated.{Asked, Asks, asked, IsGenerated, IsHostNetwork}
 use Rattle.net_gen.specs.declared.generating.Generated.{Generated}
 
 one_host : (router : ℕ) (p q : Prefix) → IsHostNetwork router p → IsHostNetwork router q → p ≡ q

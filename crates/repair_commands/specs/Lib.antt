@@ -1,3 +1,4 @@
 pub mod Repairs
 pub mod Steps
+pub mod Outcomes
 pub mod Tells

@@ -91,6 +91,11 @@ pub record Writes (words : RepairWords) (told : List ℕ) (changed : List (List 
   pub short : length certificate ≤ proof_limit
   pub status_is : done.status ≡ status
 
+-- the lines that tell a repair: its price, and its edits
+abbrev pub repair_lines : Network → List Edit → ℕ → List Bool → List ℕ
+repair_lines net list price flags =
+    codes "repaired " ++ decimal price ++ codes "\n" ++ edit_lines net (chosen_of list flags)
+
 -- a repair tells its price and its edits, and writes the files that these change, and its
 -- certificate
 pub record WritesRepair (words : RepairWords) (doc : Document) (built : Built)
@@ -98,8 +103,7 @@ pub record WritesRepair (words : RepairWords) (doc : Document) (built : Built)
     (flags : List Bool) (certificate : List ℕ) (done : Done) : Type 0 where
   pub changed : List (List ℕ × List ℕ)
   pub changes : Changes words.suffix doc built olds (chosen_of list flags) changed
-  pub writes : Writes words (codes "repaired " ++ decimal price ++ codes "\n" ++
-      edit_lines built.net (chosen_of list flags)) changed certificate 0 done
+  pub writes : Writes words (repair_lines built.net list price flags) changed certificate 0 done
 
 -- a claim that there is no repair tells its bound, and writes its certificate
 abbrev pub WritesClaim : RepairWords → Document → Built → List (List ℕ) → List Edit →

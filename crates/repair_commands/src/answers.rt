@@ -3,10 +3,9 @@ ghost use Rattle.std.specs.Prelude.{◌≡◌, ◌<◌, ◌≤◌, ◌-◌, ◌^
 ghost use Rattle.std.specs.Prelude.{decimal};
 ghost use Rattle.net_build.specs.Networks.{IsBuiltWithin};
 ghost use Rattle.edit_space.specs.EditLists.{AreEdits};
-ghost use Rattle.edit_space.specs.Prices.{chosen_of};
 ghost use Rattle.policy_report.specs.Certificates.{budget_text, IsWholeClaim};
-ghost use Rattle.policy_report.specs.Edits.{edit_lines};
-ghost use Rattle.repair_commands.specs.Repairs.{Writes, WritesAnswer, WritesClaim, WritesRepair};
+ghost use Rattle.repair_commands.specs.Repairs.{repair_lines, Writes, WritesAnswer, WritesClaim};
+ghost use Rattle.repair_commands.specs.Repairs.{WritesRepair};
 ghost use Rattle.repair_commands.specs.Steps.{IsWholeAnswer};
 
 use arc_base::limits::{
@@ -73,8 +72,7 @@ fn repair_lines(
     chosen: &[bool],
 ) -> Result<Vec<u8>, Memory>
     requires { length chosen.now ≡ length list.now }
-    ensures { IfOk result (λ text. text.items ≡ codes "repaired " ++ decimal price ++ codes "\n" ++
-        edit_lines net.now (chosen_of list.now chosen.now)) }
+    ensures { IfOk result (λ text. text.items ≡ repair_lines net.now list.now price chosen.now) }
 {
     let mut text = number_line(alloc, b"repaired ", u64::from(price))?;
     let edits = edit_lines(alloc, net, list, chosen)?;

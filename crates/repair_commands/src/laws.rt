@@ -1,11 +1,18 @@
 //! Laws over the definitions alone: each is the contract of a function that does nothing.
+ghost use Rattle.std.specs.Prelude.{◌≡◌};
+ghost use Rattle.arc_outside.specs.Files.{Files};
 ghost use Rattle.command_words.specs.declared.commands.RepairWords.{RepairWords};
+ghost use Rattle.run_files.specs.declared.outcome.Done.{Done};
+ghost use Rattle.run_files.specs.declared.outcome.FileRefusal.{FileRefusal};
 ghost use Rattle.run_files.specs.Answers.{IsTold};
 ghost use Rattle.repair_commands.specs.Repairs.{IsRepaired, IsRepairRefusal};
-ghost use Rattle.repair_commands.specs.Tells.{TellsRepair};
+ghost use Rattle.repair_commands.specs.Tells.{PutsCheapest, TellsRepair};
 
-/// What the status of `repair` tells.
+/// What the status of `repair` tells; and after 0 the text that is put tells the price and the edits
+/// of the repair that the status speaks of, and the files that are written.
 pub fn repair_is_told()
-    ensures { (words : RepairWords) →
+    ensures status { (words : RepairWords) →
         IsTold (IsRepairRefusal words) (IsRepaired words) (TellsRepair words) }
+    ensures text { (words : RepairWords) (files : Files) (done : Done) →
+        IsRepaired words files done → done.status ≡ 0 → PutsCheapest words files done }
 {}

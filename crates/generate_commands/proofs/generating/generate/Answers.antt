@@ -1,4 +1,4 @@
-use Rattle.std.proofs.Common.{List, ℕ, arith}
+use Rattle.std.proofs.Common.{arith}
 use Rattle.generate_commands.proofs.Answered.{counts_stopped, stop_cause, summed, whole}
 use Rattle.generate_commands.proofs.Made.{well_formed}
 use Rattle.generate_commands.proofs.generating.generate.Goals as goal
