@@ -28,11 +28,11 @@ Tells (Verify document) status before after = TellsVerdicts document status befo
 -- prefixes, and 5 exactly where they are refused.
 Tells (Trace words) status before after = TellsTrace words status before
 -- `repair`: after 0 the router files that were left are the patches, by the cheapest edits within
--- the bound after which the network meets every policy, of those that were read; read again, they
--- have exactly the network after these edits; and the certificate was written. After 2 no edits
--- within the bound make the network meet every policy, and the certificate of this was written; and
--- after 3 a log that is spent was written in place of either. It is 5 exactly where something is
--- refused, and then nothing is written.
+-- the bound after which the network meets every policy, of those that were read; these patches,
+-- read again, have exactly the network after these edits; and the certificate was written. After 2
+-- no edits within the bound make the network meet every policy, and the certificate of this was
+-- written; and after 3 a log that is spent was written in place of either. It is 5 exactly where
+-- something is refused, and then nothing is written.
 Tells (Repair words) status before after = TellsRepair words status before after
 -- `check`: 0 exactly where the certificate shows that the edits it names are a cheapest repair of
 -- the network of the files, or that none within its bound is one, and then that is true; or where
@@ -44,14 +44,14 @@ Tells (Check document certificate) status before after =
     TellsCheck document certificate status before
 -- `apply`: 0 exactly where the document and its router files have a network, the names of the
 -- copies are free, and each line of the edit file names an edit of it, no two the same; and then
--- the router files that were left are the patches by these edits of those that were read, and have,
--- read again, exactly the network after these edits. It is 5 exactly where something is refused,
--- and then nothing is written.
+-- the router files that were left are the patches by these edits of those that were read, and these
+-- patches, read again, have exactly the network after these edits. It is 5 exactly where something
+-- is refused, and then nothing is written.
 Tells (Apply words) status before after = TellsApply words status before after
 -- `solve`: some assignment satisfies the formula where it is 0, none does where it is 2, and it is
 -- 5 exactly where the formula or the name of the proof is refused. 3 may come in place of 0 and 2.
--- A proof is written in all three cases: after 2 it is one that `lrat` accepts, and after 3 it is a
--- log that is spent at the limit.
+-- A proof is written in all three cases, and nothing else: after 2 it is one that `lrat` accepts,
+-- and after 3 it is a log that is spent at the limit. After 5 nothing is written.
 Tells (Solve words) status before after = TellsSolution words status before after
 -- `lrat`: 0 exactly where the proof is an accepted log for the formula that adds the empty clause,
 -- and then no assignment satisfies the formula; 1 exactly where it is none, and 5 exactly where the
@@ -59,7 +59,8 @@ Tells (Solve words) status before after = TellsSolution words status before afte
 Tells (Lrat cnf proof) status before after = TellsRefutation cnf proof status before
 -- `generate`: after 0 the certificate was written of the cheapest edits within the bound after
 -- which the network of the document and the router files that are made of the number meets every
--- policy; the patches of these files by them, read, have exactly the network after these edits.
+-- policy; there are patches of these files by them, which, read, have exactly the network after
+-- these edits.
 -- After 2 no edits within the bound make it meet every policy, and the certificate of this was
 -- written; and after 3 a log that is spent was written in place of either. It is 5 exactly where
 -- what is made is too large to be repaired, and then nothing is written.

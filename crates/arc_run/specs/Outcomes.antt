@@ -69,17 +69,19 @@ IsOwn (Nodes words) = IsJudging
 IsOwn (Prefers words) = IsJudging
 IsOwn (Recheck words) = IsJudging
 
--- the text of an outcome, the files that it writes in order, and its status
+-- the text of an outcome
 abbrev pub text_of : Outcome → List ℕ
 text_of outcomes.Usage = usage
 text_of (outcomes.Refused r) = refusal_line r
 text_of (outcomes.Done d) = d.text
 
+-- the files that it writes, in order
 abbrev pub writes_of : Outcome → List (List ℕ × List ℕ)
 writes_of outcomes.Usage = []
 writes_of (outcomes.Refused r) = []
 writes_of (outcomes.Done d) = d.writes
 
+-- its status
 abbrev pub status_of : Outcome → ℕ
 status_of outcomes.Usage = 4
 status_of (outcomes.Refused r) = 5

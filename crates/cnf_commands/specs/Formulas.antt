@@ -32,6 +32,7 @@ faulty cnf (faults.Count line) =
 faulty cnf (faults.TooLarge what count) = Some (refusal_of cnf 0 (Limit what count))
 faulty cnf faults.Memory = None
 
+-- the refusal of a text that is read as this: none where it has a formula
 abbrev pub formula_refusal : List ℕ → Result Formula CnfFault → Option FileRefusal
 formula_refusal cnf (Ok f) = None
 formula_refusal cnf (Err fault) = faulty cnf fault

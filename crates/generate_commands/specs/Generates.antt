@@ -33,11 +33,11 @@ use Rattle.generate_commands.specs.Summaries.{budget_line, made_line, none_line,
 use Rattle.generate_commands.specs.Summaries.{tally_line}
 use Rattle.generate_commands.specs.Tallies.{IsTally}
 
--- the highest price of a repair whose words name none, and how many conflicts its search may learn
--- from
+-- the highest price of a repair whose words name none
 abbrev pub default_bound : ℕ
 default_bound = DEFAULT_PRICE
 
+-- how many conflicts its search may learn from where they name no number
 abbrev pub default_conflicts : ℕ
 default_conflicts = DEFAULT_CONFLICTS
 
@@ -50,11 +50,12 @@ pub record IsMade (words : GenerateWords) (made : Generated) (built : Built) : T
   pub generated : IsGenerated words.number made
   pub is_built : IsBuiltWithin [] EDITED_ENTRY_LIMIT made.doc made.files built
 
--- the certificate of an answer of its repair, and its status
+-- the certificate of an answer of its repair
 abbrev pub certificate_of : Network → Document → List Edit → Answer → List ℕ
 certificate_of net doc list (Claimed claim log) = certificate_text net doc list claim log
 certificate_of net doc list (Budget log) = budget_text default_conflicts default_bound log
 
+-- the status of this answer
 abbrev pub status_of : Answer → ℕ
 status_of (Claimed (Repaired price bound flags verdicts) log) = 0
 status_of (Claimed (NoRepair bound) log) = 2

@@ -1,7 +1,6 @@
 -- The lines that the command prints.
 use Rattle.std.specs.Prelude.{ℕ, ◌+◌, Bool, List, [], ◌∷◌, ◌++◌, codes, count_by, decimal}
 use Rattle.net_gen.specs.Plans.{link_count}
-use Rattle.net_model.specs.declared.verdicts.Verdict.{Verdict}
 use Rattle.edit_space.specs.declared.claims.Claim.TheVariants.{Repaired, NoRepair}
 use Rattle.policy_report.specs.Lines.{line}
 use Rattle.arc_repair.specs.declared.answer.Answer.{Answer}
@@ -26,10 +25,11 @@ abbrev pub repair_line : ℕ → ℕ → List ℕ
 repair_line price edits =
     line (codes "repair") (codes "price" ∷ decimal price ∷ codes "edits" ∷ decimal edits ∷ [])
 
--- that there is none within the bound, and that the search was given up
+-- that there is none within the bound
 abbrev pub none_line : List ℕ
 none_line = codes "repair none\n"
 
+-- that the search was given up
 abbrev pub budget_line : List ℕ
 budget_line = codes "repair budget\n"
 
