@@ -1,12 +1,13 @@
--- Where all lines name edits, each once, so do the first of them.
-use Rattle.std.proofs.Common.{◌≡◌, ◌≢◌, ℕ, Bool, Option, List, ◌++◌, length-append, get_or, take, drop, map, sym, ◌∙◌, ap, subst, arith}
+-- Where all lines name edits, each once, so do the first of them, and there is one first wrong line.
+use Rattle.std.proofs.Common.{◌≡◌, ◌≢◌, ℕ, Bool, Option, List, ◌++◌, length-append, get_or, take, drop, map, sym, ◌∙◌, ap, subst, arith, ◌+◌, ◌<◌, inl, inr}
 use Rattle.std.specs.Prelude.{not, All, AllPairs, IsSome, filter}
-use Rattle.std.proofs.lemmas.List.{map-append, get_or_append_left, take-append-drop}
+use Rattle.std.proofs.lemmas.Bool.{cases_lt}
+use Rattle.std.proofs.lemmas.List.{map-append, get_or_append_left, take-append-drop, take-take}
 use Rattle.std.proofs.lemmas.List.Elements.{filter-append}
 use Rattle.net_model.specs.declared.rows.Network.{Network}
 use Rattle.edit_space.specs.declared.edit_kinds.Edit.{Edit}
 use Rattle.policy_report.specs.Edits.{edit_of}
-use Rattle.edit_files.specs.EditFiles.{is_blank_line, named_by, AreEditLines}
+use Rattle.edit_files.specs.EditFiles.{is_blank_line, named_by, AreEditLines, IsWrongLine}
 
 front_all : {X : Type 0} (P : X → Type 0) (xs ys : List X) → All P (xs ++ ys) → All P xs
 front_all P xs ys all = λ k d within. subst P (get_or_append_left xs ys d k within) (all k d (omega (arith, length-append xs ys, within)))
@@ -33,3 +34,17 @@ module _ (net : Network) (edits : List Edit) where
         named = front_all IsSome xs ys (subst (All IsSome) whole lines.named);
         once = front_pairs ◌≢◌ xs ys (subst (AllPairs ◌≢◌) whole lines.once);
       }
+
+  -- a line is not the first wrong one where later lines are right
+  too_early : (ls : List (List ℕ)) (n m : ℕ) (u : IsWrongLine net edits ls n) (v : IsWrongLine net edits ls m) → u.place < v.place → ⊥
+  too_early ls n m u v below =
+      u.wrong (subst (AreEditLines net edits) (take-take (u.place + 1) v.place ls (omega (arith, below))) (first_lines (take v.place ls) (u.place + 1) v.right_before))
+
+  pub one_wrong_line : (ls : List (List ℕ)) (n m : ℕ) → IsWrongLine net edits ls n → IsWrongLine net edits ls m → n ≡ m
+  one_wrong_line ls n m u v = elim (cases_lt u.place v.place) [
+    | inl below ↦ absurd (too_early ls n m u v below)
+    | inr above ↦ elim (cases_lt v.place u.place) [
+      | inl below ↦ absurd (too_early ls m n v u below)
+      | inr same ↦ omega (arith, above, same, u.number_is, v.number_is)
+    ]
+  ]

@@ -1,3 +1,4 @@
 pub mod FirstLines
+pub mod Determined
 pub mod Told
 pub mod Applied

@@ -3,3 +3,4 @@ pub mod Patched
 pub mod SomePatches
 pub mod FewEdits
 pub mod OneMore
+pub mod OneRefusal

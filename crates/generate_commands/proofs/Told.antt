@@ -18,6 +18,7 @@ use Rattle.arc_repair.specs.declared.answer.Answer.{Answer}
 use Rattle.arc_repair.specs.declared.answer.Answer.TheVariants.{Done as Claimed, Budget}
 use Rattle.arc_repair.specs.Answers.{IsRepairFault}
 use Rattle.changed_files.proofs.OneMore.{is_written, other_kept}
+use Rattle.changed_files.proofs.OneRefusal.{limit_refusal}
 use Rattle.changed_files.proofs.SomePatches.{patches_are_there}
 use Rattle.command_words.specs.declared.commands.GenerateWords.{GenerateWords}
 use Rattle.run_files.specs.declared.outcome.Done.{Done}
@@ -25,9 +26,9 @@ use Rattle.run_files.specs.declared.outcome.FileRefusal.{FileRefusal}
 use Rattle.run_files.specs.Answers.{IsTold}
 use Rattle.repair_commands.specs.Outcomes.{HasRepair, HasNoRepair, IsRepairable, KeepsOthers}
 use Rattle.repair_commands.specs.Repairs.{IsAnswered}
-use Rattle.repair_commands.proofs.Counted.{kept_or_passed}
+use Rattle.repair_commands.proofs.Counted.{kept_or_passed, one_fault}
 use Rattle.repair_commands.proofs.Outcomes.{can_be, has_repair, not_both, shows_cheapest, shows_none, shows_spent, tells_cheapest, tells_none, tells_refused, tells_spent}
-use Rattle.generate_commands.specs.Generates.{IsGenerateRefusal, IsMade, IsSummary, certificate_of, default_bound, default_conflicts, status_of}
+use Rattle.generate_commands.specs.Generates.{IsGenerateRefusal, IsMade, IsSummary, certificate_of, default_bound, default_conflicts, document_name, status_of}
 use Rattle.generate_commands.specs.Tells.{CanBeRepaired, CannotBeRepaired, HasCheapest, HasNone, HoldsSpentLog, IsGenerateRefused, TellsGenerate}
 use Rattle.generate_commands.proofs.OneMade.{one_made}
 
@@ -46,6 +47,13 @@ module _ (words : GenerateWords) where
         let valid = moved (λ d n. IsValid n) u.made u.built u.is_made u.valid in
         let fault = moved (λ d n. IsRepairFault n d default_bound (Limit u.what u.count)) u.made u.built u.is_made u.fault in
         kept_or_passed built.net made.doc list default_bound valid can.edits can.limits u.what u.count fault
+
+  pub one_generate_refusal : (r s : FileRefusal) → IsGenerateRefusal words r → IsGenerateRefusal words s → r ≡ s
+  one_generate_refusal r s u v =
+      let fault = moved u.made u.built u.is_made (λ d n. IsRepairFault n d default_bound (Limit v.what v.count)) v.made v.built v.is_made v.fault in
+      u.told
+      ∙ limit_refusal document_name u.what v.what u.count v.count (one_fault u.built.net u.made.doc default_bound u.valid u.what v.what u.count v.count u.fault fault)
+      ∙ sym v.told
 
   pub summed_or_refused : (d : Done) → IsSummary words d → (r : FileRefusal) → IsGenerateRefusal words r → ⊥
   summed_or_refused d done =

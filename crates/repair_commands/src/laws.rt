@@ -16,3 +16,12 @@ pub fn repair_is_told()
     ensures text { (words : RepairWords) (files : Files) (done : Done) →
         IsRepaired words files done → done.status ≡ 0 → PutsCheapest words files done }
 {}
+
+/// The words and the files give at most one first refusal of `repair`, and never both a refusal and
+/// an answer.
+pub fn repair_is_determined()
+    ensures one_refusal { (words : RepairWords) (files : Files) (r s : FileRefusal)
+        → IsRepairRefusal words files r → IsRepairRefusal words files s → r ≡ s }
+    ensures not_both { (words : RepairWords) (files : Files) (done : Done) (r : FileRefusal)
+        → IsRepaired words files done → IsRepairRefusal words files r → ⊥ }
+{}
