@@ -23,12 +23,10 @@ fn words(rt: &HostRuntime, alloc: Global) -> Result<List<Name>, Memory> {
         Err(error) if error.kind() == io::ErrorKind::OutOfMemory => return Err(Memory),
         Err(_) => return Ok(words),
     };
-    let mut is_program = true;
-    for word in args {
-        if !is_program && words.len() < u32::MAX {
+    for word in args.skip(1) {
+        if words.len() < u32::MAX {
             words.push(Name::make(alloc, word.as_bytes())?)?;
         }
-        is_program = false;
     }
     Ok(words)
 }

@@ -1,9 +1,13 @@
 //! What is said on the standard error of a run that did not end well.
+ghost use Rattle.std.specs.Prelude.{◌≤◌, length, IfSome};
 
 use arc_base::Name;
 use arc_base::limits::ROUTER_FILE_LIMIT;
 use arc_outside::{DiskStore, Operation, StdSink, read_all};
-use run_messages::{Tee, WrongWord, form_of, line_at, told_refusal, visible, wrong_word};
+use run_messages::{
+    FORMS, Refused, Tee, WrongWord, asks_for_help, document_fault, form_of, front_of, line_at,
+    told_refusal, visible, words_fault, wrong_word,
+};
 use std::io::Write;
 use std::{env, fs, io, str};
 
@@ -16,18 +20,39 @@ fn say(rt: &HostRuntime, pieces: &[&[u8]]) -> io::Result<()> {
     err.write_all(b"\n")
 }
 
-// The words match no command: the form of the command that the first of them names.
+// Help is asked for: the forms of all commands.
+fn explain_commands(rt: &HostRuntime) -> io::Result<()> {
+    for form in FORMS.iter() {
+        let usage = form.to_string(rt.alloc())?;
+        say(rt, &[b"arcv ", usage.as_bytes()])?;
+    }
+    say(
+        rt,
+        &[b"arcv: `arcv COMMAND` prints what the words of one stand for"],
+    )
+}
+
+// The words match no command: what is wrong with them, and the form of the command that the first
+// of them names.
 fn explain_words(rt: &HostRuntime, words: &[Name]) -> io::Result<()> {
-    let Some(command) = words.first() else {
+    let Some((command, given)) = words.split_first() else {
         return match env::args(rt) {
             Ok(_) => say(rt, &[b"arcv: a command is missing"]),
             Err(_) => say(rt, &[b"arcv: a word is not UTF-8"]),
         };
     };
-    match form_of(command.bytes()) {
-        Some(form) => say(rt, &[b"arcv: its form is: arcv ", form.as_bytes()]),
-        None => say(rt, &[b"arcv: no command is named ", command.bytes()]),
+    if asks_for_help(command.bytes()) {
+        return explain_commands(rt);
     }
+    let Some(form) = form_of(command.bytes()) else {
+        return say(rt, &[b"arcv: no command is named ", command.bytes()]);
+    };
+    if let Some(fault) = words_fault(rt.alloc(), form, given) {
+        say(rt, &[b"arcv: ", fault.as_bytes()])?;
+    }
+    let usage = form.to_string(rt.alloc())?;
+    say(rt, &[b"usage: arcv ", usage.as_bytes()])?;
+    say(rt, &[b"where ", form.meaning.as_bytes()])
 }
 
 // Whether a file can be read again at once, as a pipe cannot: there a second reading would wait for
@@ -42,7 +67,42 @@ fn is_plain(rt: &HostRuntime, name: &[u8]) -> bool {
     }
 }
 
-// A file is refused: the line that the refusal names, and the word that is wrong in it.
+// The text of a refused file, where it can be read once more.
+fn text_of(rt: &HostRuntime, store: &mut DiskStore<HostRuntime>, name: &[u8]) -> Option<Vec<u8>>
+    ensures { IfSome result (λ text. length text.items ≤ ROUTER_FILE_LIMIT) }
+{
+    if !is_plain(rt, name) {
+        return None;
+    }
+    let name = Name::make(rt.alloc(), name).ok()?;
+    read_all(rt.alloc(), store, &name, ROUTER_FILE_LIMIT).ok()
+}
+
+// The line that a refusal names, and the word that is wrong in it.
+fn explain_line(rt: &HostRuntime, told: Refused<'_>, text: &[u8]) -> io::Result<()>
+    requires { length text.now ≤ ROUTER_FILE_LIMIT }
+{
+    let Some(line) = line_at(text, told.number) else {
+        return Ok(());
+    };
+    let number = told.number.to_string(rt.alloc())?;
+    say(
+        rt,
+        &[told.name, b":", number.as_bytes(), b": ", front_of(line)],
+    )?;
+    if !told.is_of_a_word() {
+        return Ok(());
+    }
+    match wrong_word(rt.alloc(), text, told.number) {
+        Some(WrongWord::Word(word)) => say(rt, &[b"arcv: wrong word: ", front_of(word)]),
+        Some(WrongWord::Missing) => {
+            say(rt, &[b"arcv: the line ends too early: a word is missing"])
+        }
+        None => Ok(()),
+    }
+}
+
+// A file is refused: why it is no document, or the line that the refusal names.
 fn explain_refusal(
     rt: &HostRuntime,
     words: &[Name],
@@ -52,30 +112,18 @@ fn explain_refusal(
     let Some(told) = told_refusal(line) else {
         return Ok(());
     };
-    let alloc = rt.alloc();
     let is_of_the_words = words.iter().any(|word| word.bytes() == told.name);
-    if !told.names_line(is_of_the_words) || !is_plain(rt, told.name) {
+    if !told.is_of_a_document() && !told.names_line(is_of_the_words) {
         return Ok(());
     }
-    let Ok(name) = Name::make(alloc, told.name) else {
+    let Some(text) = text_of(rt, store, told.name) else {
         return Ok(());
     };
-    let Ok(text) = read_all(alloc, store, &name, ROUTER_FILE_LIMIT) else {
-        return Ok(());
-    };
-    let Some(line) = line_at(&text, told.number) else {
-        return Ok(());
-    };
-    let number = told.number.to_string(alloc)?;
-    say(rt, &[told.name, b":", number.as_bytes(), b": ", line])?;
-    if !told.is_of_a_word() {
-        return Ok(());
+    if !told.is_of_a_document() {
+        return explain_line(rt, told, &text);
     }
-    match wrong_word(alloc, &text, told.number) {
-        Some(WrongWord::Word(word)) => say(rt, &[b"arcv: the word is ", word]),
-        Some(WrongWord::Missing) => say(rt, &[b"arcv: a word is missing at its end"]),
-        None => Ok(()),
-    }
+    let fault = document_fault(rt.alloc(), &text)?;
+    say(rt, &[b"arcv: ", told.name, b" ", fault.as_bytes()])
 }
 
 // A file could not be read or written: which one, and what the system said.
@@ -106,7 +154,7 @@ pub fn explain(
         4 => explain_words(rt, words),
         5 => explain_refusal(rt, words, store, out.front()),
         6 => explain_failure(rt, store),
-        7 => say(rt, &[b"arcv: the standard output took no more"]),
+        7 => say(rt, &[b"arcv: cannot write to standard output"]),
         8 => say(rt, &[b"arcv: out of memory"]),
         _ => Ok(()),
     }

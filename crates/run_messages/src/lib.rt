@@ -1,18 +1,25 @@
 //! What the program says on the standard error of a run that did not end well, for whoever sits
-//! before it: the line that a refusal names, the word that is wrong in it, and the form of a
-//! command. It bears on no answer and no status, and no contract says what the messages are.
+//! before it: the line that a refusal names and what is wrong in it, why a text is no document, and
+//! why words match no command. It bears on no answer and no status, and no contract says what the
+//! messages are.
 #![tactic(auto)]
 
 mod commands;
+mod documents;
 mod lines;
 mod refusals;
 mod showing;
+mod stop;
 mod tee;
 #[cfg(test)]
 mod tests;
+mod values;
+mod words;
 
-pub use commands::form_of;
+pub use commands::{FORMS, Form, asks_for_help, form_of};
+pub use documents::document_fault;
 pub use lines::{WrongWord, line_at, wrong_word};
 pub use refusals::{Refused, told_refusal};
-pub use showing::visible;
+pub use showing::{front_of, visible};
 pub use tee::Tee;
+pub use words::words_fault;

@@ -20,8 +20,8 @@ fn number_of(word: &[u8]) -> Option<u32> {
     str::from_utf8(word).ok()?.parse().ok()
 }
 
-/// What the line says, if it tells a refusal of one word. The limits of counts name no line, so
-/// they are left out.
+/// What the line says, if it is a refusal whose kind is one word. The limits of counts are more
+/// words, and name no line.
 pub fn told_refusal(line: &[u8]) -> Option<Refused<'_>> {
     let text = line.strip_suffix(b"\n")?.strip_prefix(b"refused ")?;
     let (front, kind) = split_last(text)?;
@@ -44,5 +44,10 @@ impl Refused<'_> {
     /// Whether one word of the line is wrong.
     pub fn is_of_a_word(&self) -> bool {
         self.kind == b"bad-word".as_slice()
+    }
+
+    /// Whether the named file is no document.
+    pub fn is_of_a_document(&self) -> bool {
+        self.kind == b"document-form".as_slice()
     }
 }

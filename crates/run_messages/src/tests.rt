@@ -1,4 +1,9 @@
-use crate::{WrongWord, form_of, line_at, told_refusal, visible, wrong_word};
+use crate::{
+    WrongWord, asks_for_help, document_fault, form_of, front_of, line_at, told_refusal, visible,
+    words_fault, wrong_word,
+};
+use arc_base::Name;
+use std::alloc::Global;
 use std::test::Fail;
 
 const FILE: &[u8] =
@@ -28,10 +33,158 @@ fn refusals_are_taken_apart(rt: HostRuntime) -> Result<(), Fail> {
         Some((b"a b.cfg".as_slice(), 11, b"bad-word".as_slice()))
     );
     assert!(rt; told_refusal(b"accepted\n").is_none());
-    assert!(rt; form_of(b"help").is_none());
     assert_eq!(rt;
         visible(rt.alloc(), b"a\x1bb")?.as_slice(),
         b"a?b".as_slice()
     );
+    assert_eq!(rt; front_of(b"ab"), b"ab".as_slice());
+    assert_eq!(rt; front_of(&[b'a'; 301]).len(), 300);
+    Ok(())
+}
+
+// Command lines, and what is said of them; where nothing is, that the form is all that is printed.
+const COMMAND_LINES: &[(&str, &str)] = &[
+    ("verify", "verify DOC"),
+    ("nodes d --help", "nodes DOC FROM TO K"),
+    ("trace d -h", "trace DOC FROM TO [--down A,B]"),
+    ("verify -- -d", "verify DOC"),
+    (
+        "solve --conflicts 0000000009 --proof=-p f",
+        "solve CNF --proof NAME [--conflicts N]",
+    ),
+    (
+        "prefers d 10.1.0.0/24 10.2.0.0/16 r1,R-2_b.c",
+        "prefers DOC FROM TO ROUTERS",
+    ),
+    // the options
+    (
+        "verify d --quiet",
+        "wrong word: --quiet (verify has no such option)",
+    ),
+    ("lrat f --=1", "wrong word: --=1 (lrat has no such option)"),
+    ("lrat f -x", "wrong word: -x (lrat has no such option)"),
+    (
+        "trace --down=1 d --down 2",
+        "wrong word: --down (that option stands twice)",
+    ),
+    ("trace d --down", "a value is missing after --down"),
+    ("trace d --down -1", "a value is missing after --down"),
+    ("apply d e", "--out is missing"),
+    ("repair d --out .n --conflicts 5", "--proof is missing"),
+    // the places
+    ("recheck d", "too few words for DOC REPORT"),
+    (
+        "trace -- d 10.1.0.0/24 10.2.0.0/16 --down 2",
+        "too many words for DOC FROM TO",
+    ),
+    // the values
+    (
+        "trace d 10.1.0.1/24 10.2.0.0/16",
+        "wrong word: 10.1.0.1/24 (FROM has bits past its length; its network is 10.1.0.0/24)",
+    ),
+    (
+        "trace d 0.0.0.0/0 10.2.0.0/0",
+        "wrong word: 10.2.0.0/0 (TO has bits past its length; its network is 0.0.0.0/0)",
+    ),
+    (
+        "trace d 10.1.0.1 10.2.0.0/16",
+        "wrong word: 10.1.0.1 (FROM is a prefix such as 10.1.0.0/24)",
+    ),
+    (
+        "nodes d 10.1.0.0/24 10.2.0.0/33 1",
+        "wrong word: 10.2.0.0/33 (TO is a prefix such as 10.1.0.0/24)",
+    ),
+    (
+        "nodes d 10.1.0.0/24 10.2.0.0/16 17",
+        "wrong word: 17 (K is a number from 0 to 16 of at most 10 digits)",
+    ),
+    (
+        "generate 00000000006 --proof p",
+        "wrong word: 00000000006 (N is a number from 6 to 40 of at most 10 digits)",
+    ),
+    (
+        "generate +6 --proof p",
+        "wrong word: +6 (N is a number from 6 to 40 of at most 10 digits)",
+    ),
+    (
+        "repair d --out .n --proof p --max-price 513",
+        "wrong word: 513 (--max-price is a number from 0 to 512 of at most 10 digits)",
+    ),
+    (
+        "solve f --proof p --conflicts=",
+        "wrong word:  (--conflicts is a number from 1 to 200000 of at most 10 digits)",
+    ),
+    (
+        "trace d 10.1.0.0/24 10.2.0.0/16 --down 2,0",
+        "wrong word: 2,0 (--down is numbers from 1 to 4294967295 of at most 10 digits, \
+         joined by commas)",
+    ),
+    (
+        "prefers d 10.1.0.0/24 10.2.0.0/16 r1,",
+        "wrong word: r1, (ROUTERS is 1 to 256 names joined by commas, \
+         each of 1 to 64 letters, digits, -, _ and .)",
+    ),
+    // no command
+    ("help", "help"),
+    ("--version", "help"),
+    ("ver d", "none"),
+];
+
+// What is said of the words of a command line.
+fn said_of_words(alloc: Global, line: &str) -> Result<String, Fail> {
+    let mut words = Vec::new(alloc);
+    for word in line.split(' ') {
+        words.push(Name::make(alloc, word.as_bytes())?)?;
+    }
+    let (command, given) = words.split_first().ok_or("no word")?;
+    let Some(form) = form_of(command.bytes()) else {
+        let is_help = asks_for_help(command.bytes());
+        return Ok(String::from_str(alloc, if is_help { "help" } else { "none" })?);
+    };
+    match words_fault(alloc, form, given) {
+        Some(fault) => Ok(fault),
+        None => Ok(form.to_string(alloc)?),
+    }
+}
+
+#[test]
+fn wrong_words_are_named(rt: HostRuntime) -> Result<(), Fail> {
+    for (line, want) in COMMAND_LINES {
+        let said = said_of_words(rt.alloc(), line)?;
+        assert!(rt; said.as_str() == *want, "{line}: {said}");
+    }
+    Ok(())
+}
+
+// Texts that are no documents, and what is said of them first.
+const TEXTS: &[(&str, &str)] = &[
+    (
+        "{\n \"version\": 1,\n}\n",
+        "cannot be read as JSON beyond line 3, column 1",
+    ),
+    ("{\n \"version\": 1", "is no JSON: it ends too early"),
+    ("{}", "is JSON, but no document; usual causes: a member"),
+    (
+        r#"{"version": 3}"#,
+        "is JSON, but no document: look at the version; usual causes: a member",
+    ),
+    (
+        r#"{"version": 1, "links": [{"a": "r1:E", "b": "r2:E"}, {"a": "r1:E", "b": "r2"}]}"#,
+        "is JSON, but no document: look at link 2; usual causes: a member",
+    ),
+    (
+        r#"{"version": 1, "policies": [
+        {"kind": "reach", "from": "10.1.0.0/24", "to": "10.2.0.0/24", "failures": 17},
+        {"kind": "reach", "from": "10.1.0.0/24", "to": "10.2.0.0/24"}]}"#,
+        "is JSON, but no document: look at policy 2; usual causes: a member",
+    ),
+];
+
+#[test]
+fn faults_of_documents_are_told(rt: HostRuntime) -> Result<(), Fail> {
+    for (text, want) in TEXTS {
+        let said = document_fault(rt.alloc(), text.as_bytes())?;
+        assert!(rt; said.as_str().starts_with(*want), "{said}");
+    }
     Ok(())
 }

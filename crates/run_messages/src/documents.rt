@@ -1,0 +1,94 @@
+//! Why a text is no document.
+
+use arc_base::Kind;
+use net_doc::{NetFault, Refusal, document};
+use serde_json::{Error, Value};
+use std::alloc::{AllocError, Global};
+
+const USUAL_CAUSES: &str = "a member that is unknown, missing or of another kind; \
+    a prefix with bits past its length; failures missing where kind is reach, or standing \
+    elsewhere; proto or port in version 1";
+
+// Whether a document with these links and policies alone is none.
+fn is_out_of_form(
+    alloc: Global,
+    version: &str,
+    links: &str,
+    policies: &str,
+) -> Result<bool, AllocError> {
+    let front = format!(in alloc; "{{\"version\": {version}, \"routers\": [\"r\"]")?;
+    let text = format!(in alloc; "{front}, \"links\": [{links}], \"policies\": [{policies}]}}")?;
+    match document(alloc, text.as_bytes()) {
+        Err(NetFault::Refused(Refusal { kind, .. })) => Ok(kind == Kind::DocumentForm),
+        _ => Ok(false),
+    }
+}
+
+// The number of the first link or policy that makes a document none, whatever the others are.
+fn wrong_item(
+    alloc: Global,
+    version: &str,
+    value: &Value,
+    list: &str,
+) -> Result<Option<usize>, AllocError> {
+    let Some(items) = value.get(list).and_then(Value::as_array) else {
+        return Ok(None);
+    };
+    for (place, item) in items.iter().enumerate() {
+        let item = item.to_string(alloc)?;
+        let (links, policies) = match list {
+            "links" => (item.as_str(), ""),
+            _ => ("", item.as_str()),
+        };
+        if is_out_of_form(alloc, version, links, policies)? {
+            return Ok(Some(place.saturating_add(1)));
+        }
+    }
+    Ok(None)
+}
+
+// The part that makes a JSON value no document, where it can be told: `document` itself judges each
+// link and policy by itself.
+fn wrong_part(alloc: Global, value: &Value) -> Result<Option<String>, AllocError> {
+    let version = match value.get("version") {
+        Some(version) => version.to_string(alloc)?,
+        None => return Ok(None),
+    };
+    if is_out_of_form(alloc, &version, "", "")? {
+        return Ok(Some(String::from_str(alloc, "the version")?));
+    }
+    if let Some(number) = wrong_item(alloc, &version, value, "links")? {
+        return Ok(Some(format!(in alloc; "link {number}")?));
+    }
+    match wrong_item(alloc, &version, value, "policies")? {
+        Some(number) => Ok(Some(format!(in alloc; "policy {number}")?)),
+        None => Ok(None),
+    }
+}
+
+// What is to be said of a text that is no JSON. The place is where reading stopped, which is the
+// word that is wrong or the one behind it.
+fn json_fault(alloc: Global, error: &Error) -> Result<String, AllocError> {
+    if error.is_memory() {
+        return Err(AllocError);
+    }
+    if error.is_eof() {
+        return String::from_str(alloc, "is no JSON: it ends too early");
+    }
+    let (line, column) = (error.line(), error.column());
+    format!(in alloc; "cannot be read as JSON beyond line {line}, column {column}")
+}
+
+/// What is to be said of a text that is refused for its form as a document, behind its name.
+pub fn document_fault(alloc: Global, text: &[u8]) -> Result<String, AllocError> {
+    let value = match Value::from_slice(alloc, text) {
+        Ok(value) => value,
+        Err(error) => return json_fault(alloc, &error),
+    };
+    match wrong_part(alloc, &value)? {
+        Some(part) => format!(in alloc;
+            "is JSON, but no document: look at {part}; usual causes: {USUAL_CAUSES}"
+        ),
+        None => format!(in alloc; "is JSON, but no document; usual causes: {USUAL_CAUSES}"),
+    }
+}
