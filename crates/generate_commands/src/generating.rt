@@ -64,7 +64,8 @@ fn find_repair(
     ensures fault { IfErr result (IsRepairFault net.now doc.now default_bound) }
 {
     let list = edits(alloc, net, doc)?;
-    let answer = arc_repair::repair(alloc, net, doc, DEFAULT_PRICE, DEFAULT_CONFLICTS)?;
+    let answer =
+        arc_repair::repair_of(alloc, net, doc, &list, DEFAULT_PRICE, DEFAULT_CONFLICTS)?;
     Ok((list, answer))
 }
 

@@ -58,7 +58,7 @@ fn find_repair(
     ensures fault { IfErr result (IsRepairFault net.now doc.now words.now.bound) }
 {
     let list = edits(alloc, net, doc)?;
-    let answer = arc_repair::repair(alloc, net, doc, words.bound, words.conflicts)?;
+    let answer = arc_repair::repair_of(alloc, net, doc, &list, words.bound, words.conflicts)?;
     Ok((list, answer))
 }
 
