@@ -85,7 +85,7 @@ impl<S: ClauseSink + Drop> Body<S> {
         Ok(())
     }
 
-    /// Takes the words of a line, which is longer than the room that is left is small.
+    /// Takes the words of a line. The sink has room for a clause for each byte of it.
     fn take_words(&mut self, alloc: Global, line: &[u8]) -> Result<(), WordFault>
         requires limit { self.old.vars < 2 ^ 63 }
         requires room { length (S.taken self.old.sink) + length line.now < 2 ^ 32 }

@@ -5,9 +5,8 @@ ghost use Rattle.cnf_types.specs.Words.{lines};
 ghost use Rattle.arc_base.specs.Words.{words};
 ghost use Rattle.cnf_types.specs.Dimacs.{count, header, content, is_comment, line_words};
 
-use crate::faults::CnfFault;
 use crate::numbers::natural;
-use crate::words::{first_line, next_word, without_return};
+use crate::words::next_word;
 
 /// What a header says.
 #[derive(Clone, Copy, Debug, PartialEq, Eq)]
