@@ -8,7 +8,7 @@ ghost use Rattle.arc_nodecut.specs.NodeText.{answer_line, nodes_text};
 
 use crate::verdict::NodeVerdict;
 use arc_base::{Memory, Router};
-use net_model::{LinkPath, Network};
+use net_model::Network;
 use policy_report::{
     push_count, push_denied_line, push_paths, push_refused_line, push_side_line, push_word,
 };

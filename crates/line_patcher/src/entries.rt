@@ -10,13 +10,12 @@ ghost use Rattle.line_patcher.specs.EntryLines.{new_numbers};
 use crate::additions::NewNumber;
 use arc_base::limits::EDIT_LIMIT;
 use arc_base::{Memory, Name, Prefix};
-use edit_space::things_at;
-use edited_networks::{Changes, opposite_packet_entry, opposite_route_entry};
+use edited_networks::{opposite_packet_entry, opposite_route_entry};
 use ios_config::ListForm;
 use ios_words::PacketText;
 use ios_words::printing::{push_entry, push_list_line, push_prefix_line};
 use net_build::{ListPlace, Places};
-use net_model::{Class, Network, PacketEntry, PacketList, RouteList};
+use net_model::{Class, PacketEntry, PacketList, RouteList};
 use std::alloc::Global;
 
 /// The number of the entry at a place of its list, if the list has numbers.

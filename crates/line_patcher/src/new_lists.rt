@@ -15,7 +15,7 @@ ghost use Rattle.line_patcher.specs.Working.{face_of};
 
 use crate::entries::packet_text;
 use arc_base::limits::EDIT_LIMIT;
-use arc_base::{Face, Memory, Name, Prefix};
+use arc_base::{Memory, Name, Prefix};
 use edit_space::{NewList, things_at};
 use edited_networks::{Changes, any};
 use ios_words::printing::{

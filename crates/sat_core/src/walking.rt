@@ -7,7 +7,7 @@ use crate::assigned::Held;
 use crate::store::Store;
 use crate::trail::Trail;
 use crate::visiting::{Seen, visit};
-use clause_pool::{Place, Pool};
+use clause_pool::Pool;
 use cnf_types::Lit;
 
 /// Visits the clauses that a false literal watches, and makes true what they imply. The answer is a
