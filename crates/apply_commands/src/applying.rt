@@ -27,21 +27,21 @@ use run_files::{Done, Limits, Stop, read_file, refused};
 use run_inputs::{Sources, read_document, read_sources};
 use std::alloc::Global;
 
-// The document, and the text of the edit file.
+/// The document, and the text of the edit file.
 #[derive(Drop)]
 struct Ready {
     pub doc: Document,
     pub text: Vec<u8>,
 }
 
-// The edits of a network, and for each whether it is chosen.
+/// The edits of a network, and for each whether it is chosen.
 #[derive(Drop)]
 struct Chosen {
     pub list: List<Edit>,
     pub flags: List<bool>,
 }
 
-// Whether a copy has the name of a file that is read, or of another copy.
+/// Whether a copy has the name of a file that is read, or of another copy.
 fn has_clash(alloc: Global, words: &ApplyWords, doc: &Document) -> Result<bool, Memory>
     ensures { IfOk result (λ clash. clash ≡ has_clash words.now doc.now) }
 {
@@ -50,7 +50,7 @@ fn has_clash(alloc: Global, words: &ApplyWords, doc: &Document) -> Result<bool, 
     Ok(clashes(&words.document, routers, names.as_slice()) || holds(names.as_slice(), &words.edits))
 }
 
-// Reads the document and the edit file, or refuses one of them or the names of the copies.
+/// Reads the document and the edit file, or refuses one of them or the names of the copies.
 fn read_ready<S: Store>(alloc: Global, words: &ApplyWords, store: &mut S) -> Result<Ready, Stop>
     ensures told { IfSome (S.held store.old) (λ files. ReadsReady words.now files result) }
     ensures well_formed { IfOk result (λ ready. IsWellFormed ready.doc) }
@@ -66,8 +66,8 @@ fn read_ready<S: Store>(alloc: Global, words: &ApplyWords, store: &mut S) -> Res
     Ok(Ready { doc, text })
 }
 
-// The edits of the network, and which of them the text names; or the refusal of a count or of a
-// line.
+/// The edits of the network, and which of them the text names; or the refusal of a count or of a
+/// line.
 fn choose(
     alloc: Global,
     words: &ApplyWords,
@@ -95,7 +95,7 @@ fn choose(
     }
 }
 
-// The copies of the files that the edits change, and a line for each.
+/// The copies of the files that the edits change, and a line for each.
 fn written(
     alloc: Global,
     suffix: &Name,

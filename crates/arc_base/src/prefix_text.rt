@@ -25,7 +25,7 @@ pub fn read_number(text: &[u8]) -> Option<u64>
     }
 }
 
-// Whether the text is a lone 0 or begins with another digit.
+/// Whether the text is a lone 0 or begins with another digit.
 fn begins_as_number(text: &[u8]) -> bool
     ensures { IsTrue result ↔ BeginsAsNumber text.now }
 {

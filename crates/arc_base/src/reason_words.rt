@@ -26,7 +26,7 @@ impl LimitKind {
     }
 }
 
-// The words for a count that passes its limit.
+/// The words for a count that passes its limit.
 fn limit_words(alloc: Global, what: LimitKind, count: u64) -> Result<Vec<u8>, AllocError>
     ensures { IfOk result (λ text. text.items ≡ kind_words (Kind.Limit what count)) }
 {

@@ -24,7 +24,7 @@ pub struct Failure {
     pub error: io::Error,
 }
 
-// A file that is being read, how many of its bytes were, and whether it is a plain one.
+/// A file that is being read, how many of its bytes were, and whether it is a plain one.
 #[derive(Drop)]
 struct Reading<F: Drop> {
     name: Name,
@@ -113,8 +113,8 @@ fn failure_of(
     }
 }
 
-// Opens a file at a place. One that is read from its start need not know places, as a pipe does
-// not.
+/// Opens a file at a place. One that is read from its start need not know places, as a pipe does
+/// not.
 fn opened<R: Files>(
     rt: &R,
     alloc: Global,
@@ -134,8 +134,8 @@ fn opened<R: Files>(
     })
 }
 
-// The open file, where it stands at this place, and else the file opened there. What was emptied
-// has nothing more to give.
+/// The open file, where it stands at this place, and else the file opened there. What was emptied
+/// has nothing more to give.
 fn reading_at<R: Files>(
     rt: &R,
     alloc: Global,
@@ -156,8 +156,8 @@ fn reading_at<R: Files>(
     }
 }
 
-// Reads on where the file stands open at this place, and else opens it there. At its end it is
-// closed. One that is no plain file and gave bytes is noted, since it does not give them again.
+/// Reads on where the file stands open at this place, and else opens it there. At its end it is
+/// closed. One that is no plain file and gave bytes is noted, since it does not give them again.
 fn read_on<R: Files>(
     rt: &R,
     alloc: Global,
@@ -181,7 +181,7 @@ fn read_on<R: Files>(
     Ok(n)
 }
 
-// Fills a new file, which has the permissions of the one that it will stand for.
+/// Fills a new file, which has the permissions of the one that it will stand for.
 fn fill<F: Write + OpenFile>(
     file: &mut F,
     bytes: &[u8],
@@ -194,7 +194,7 @@ fn fill<F: Write + OpenFile>(
     file.sync_data()
 }
 
-// Writes a file beside a name, and then gives it the name.
+/// Writes a file beside a name, and then gives it the name.
 fn write_beside<R: Files>(
     rt: &R,
     alloc: Global,

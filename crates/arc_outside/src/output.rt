@@ -32,7 +32,7 @@ impl<R> StdSink<R> {
     }
 }
 
-// Writes some of the bytes. A write that takes nothing is an error.
+/// Writes some of the bytes. A write that takes nothing is an error.
 fn print_some<R: Print>(rt: &R, bytes: &[u8]) -> io::Result<usize>
     ensures some { IfOk result (λ n. 0 < n) }
     ensures bound { IfOk result (λ n. n ≤ length bytes.now) }

@@ -20,8 +20,8 @@ pub struct Pieces {
     ghost within: { place ≤ limit },
 }
 
-// Moves the bytes before the first line feed of the window to the end of the line, and takes them
-// and the line feed off the window. Where there is no line feed it moves all, and says so.
+/// Moves the bytes before the first line feed of the window to the end of the line, and takes them
+/// and the line feed off the window. Where there is no line feed it moves all, and says so.
 fn take_front(window: &mut Window, line: &mut Vec<u8>) -> Result<bool, Memory>
     ensures { IfOk result (TakesFront window.old line.old.items line.new.items window.new) }
 {
@@ -78,7 +78,7 @@ impl Pieces {
         self.failed
     }
 
-    // Moves to the next line, and leaves it open whether the reader failed.
+    /// Moves to the next line, and leaves it open whether the reader failed.
     fn read_line<S: Store>(&mut self, store: &mut S, name: &Name) -> Result<bool, ReadAll>
         ensures told { IfSome (S.held store.old) (λ files.
             ReadsLine (files name.now) self.old self.new result) }

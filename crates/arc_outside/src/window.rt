@@ -7,7 +7,7 @@ use arc_base::{Memory, Name};
 use std::alloc::Global;
 use std::marker::Model;
 
-// Takes the room for a read, where there is none yet.
+/// Takes the room for a read, where there is none yet.
 fn take_room(alloc: Global, bytes: &mut Vec<u8>) -> Result<(), Memory>
     ensures some { OnOk result (0 < length bytes.new.items) }
     ensures same { OnErr result (bytes.new.items ≡ bytes.old.items) }

@@ -13,7 +13,7 @@ use arc_outside::{Fault, Sink, Store};
 use run_files::{Done, line_of};
 use std::alloc::Global;
 
-// Puts some of the text from this place on.
+/// Puts some of the text from this place on.
 fn put_from<K: Sink>(out: &mut K, text: &[u8], at: usize) -> Result<usize, Fault>
     requires { at < length text.now }
     ensures some { IfOk result (λ n. 0 < n) }
@@ -29,7 +29,7 @@ fn put_from<K: Sink>(out: &mut K, text: &[u8], at: usize) -> Result<usize, Fault
     out.put(rest)
 }
 
-// Puts the whole text.
+/// Puts the whole text.
 fn put_all<K: Sink>(out: &mut K, text: &[u8]) -> Result<(), Fault>
     ensures put { OnOk result (WasPut text.now (K.written out.old) (K.written out.new)) }
     ensures stopped { OnErr result
@@ -48,7 +48,7 @@ fn put_all<K: Sink>(out: &mut K, text: &[u8]) -> Result<(), Fault>
     Ok(())
 }
 
-// The text, the files to write and the status of an outcome.
+/// The text, the files to write and the status of an outcome.
 fn plan(alloc: Global, outcome: Outcome) -> Result<Done, Memory>
     ensures { IfOk result (λ done. done ≡
         record { text = text_of outcome; writes = writes_of outcome; status = status_of outcome }) }
@@ -71,7 +71,7 @@ fn plan(alloc: Global, outcome: Outcome) -> Result<Done, Memory>
     }
 }
 
-// Ends a run with this outcome.
+/// Ends a run with this outcome.
 pub fn finish<S: Store, K: Sink>(
     alloc: Global,
     outcome: Outcome,

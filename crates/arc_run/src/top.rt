@@ -26,14 +26,14 @@ use run_files::{Done, Stop};
 use std::alloc::Global;
 use verify_commands::{trace, verify};
 
-// Why a run has no outcome.
+/// Why a run has no outcome.
 #[derive(Clone, Copy, Debug, PartialEq, Eq)]
 enum Halt {
     Memory,
     Failed,
 }
 
-// Runs the function of the command.
+/// Runs the function of the command.
 fn answer<S: Store>(alloc: Global, command: &Command, store: &mut S) -> Result<Done, Stop>
     requires { HasLimit command.now }
     ensures answer { Answers (IsOwn command.now) (IsRefusal command.now) (IsAnswer command.now)
@@ -56,7 +56,7 @@ fn answer<S: Store>(alloc: Global, command: &Command, store: &mut S) -> Result<D
     }
 }
 
-// Finds the outcome that the words and the files define. It writes nothing.
+/// Finds the outcome that the words and the files define. It writes nothing.
 fn perform<S: Store>(alloc: Global, words: &[Name], store: &mut S) -> Result<Outcome, Halt>
     ensures defined { IfOk result (λ outcome.
         IsDefined (command_of words.now) (S.held store.old) outcome) }
@@ -84,7 +84,7 @@ fn perform<S: Store>(alloc: Global, words: &[Name], store: &mut S) -> Result<Out
     }
 }
 
-// Finds the outcome, and ends with it.
+/// Finds the outcome, and ends with it.
 fn run_defined<S: Store, K: Sink>(
     alloc: Global,
     words: &[Name],

@@ -11,7 +11,7 @@ use run_messages::{
 use std::io::Write;
 use std::{env, fs, io, str};
 
-// Writes these pieces as one line. Control characters in them are shown as question marks.
+/// Writes these pieces as one line. Control characters in them are shown as question marks.
 fn say(rt: &HostRuntime, pieces: &[&[u8]]) -> io::Result<()> {
     let mut err = rt.stderr();
     for piece in pieces {
@@ -20,7 +20,7 @@ fn say(rt: &HostRuntime, pieces: &[&[u8]]) -> io::Result<()> {
     err.write_all(b"\n")
 }
 
-// Help is asked for: the forms of all commands.
+/// Help is asked for: the forms of all commands.
 fn explain_commands(rt: &HostRuntime) -> io::Result<()> {
     for form in FORMS.iter() {
         let usage = form.to_string(rt.alloc())?;
@@ -32,8 +32,8 @@ fn explain_commands(rt: &HostRuntime) -> io::Result<()> {
     )
 }
 
-// The words match no command: what is wrong with them, and the form of the command that the first
-// of them names.
+/// The words match no command: what is wrong with them, and the form of the command that the first
+/// of them names.
 fn explain_words(rt: &HostRuntime, words: &[Name]) -> io::Result<()> {
     let Some((command, given)) = words.split_first() else {
         return match env::args(rt) {
@@ -55,8 +55,8 @@ fn explain_words(rt: &HostRuntime, words: &[Name]) -> io::Result<()> {
     say(rt, &[b"where ", form.meaning.as_bytes()])
 }
 
-// Whether a file can be read again at once, as a pipe cannot: there a second reading would wait for
-// ever.
+/// Whether a file can be read again at once, as a pipe cannot: there a second reading would wait
+/// for ever.
 fn is_plain(rt: &HostRuntime, name: &[u8]) -> bool {
     let Ok(path) = str::from_utf8(name) else {
         return false;
@@ -67,7 +67,7 @@ fn is_plain(rt: &HostRuntime, name: &[u8]) -> bool {
     }
 }
 
-// The text of a refused file, where it can be read once more.
+/// The text of a refused file, where it can be read once more.
 fn text_of(rt: &HostRuntime, store: &mut DiskStore<HostRuntime>, name: &[u8]) -> Option<Vec<u8>>
     ensures { IfSome result (λ text. length text.items ≤ ROUTER_FILE_LIMIT) }
 {
@@ -78,7 +78,7 @@ fn text_of(rt: &HostRuntime, store: &mut DiskStore<HostRuntime>, name: &[u8]) ->
     read_all(rt.alloc(), store, &name, ROUTER_FILE_LIMIT).ok()
 }
 
-// The line that a refusal names, and the word that is wrong in it.
+/// The line that a refusal names, and the word that is wrong in it.
 fn explain_line(rt: &HostRuntime, told: Refused<'_>, text: &[u8]) -> io::Result<()>
     requires { length text.now ≤ ROUTER_FILE_LIMIT }
 {
@@ -102,7 +102,7 @@ fn explain_line(rt: &HostRuntime, told: Refused<'_>, text: &[u8]) -> io::Result<
     }
 }
 
-// A file is refused: why it is no document, or the line that the refusal names.
+/// A file is refused: why it is no document, or the line that the refusal names.
 fn explain_refusal(
     rt: &HostRuntime,
     words: &[Name],
@@ -126,7 +126,7 @@ fn explain_refusal(
     say(rt, &[b"arcv: ", told.name, b" ", fault.as_bytes()])
 }
 
-// A file could not be read or written: which one, and what the system said.
+/// A file could not be read or written: which one, and what the system said.
 fn explain_failure(rt: &HostRuntime, store: &DiskStore<HostRuntime>) -> io::Result<()> {
     let Some(failure) = store.failure() else {
         return say(rt, &[b"arcv: a file could not be read or written"]);

@@ -19,7 +19,7 @@ use run_inputs::{read_document, read_sources};
 use std::alloc::Global;
 use verify_commands::{check_lines, judgement_of};
 
-// Judges the certificate of a repair from the document, the router files and its own lines alone.
+/// Judges the certificate of a repair from the document, the router files and its own lines alone.
 fn check_certificate<S: Store>(
     alloc: Global,
     document: &Name,

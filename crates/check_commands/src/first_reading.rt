@@ -9,7 +9,7 @@ use arc_outside::{Pieces, Store};
 use run_files::{Stop, next_line};
 use std::alloc::Global;
 
-// Whether a line is the head of a repair's certificate.
+/// Whether a line is the head of a repair's certificate.
 fn is_head(line: &[u8]) -> bool
     ensures { result ≡ begins_repair (line.now ∷ []) }
 {

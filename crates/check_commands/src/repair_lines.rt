@@ -19,8 +19,8 @@ use run_files::{Stop, next_line};
 use std::alloc::Global;
 use std::ops::ControlFlow;
 
-// Judges the lines of a certificate one by one as those of a repair over the network, or refuses
-// its file or, for a count, the document. No more of it than a piece and a line is held.
+/// Judges the lines of a certificate one by one as those of a repair over the network, or refuses
+/// its file or, for a count, the document. No more of it than a piece and a line is held.
 fn judge_lines<S: Store>(
     alloc: Global,
     document: &Name,

@@ -13,7 +13,7 @@ use proof_check::Checker;
 use run_files::{FileRefusal, Reason, Stop, read_file, refused};
 use std::alloc::Global;
 
-// The refusal of the formula at a line.
+/// The refusal of the formula at a line.
 fn refused_at(alloc: Global, cnf: &Name, line: u32, reason: Reason) -> Stop
     ensures { (result ≡ Stop.Memory) ⊎
         (result ≡ Stop.Refused (record { name = cnf.now; number = line; reason = reason })) }
@@ -28,7 +28,7 @@ fn refused_at(alloc: Global, cnf: &Name, line: u32, reason: Reason) -> Stop
     }
 }
 
-// The refusal of a text that is no formula.
+/// The refusal of a text that is no formula.
 fn faulty(alloc: Global, cnf: &Name, fault: CnfFault) -> Stop
     ensures { (result ≡ Stop.Memory) ⊎
         IsSomeAnd (faulty cnf.now fault) (λ r. result ≡ Stop.Refused r) }

@@ -13,7 +13,7 @@ use proof_check::{Outcome, Rejection, fault_kind};
 use run_files::{Done, Judgement, Stop, told, try_file};
 use std::alloc::Global;
 
-// The kind of reason for which a line is rejected.
+/// The kind of reason for which a line is rejected.
 fn rejection_kind(rejection: Rejection) -> CertKind
     ensures { result ≡ rejection_kind rejection }
 {
@@ -24,7 +24,7 @@ fn rejection_kind(rejection: Rejection) -> CertKind
     }
 }
 
-// The judgement that an outcome is.
+/// The judgement that an outcome is.
 fn judgement_of(outcome: Outcome) -> Judgement
     ensures { result ≡ judgement_of outcome }
 {

@@ -11,7 +11,7 @@ use proof_check::{Checker, Outcome, Rejection, judge_line};
 use run_files::{Stop, next_line};
 use std::alloc::Global;
 
-// What is left to say after the last line.
+/// What is left to say after the last line.
 fn last_word(checker: &Checker, number: u64) -> Outcome
     ensures { result ≡ log_outcome (known checker.now) number [] }
 {

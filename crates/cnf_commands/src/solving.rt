@@ -22,7 +22,7 @@ use sat_search::{Found, core_of, search};
 use std::alloc::Global;
 use std::fmt::Write;
 
-// What a search over the formula finds, and the log of its clauses.
+/// What a search over the formula finds, and the log of its clauses.
 fn search_formula(alloc: Global, formula: &Formula, limit: u64) -> Result<(Found, Log), Memory>
     requires variables { HasItsVariables formula.now }
     requires few { formula.now.vars ≤ VARIABLE_LIMIT }
@@ -40,7 +40,7 @@ fn search_formula(alloc: Global, formula: &Formula, limit: u64) -> Result<(Found
     Ok((found, log))
 }
 
-// The text of a log. Want of memory stands for one that is longer than a proof may be.
+/// The text of a log. Want of memory stands for one that is longer than a proof may be.
 fn proof_text(alloc: Global, log: &Log) -> Result<Vec<u8>, Memory>
     ensures text { IfOk result (λ bytes. bytes.items ≡ log_text log.now) }
     ensures short { IfOk result (λ bytes. length bytes.items ≤ proof_limit) }
@@ -52,7 +52,7 @@ fn proof_text(alloc: Global, log: &Log) -> Result<Vec<u8>, Memory>
     Ok(bytes)
 }
 
-// Writes a variable that is true, or the negation of one that is false, and a space.
+/// Writes a variable that is true, or the negation of one that is false, and a space.
 fn push_value(text: &mut String, var: u64, value: bool) -> Result<(), Memory>
     ensures { OnOk result
         (string_bytes text.new ≡ string_bytes text.old ++ (value_text var value ++ 32 ∷ [])) }
@@ -65,7 +65,7 @@ fn push_value(text: &mut String, var: u64, value: bool) -> Result<(), Memory>
     written.map_err(|_| Memory)
 }
 
-// Writes the values of the variables in order.
+/// Writes the values of the variables in order.
 fn push_values(text: &mut String, values: &[bool]) -> Result<(), Memory>
     ensures { OnOk result
         (string_bytes text.new ≡ string_bytes text.old ++ values_text values.now) }
@@ -76,7 +76,7 @@ fn push_values(text: &mut String, values: &[bool]) -> Result<(), Memory>
     Ok(())
 }
 
-// The lines that tell an assignment.
+/// The lines that tell an assignment.
 fn model_text(alloc: Global, values: &[bool]) -> Result<Vec<u8>, Memory>
     ensures { IfOk result (λ text. text.items ≡ found_text (Found.Model values.now)) }
 {
@@ -86,7 +86,7 @@ fn model_text(alloc: Global, values: &[bool]) -> Result<Vec<u8>, Memory>
     Ok(text.into_bytes())
 }
 
-// The lines that tell what was found.
+/// The lines that tell what was found.
 fn found_text(alloc: Global, found: &Found) -> Result<Vec<u8>, Memory>
     ensures { IfOk result (λ text. text.items ≡ found_text found.now) }
 {
@@ -108,7 +108,7 @@ fn found_status(found: &Found) -> u8
     }
 }
 
-// The answer that tells what was found, and writes the log.
+/// The answer that tells what was found, and writes the log.
 fn answer(alloc: Global, proof: &Name, found: &Found, log: &Log) -> Result<Done, Memory>
     ensures text { IfOk result (λ done. done.text ≡ found_text found.now) }
     ensures writes { IfOk result (λ done. done.writes ≡ (proof.now, log_text log.now) ∷ []) }

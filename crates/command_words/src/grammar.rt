@@ -28,7 +28,7 @@ use arc_base::Memory;
 use clap::{Arg, Command};
 use std::alloc::Global;
 
-// A word that a command requires in its place.
+/// A word that a command requires in its place.
 fn positional<'a>(alloc: Global, id: &'a str) -> Arg<'a>
     ensures rule { rule_of result ≡ positional id.entry.now }
     ensures local { result.global ≡ false }
@@ -36,7 +36,7 @@ fn positional<'a>(alloc: Global, id: &'a str) -> Arg<'a>
     Arg::new(alloc, id).required(true)
 }
 
-// An option that takes one value.
+/// An option that takes one value.
 fn option<'a>(alloc: Global, name: &'a str) -> Arg<'a>
     ensures rule { rule_of result ≡ option name.entry.now }
     ensures local { result.global ≡ false }
@@ -44,7 +44,7 @@ fn option<'a>(alloc: Global, name: &'a str) -> Arg<'a>
     Arg::new(alloc, name).long(name)
 }
 
-// An option that takes one value and must stand.
+/// An option that takes one value and must stand.
 fn required_option<'a>(alloc: Global, name: &'a str) -> Arg<'a>
     ensures rule { rule_of result ≡ required_option name.entry.now }
     ensures local { result.global ≡ false }
@@ -52,14 +52,14 @@ fn required_option<'a>(alloc: Global, name: &'a str) -> Arg<'a>
     option(alloc, name).required(true)
 }
 
-// A command with no arguments yet.
+/// A command with no arguments yet.
 fn named<'a>(alloc: Global, name: &'a str) -> Command<'a>
     ensures { app_of result ≡ new_app name.entry.now }
 {
     Command::new(alloc, name)
 }
 
-// The command with one more argument, which holds for it alone.
+/// The command with one more argument, which holds for it alone.
 fn with<'a>(command: Command<'a>, arg: Arg<'a>) -> Result<Command<'a>, Memory>
     requires local { arg.global ≡ false }
     ensures { IfOk result (λ more.
@@ -68,7 +68,7 @@ fn with<'a>(command: Command<'a>, arg: Arg<'a>) -> Result<Command<'a>, Memory>
     Ok(command.arg(arg)?)
 }
 
-// The command with one more below it.
+/// The command with one more below it.
 fn above<'a>(command: Command<'a>, below: Command<'a>) -> Result<Command<'a>, Memory>
     requires plain { (app_of below).top.is_plain ≡ true }
     ensures { IfOk result (λ more.
@@ -175,7 +175,7 @@ fn recheck<'a>(alloc: Global) -> Result<Command<'a>, Memory>
     with(command, positional(alloc, "report"))
 }
 
-// `arcv` with no commands yet, of which one is required.
+/// `arcv` with no commands yet, of which one is required.
 fn bare<'a>(alloc: Global) -> Command<'a>
     ensures { app_of result ≡ bare }
 {
@@ -186,7 +186,7 @@ fn bare<'a>(alloc: Global) -> Command<'a>
         .subcommand_required(true)
 }
 
-// `arcv` with its first commands.
+/// `arcv` with its first commands.
 fn with_first<'a>(alloc: Global) -> Result<Command<'a>, Memory>
     ensures { IfOk result (λ command. app_of command ≡ with_first) }
 {
@@ -196,7 +196,7 @@ fn with_first<'a>(alloc: Global) -> Result<Command<'a>, Memory>
     above(arcv, check(alloc)?)
 }
 
-// And with those that follow.
+/// And with those that follow.
 fn with_middle<'a>(alloc: Global) -> Result<Command<'a>, Memory>
     ensures { IfOk result (λ command. app_of command ≡ with_middle) }
 {

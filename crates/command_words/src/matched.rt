@@ -29,7 +29,7 @@ use arc_base::{List, Memory, Name};
 use clap::ArgMatches;
 use std::alloc::Global;
 
-// The value of an argument.
+/// The value of an argument.
 fn value<'a>(found: &ArgMatches<'a>, id: &str) -> Option<&'a str>
     ensures { MatchOption result (first_of id.now (rows_of (found_of found.now)) ≡ None) (λ text.
         first_of id.now (rows_of (found_of found.now)) ≡ Some text.now) }
@@ -37,7 +37,7 @@ fn value<'a>(found: &ArgMatches<'a>, id: &str) -> Option<&'a str>
     found.get_str(id)
 }
 
-// How many conflicts a search may learn from.
+/// How many conflicts a search may learn from.
 fn conflicts_of(found: &ArgMatches<'_>) -> Option<u64>
     ensures { result ≡ conflicts_by (first_of (codes "conflicts") (rows_of (found_of found.now))) }
 {
@@ -254,7 +254,7 @@ fn recheck(alloc: Global, found: &ArgMatches<'_>) -> Result<Option<Command>, Mem
     Ok(Some(Command::Recheck(RecheckWords { document, report })))
 }
 
-// The command of this name, where it edits files or makes some, or judges beyond failed links.
+/// The command of this name, where it edits files or makes some, or judges beyond failed links.
 fn later(alloc: Global, name: &str, found: &ArgMatches<'_>) -> Result<Option<Command>, Memory>
     ensures { IfOk result (λ command.
         command ≡ matched_later name.now (rows_of (found_of found.now))) }
@@ -280,7 +280,7 @@ fn later(alloc: Global, name: &str, found: &ArgMatches<'_>) -> Result<Option<Com
     Ok(None)
 }
 
-// The command of this name.
+/// The command of this name.
 fn named(alloc: Global, name: &str, found: &ArgMatches<'_>) -> Result<Option<Command>, Memory>
     ensures { IfOk result (λ command.
         command ≡ matched_named name.now (rows_of (found_of found.now))) }

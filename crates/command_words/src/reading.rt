@@ -11,7 +11,7 @@ use arc_base::{Memory, Name};
 use clap::error::ErrorKind;
 use std::alloc::Global;
 
-// The words as texts, if each is one.
+/// The words as texts, if each is one.
 fn texts_of<'a>(alloc: Global, words: &'a [Name]) -> Result<Option<Vec<&'a str>>, Memory>
     ensures { IfOk result (λ texts. option_map (λ v. map (λ s. s.now) v.items) texts
         ≡ (if list_all is_utf8 words.entry.now then Some words.entry.now else None)) }

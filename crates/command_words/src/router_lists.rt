@@ -9,7 +9,7 @@ use arc_base::limits::ROUTER_LIMIT;
 use arc_base::{List, Memory, Name, cut_at, is_name, read_prefix};
 use std::alloc::Global;
 
-// The words that commas join.
+/// The words that commas join.
 fn comma_words(alloc: Global, text: &[u8]) -> Result<List<Name>, Memory>
     ensures { IfOk result (λ words. words ≡ comma_words text.now) }
 {
@@ -29,7 +29,7 @@ fn are_router_names(words: &[Name]) -> bool
     words.iter().all(|word| is_name(word.bytes()))
 }
 
-// The names of routers that commas join, at most `ROUTER_LIMIT`.
+/// The names of routers that commas join, at most `ROUTER_LIMIT`.
 fn router_names(alloc: Global, text: &[u8]) -> Result<Option<List<Name>>, Memory>
     ensures { IfOk result (λ names. names ≡ router_names text.now) }
 {

@@ -49,7 +49,7 @@ pub fn trace_of(
     })))
 }
 
-// A number of 1 to 10 digits in a range.
+/// A number of 1 to 10 digits in a range.
 fn number_within(word: &[u8], least: u64, most: u64) -> Option<u64>
     requires { most < 2 ^ 63 }
     ensures number { result ≡ number_within least most word.now }
@@ -63,7 +63,7 @@ fn number_within(word: &[u8], least: u64, most: u64) -> Option<u64>
     }
 }
 
-// The number of a link.
+/// The number of a link.
 fn link_number(word: &[u8]) -> Option<u32>
     ensures { result ≡ link_number word.now }
 {
@@ -106,7 +106,7 @@ pub fn price_bound(word: &[u8]) -> Option<u32>
     Some(number as u32)
 }
 
-// How many routers may fail.
+/// How many routers may fail.
 fn failed_routers(word: &[u8]) -> Option<u32>
     ensures { result ≡ failed_routers word.now }
 {
@@ -141,7 +141,7 @@ pub fn repair_of(
     })))
 }
 
-// How many routers a network that is made has.
+/// How many routers a network that is made has.
 fn router_count(word: &[u8]) -> Option<u32>
     ensures { result ≡ router_count word.now }
 {

@@ -11,8 +11,8 @@ use cases::CASES;
 use std::alloc::Global;
 use std::test::Fail;
 
-// A command: the files, the words, the text that is put, the status, how often the store is called,
-// and which files are written by the last of these calls.
+/// A command: the files, the words, the text that is put, the status, how often the store is
+/// called, and which files are written by the last of these calls.
 struct Case {
     files: &'static [(&'static str, &'static str)],
     words: &'static [&'static str],
@@ -22,7 +22,7 @@ struct Case {
     outputs: &'static [&'static str],
 }
 
-// The end of a run.
+/// The end of a run.
 #[derive(Drop)]
 struct Ended {
     store: MemStore,
@@ -57,7 +57,7 @@ fn failing(alloc: Global, call: u64) -> Result<List<u64>, Memory> {
     Ok(fail)
 }
 
-// The run of the case over a store and a sink.
+/// The run of the case over a store and a sink.
 fn run_case(
     alloc: Global,
     case: &Case,
@@ -72,14 +72,14 @@ fn run_case(
     Ok(Ended { store, out, code })
 }
 
-// The run in which the store's call of this number fails, if there is one.
+/// The run in which the store's call of this number fails, if there is one.
 fn ended_by_store(alloc: Global, case: &Case, call: u64) -> Result<Ended, Memory> {
     let store = MemStore::make(alloc, files(alloc, case)?, failing(alloc, call)?)?;
     run_case(alloc, case, store, MemSink::make(alloc, List::make(alloc)))
 }
 
-// The run over a sink that takes so many bytes a call, of which the call of this number fails, if
-// there is one.
+/// The run over a sink that takes so many bytes a call, of which the call of this number fails, if
+/// there is one.
 fn ended_by_sink(alloc: Global, case: &Case, step: u32, call: u64) -> Result<Ended, Memory>
     requires { 1 ≤ step }
 {
@@ -92,7 +92,7 @@ fn ended_by_sink(alloc: Global, case: &Case, step: u32, call: u64) -> Result<End
     )
 }
 
-// The run over a store that reads a few bytes a call, and a sink that takes one.
+/// The run over a store that reads a few bytes a call, and a sink that takes one.
 fn ended_in_steps(alloc: Global, case: &Case) -> Result<Ended, Memory> {
     let store = MemStore::short(alloc, files(alloc, case)?, 7, List::make(alloc))?;
     run_case(
@@ -103,7 +103,7 @@ fn ended_in_steps(alloc: Global, case: &Case) -> Result<Ended, Memory> {
     )
 }
 
-// Whether each file of the case is as it was.
+/// Whether each file of the case is as it was.
 fn keeps_files(alloc: Global, case: &Case, store: &MemStore) -> Result<bool, Memory> {
     for (name, text) in case.files {
         if store.bytes(&Name::make(alloc, name.as_bytes())?) != Some(text.as_bytes()) {
@@ -113,8 +113,8 @@ fn keeps_files(alloc: Global, case: &Case, store: &MemStore) -> Result<bool, Mem
     Ok(true)
 }
 
-// Whether of the files that the case writes the first ones stand, so many of them: whole, as after
-// the other run, except for the last of them, which holds its first half.
+/// Whether of the files that the case writes the first ones stand, so many of them: whole, as after
+/// the other run, except for the last of them, which holds its first half.
 fn holds_front(
     alloc: Global,
     case: &Case,
@@ -138,7 +138,7 @@ fn holds_front(
     Ok(true)
 }
 
-// Whether a run leaves the files as they were, and all that it writes as another run does.
+/// Whether a run leaves the files as they were, and all that it writes as another run does.
 fn is_whole(alloc: Global, case: &Case, it: &Ended, other: &Ended) -> Result<bool, Memory> {
     Ok(
         keeps_files(alloc, case, &it.store)?
@@ -146,15 +146,15 @@ fn is_whole(alloc: Global, case: &Case, it: &Ended, other: &Ended) -> Result<boo
     )
 }
 
-// Whether a run ends as the case says.
+/// Whether a run ends as the case says.
 fn is_answered(alloc: Global, case: &Case, it: &Ended) -> Result<bool, Memory> {
     let is_put = it.code == case.code && it.out.bytes() == case.text.as_bytes();
     Ok(is_put && keeps_files(alloc, case, &it.store)?)
 }
 
-// The first call of the store that fails and does not end the run as it has to: with status 6,
-// nothing put, and of the files that are written those before the failing one whole. After the last
-// call none is left to fail.
+/// The first call of the store that fails and does not end the run as it has to: with status 6,
+/// nothing put, and of the files that are written those before the failing one whole. After the
+/// last call none is left to fail.
 fn wrong_fault(alloc: Global, case: &Case, whole: &Ended) -> Result<Option<u64>, Memory> {
     let reads = case.calls.saturating_sub(case.outputs.len() as u64);
     for call in 1..1000 {
@@ -175,8 +175,8 @@ fn wrong_fault(alloc: Global, case: &Case, whole: &Ended) -> Result<Option<u64>,
     Ok(Some(1000))
 }
 
-// The first put of so many bytes that fails and does not end the run as it has to: with status 7,
-// the bytes before it put, and the files written. After the last put none is left to fail.
+/// The first put of so many bytes that fails and does not end the run as it has to: with status 7,
+/// the bytes before it put, and the files written. After the last put none is left to fail.
 fn wrong_put(alloc: Global, case: &Case, whole: &Ended, step: u32) -> Result<Option<u64>, Memory>
     requires { 1 ≤ step }
 {
@@ -209,7 +209,7 @@ fn each_store_call_fails_in_turn(rt: HostRuntime) -> Result<(), Fail> {
     Ok(())
 }
 
-// The first case is put byte by byte, so that its fifth put comes after the first four letters.
+/// The first case is put byte by byte, so that its fifth put comes after the first four letters.
 #[test]
 fn each_put_fails_in_turn(rt: HostRuntime) -> Result<(), Fail> {
     let alloc = rt.alloc();

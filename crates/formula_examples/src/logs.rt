@@ -7,7 +7,7 @@ use proof_log::{Log, step, text};
 use std::alloc::Global;
 use std::test::Fail;
 
-// The text of the one step that a line tells.
+/// The text of the one step that a line tells.
 fn written_again(alloc: Global, line: &[u8]) -> Result<Vec<u8>, Memory> {
     let mut steps = List::make(alloc);
     if let Ok(Some(step)) = step(alloc, line) {
@@ -16,8 +16,8 @@ fn written_again(alloc: Global, line: &[u8]) -> Result<Vec<u8>, Memory> {
     text(alloc, &Log { steps })
 }
 
-// A line, and what is written for it. The number of a line that drops clauses is that of the clause
-// that was added last, here of none.
+/// A line, and what is written for it. The number of a line that drops clauses is that of the
+/// clause that was added last, here of none.
 const LINES: &[(&str, &str)] = &[
     ("3  1 -20 0 2 -7 0\r", "3 1 -20 0 2 -7 0\n"),
     ("9223372036854775807 0 1 0", "9223372036854775807 0 1 0\n"),
@@ -42,7 +42,7 @@ fn steps_are_read_and_written(rt: HostRuntime) -> Result<(), Fail> {
     Ok(())
 }
 
-// How a proof that no value of the one variable fits 1 and -1 is judged.
+/// How a proof that no value of the one variable fits 1 and -1 is judged.
 fn judged(alloc: Global, proof: &[u8]) -> Result<String, Fail> {
     match formula(alloc, b"p cnf 1 2\n1 0\n-1 0\n") {
         Ok(formula) => Ok(format!(in alloc; "{:?}", check_log(alloc, &formula, proof))?),

@@ -4,7 +4,7 @@ use cnf_types::formula;
 use std::alloc::Global;
 use std::test::Fail;
 
-// What a text is read as.
+/// What a text is read as.
 fn said(alloc: Global, text: &[u8]) -> Result<String, Fail> {
     if text.len() > 1000 {
         return Err(Fail::from("a long text"));

@@ -21,7 +21,7 @@ use policy_report::{budget, certificate};
 use run_files::Done;
 use std::alloc::Global;
 
-// The certificate of an answer: the one that `repair` writes.
+/// The certificate of an answer: the one that `repair` writes.
 fn certificate_of(
     alloc: Global,
     net: &Network,
@@ -39,7 +39,7 @@ fn certificate_of(
     }
 }
 
-// The status of an answer.
+/// The status of an answer.
 fn status_of(answer: &Answer) -> u8
     ensures { result ≡ status_of answer.now }
 {
@@ -50,7 +50,7 @@ fn status_of(answer: &Answer) -> u8
     }
 }
 
-// The lines but the last one.
+/// The lines but the last one.
 fn summary(
     alloc: Global,
     words: &GenerateWords,

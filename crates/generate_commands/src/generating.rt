@@ -29,10 +29,10 @@ use net_model::{Document, Network};
 use run_files::{Done, Limits, Stop, refused};
 use std::alloc::Global;
 
-// What a refusal calls the document, which is no file.
+/// What a refusal calls the document, which is no file.
 const DOCUMENT: &[u8] = b"net.json";
 
-// The network of what was made, as a command that edits files builds it: nothing of it is refused.
+/// The network of what was made, as a command that edits files builds it: nothing of it is refused.
 fn build(alloc: Global, made: &Generated) -> Result<Built, Memory>
     requires generated { IsSomeGenerated made.now }
     requires count { length made.now.files ≡ length made.now.doc.routers }
@@ -52,7 +52,7 @@ fn build(alloc: Global, made: &Generated) -> Result<Built, Memory>
     }
 }
 
-// The edits of the network, and its cheapest repair.
+/// The edits of the network, and its cheapest repair.
 fn find_repair(
     alloc: Global,
     net: &Network,
@@ -64,12 +64,11 @@ fn find_repair(
     ensures fault { IfErr result (IsRepairFault net.now doc.now default_bound) }
 {
     let list = edits(alloc, net, doc)?;
-    let answer =
-        arc_repair::repair_of(alloc, net, doc, &list, DEFAULT_PRICE, DEFAULT_CONFLICTS)?;
+    let answer = arc_repair::repair_of(alloc, net, doc, &list, DEFAULT_PRICE, DEFAULT_CONFLICTS)?;
     Ok((list, answer))
 }
 
-// A count that passes its limit refuses the document.
+/// A count that passes its limit refuses the document.
 fn fault_stop(alloc: Global, fault: EditFault) -> Stop
     ensures { StopsFor document_name fault result }
 {

@@ -14,7 +14,7 @@ use net_model::Verdict;
 use policy_report::{push_count, push_word};
 use std::alloc::Global;
 
-// A word and a number.
+/// A word and a number.
 fn push_field(alloc: Global, text: &mut Vec<u8>, word: &[u8], count: u64) -> Result<(), Memory>
     ensures { OnOk result
         (text.new.items ≡ text.old.items ++ after_spaces (word.now ∷ decimal count ∷ [])) }
@@ -55,7 +55,7 @@ pub fn push_tally(
     Ok(())
 }
 
-// How many of the flags are set.
+/// How many of the flags are set.
 fn flags_set(flags: &[bool]) -> u64
     ensures { result ≡ flags_set flags.now }
 {
@@ -68,7 +68,7 @@ fn flags_set(flags: &[bool]) -> u64
     count
 }
 
-// A line with a price and a number of edits, which begins with this word.
+/// A line with a price and a number of edits, which begins with this word.
 fn push_cost(
     alloc: Global,
     text: &mut Vec<u8>,
@@ -86,7 +86,7 @@ fn push_cost(
     Ok(())
 }
 
-// The line of a repair.
+/// The line of a repair.
 fn push_repair(alloc: Global, text: &mut Vec<u8>, price: u32, chosen: &[bool]) -> Result<(), Memory>
     ensures { OnOk result
         (text.new.items ≡ text.old.items ++ repair_line price (flags_set chosen.now)) }
@@ -95,7 +95,7 @@ fn push_repair(alloc: Global, text: &mut Vec<u8>, price: u32, chosen: &[bool]) -
     push_cost(alloc, text, b"repair", u64::from(price), edits)
 }
 
-// The line of a repair, and how many policies have each verdict after it.
+/// The line of a repair, and how many policies have each verdict after it.
 fn push_after(
     alloc: Global,
     text: &mut Vec<u8>,

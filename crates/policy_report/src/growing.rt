@@ -11,7 +11,7 @@ use arc_base::{List, Memory};
 use net_model::{ClassSide, LinkPath, Network, Verdict};
 use std::alloc::Global;
 
-// One more side.
+/// One more side.
 fn with_side(left: u32, mut sides: List<ClassSide>, shown: ClassSide) -> Result<Block, Memory>
     ensures { IfOk result (λ block. block ≡ with_side left sides shown) }
 {
@@ -25,7 +25,7 @@ fn with_side(left: u32, mut sides: List<ClassSide>, shown: ClassSide) -> Result<
     Ok(Block::Open(Draft::Sides(left - 1, sides)))
 }
 
-// One more path.
+/// One more path.
 fn with_path(left: u32, mut paths: List<LinkPath>, path: LinkPath) -> Result<Block, Memory>
     ensures { IfOk result (λ block. block ≡ with_path left paths path) }
 {

@@ -32,7 +32,7 @@ pub struct Reader {
     stage: Stage,
 }
 
-// The number of the next line.
+/// The number of the next line.
 fn next_line(line: u64) -> u64
     ensures { result ≡ next_line line }
 {
@@ -43,7 +43,7 @@ fn next_line(line: u64) -> u64
     }
 }
 
-// Whether the block with this first line is that of the policy at this place.
+/// Whether the block with this first line is that of the policy at this place.
 fn is_of(policies: &[Policy], which: u64, heading: &Heading) -> bool
     ensures { result ≡ is_of policies.now which heading.now }
 {
@@ -55,7 +55,7 @@ fn is_of(policies: &[Policy], which: u64, heading: &Heading) -> bool
     }
 }
 
-// Whether a block that begins so is a yes.
+/// Whether a block that begins so is a yes.
 fn is_yes(block: &Block) -> bool
     ensures { result ≡ is_yes block.now }
 {
@@ -65,7 +65,7 @@ fn is_yes(block: &Block) -> bool
     }
 }
 
-// Whether the block may stand in the text.
+/// Whether the block may stand in the text.
 fn may_stand(text: Text, block: &Block) -> bool
     ensures { result ≡ may_stand text block.now }
 {
@@ -75,7 +75,7 @@ fn may_stand(text: Text, block: &Block) -> bool
     }
 }
 
-// Whether the first word of the line is `edit`.
+/// Whether the first word of the line is `edit`.
 fn is_edit(line: &[u8]) -> bool
     ensures { result ≡ is_edit (words line.now) }
 {
@@ -97,7 +97,7 @@ impl Reader {
         }
     }
 
-    // Rejects the line.
+    /// Rejects the line.
     fn fail(&mut self, kind: CertKind) -> Result<Got, CertFault>
         ensures { (standing self.new, result) ≡ fails self.old.line kind }
     {
@@ -109,7 +109,7 @@ impl Reader {
         Err(fault)
     }
 
-    // Takes the line, after which this may come.
+    /// Takes the line, after which this may come.
     fn go(&mut self, stage: Stage, got: Got) -> Result<Got, CertFault>
         ensures { (standing self.new, result) ≡ goes self.old.line stage got }
     {
@@ -117,7 +117,7 @@ impl Reader {
         Ok(got)
     }
 
-    // Goes on with the block of the policy at this place.
+    /// Goes on with the block of the policy at this place.
     fn go_on(&mut self, text: Text, which: u32, block: Block) -> Result<Got, CertFault>
         ensures { (standing self.new, result) ≡ goes_on self.old.line text which block }
     {
@@ -132,7 +132,7 @@ impl Reader {
         }
     }
 
-    // Reads the first line.
+    /// Reads the first line.
     fn read_head(&mut self, line: &[u8]) -> Result<Got, CertFault>
         ensures { (standing self.new, result) ≡ head self.old.line line.now }
     {
@@ -145,7 +145,7 @@ impl Reader {
         self.fail(CertKind::Form)
     }
 
-    // Goes on after the answer of a repair.
+    /// Goes on after the answer of a repair.
     fn go_answered(&mut self, answer: Option<Answer>) -> Result<Got, CertFault>
         ensures { (standing self.new, result) ≡ answered self.old.line answer }
     {
@@ -161,7 +161,7 @@ impl Reader {
         }
     }
 
-    // Reads the answer of a repair.
+    /// Reads the answer of a repair.
     fn read_answer(&mut self, line: &[u8]) -> Result<Got, CertFault>
         ensures { IsRead (answered self.old.line (answer_of (line_words line.now))) self.old.line
             (standing self.new) result }
@@ -172,7 +172,7 @@ impl Reader {
         }
     }
 
-    // Goes on after the line of an edit.
+    /// Goes on after the line of an edit.
     fn go_edited(&mut self, place: Option<u32>) -> Result<Got, CertFault>
         requires { IfSome place (λ at. at < 4294967295) }
         ensures { (standing self.new, result) ≡ edited self.old.line place }
@@ -183,7 +183,7 @@ impl Reader {
         }
     }
 
-    // Reads a line after the answer that there is a repair.
+    /// Reads a line after the answer that there is a repair.
     fn read_edits(
         &mut self,
         net: &Network,
@@ -204,7 +204,7 @@ impl Reader {
         }
     }
 
-    // Reads the line `end` between two blocks.
+    /// Reads the line `end` between two blocks.
     fn read_end(&mut self, text: Text, are_all_read: bool) -> Result<Got, CertFault>
         ensures { (standing self.new, result) ≡ (if are_all_read then closed self.old.line text
             else fails self.old.line CertKind.Policy) }
@@ -218,7 +218,7 @@ impl Reader {
         }
     }
 
-    // Reads the line `log` between two blocks.
+    /// Reads the line `log` between two blocks.
     fn read_log(&mut self, text: Text, are_all_read: bool) -> Result<Got, CertFault>
         ensures { (standing self.new, result) ≡ (if are_all_read then logs self.old.line text
             else fails self.old.line CertKind.Policy) }
@@ -232,7 +232,7 @@ impl Reader {
         }
     }
 
-    // Reads a line between two blocks.
+    /// Reads a line between two blocks.
     fn read_between(
         &mut self,
         doc: &Document,
@@ -266,7 +266,7 @@ impl Reader {
         self.go_on(text, which as u32, heading.block)
     }
 
-    // Reads a line of a block.
+    /// Reads a line of a block.
     fn read_within(
         &mut self,
         net: &Network,
@@ -285,7 +285,7 @@ impl Reader {
         }
     }
 
-    // Reads the line after the answer that there is no repair.
+    /// Reads the line after the answer that there is no repair.
     fn read_logging(&mut self, line: &[u8]) -> Result<Got, CertFault>
         ensures { (standing self.new, result) ≡ logging self.old.line line.now }
     {
@@ -295,7 +295,7 @@ impl Reader {
         self.fail(CertKind::Form)
     }
 
-    // Reads a line of the proof log, or the end.
+    /// Reads a line of the proof log, or the end.
     #[tactic(auto, unfolding(proof_log::specs::Reading::reading))]
     fn read_proving(&mut self, line: &[u8]) -> Result<Got, CertFault>
         ensures { IsRead (proving self.old.line line.now) self.old.line (standing self.new) result }

@@ -11,8 +11,8 @@ use rows::{
 use std::alloc::Global;
 use std::test::Fail;
 
-// What the first line of a text says in a block of this kind. No line of the tests is indented, so
-// that each may stand alone.
+/// What the first line of a text says in a block of this kind. No line of the tests is indented, so
+/// that each may stand alone.
 fn said(alloc: Global, text: &[u8], within: BlockKind) -> Result<Command, WordFault> {
     if text.len() > 1000 {
         return Err(WordFault::Memory);
@@ -26,7 +26,7 @@ fn said(alloc: Global, text: &[u8], within: BlockKind) -> Result<Command, WordFa
     }
 }
 
-// The services of the entry that a line of an extended list says, or its faulty word.
+/// The services of the entry that a line of an extended list says, or its faulty word.
 fn services(alloc: Global, text: &[u8]) -> (u32, u32) {
     match said(alloc, text, BlockKind::Extended) {
         Ok(Command::Entry(_, entry)) => (entry.low, entry.high),
@@ -35,14 +35,14 @@ fn services(alloc: Global, text: &[u8]) -> (u32, u32) {
     }
 }
 
-// Whether the line of a row says what stands behind the arrow.
+/// Whether the line of a row says what stands behind the arrow.
 fn is_said(alloc: Global, within: BlockKind, row: &str) -> Result<bool, Fail> {
     let (text, want) = row.split_once(" => ").ok_or("an arrow")?;
     let found = format!(in alloc; "{:?}", said(alloc, text.as_bytes(), within))?;
     Ok(found.as_str() == want)
 }
 
-// Whether the entry of a row's line has the services that stand behind the arrow.
+/// Whether the entry of a row's line has the services that stand behind the arrow.
 fn has_services(alloc: Global, row: &str) -> Result<bool, Fail> {
     let (text, want) = row.split_once(" => ").ok_or("an arrow")?;
     let found = format!(in alloc; "{:?}", services(alloc, text.as_bytes()))?;

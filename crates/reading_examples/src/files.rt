@@ -27,7 +27,7 @@ const BGP_1: &str =
 const BGP_2: &str =
     "router bgp 65002\n neighbor 10.0.1.1 remote-as 65001\n network 10.2.0.0 mask 255.255.255.0\n";
 
-// The second router's end of the link has the list 101.
+/// The second router's end of the link has the list 101.
 const BOUND: &str = " ip access-group 101 in\n";
 
 fn joined(alloc: Global, parts: &[&str]) -> Result<Name, Memory>
@@ -54,7 +54,7 @@ fn built(alloc: Global, first: &[&str], second: &[&str]) -> Result<Built, NetFau
     network(alloc, &doc, &files)
 }
 
-// The sessions, the links and the route lists of a network, or its first refusal.
+/// The sessions, the links and the route lists of a network, or its first refusal.
 fn said(alloc: Global, first: &[&str], second: &[&str]) -> Result<String, Memory> {
     let text = match built(alloc, first, second) {
         Ok(it) => format!(in alloc;
@@ -66,7 +66,7 @@ fn said(alloc: Global, first: &[&str], second: &[&str]) -> Result<String, Memory
     Ok(text)
 }
 
-// The parts of the two router files, and what comes of them.
+/// The parts of the two router files, and what comes of them.
 type Files = (
     &'static [&'static str],
     &'static [&'static str],

@@ -4,8 +4,8 @@ use ios_lines::{Line, cut};
 use std::alloc::Global;
 use std::test::Fail;
 
-// The number of a line's block, whether it heads it, whether it is inert, the bytes of its text and
-// of its end, and its words.
+/// The number of a line's block, whether it heads it, whether it is inert, the bytes of its text
+/// and of its end, and its words.
 type Marks = (u32, bool, bool, (u32, u32), u8, u32);
 
 fn marks(line: &Line) -> Marks {
@@ -20,7 +20,7 @@ fn marks(line: &Line) -> Marks {
     )
 }
 
-// The marks of each line, or the first fault.
+/// The marks of each line, or the first fault.
 fn said(alloc: Global, text: &[u8]) -> Result<String, Fail> {
     if text.len() > 1000 {
         return Err(Fail::from("a long text"));

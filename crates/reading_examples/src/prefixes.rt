@@ -4,7 +4,7 @@ use arc_base::{List, Memory, Name, push_prefix, read_prefix};
 use std::alloc::Global;
 use std::test::Fail;
 
-// The text of a prefix as it is written again, if it is one.
+/// The text of a prefix as it is written again, if it is one.
 fn written_again(alloc: Global, text: &[u8]) -> Result<Option<List<u8>>, Memory> {
     match read_prefix(text) {
         Some(prefix) => {
@@ -16,14 +16,14 @@ fn written_again(alloc: Global, text: &[u8]) -> Result<Option<List<u8>>, Memory>
     }
 }
 
-// Whether a name and a list hold what was put into them.
+/// Whether a name and a list hold what was put into them.
 fn is_held(alloc: Global) -> Result<bool, Memory> {
     let mut list = List::make(alloc);
     list.push(Name::make(alloc, b"r1")?)?;
     Ok(list.get(0).is_some_and(|name| name.is(b"r1")))
 }
 
-// A bit past the length and a leading zero are refused.
+/// A bit past the length and a leading zero are refused.
 #[test]
 fn prefixes_are_read_and_written(rt: HostRuntime) -> Result<(), Fail> {
     assert!(rt; is_held(rt.alloc())?);

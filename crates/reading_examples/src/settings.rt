@@ -5,7 +5,7 @@ use ios_lines::cut;
 use std::alloc::Global;
 use std::test::Fail;
 
-// What a file sets, or its first refusal. Want of memory stands for lines that can't be cut.
+/// What a file sets, or its first refusal. Want of memory stands for lines that can't be cut.
 fn read(alloc: Global, text: &[u8]) -> Result<Config, ConfigFault> {
     if text.len() > 1000 {
         return Err(ConfigFault::Memory);

@@ -4,7 +4,7 @@ ghost use Rattle.policy_report.specs.Edits.{HasAddresses};
 
 use net_model::Network;
 
-// An address has 32 bits.
+/// An address has 32 bits.
 fn has_32_bits(address: u32)
     ensures { address < 2 ^ 32 }
 {

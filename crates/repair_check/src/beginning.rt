@@ -29,7 +29,7 @@ pub(crate) fn rejected(number: u64, kind: CertKind) -> Next
     Next::Done(Outcome::Rejected(CertFault { line: number, kind }))
 }
 
-// A checker before the first step of a log, for the repair formula of the bound.
+/// A checker before the first step of a log, for the repair formula of the bound.
 fn ready(
     alloc: Global,
     net: &Network,
@@ -49,21 +49,21 @@ fn ready(
     Ok(checker)
 }
 
-// A flag for each of the edits, which chooses none.
+/// A flag for each of the edits, which chooses none.
 fn unchosen(alloc: Global, edits: &[Edit]) -> Result<Vec<bool>, Memory>
     ensures { IfOk result (λ flags. flags.items ≡ none_of edits.now) }
 {
     Ok(edits.iter().map(|_| false).collect(alloc)?)
 }
 
-// The least bound of the log of a repair: one less than its price.
+/// The least bound of the log of a repair: one less than its price.
 fn least_below(price: u32) -> Option<u32>
     ensures { result ≡ least_below price }
 {
     price.checked_sub(1)
 }
 
-// What is judged after the answer that there is a repair.
+/// What is judged after the answer that there is a repair.
 fn begin_repair(
     alloc: Global,
     net: &Network,
@@ -93,7 +93,7 @@ fn begin_repair(
     })))
 }
 
-// What is judged after the answer that there is no repair.
+/// What is judged after the answer that there is no repair.
 fn begin_none(
     alloc: Global,
     net: &Network,

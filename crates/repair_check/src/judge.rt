@@ -26,7 +26,7 @@ fn rejected(number: u64, kind: CertKind) -> Outcome
     Outcome::Rejected(CertFault { line: number, kind })
 }
 
-// Judges a line, which has this number.
+/// Judges a line, which has this number.
 fn judge_line(
     alloc: Global,
     net: &Network,
@@ -53,7 +53,7 @@ fn judge_line(
     }
 }
 
-// The outcome where the text ends before a line of this number.
+/// The outcome where the text ends before a line of this number.
 fn judge_end(
     alloc: Global,
     net: &Network,
@@ -76,7 +76,7 @@ fn judge_end(
     }
 }
 
-// What a reader answers to the next line, except for want of memory.
+/// What a reader answers to the next line, except for want of memory.
 fn read_line(
     reader: &mut Reader,
     net: &Network,

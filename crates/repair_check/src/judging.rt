@@ -15,14 +15,14 @@ use proof_log::Step;
 use report_check::{Outcome, is_right_at};
 use std::alloc::Global;
 
-// Whether a line is rejected as that of an edit.
+/// Whether a line is rejected as that of an edit.
 fn is_edit_kind(kind: CertKind) -> bool
     ensures { result ≡ is_edit_kind kind }
 {
     matches!(kind, CertKind::Edit)
 }
 
-// Judges a step of the log.
+/// Judges a step of the log.
 fn judge_step(needs: bool, checker: Checker, number: u64, step: &Step) -> Result<Next, Memory>
     ensures { IfOk result (λ next. (net : Network) (doc : Document) (list : Items Edit) →
         LeadsTo net doc list (Phase.Log needs checker) number (Ok (Got.Step step.now)) next) }
@@ -77,7 +77,7 @@ pub(crate) fn judge_ready(checker: Checker, number: u64, told: Result<Got, CertF
     }
 }
 
-// Judges a line that goes on: one of a block, or that before the log.
+/// Judges a line that goes on: one of a block, or that before the log.
 fn go_on(doc: &Document, blocks: Blocks, number: u64) -> Next
     requires { IsJudgeable doc.now blocks.now }
     ensures { (net : Network) (list : Items Edit) →
@@ -90,7 +90,7 @@ fn go_on(doc: &Document, blocks: Blocks, number: u64) -> Next
     }
 }
 
-// Judges the verdict on the policy at this place.
+/// Judges the verdict on the policy at this place.
 fn judge_verdict(doc: &Document, blocks: Blocks, number: u64, which: u32, verdict: &Verdict) -> Next
     requires judgeable { IsJudgeable doc.now blocks.now }
     requires number { number < 18446744073709551615 }
@@ -130,7 +130,7 @@ pub(crate) fn judge_block(
     }
 }
 
-// The flag of the edit at this place is set.
+/// The flag of the edit at this place is set.
 fn choose(chosen: Vec<bool>, place: u32) -> Vec<bool>
     ensures { result.items ≡ set chosen.items place true }
 {
@@ -141,7 +141,7 @@ fn choose(chosen: Vec<bool>, place: u32) -> Vec<bool>
     flags
 }
 
-// Judges a line that is none of the edits: they have ended before it.
+/// Judges a line that is none of the edits: they have ended before it.
 fn judge_after_edits(
     alloc: Global,
     net: &Network,

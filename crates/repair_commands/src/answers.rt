@@ -24,8 +24,8 @@ use run_files::Done;
 use run_inputs::Sources;
 use std::alloc::Global;
 
-// The answer that tells these lines and writes these files, and then the certificate. Want of
-// memory stands for a certificate that is longer than one may be.
+/// The answer that tells these lines and writes these files, and then the certificate. Want of
+/// memory stands for a certificate that is longer than one may be.
 fn done_with(
     alloc: Global,
     words: &RepairWords,
@@ -52,7 +52,7 @@ fn done_with(
     })
 }
 
-// A word, a number and the end of a line.
+/// A word, a number and the end of a line.
 fn number_line(alloc: Global, word: &[u8], number: u64) -> Result<Vec<u8>, Memory>
     ensures { IfOk result (λ text. text.items ≡ word.now ++ decimal number ++ codes "\n") }
 {
@@ -63,7 +63,7 @@ fn number_line(alloc: Global, word: &[u8], number: u64) -> Result<Vec<u8>, Memor
     Ok(text)
 }
 
-// The first lines of a repair: its price, and its edits.
+/// The first lines of a repair: its price, and its edits.
 fn repair_lines(
     alloc: Global,
     net: &Network,
@@ -80,7 +80,7 @@ fn repair_lines(
     Ok(text)
 }
 
-// A repair of this price by the chosen edits, with its certificate.
+/// A repair of this price by the chosen edits, with its certificate.
 fn repair_done(
     alloc: Global,
     words: &RepairWords,
@@ -107,7 +107,7 @@ fn repair_done(
     done_with(alloc, words, told, changed, certificate, 0)
 }
 
-// A claim, with its certificate.
+/// A claim, with its certificate.
 fn claim_done(
     alloc: Global,
     words: &RepairWords,
@@ -149,7 +149,7 @@ fn claim_done(
     }
 }
 
-// What was used up, and what is written of it.
+/// What was used up, and what is written of it.
 fn budget_done(alloc: Global, words: &RepairWords, log: &Log) -> Result<Done, Memory>
     ensures { IfOk result
         (Writes words.now (codes "budget " ++ decimal words.now.conflicts ++ codes "\n") []

@@ -22,7 +22,7 @@ use run_files::{Done, Limits, Stop, refused};
 use run_inputs::{read_document, read_sources};
 use std::alloc::Global;
 
-// Whether an output has the name of a file that is read, or of another output.
+/// Whether an output has the name of a file that is read, or of another output.
 fn has_clash(alloc: Global, words: &RepairWords, doc: &Document) -> Result<bool, Memory>
     ensures { IfOk result (λ clash. clash ≡ has_clash words.now doc.now) }
 {
@@ -43,7 +43,7 @@ pub fn fault_stop(alloc: Global, document: &Name, fault: EditFault) -> Stop
     }
 }
 
-// The edits of the network, and its cheapest repair within the words' bound.
+/// The edits of the network, and its cheapest repair within the words' bound.
 fn find_repair(
     alloc: Global,
     words: &RepairWords,

@@ -91,9 +91,9 @@ fn accepted(price: Option<u32>, without_log: bool) -> Option<Outcome> {
     })
 }
 
-// Packets from r1's users are to be blocked: a list at one interface is enough, or a session that
-// is turned. Without an edit they are delivered; that no edit is too few has to be shown, and that
-// a network which is met needs none does not.
+/// Packets from r1's users are to be blocked: a list at one interface is enough, or a session that
+/// is turned. Without an edit they are delivered; that no edit is too few has to be shown, and that
+/// a network which is met needs none does not.
 #[test]
 fn the_cheapest_repair_is_accepted(rt: HostRuntime) -> Result<(), Fail> {
     let alloc = rt.alloc();

@@ -29,7 +29,7 @@ fn outcome_of(alloc: Global, text: &str) -> Result<Outcome, Fail> {
     Ok(outcome)
 }
 
-// They are delivered over the link; no packet comes back over it.
+/// They are delivered over the link; no packet comes back over it.
 #[test]
 fn a_report_is_judged(rt: HostRuntime) -> Result<(), Fail> {
     let alloc = rt.alloc();

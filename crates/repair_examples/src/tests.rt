@@ -79,7 +79,7 @@ fn counts(encoded: &Encoded) -> Counts {
     )
 }
 
-// The sessions of both ends of the link, and a new inbound list at each of the four interfaces.
+/// The sessions of both ends of the link, and a new inbound list at each of the four interfaces.
 #[test]
 fn edits_under_ospf(rt: HostRuntime) -> Result<(), Fail> {
     let alloc = rt.alloc();
@@ -96,7 +96,7 @@ edit packet r2 interface GigabitEthernet0/1 10.1.0.0/24 10.2.0.0/24
     Ok(())
 }
 
-// Under eBGP each session may also get a new route list for the one destination.
+/// Under eBGP each session may also get a new route list for the one destination.
 #[test]
 fn edits_under_bgp(rt: HostRuntime) -> Result<(), Fail> {
     let alloc = rt.alloc();
@@ -124,8 +124,8 @@ fn formula_of(alloc: Global, kind: &str) -> Result<(String, Counts), Fail> {
     Ok((lines, counts(&encoded)))
 }
 
-// Variables 1 to 6 are the edits; 7 and 8 tell which routers the packets are kept on, and 9 to 14
-// the price up to each edit.
+/// Variables 1 to 6 are the edits; 7 and 8 tell which routers the packets are kept on, and 9 to 14
+/// the price up to each edit.
 #[test]
 fn the_formula_of_a_blocked_policy(rt: HostRuntime) -> Result<(), Fail> {
     let (lines, counts) = formula_of(rt.alloc(), BLOCKED)?;
@@ -136,7 +136,7 @@ fn the_formula_of_a_blocked_policy(rt: HostRuntime) -> Result<(), Fail> {
     Ok(())
 }
 
-// With the bound 0 there is one variable for the price up to each edit.
+/// With the bound 0 there is one variable for the price up to each edit.
 #[test]
 fn the_formulas_of_other_policies(rt: HostRuntime) -> Result<(), Fail> {
     let alloc = rt.alloc();

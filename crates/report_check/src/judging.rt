@@ -36,7 +36,7 @@ pub(crate) enum Next {
     Done(Outcome),
 }
 
-// What comes after a line, with this number, that belongs to a repair.
+/// What comes after a line, with this number, that belongs to a repair.
 fn no_report(number: u64) -> Next
     ensures { result
         ≡ Next.Done (Outcome.Rejected (record { line = number; kind = CertKind.Form })) }

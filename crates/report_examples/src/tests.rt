@@ -55,8 +55,8 @@ fn network(alloc: Global) -> Result<Network, Memory> {
     })
 }
 
-// Edits at the interface and of the packet list: of the session, of all packets of a class, and of
-// those of TCP's port 80.
+/// Edits at the interface and of the packet list: of the session, of all packets of a class, and of
+/// those of TCP's port 80.
 fn edits(alloc: Global) -> Result<Option<List<Edit>>, Memory> {
     let class = |service| match (Prefix::new(0x0a01_0000, 24), Prefix::new(0x0a02_0000, 24)) {
         (Some(from), Some(to)) => Some(Class { from, to, service }),
@@ -76,21 +76,21 @@ fn edits(alloc: Global) -> Result<Option<List<Edit>>, Memory> {
     Ok(Some(List::of(edits)?))
 }
 
-// The texts of the edits.
+/// The texts of the edits.
 const TEXTS: &str = "edit session r1 Ethernet0
 edit packet r1 interface Ethernet0 10.1.0.0/24 10.2.0.0/24
 edit packet r1 interface Ethernet0 10.1.0.0/24 10.2.0.0/24 service:6.80-6.80
 edit packet r1 list F 10.1.0.0/24 10.2.0.0/24
 edit packet r1 list F 10.1.0.0/24 10.2.0.0/24 service:6.80-6.80";
 
-// Texts of none of them.
+/// Texts of none of them.
 const OTHERS: &str = "edit session r1  Ethernet0
 edit packet r1 interface Ethernet0 10.1.0.0/24 10.2.0.0/24 service:0.0-255.65535
 edit packet r1 interface Ethernet0 10.1.0.0/24 10.2.0.0/24 service:6.80
 edit packet r1 list F 10.1.0.0/24 10.2.0.0/24 service:6.80-6.81
 edit packet r1 list F service:6.80-6.80 10.1.0.0/24 10.2.0.0/24";
 
-// Whether the edit at this place, and no other, is written and read as this text.
+/// Whether the edit at this place, and no other, is written and read as this text.
 fn has_text(
     alloc: Global,
     net: &Network,
@@ -123,7 +123,7 @@ fn an_edit_has_a_text(rt: HostRuntime) -> Result<(), Fail> {
     Ok(())
 }
 
-// A log of one step.
+/// A log of one step.
 fn one_step(alloc: Global) -> Result<Log, Memory> {
     let step = Step::Add {
         id: 16,
@@ -135,7 +135,7 @@ fn one_step(alloc: Global) -> Result<Log, Memory> {
     })
 }
 
-// The certificate that there is no repair.
+/// The certificate that there is no repair.
 fn none(alloc: Global) -> Result<Vec<u8>, Memory> {
     let doc = Document {
         routers: List::make(alloc),

@@ -15,7 +15,7 @@ pub enum Judgement {
     Rejected(u64, CertKind),
 }
 
-// The line that tells which line is rejected, and why.
+/// The line that tells which line is rejected, and why.
 fn rejected_text(alloc: Global, line: u64, kind: CertKind) -> Result<Vec<u8>, AllocError>
     ensures { IfOk result (λ text. text.items ≡ judgement_text (Judgement.Rejected line kind)) }
 {
@@ -28,7 +28,7 @@ fn rejected_text(alloc: Global, line: u64, kind: CertKind) -> Result<Vec<u8>, Al
     Ok(text)
 }
 
-// The line that tells a judgement.
+/// The line that tells a judgement.
 fn judgement_text(alloc: Global, judgement: Judgement) -> Result<Vec<u8>, AllocError>
     ensures { IfOk result (λ text. text.items ≡ judgement_text judgement) }
 {

@@ -33,7 +33,7 @@ pub struct Sources {
     pub built: Built,
 }
 
-// The name of a file by its number, and no bytes where there is no such file.
+/// The name of a file by its number, and no bytes where there is no such file.
 fn name_of<'a>(document: &'a Name, routers: &'a List<Name>, file: u32) -> &'a [u8]
     ensures { result.now ≡ name_of document.now routers.now file }
 {
@@ -46,7 +46,7 @@ fn name_of<'a>(document: &'a Name, routers: &'a List<Name>, file: u32) -> &'a [u
     }
 }
 
-// The refusal, with the name of its file.
+/// The refusal, with the name of its file.
 fn named(alloc: Global, document: &Name, routers: &List<Name>, refusal: Refusal) -> Stop
     ensures { (result ≡ Stop.Memory) ⊎
         (result ≡ Stop.Refused (named document.now routers.now refusal)) }

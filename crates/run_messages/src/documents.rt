@@ -9,7 +9,7 @@ const USUAL_CAUSES: &str = "a member that is unknown, missing or of another kind
     a prefix with bits past its length; failures missing where kind is reach, or standing \
     elsewhere; proto or port in version 1";
 
-// Whether a document with these links and policies alone is none.
+/// Whether a document with these links and policies alone is none.
 fn is_out_of_form(
     alloc: Global,
     version: &str,
@@ -24,7 +24,7 @@ fn is_out_of_form(
     }
 }
 
-// The number of the first link or policy that makes a document none, whatever the others are.
+/// The number of the first link or policy that makes a document none, whatever the others are.
 fn wrong_item(
     alloc: Global,
     version: &str,
@@ -47,8 +47,8 @@ fn wrong_item(
     Ok(None)
 }
 
-// The part that makes a JSON value no document, where it can be told: `document` itself judges each
-// link and policy by itself.
+/// The part that makes a JSON value no document, where it can be told: `document` itself judges
+/// each link and policy by itself.
 fn wrong_part(alloc: Global, value: &Value) -> Result<Option<String>, AllocError> {
     let version = match value.get("version") {
         Some(version) => version.to_string(alloc)?,
@@ -66,8 +66,8 @@ fn wrong_part(alloc: Global, value: &Value) -> Result<Option<String>, AllocError
     }
 }
 
-// What is to be said of a text that is no JSON. The place is where reading stopped, which is the
-// word that is wrong or the one behind it.
+/// What is to be said of a text that is no JSON. The place is where reading stopped, which is the
+/// word that is wrong or the one behind it.
 fn json_fault(alloc: Global, error: &Error) -> Result<String, AllocError> {
     if error.is_memory() {
         return Err(AllocError);

@@ -24,7 +24,7 @@ pub enum WrongWord<'a> {
     Missing,
 }
 
-// The kind of block that a line stands in.
+/// The kind of block that a line stands in.
 fn block_of(alloc: Global, text: &[u8], lines: &Lines, line: &Line) -> BlockKind
     requires { AreLinesOf text.now lines.now }
 {
@@ -40,8 +40,8 @@ fn block_of(alloc: Global, text: &[u8], lines: &Lines, line: &Line) -> BlockKind
     }
 }
 
-// The place of the word that is wrong in the line of this number, from 1, with the words of the
-// line.
+/// The place of the word that is wrong in the line of this number, from 1, with the words of the
+/// line.
 fn wrong_place<'a>(
     alloc: Global,
     text: &[u8],

@@ -9,7 +9,7 @@ pub struct Refused<'a> {
     pub kind: &'a [u8],
 }
 
-// The bytes before the last space and those behind it.
+/// The bytes before the last space and those behind it.
 fn split_last(text: &[u8]) -> Option<(&[u8], &[u8])> {
     let at = text.iter().rposition(|byte| *byte == b' ')?;
     let (front, back) = text.split_at(at);

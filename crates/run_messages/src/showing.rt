@@ -1,7 +1,7 @@
 //! Bytes of files as they may be shown.
 use std::alloc::{AllocError, Global};
 
-// How many bytes of a line are shown: a few rows of a terminal.
+/// How many bytes of a line are shown: a few rows of a terminal.
 const SHOWN: usize = 300;
 
 /// The front of a line, as much as is shown: a file whose line feeds were lost is one line.

@@ -4,8 +4,8 @@ ghost use Rattle.std.specs.Prelude.{◌≡◌, ◌<◌, ◌≤◌, length, IfOk}
 use arc_outside::{Fault, Sink};
 use std::alloc::Global;
 
-// How much is kept: the line of a refusal, of which a name has at most `FILE_NAME_LIMIT` bytes,
-// fits in.
+/// How much is kept: the line of a refusal, of which a name has at most `FILE_NAME_LIMIT` bytes,
+/// fits in.
 const KEPT: usize = 4096;
 
 /// A sink that puts all into another one, and keeps the front of it for messages, as far as there

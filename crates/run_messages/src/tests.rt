@@ -42,7 +42,7 @@ fn refusals_are_taken_apart(rt: HostRuntime) -> Result<(), Fail> {
     Ok(())
 }
 
-// Command lines, and what is said of them; where nothing is, that the form is all that is printed.
+/// Command lines, and what is said of them; where nothing is, that the form is all that is printed.
 const COMMAND_LINES: &[(&str, &str)] = &[
     ("verify", "verify DOC"),
     ("nodes d --help", "nodes DOC FROM TO K"),
@@ -130,7 +130,7 @@ const COMMAND_LINES: &[(&str, &str)] = &[
     ("ver d", "none"),
 ];
 
-// What is said of the words of a command line.
+/// What is said of the words of a command line.
 fn said_of_words(alloc: Global, line: &str) -> Result<String, Fail> {
     let mut words = Vec::new(alloc);
     for word in line.split(' ') {
@@ -156,7 +156,7 @@ fn wrong_words_are_named(rt: HostRuntime) -> Result<(), Fail> {
     Ok(())
 }
 
-// Texts that are no documents, and what is said of them first.
+/// Texts that are no documents, and what is said of them first.
 const TEXTS: &[(&str, &str)] = &[
     (
         "{\n \"version\": 1,\n}\n",

@@ -9,13 +9,13 @@ use arc_base::{is_name, read_address, read_number, read_prefix};
 use std::alloc::Global;
 use std::net::Ipv4Addr;
 
-// How many digits a number may have.
+/// How many digits a number may have.
 const DIGITS: usize = 10;
 
-// The highest number of a link.
+/// The highest number of a link.
 const LAST_LINK: u64 = 4_294_967_295;
 
-// Whether a word is a number of so many digits in this range.
+/// Whether a word is a number of so many digits in this range.
 fn is_number_within(word: &str, least: u64, most: u64) -> bool {
     let is_of_digits = word.len() <= DIGITS && word.bytes().all(|byte| byte.is_ascii_digit());
     match word.parse::<u64>() {
@@ -54,7 +54,7 @@ fn check_routers(alloc: Global, word: &str) -> Result<(), Stop> {
     Err(Stop::at_word(alloc, word, why))
 }
 
-// The network of an address and a length, where a word is both.
+/// The network of an address and a length, where a word is both.
 fn network_of(word: &str) -> Option<(Ipv4Addr, u64)> {
     let (address, length) = word.split_once('/')?;
     let bits = read_address(address.as_bytes())?;

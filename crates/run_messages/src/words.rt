@@ -7,7 +7,7 @@ use arc_base::Name;
 use std::alloc::Global;
 use std::str;
 
-// What the words that follow a command's name give it, as far as they are read.
+/// What the words that follow a command's name give it, as far as they are read.
 #[derive(Drop)]
 struct Given<'a> {
     alloc: Global,
@@ -47,7 +47,7 @@ impl<'a> Given<'a> {
         Ok(())
     }
 
-    // Takes `--NAME` or `--NAME=VALUE`.
+    /// Takes `--NAME` or `--NAME=VALUE`.
     fn take_option(&mut self, word: &'a str) -> Result<(), Stop> {
         let (option, value) = match word.split_once('=') {
             Some((option, value)) => (option, Some(value)),
@@ -68,7 +68,7 @@ impl<'a> Given<'a> {
         Ok(())
     }
 
-    // Whether nothing is missing, and nothing one too many.
+    /// Whether nothing is missing, and nothing one too many.
     fn check_counts(&self) -> Result<(), Stop> {
         if let Some(option) = self.waiting {
             return Err(without_value(self.alloc, option));

@@ -173,7 +173,7 @@ fn unknown_peer(
     Ok(least)
 }
 
-// Checks whether each neighbour is among these far ends and has an AS.
+/// Checks whether each neighbour is among these far ends and has an AS.
 fn try_known(alloc: Global, ends: &IndexSet<FarEnd>, configs: &List<Config>) -> Result<(), NetFault>
     requires few { length configs.now ≤ ROUTER_LIMIT }
     ensures { TriedAlone (InFiles kinds.NeighborUnknown (λ place config line.

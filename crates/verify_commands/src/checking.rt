@@ -33,8 +33,8 @@ pub fn judgement_of(outcome: Outcome) -> Judgement
     }
 }
 
-// Judges the lines of a certificate one by one as those of a report over the network, or refuses
-// its file. No more of it than a piece and a line is held.
+/// Judges the lines of a certificate one by one as those of a report over the network, or refuses
+/// its file. No more of it than a piece and a line is held.
 fn judge_lines<S: Store>(
     alloc: Global,
     net: &Network,

@@ -14,7 +14,7 @@ use run_files::{Done, Limits, Stop, refused};
 use run_inputs::read_input;
 use std::alloc::{AllocError, Global};
 
-// For each of so many links whether it is down.
+/// For each of so many links whether it is down.
 fn down_flags(alloc: Global, links: u32, numbers: &[u32]) -> Result<Vec<bool>, AllocError>
     requires { first_above links numbers.now ≡ None }
     ensures { IfOk result (λ flags. flags.items ≡ down_flags links numbers.now) }

@@ -18,8 +18,8 @@ use std::alloc::Global;
 use traffic_classes::Marks;
 use verdicts::{JudgeFault, judge_under};
 
-// The verdict on each policy of the document, in order. All classes are few, and no policy has more
-// than all of them.
+/// The verdict on each policy of the document, in order. All classes are few, and no policy has
+/// more than all of them.
 fn judge_all(alloc: Global, input: &Input) -> Result<List<Verdict>, Memory>
     requires fit { IsFit input.now }
     requires few { HasFewClasses input.now.net input.now.doc.policies }
@@ -38,21 +38,21 @@ fn judge_all(alloc: Global, input: &Input) -> Result<List<Verdict>, Memory>
     Ok(verdicts)
 }
 
-// Whether the verdict is a yes.
+/// Whether the verdict is a yes.
 fn is_yes(verdict: &Verdict) -> bool
     ensures { result ≡ is_yes verdict.now }
 {
     matches!(verdict, Verdict::Closed(_) | Verdict::Paths(_))
 }
 
-// Whether each verdict is a yes.
+/// Whether each verdict is a yes.
 fn are_all_yes(verdicts: &[Verdict]) -> bool
     ensures { result ≡ list_all is_yes verdicts.now }
 {
     verdicts.iter().all(|verdict| is_yes(verdict))
 }
 
-// The status of these verdicts.
+/// The status of these verdicts.
 fn status_of(verdicts: &[Verdict]) -> u8
     ensures value { result ≡ verdicts_status verdicts.now }
     ensures small { result ≤ 1 }

@@ -46,7 +46,7 @@ const BLOCKED_BY_LISTS: &str = r#"{"version": 1, "routers": ["r1.cfg", "r2.cfg"]
  "policies": [{"kind": "blocked", "from": "10.1.0.0/24", "to": "10.2.0.0/24"}],
  "weights": {"list": 1, "filter": 1, "session": 3}}"#;
 
-// One more entry of the list at r1 is enough, and nothing is cheaper.
+/// One more entry of the list at r1 is enough, and nothing is cheaper.
 const CERTIFICATE: &str =
     "arc-repair 1\nanswer repaired 1 32\nedit packet r1 list F 10.1.0.0/24 10.2.0.0/24\n1 blocked yes 1\n\
       closed 10.1.0.0/24 10.2.0.0/24\nlog\n272 b 32 0\n273 b 0 0\n\
@@ -54,7 +54,7 @@ const CERTIFICATE: &str =
 
 const WALK: &str = "arc-report 1\n1 blocked no 1\nwalk 10.1.0.0/24 10.2.0.0/24 1\nend\n";
 
-// No assignment gives both variables a value.
+/// No assignment gives both variables a value.
 const FOUR: &str = "p cnf 2 4\n1 2 0\n1 -2 0\n-1 2 0\n-1 -2 0\n";
 
 const FOUR_REFUTED: &str = "5 1 0 1 2 0\n6 0 5 3 4 0\n";
