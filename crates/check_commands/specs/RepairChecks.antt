@@ -79,8 +79,8 @@ RefusesJudging document certificate files r =
     ((¬ HoldsRepair certificate files) × RefusesBehind document certificate files r)
 
 -- The judgement of the text over the network, whose interfaces, sessions and names can be counted:
--- that it is accepted, or the first line that is rejected. It is accepted exactly where it is the certificate of a claim, and each such claim is
--- true.
+-- that it is accepted, or the first line that is rejected. It is accepted exactly where it is the
+-- certificate of a claim, and each such claim is true.
 pub record IsJudged (net : Network) (doc : Document) (text : List ℕ)
     (outcome : Outcome) : Type 0 where
   pub list : List Edit
