@@ -1,5 +1,5 @@
 -- Trails whose reasons moved: nothing else changes.
-use Rattle.std.proofs.Common.{◌≡◌, ◌≢◌, ℕ, zero, suc, ◌+◌, ◌<◌, ◌≤◌, ◌==◌, Bool, true, false, ◌||◌, cond, List, [], ◌∷◌, ◌++◌, length, map, get_or, set, take, drop, Contains, Option, Some, None, Vec, is_none, vec_capacity, leb, eqb, length-append, refl, sym, ap, ◌∙◌, subst, arith}
+use Rattle.std.proofs.Common.{◌≡◌, ◌≢◌, ℕ, zero, suc, ◌+◌, ◌<◌, ◌≤◌, ◌==◌, Bool, true, false, ◌||◌, cond, List, [], ◌∷◌, ◌++◌, length, map, get_or, set, take, drop, Contains, Option, Some, None, is_none, vec_capacity, leb, eqb, length-append, refl, sym, ap, ◌∙◌, subst, arith}
 use Rattle.std.specs.List.{slice_get}
 use Rattle.std.specs.Option.{option_map}
 use Rattle.std.proofs.lemmas.Bool.{cond-false, ne_eqb}
@@ -145,8 +145,8 @@ places-moved last at xs places are = record {
 }
 
 -- a trail keeps what is true of it when reasons move
-pub kept-renamed : (t u : Inside) (last at : ℕ) → IsKeptTrail t → u.vars ≡ t.vars → u.entries.items ≡ moved_entries last at t.entries.items → u.places.items ≡ t.places.items → u.truths.items ≡ t.truths.items → u.level ≡ t.level → vec_capacity t.entries ≤ vec_capacity u.entries → u.lits ≡ t.lits → IsKeptTrail u
-kept-renamed t u last at kept vars items places truths level room lits =
+pub kept-renamed : (t u : Inside) (last at : ℕ) → IsKeptTrail t → u.vars ≡ t.vars → u.entries.items ≡ moved_entries last at t.entries.items → u.places.items ≡ t.places.items → u.truths.items ≡ t.truths.items → u.level ≡ t.level → vec_capacity t.entries ≤ vec_capacity u.entries → u.lits.items ≡ t.lits.items → vec_capacity t.lits ≤ vec_capacity u.lits → IsKeptTrail u
+kept-renamed t u last at kept vars items places truths level room lits lits_room =
     let xs = t.entries.items in
     let ys = moved_entries last at xs in
     let each : EachFollows (Stands t.vars) ys = each-moved (Stands t.vars) (Stands t.vars) last at xs (λ before e held s. record {
@@ -157,12 +157,12 @@ kept-renamed t u last at kept vars items places truths level room lits =
     record {
       entries = subst (λ (v : ℕ). EachFollows (Stands v) u.entries.items) (sym vars) (subst (λ (zs : List Assigned). EachFollows (Stands t.vars) zs) (sym items) each);
       levels = level ∙ kept.levels ∙ sym (decisions-moved last at xs) ∙ sym (ap decisions items);
-      lits = ap (λ (v : Vec Lit). v.items) lits ∙ kept.lits ∙ sym (lits-moved last at xs) ∙ sym (ap lits-of items);
+      lits = lits ∙ kept.lits ∙ sym (lits-moved last at xs) ∙ sym (ap lits-of items);
       places = subst (λ (zs : List Assigned). ArePlaces zs u.places.items) (sym items) (subst (λ (ps : List ℕ). ArePlaces ys ps) (sym places) (places-moved last at xs t.places.items kept.places));
       size = omega (arith, ap length places, kept.size, vars);
       truths = λ l. ap (λ (ts : List Bool). get_or ts l.code false) truths ∙ kept.truths l ∙ sym (on-moved last at xs l) ∙ sym (ap (λ (zs : List Assigned). is_on zs l) items);
       truths_size = omega (arith, ap length truths, kept.truths_size, vars);
       room = omega (arith, kept.room, vars, room);
-      lits_room = omega (arith, kept.lits_room, vars, ap (λ (v : Vec Lit). vec_capacity v) lits);
+      lits_room = omega (arith, kept.lits_room, vars, lits_room);
       small = omega (arith, kept.small, vars);
     }

@@ -188,7 +188,7 @@ impl Lesson {
         ensures met { OnOk result (All (IsOf core.now.vars) self.new.met.items) }
         ensures size { length marks.new ≡ length marks.old }
     {
-        let entry = core.trail()[place];
+        let entry = core.entries()[place];
         let negation = entry.lit.negated();
         if !marks.has(negation) {
             return Ok(());
@@ -227,7 +227,7 @@ impl Lesson {
         ensures none { OnOk result ((l : Lit) → is_marked marks.new l ≡ false) }
         ensures size { length marks.new ≡ length marks.old }
     {
-        let entries = core.trail().len();
+        let entries = core.entries().len();
         let mut lesson = Lesson {
             lits: Vec::new(alloc),
             hints: Vec::new(alloc),

@@ -105,7 +105,7 @@ impl Order {
         ensures order { IsOrder core.now.vars self.new }
         ensures released { IsReleased (above core.now.trail level) self.old self.new }
     {
-        let trail = core.trail();
+        let trail = core.entries();
         let mut place = trail.len();
         while place > 0 && trail[place - 1].level > level {
             place -= 1;

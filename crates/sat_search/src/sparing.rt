@@ -97,7 +97,7 @@ impl Spares {
         self.supposed.clear();
         self.waiting.clear();
         let mut holds = self.suppose(var);
-        for _ in 0..core.trail().len() {
+        for _ in 0..core.entries().len() {
             let Some(next) = self.waiting.pop() else {
                 break;
             };

@@ -14,7 +14,7 @@ items-are c =
     with_items_is t.entries c.rename.new.entries (ap length is ∙ length-moved c.args.last c.args.at t.entries.items ∙ sym t.entries.ok.0) ∙ is
 
 pub invariant_of-self : goal.invariant_of-self
-invariant_of-self c = kept-renamed c.self.inside _ c.args.last c.args.at c.self.invariant refl (items-are c) refl refl refl (omega arith) refl
+invariant_of-self c = kept-renamed c.self.inside _ c.args.last c.args.at c.self.invariant refl (items-are c) refl refl refl (omega arith) refl (omega arith)
 
 pub returns : goal.returns
 returns c =
