@@ -18,6 +18,8 @@ use Rattle.sat_search.specs.Live.{clause_in}
 use Rattle.sat_search.specs.Orders.{KeepsClauses}
 use Rattle.sat_search.specs.Searches.{appended, ends_empty, live_after, AreLearnt, HasIdsTo, IsLearnt, IsOld, HasLearnt, GoesOn, Teaches}
 use Rattle.sat_search.specs.Dropping.{Drops}
+use Rattle.sat_search.specs.DropTimes.{gap_after, wait_after, wait_of, DropsInTime}
+use Rattle.sat_search.proofs.Waits.{wait_append, in_time_add, in_time_drop}
 use Rattle.sat_search.proofs.Steps.{additions-append}
 use Rattle.sat_search.proofs.Held.{held_push}
 use Rattle.sat_search.proofs.Learnt.{all_at}
@@ -48,6 +50,7 @@ follows_start s old =
         grown = sym (append-nil old) ∙ ap (λ (xs : List Step). old ++ xs) (sym none);
         learnt = subst (λ (xs : List Step). AreLearnt s.vars (clause_in s.clauses) s.last_id (added_by [] old) (dropped_by 0 old) xs) (sym none) tt;
         few = omega (arith, ap (λ (xs : List Step). dropped_by 0 xs) none);
+        in_time = subst (λ (xs : List Step). DropsInTime (dropped_by 0 old) (wait_of old) xs) (sym none) tt;
       };
       vars = refl;
       clauses = λ id. ap (λ (xs : List Step). live_after (clause_in s.clauses) xs id) (sym none);
@@ -107,6 +110,8 @@ module _ (s now dived next : State) (old new newer : List Step) (empty : Bool) (
     learnt = subst (λ (xs : List Step). AreLearnt s.vars (clause_in s.clauses) s.last_id (added_by [] old) (dropped_by 0 old) xs) (sym (more_is ∙ ap (λ (n : ℕ). appended old new ++ lemma_step n taught.lits taught.hints) id_is))
         (learnt_add s.vars (clause_in s.clauses) s.last_id (added_by [] old) (dropped_by 0 old) (appended old new) taught.lits taught.hints follows.log.learnt known_from learnt_from);
     few = omega (arith, taught_few);
+    in_time = subst (λ (xs : List Step). DropsInTime (dropped_by 0 old) (wait_of old) xs) (sym more_is)
+        (in_time_add (dropped_by 0 old) (wait_of old) (appended old new) (dived.last_id + 1) taught.lits taught.hints follows.log.in_time);
   }
 
   pub taught_more : additions newer ≡ additions new + 1
@@ -154,7 +159,7 @@ module _ (s now next : State) (old new newer : List Step) (follows : GoesOn s ol
   drop_clauses : (j : ℕ) → clause_in next.clauses j ≡ without_clauses left drops.ids j
   drop_clauses j = drops.forgets.clauses j ∙ ap (λ (l : ℕ → Option (List Lit)). without_clauses l drops.ids j) left_is
 
-  module _ (is : newer ≡ new ++ Drop drops.ids ∷ []) where
+  module _ (is : newer ≡ new ++ Drop drops.ids ∷ []) (due : wait_of new ≡ 0) where
     abbrev drop_step : List Step
     drop_step = Drop drops.ids ∷ []
 
@@ -167,12 +172,17 @@ module _ (s now next : State) (old new newer : List Step) (follows : GoesOn s ol
     one_drop : dropped_by 0 (appended old newer) ≡ dropped_by 0 (appended old new) + 1
     one_drop = ap (dropped_by 0) drop_is ∙ dropped_append 0 (appended old new) drop_step
 
+    still_due : wait_after (dropped_by 0 old) (wait_of old) (appended old new) ≡ 0
+    still_due = sym (wait_append 0 (gap_after 0) old (appended old new)) ∙ ap wait_of (sym follows.log.grown) ∙ due
+
     dropped_log : HasLearnt s old newer
     dropped_log = record {
       grown = is ∙ ap (λ (xs : List Step). xs ++ drop_step) follows.log.grown ∙ append_assoc old (appended old new) drop_step ∙ ap (λ (xs : List Step). old ++ xs) (sym drop_is);
       learnt = subst (λ (xs : List Step). AreLearnt s.vars (clause_in s.clauses) s.last_id (added_by [] old) (dropped_by 0 old) xs) (sym drop_is)
           (learnt_drop s.vars (clause_in s.clauses) s.last_id (added_by [] old) (dropped_by 0 old) (appended old new) drops.ids follows.log.learnt there may_go);
       few = omega (arith, same_additions, one_drop, few);
+      in_time = subst (λ (xs : List Step). DropsInTime (dropped_by 0 old) (wait_of old) xs) (sym drop_is)
+          (in_time_drop (dropped_by 0 old) (wait_of old) (appended old new) drops.ids follows.log.in_time still_due);
     }
 
     follows_step : GoesOn s old next newer
@@ -197,14 +207,14 @@ module _ (s now next : State) (old new newer : List Step) (follows : GoesOn s ol
 
   pub follows_dropped : GoesOn s old next newer
   follows_dropped = elim drops.log [
-    | inl is ↦ follows_step is
+    | inl is ↦ follows_step is.0 is.1
     | inr same ↦ follows_none same.0 same.1
   ]
 
   -- no clause is added
   pub dropped_additions : additions newer ≡ additions new
   dropped_additions = elim drops.log [
-    | inl is ↦ ap additions is ∙ additions-append new (Drop drops.ids ∷ []) ∙ add-zero (additions new)
+    | inl is ↦ ap additions is.0 ∙ additions-append new (Drop drops.ids ∷ []) ∙ add-zero (additions new)
     | inr same ↦ ap additions same.0
   ]
 

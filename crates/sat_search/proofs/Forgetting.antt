@@ -25,6 +25,8 @@ use Rattle.sat_search.specs.Passes.{is_marked}
 use Rattle.sat_search.specs.Orders.{IsOrder}
 use Rattle.sat_search.specs.Learners.{IsReady}
 use Rattle.sat_search.specs.declared.learner.Learner.{Learner}
+use Rattle.sat_search.specs.DropTimes.{gap_after, wait_after, wait_of}
+use Rattle.sat_search.proofs.Waits.{wait_then}
 use Rattle.sat_search.specs.Dropping.{old_lemmas, AreLemmas, MayGo, Forgets, ForgetsMore, Drops}
 use Rattle.sat_search.specs.declared.lemmas.Lemmas.{Lemmas}
 use Rattle.sat_search.proofs.Held.{at_held, held_at}
@@ -150,31 +152,38 @@ more_one s ids h id different is = record { more = id ∷ []; grown = refl; forg
 
 -- ---- the lemmas of a log
 
-pub lemmas_none : (lemmas : Lemmas) → lemmas.ids.items ≡ [] → lemmas.drops ≡ 0 → AreLemmas [] lemmas
-lemmas_none lemmas none zero = record { ids = ap reverse none; drops = zero }
+pub lemmas_none : (lemmas : Lemmas) → lemmas.ids.items ≡ [] → lemmas.drops ≡ 0 → gap_after 0 ≤ lemmas.wait → AreLemmas [] lemmas
+lemmas_none lemmas none zero wait = record { ids = ap reverse none; drops = zero; wait = wait }
 
 -- a lemma joins
 pub lemmas_add : (steps : List Step) (old new : Lemmas) (id : ℕ) (step : Step) → AreLemmas steps old → new.ids.items ≡ old.ids.items ++ id ∷ [] → new.drops ≡ old.drops
-    → added_by (added_by [] steps) (step ∷ []) ≡ id ∷ added_by [] steps → dropped_by (dropped_by 0 steps) (step ∷ []) ≡ dropped_by 0 steps → AreLemmas (steps ++ step ∷ []) new
-lemmas_add steps old new id step are ids drops adds keeps = record {
+    → added_by (added_by [] steps) (step ∷ []) ≡ id ∷ added_by [] steps → dropped_by (dropped_by 0 steps) (step ∷ []) ≡ dropped_by 0 steps → wait_after (dropped_by 0 steps) (wait_of steps) (step ∷ []) ≤ new.wait → AreLemmas (steps ++ step ∷ []) new
+lemmas_add steps old new id step are ids drops adds keeps wait = record {
   ids = ap reverse ids ∙ reverse-append old.ids.items (id ∷ []) ∙ ap (λ (is : List ℕ). id ∷ is) are.ids ∙ sym adds ∙ sym (added_append [] steps (step ∷ []));
   drops = drops ∙ are.drops ∙ sym keeps ∙ sym (dropped_append 0 steps (step ∷ []));
+  wait = omega (arith, wait_then steps step, wait);
 }
 
 -- or some are dropped
-pub lemmas_drop : (steps : List Step) (old new : Lemmas) (ids : List ℕ) → AreLemmas steps old → new.ids.items ≡ old.ids.items → new.drops ≡ old.drops + 1 → AreLemmas (steps ++ Drop ids ∷ []) new
-lemmas_drop steps old new ids are same more = record {
+pub lemmas_drop : (steps : List Step) (old new : Lemmas) (ids : List ℕ) → AreLemmas steps old → new.ids.items ≡ old.ids.items → new.drops ≡ old.drops + 1 → new.wait ≡ gap_after (old.drops + 1) → AreLemmas (steps ++ Drop ids ∷ []) new
+lemmas_drop steps old new ids are same more wait = record {
   ids = ap reverse same ∙ are.ids ∙ sym (added_append [] steps (Drop ids ∷ []));
   drops = omega (arith, more, are.drops, dropped_append 0 steps (Drop ids ∷ []));
+  wait = omega (arith, wait_then steps (Drop ids), wait, ap (λ (n : ℕ). gap_after (n + 1)) are.drops);
 }
 
 -- or nothing changes
 pub lemmas_keep : (steps : List Step) (old new : Lemmas) (step : Step) → AreLemmas steps old → new.ids.items ≡ old.ids.items → new.drops ≡ old.drops
-    → added_by (added_by [] steps) (step ∷ []) ≡ added_by [] steps → dropped_by (dropped_by 0 steps) (step ∷ []) ≡ dropped_by 0 steps → AreLemmas (steps ++ step ∷ []) new
-lemmas_keep steps old new step are same drops adds keeps = record {
+    → added_by (added_by [] steps) (step ∷ []) ≡ added_by [] steps → dropped_by (dropped_by 0 steps) (step ∷ []) ≡ dropped_by 0 steps → wait_after (dropped_by 0 steps) (wait_of steps) (step ∷ []) ≤ new.wait → AreLemmas (steps ++ step ∷ []) new
+lemmas_keep steps old new step are same drops adds keeps wait = record {
   ids = ap reverse same ∙ are.ids ∙ sym adds ∙ sym (added_append [] steps (step ∷ []));
   drops = drops ∙ are.drops ∙ sym keeps ∙ sym (dropped_append 0 steps (step ∷ []));
+  wait = omega (arith, wait_then steps step, wait);
 }
+
+-- it is tried again later
+pub lemmas_later : (steps : List Step) (old new : Lemmas) → AreLemmas steps old → new.ids.items ≡ old.ids.items → new.drops ≡ old.drops → old.wait ≤ new.wait → AreLemmas steps new
+lemmas_later steps old new are same drops wait = record { ids = ap reverse same ∙ are.ids; drops = drops ∙ are.drops; wait = omega (arith, are.wait, wait) }
 
 -- what stands among the first of a list stands in the list turned round without its first
 turned : (items : List ℕ) (n m id : ℕ) → n + m ≤ length items → Contains (take n items) id → Contains (drop m (reverse items)) id
@@ -202,9 +211,9 @@ first_go steps lemmas n ids are few first = All-weaker (Contains (take n lemmas.
 
 -- ---- a step that drops clauses
 
-pub drops_some : (s now back : State) (old new : List Step) (ids : List ℕ) → Forgets s ids now → back ≡ now → All (MayGo old) ids → new ≡ old ++ Drop ids ∷ [] → Drops s old back new
-drops_some s now back old new ids forgets same may_go grown =
-    record { ids = ids; log = inl grown; may_go = may_go; forgets = subst (λ (b : State). Forgets s ids b) (sym same) forgets }
+pub drops_some : (s now back : State) (old new : List Step) (ids : List ℕ) → Forgets s ids now → back ≡ now → All (MayGo old) ids → new ≡ old ++ Drop ids ∷ [] → wait_of old ≡ 0 → Drops s old back new
+drops_some s now back old new ids forgets same may_go grown due =
+    record { ids = ids; log = inl (grown, due); may_go = may_go; forgets = subst (λ (b : State). Forgets s ids b) (sym same) forgets }
 
 pub drops_none : (s now : State) (old : List Step) (ids : List ℕ) → Forgets s ids now → ids ≡ [] → Drops s old now old
 drops_none s now old ids forgets none =
@@ -223,23 +232,23 @@ first-more : (steps : List Step) (i : ℕ) (step : Step) → i < length steps �
 first-more steps i step low is = take_more steps i step low ∙ ap (λ (s : Step). take i steps ++ s ∷ []) (sym is)
 
 pub first_add : (steps : List Step) (i : ℕ) (step : Step) (old new now : Lemmas) (id : ℕ) (lits : List Lit) (hints : List ℤ) → AreLemmas (take i steps) old → i < length steps → step ≡ get_or steps i step → step ≡ Add id lits hints
-    → new.ids.items ≡ old.ids.items ++ id ∷ [] → new.drops ≡ old.drops → now ≡ new → AreLemmas (take (i + 1) steps) now
-first_add steps i step old new now id lits hints are low at is ids drops same =
+    → new.ids.items ≡ old.ids.items ++ id ∷ [] → new.drops ≡ old.drops → new.wait ≡ old.wait - 1 → now ≡ new → AreLemmas (take (i + 1) steps) now
+first_add steps i step old new now id lits hints are low at is ids drops wait same =
     subst (λ (l : Lemmas). AreLemmas (take (i + 1) steps) l) (sym same)
     (subst (λ (xs : List Step). AreLemmas xs new) (sym (first-more steps i step low at))
-    (lemmas_add (take i steps) old new id step are ids drops (ap (λ (s : Step). added_after (added_by [] (take i steps)) s) is) (ap (λ (s : Step). drops_after (dropped_by 0 (take i steps)) s) is)))
+    (lemmas_add (take i steps) old new id step are ids drops (ap (λ (s : Step). added_after (added_by [] (take i steps)) s) is) (ap (λ (s : Step). drops_after (dropped_by 0 (take i steps)) s) is) (omega (arith, ap (λ (s : Step). wait_after (dropped_by 0 (take i steps)) (wait_of (take i steps)) (s ∷ [])) is, are.wait, wait))))
 
 pub first_drop : (steps : List Step) (i : ℕ) (step : Step) (old new now : Lemmas) (ids : List ℕ) → AreLemmas (take i steps) old → i < length steps → step ≡ get_or steps i step → step ≡ Drop ids
-    → new.ids.items ≡ old.ids.items → new.drops ≡ old.drops + 1 → now ≡ new → AreLemmas (take (i + 1) steps) now
-first_drop steps i step old new now ids are low at is same more now_is =
+    → new.ids.items ≡ old.ids.items → new.drops ≡ old.drops + 1 → new.wait ≡ gap_after (old.drops + 1) → now ≡ new → AreLemmas (take (i + 1) steps) now
+first_drop steps i step old new now ids are low at is same more wait now_is =
     subst (λ (l : Lemmas). AreLemmas (take (i + 1) steps) l) (sym now_is)
-    (subst (λ (xs : List Step). AreLemmas xs new) (sym (first-more steps i step low at ∙ ap (λ (s : Step). take i steps ++ s ∷ []) is)) (lemmas_drop (take i steps) old new ids are same more))
+    (subst (λ (xs : List Step). AreLemmas xs new) (sym (first-more steps i step low at ∙ ap (λ (s : Step). take i steps ++ s ∷ []) is)) (lemmas_drop (take i steps) old new ids are same more wait))
 
 pub first_bound : (steps : List Step) (i : ℕ) (step : Step) (old now : Lemmas) (id price : ℕ) → AreLemmas (take i steps) old → i < length steps → step ≡ get_or steps i step → step ≡ Bound id price → now ≡ old → AreLemmas (take (i + 1) steps) now
 first_bound steps i step old now id price are low at is now_is =
     subst (λ (l : Lemmas). AreLemmas (take (i + 1) steps) l) (sym now_is)
     (subst (λ (xs : List Step). AreLemmas xs old) (sym (first-more steps i step low at))
-    (lemmas_keep (take i steps) old old step are refl refl (ap (λ (s : Step). added_after (added_by [] (take i steps)) s) is) (ap (λ (s : Step). drops_after (dropped_by 0 (take i steps)) s) is)))
+    (lemmas_keep (take i steps) old old step are refl refl (ap (λ (s : Step). added_after (added_by [] (take i steps)) s) is) (ap (λ (s : Step). drops_after (dropped_by 0 (take i steps)) s) is) (omega (arith, ap (λ (s : Step). wait_after (dropped_by 0 (take i steps)) (wait_of (take i steps)) (s ∷ [])) is, are.wait))))
 
 -- ---- what is forgotten is old
 
@@ -261,12 +270,12 @@ taught_above s back now old new level (Err memory) is taught = tt
 
 -- and a search is ready again after it
 pub ready_again : (s now : State) (old new : List Step) (was learner : Learner) (r : Result Bool Memory) → IfOk r (Teaches s old now new) → length learner.marks ≡ 2 * s.vars + 2 → ((l : Lit) → is_marked learner.marks l ≡ false)
-    → IsOrder s.vars learner.order → AreLemmas old was.lemmas → learner.lemmas.ids.items ≡ was.lemmas.ids.items ++ (s.last_id + 1) ∷ [] → learner.lemmas.drops ≡ was.lemmas.drops → IfOk r (λ empty. IsReady now.vars new learner)
-ready_again s now old new was learner (Ok empty) taught size none order are ids drops =
+    → IsOrder s.vars learner.order → AreLemmas old was.lemmas → learner.lemmas.ids.items ≡ was.lemmas.ids.items ++ (s.last_id + 1) ∷ [] → learner.lemmas.drops ≡ was.lemmas.drops → learner.lemmas.wait ≡ was.lemmas.wait - 1 → IfOk r (λ empty. IsReady now.vars new learner)
+ready_again s now old new was learner (Ok empty) taught size none order are ids drops wait =
     subst (λ (v : ℕ). IsReady v new learner) (sym taught.vars) (record {
       size = size;
       none = none;
       order = order;
-      lemmas = subst (λ (xs : List Step). AreLemmas xs learner.lemmas) (sym taught.log) (lemmas_add old was.lemmas learner.lemmas (s.last_id + 1) (Add (s.last_id + 1) taught.lits taught.hints) are ids drops refl refl);
+      lemmas = subst (λ (xs : List Step). AreLemmas xs learner.lemmas) (sym taught.log) (lemmas_add old was.lemmas learner.lemmas (s.last_id + 1) (Add (s.last_id + 1) taught.lits taught.hints) are ids drops refl refl (omega (arith, are.wait, wait)));
     })
-ready_again s now old new was learner (Err memory) taught size none order are ids drops = tt
+ready_again s now old new was learner (Err memory) taught size none order are ids drops wait = tt

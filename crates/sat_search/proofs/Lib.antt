@@ -19,7 +19,7 @@ pub mod Models
 pub mod Lives
 pub mod Following
 pub mod Rising
-pub mod Uppers
+pub mod Halves
 pub mod Using
 pub mod Costs
 pub mod Waits

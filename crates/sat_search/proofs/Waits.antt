@@ -5,7 +5,8 @@ use Rattle.cnf_types.specs.declared.literal.Lit.{Lit}
 use Rattle.proof_log.specs.declared.steps.Step.{Step}
 use Rattle.proof_log.specs.declared.steps.Step.TheVariants.{Add, Drop, Bound}
 use Rattle.sat_search.specs.declared.lemmas.Lemmas.{Lemmas}
-use Rattle.sat_search.specs.Dropping.{sizes, gap_after, wait_after}
+use Rattle.sat_search.specs.Dropping.{sizes}
+use Rattle.sat_search.specs.DropTimes.{gap_after, wait_after, wait_of, DropsInTime}
 use Rattle.clean_logs.specs.CleanLogs.{dropped_by}
 use Rattle.sat_search.proofs.Lives.{dropped_append}
 
@@ -15,11 +16,28 @@ sizes_append (Add id lits hints ∷ xs) ys = ap (λ (s : List ℕ). length lits 
 sizes_append (Drop ids ∷ xs) ys = sizes_append xs ys
 sizes_append (Bound id price ∷ xs) ys = sizes_append xs ys
 
-wait_append : (drops wait : ℕ) (xs ys : List Step) → wait_after drops wait (xs ++ ys) ≡ wait_after (dropped_by drops xs) (wait_after drops wait xs) ys
+pub wait_append : (drops wait : ℕ) (xs ys : List Step) → wait_after drops wait (xs ++ ys) ≡ wait_after (dropped_by drops xs) (wait_after drops wait xs) ys
 wait_append drops wait [] ys = refl
 wait_append drops wait (Add id lits hints ∷ xs) ys = wait_append drops (wait - 1) xs ys
 wait_append drops wait (Drop ids ∷ xs) ys = wait_append (drops + 1) (gap_after (drops + 1)) xs ys
 wait_append drops wait (Bound id price ∷ xs) ys = wait_append drops wait xs ys
+
+-- another step comes
+pub wait_then : (xs : List Step) (s : Step) → wait_of (xs ++ s ∷ []) ≡ wait_after (dropped_by 0 xs) (wait_of xs) (s ∷ [])
+wait_then xs s = wait_append 0 (gap_after 0) xs (s ∷ [])
+
+-- a clause is added, or some are dropped when it is time
+pub in_time_add : (drops wait : ℕ) (xs : List Step) (id : ℕ) (lits : List Lit) (hints : List ℤ) → DropsInTime drops wait xs → DropsInTime drops wait (xs ++ Add id lits hints ∷ [])
+in_time_add drops wait [] id lits hints in_time = tt
+in_time_add drops wait (Add other of by ∷ xs) id lits hints in_time = in_time_add drops (wait - 1) xs id lits hints in_time
+in_time_add drops wait (Drop ids ∷ xs) id lits hints in_time = (in_time.0, in_time_add (drops + 1) (gap_after (drops + 1)) xs id lits hints in_time.1)
+in_time_add drops wait (Bound other price ∷ xs) id lits hints in_time = in_time_add drops wait xs id lits hints in_time
+
+pub in_time_drop : (drops wait : ℕ) (xs : List Step) (gone : List ℕ) → DropsInTime drops wait xs → wait_after drops wait xs ≡ 0 → DropsInTime drops wait (xs ++ Drop gone ∷ [])
+in_time_drop drops wait [] gone in_time due = (due, tt)
+in_time_drop drops wait (Add id lits hints ∷ xs) gone in_time due = in_time_drop drops (wait - 1) xs gone in_time due
+in_time_drop drops wait (Drop ids ∷ xs) gone in_time due = (in_time.0, in_time_drop (drops + 1) (gap_after (drops + 1)) xs gone in_time.1 due)
+in_time_drop drops wait (Bound id price ∷ xs) gone in_time due = in_time_drop drops wait xs gone in_time due
 
 -- what a search that goes on from steps begins with
 pub record Begins (steps : List Step) (lemmas : Lemmas) : Type 0 where

@@ -7,7 +7,7 @@ ghost use Rattle.sat_core.specs.Trails.{clause_at, IsOf, IsFalsified};
 ghost use Rattle.sat_core.specs.States.{IsSound};
 ghost use Rattle.sat_search.specs.Live.{clause_in};
 ghost use Rattle.sat_search.specs.Learners.{IsReady};
-ghost use Rattle.sat_search.specs.Dropping.{Drops, DropsMost, WaitsAgain};
+ghost use Rattle.sat_search.specs.Dropping.{Drops, HalvesDroppable, WaitsAgain};
 ghost use Rattle.sat_search.specs.Orders.{IsOrder, IsFresh, HoldsUnset};
 ghost use Rattle.sat_search.specs.Costs.{Rise};
 ghost use Rattle.sat_search.specs.Restarting.{after_conflict, ends_gap};
@@ -101,9 +101,9 @@ impl Learner {
         requires short { length log.old.steps < 2 ^ 32 - 1 }
         ensures ready { OnOk result (IsReady core.new.vars log.new.steps self.new) }
         ensures drops { OnOk result (Drops core.old log.old.steps core.new log.new.steps) }
-        ensures most { Rise self.old.lemmas.ids.items → self.old.lemmas.wait ≡ 0 →
+        ensures half { Rise self.old.lemmas.ids.items → self.old.lemmas.wait ≡ 0 →
             core.old.level ≡ 0 →
-            OnOk result (DropsMost self.old.lemmas core.old core.new) }
+            OnOk result (HalvesDroppable self.old.lemmas core.old core.new) }
         ensures waits { self.old.lemmas.wait ≡ 0 → core.old.level ≡ 0 →
             OnOk result (WaitsAgain self.old.lemmas self.new.lemmas log.new.steps) }
         ensures later { (0 < self.old.lemmas.wait) ⊎ (0 < core.old.level) →
@@ -115,7 +115,7 @@ impl Learner {
         if !self.lemmas.is_due() || core.level() > 0 {
             return Ok(());
         }
-        self.lemmas.drop_most(core, log)
+        self.lemmas.drop_half(core, log)
     }
 }
 

@@ -8,6 +8,7 @@ ghost use Rattle.proof_log.specs.Texts.{HasLine};
 ghost use Rattle.proof_check.specs.Knowledge.{Knowledge, start};
 ghost use Rattle.proof_check.specs.Logs.{adds_empty, after_all, IsAccepted, IsRefuting};
 ghost use Rattle.clean_logs.specs.CleanLogs.{IsClean, IsSpent, added_by, dropped_by, additions};
+ghost use Rattle.sat_search.specs.DropTimes.{wait_of, DropsInTime};
 ghost use Rattle.sat_search.specs.Live.{clause_in};
 ghost use Rattle.sat_search.specs.Searches.{appended, ends_empty, live_after};
 ghost use Rattle.sat_search.specs.Searches.{AddsFrom, DropsOld, HasLiveHints, IfModel, IsModelOf};
@@ -26,9 +27,9 @@ use std::alloc::Global;
 /// Looks for a model of the core's clauses. At each conflict it learns a lemma, which it adds to
 /// the core and, as a step with its hints, to the log; it ends where the lemma is empty, and where
 /// the log adds `limit` clauses already. From time to time it drops lemmas of the log, which is a
-/// step too: the j-th such step comes as soon as 2,500 + 500 j clauses were added since the one
-/// before it, and leaves the last 1,000 j, those of one or two literals, and a quarter of the
-/// others; where it may drop none, it is tried again after 3,000 more.
+/// step too: the j-th such step comes as soon as 1,500 j clauses were added since the one before
+/// it, and leaves the last 1,000 j, those of one or two literals, and half of the others; where it
+/// may drop none, it is tried again after 1,500 more.
 /// Want of memory stands for 2^32 - 1 clauses or more, too.
 pub fn search(alloc: Global, core: &mut Core, log: &mut Log, limit: u64) -> Result<Found, Memory>
     requires level { core.old.level ≡ 0 }
@@ -40,6 +41,8 @@ pub fn search(alloc: Global, core: &mut Core, log: &mut Log, limit: u64) -> Resu
     ensures keeps { log.new.steps ≡ log.old.steps ++ appended log.old.steps log.new.steps }
     ensures ids { AddsFrom core.old.last_id (appended log.old.steps log.new.steps) }
     ensures dropped { DropsOld (added_by [] log.old.steps) (dropped_by 0 log.old.steps)
+        (appended log.old.steps log.new.steps) }
+    ensures in_time { DropsInTime (dropped_by 0 log.old.steps) (wait_of log.old.steps)
         (appended log.old.steps log.new.steps) }
     ensures few_drops { dropped_by 0 (appended log.old.steps log.new.steps)
         ≤ additions (appended log.old.steps log.new.steps) }

@@ -5,7 +5,7 @@ use Rattle.sat_core.specs.States.{State}
 use Rattle.sat_search.specs.Costs.{droppable}
 use Rattle.sat_search.specs.Dropping.{old_lemmas, AreLemmas}
 use Rattle.sat_search.proofs.Forgetting.{few_drops, first_go, lemmas_drop, drops_some}
-use Rattle.sat_search.proofs.lemmas.Lemmas.drop_most.Goals as goal
+use Rattle.sat_search.proofs.lemmas.Lemmas.drop_half.Goals as goal
 
 pub dropped-requires : goal.dropped-requires
 dropped-requires c = omega (arith, few_drops c.args.log.now.steps c.args.self.now c.requires.lemmas, c.requires.short)
@@ -13,7 +13,7 @@ dropped-requires c = omega (arith, few_drops c.args.log.now.steps c.args.self.no
 pub returns-clause-lemmas : goal.returns-clause-lemmas
 returns-clause-lemmas c =
     subst (λ (xs : List Step). AreLemmas xs c.dropped.new.self) (sym c.in_ok-push.ensures.ok)
-    (lemmas_drop c.args.log.now.steps c.args.self.now c.dropped.new.self _ c.requires.lemmas (ap (λ (l : Lemmas). l.ids.items) c.dropped.ensures) (ap (λ (l : Lemmas). l.drops) c.dropped.ensures))
+    (lemmas_drop c.args.log.now.steps c.args.self.now c.dropped.new.self _ c.requires.lemmas (ap (λ (l : Lemmas). l.ids.items) c.dropped.ensures) (ap (λ (l : Lemmas). l.drops) c.dropped.ensures) (ap (λ (l : Lemmas). l.wait) c.dropped.ensures))
 
 pub returns-clause-drops : goal.returns-clause-drops
 returns-clause-drops c =
@@ -22,10 +22,10 @@ returns-clause-drops c =
     let ids = c.in_ok-ids.ids in
     let first = subst (λ (n : ℕ). All (Contains (take n items)) ids) (ap length c.as_slice.ensures.value ∙ c.in_ok-used.ensures.size) c.in_ok-ids.ensures.old in
     let may_go = first_go old c.args.self.now c.old.result ids c.requires.lemmas c.old.ensures first in
-    drops_some c.args.core.now c.forget_most.new.core c.compact.new.self old c.push.new.self ids c.in_ok-ids.ensures.forgets c.compact.ensures may_go c.in_ok-push.ensures.ok
+    drops_some c.args.core.now c.forget_half.new.core c.compact.new.self old c.push.new.self ids c.in_ok-ids.ensures.forgets c.compact.ensures may_go c.in_ok-push.ensures.ok (omega (arith, c.requires.lemmas.wait, c.requires.due))
 
-pub returns-clause-most : goal.returns-clause-most
-returns-clause-most c = λ rise.
+pub returns-clause-half : goal.returns-clause-half
+returns-clause-half c = λ rise.
     let size : length c.as_slice.result.now ≡ old_lemmas c.args.self.now = ap length c.as_slice.ensures.value ∙ c.in_ok-used.ensures.size ∙ c.old.ensures in
     let many = ap (λ (n : ℕ). droppable c.args.self.now.ids.items n c.args.core.now) size in
-    omega (arith, c.in_ok-ids.ensures.most rise, c.in_ok-ids.ensures.fewer, many, ap (λ (s : State). length s.clauses) c.compact.ensures)
+    omega (arith, c.in_ok-ids.ensures.half rise, c.in_ok-ids.ensures.fewer, many, ap (λ (s : State). length s.clauses) c.compact.ensures)
