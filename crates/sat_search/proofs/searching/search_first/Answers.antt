@@ -6,7 +6,7 @@ use Rattle.clean_logs.specs.CleanLogs.{IsClean, added_by, additions}
 use Rattle.sat_search.specs.Live.{clause_in}
 use Rattle.sat_search.specs.Searches.{appended, live_after, KeepsOthers, Knows}
 use Rattle.sat_search.proofs.Outcomes.{log_ids, log_old, log_accepted, log_hints, log_lines, refuted_exactly, refuting_then, model_then, spent_then, is_model_then, follows_knows, follows_clean, follows_others, searched_back}
-use Rattle.sat_search.proofs.searching.search.Goals as goal
+use Rattle.sat_search.proofs.searching.search_first.Goals as goal
 
 pub returns-clause-ids : goal.returns-clause-ids
 returns-clause-ids c =
