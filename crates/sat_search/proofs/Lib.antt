@@ -20,6 +20,7 @@ pub mod Lives
 pub mod Following
 pub mod Rising
 pub mod Halves
+pub mod Named
 pub mod Using
 pub mod Costs
 pub mod Waits

@@ -1,5 +1,5 @@
 pub mod Live
-pub mod DropTimes
+pub mod DropSteps
 pub mod Passes
 pub mod Searches
 pub mod Orders

@@ -1,13 +1,14 @@
 //! What a search keeps between its conflicts, and what it does at one: conflict analysis, and the
 //! step back to the level where the lemma implies a literal.
 ghost use Rattle.std.specs.Prelude.{◌≡◌, ◌≢◌, ◌+◌, ◌*◌, ◌≤◌, ◌<◌, ◌-◌, ◌^◌, All, AllPairs, length};
-ghost use Rattle.std.specs.Prelude.{IsSomeAnd, IfOk, OnOk, OnErr, IsTrue, ◌||◌, ◌⊎◌, nat_le};
+ghost use Rattle.std.specs.Prelude.{IsSomeAnd, IfOk, OnOk, OnErr, IsTrue, ◌==◌, ◌||◌, ◌⊎◌};
 ghost use Rattle.proof_log.specs.declared.steps.Log.{Log};
 ghost use Rattle.sat_core.specs.Trails.{clause_at, IsOf, IsFalsified};
 ghost use Rattle.sat_core.specs.States.{IsSound};
 ghost use Rattle.sat_search.specs.Live.{clause_in};
 ghost use Rattle.sat_search.specs.Learners.{IsReady};
 ghost use Rattle.sat_search.specs.Dropping.{Drops, HalvesDroppable, WaitsAgain};
+ghost use Rattle.sat_search.specs.DropSteps.{after_one};
 ghost use Rattle.sat_search.specs.Orders.{IsOrder, IsFresh, HoldsUnset};
 ghost use Rattle.sat_search.specs.Costs.{Rise};
 ghost use Rattle.sat_search.specs.Restarting.{after_conflict, ends_gap};
@@ -69,8 +70,8 @@ impl Learner {
         ensures restarts { IfOk result (λ empty.
             self.new.restarts ≡ after_conflict self.old.restarts) }
         ensures wait { IfOk result (λ empty.
-            self.new.lemmas.wait ≡ self.old.lemmas.wait - 1) }
-        ensures anew { IsTrue (ends_gap self.old.restarts || nat_le self.old.lemmas.wait 1) →
+            self.new.lemmas.wait ≡ after_one self.old.lemmas.wait) }
+        ensures anew { IsTrue (ends_gap self.old.restarts || (self.old.lemmas.wait == 1)) →
             IfOk result (λ empty. core.new.level ≡ 0) }
         ensures err { OnErr result (log.new.steps ≡ log.old.steps) }
     {

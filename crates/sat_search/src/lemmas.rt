@@ -3,18 +3,19 @@
 //! dropped bears on nothing but speed.
 ghost use Rattle.std.specs.Prelude.{◌≡◌, ◌≢◌, ◌+◌, ◌-◌, ◌*◌, ◌<◌, ◌≤◌, ◌^◌, ◌∷◌, ◌++◌, []};
 ghost use Rattle.std.specs.Prelude.{length, take, All, AllPairs, Contains, Some, IsSome, IfSome};
-ghost use Rattle.std.specs.Prelude.{IsSomeAnd, IfOk, OnOk, OnErr, slice_get, nat_le, ◌==◌, ◌/◌, ℕ};
-ghost use Rattle.std.specs.Prelude.{sum_by, slice_index_or, true};
+ghost use Rattle.std.specs.Prelude.{IsSomeAnd, IfOk, OnOk, OnErr, slice_get, ◌==◌, ◌/◌, ℕ};
+ghost use Rattle.std.specs.Prelude.{count_by, sum_by, slice_index_or, true};
 ghost use Rattle.std.specs.List.{list_any};
 ghost use Rattle.std.specs.List.Sorted.{IsNonDecreasing};
-ghost use Rattle.sat_core.specs.Trails.{id_at};
+ghost use Rattle.sat_core.specs.Trails.{clause_at, id_at};
 ghost use Rattle.sat_core.specs.Forgotten.{IsNoReason};
 ghost use Rattle.sat_search.specs.Dropping.{AreLemmas, Drops, Forgets, ForgetsMore};
 ghost use Rattle.sat_search.specs.Dropping.{sizes, old_lemmas};
-ghost use Rattle.sat_search.specs.DropTimes.{gap_after, wait_of};
+ghost use Rattle.sat_search.specs.DropSteps.{after_one, gap_after, is_long};
 ghost use Rattle.sat_search.specs.Dropping.{HalvesDroppable, WaitsAgain};
 ghost use Rattle.sat_search.specs.Costs.{cost_of, costing, counts, droppable, is_as_much, one_if};
-ghost use Rattle.sat_search.specs.Costs.{AreSetToo, is_hint_of, uses, Rise};
+ghost use Rattle.sat_search.specs.Costs.{may_be_named, AreSetToo, is_hint_of, uses, Rise};
+ghost use Rattle.sat_search.specs.Live.{clause_in};
 
 use arc_base::{List, Memory};
 use proof_log::{Log, Step};
@@ -52,7 +53,6 @@ impl Lemmas {
     pub fn of(alloc: Global, steps: &[Step]) -> Result<Lemmas, Memory>
         ensures lemmas { IfOk result (AreLemmas steps.now) }
         ensures levels { IfOk result (λ lemmas. lemmas.levels.items ≡ sizes steps.now) }
-        ensures wait { IfOk result (λ lemmas. lemmas.wait ≡ wait_of steps.now) }
         ensures from { IfOk result (λ lemmas. lemmas.from ≡ 0) }
     {
         let mut lemmas = Lemmas {
@@ -73,18 +73,23 @@ impl Lemmas {
         Ok(lemmas)
     }
 
-    /// A lemma joins the log.
+    /// A lemma joins the log. Where it was time to drop some and none could be, this is the first of
+    /// those after which it is tried again.
     pub fn add(&mut self, id: u64, levels: u32) -> Result<(), Memory>
         ensures ids { OnOk result (self.new.ids.items ≡ self.old.ids.items ++ id ∷ []) }
         ensures levels { OnOk result
             (self.new.levels.items ≡ self.old.levels.items ++ levels ∷ []) }
-        ensures wait { OnOk result (self.new.wait ≡ self.old.wait - 1) }
+        ensures wait { OnOk result (self.new.wait ≡ after_one self.old.wait) }
         ensures drops { self.new.drops ≡ self.old.drops }
         ensures from { self.new.from ≡ self.old.from }
     {
         self.ids.push(id)?;
         self.levels.push(levels)?;
-        self.wait = self.wait.saturating_sub(1);
+        self.wait = if self.wait == 0 {
+            ADDED - 1
+        } else {
+            self.wait - 1
+        };
         Ok(())
     }
 
@@ -100,9 +105,9 @@ impl Lemmas {
 
     /// Whether lemmas are to be dropped once another one is added.
     pub fn is_due_with_next(&self) -> bool
-        ensures { result ≡ nat_le self.now.wait 1 }
+        ensures { result ≡ (self.now.wait == 1) }
     {
-        self.wait <= 1
+        self.wait == 1
     }
 
     /// Whether lemmas are to be dropped now.
@@ -182,6 +187,8 @@ impl Lemmas {
         ensures old { IsSome result →
             IsSomeAnd (id_at core.now.clauses held)
             (Contains (take (length used.now) self.now.ids.items)) }
+        ensures long { IsSome result →
+            IsSomeAnd (clause_at core.now.clauses held) (λ lits. 2 < length lits) }
         ensures exact { Rise self.now.ids.items →
             result ≡ cost_of self.now used.now core.now held.0 }
     {
@@ -206,6 +213,8 @@ impl Lemmas {
         ensures counts { Rise self.now.ids.items → IfOk result (λ costs. (least : ℕ) →
             sum_by (counts least) costs.items
             ≡ costing self.now used.now least core.now (length core.now.clauses)) }
+        ensures few { IfOk result (λ costs. length costs.items ≤ count_by
+            (may_be_named (take (length used.now) self.now.ids.items)) core.now.clauses) }
     {
         let mut costs = Vec::new(self.alloc);
         for place in 0..core.clauses() {
@@ -227,6 +236,9 @@ impl Lemmas {
             length core.new.clauses + length ids ≡ length core.old.clauses) }
         ensures half { Rise self.now.ids.items → IfOk result (λ ids.
             length ids ≡ (droppable self.now.ids.items (length used.now) core.old + 1) / 2) }
+        ensures most { IfOk result (λ ids. length ids ≤
+            (count_by (λ id. is_long (clause_in core.old.clauses id))
+            (take (length used.now) self.now.ids.items) + 1) / 2) }
     {
         let costs = self.costs(core, used)?;
         let half = costs.len().div_ceil(2).min(u32::MAX as usize);
@@ -260,6 +272,7 @@ impl Lemmas {
         ensures places { OnOk result (held.0 ≤ length core.new.clauses) }
         ensures takes { Rise self.now.ids.items → OnOk result (length ids.new ≡ length ids.old +
             one_if (is_as_much least (cost_of self.now used.now core.old held.0))) }
+        ensures one { OnOk result (length ids.new ≤ length ids.old + 1) }
         ensures fewer { OnOk result (length core.new.clauses + length ids.new
             ≡ length core.old.clauses + length ids.old) }
         ensures before { OnOk result ((n : ℕ) → n ≤ held.0 →
@@ -294,7 +307,6 @@ impl Lemmas {
         let used = self.used(&steps[(self.from as usize).min(steps.len())..], self.old())?;
         let ids = self.forget_half(core, used.as_slice())?;
         if ids.is_empty() {
-            self.wait = ADDED;
             return Ok(());
         }
         log.steps.push(Step::Drop { ids })?;

@@ -9,7 +9,7 @@ ghost use Rattle.proof_log.specs.Texts.{HasLine};
 ghost use Rattle.proof_check.specs.Knowledge.{Knowledge, start};
 ghost use Rattle.proof_check.specs.Logs.{adds_empty, after_all, IsAccepted, IsRefuting};
 ghost use Rattle.clean_logs.specs.CleanLogs.{IsClean, IsSpent, added_by, dropped_by, additions};
-ghost use Rattle.sat_search.specs.DropTimes.{wait_of, DropsInTime};
+ghost use Rattle.sat_search.specs.DropSteps.{wait_of, DropsInTime, DropsHalf};
 ghost use Rattle.sat_search.specs.Live.{clause_in};
 ghost use Rattle.sat_search.specs.Searches.{appended, ends_empty, live_after};
 ghost use Rattle.sat_search.specs.Searches.{AddsFrom, DropsOld, HasLiveHints, IfModel, IsModelOf};
@@ -46,6 +46,8 @@ pub fn search(alloc: Global, core: &mut Core, log: &mut Log, limit: u64) -> Resu
         (appended log.old.steps log.new.steps) }
     ensures in_time { DropsInTime (dropped_by 0 log.old.steps) (wait_of log.old.steps)
         (appended log.old.steps log.new.steps) }
+    ensures halves { DropsHalf (clause_in core.old.clauses) (added_by [] log.old.steps)
+        (dropped_by 0 log.old.steps) (appended log.old.steps log.new.steps) }
     ensures few_drops { dropped_by 0 (appended log.old.steps log.new.steps)
         ≤ additions (appended log.old.steps log.new.steps) }
     ensures accepted { (k : Knowledge) → Knows k core.old →
@@ -86,14 +88,9 @@ pub fn search(alloc: Global, core: &mut Core, log: &mut Log, limit: u64) -> Resu
     search_first(alloc, core, &[], log, limit)
 }
 
-/// Looks for a model of the core's clauses, where of the literals handed in the first one that is
-/// not true at level 0 is false. Where there is none, it goes on with the next one. At each conflict it learns a lemma, which it adds to
-/// the core and, as a step with its hints, to the log; it ends where the lemma is empty, and where
-/// the log adds `limit` clauses already. From time to time it drops lemmas of the log, which is a
-/// step too: the j-th such step comes as soon as 1,500 j clauses were added since the one before
-/// it, and leaves the last 1,000 j, those of one or two literals, and half of the others; where it
-/// may drop none, it is tried again after 1,500 more.
-/// Want of memory stands for 2^32 - 1 clauses or more, too.
+/// Looks for a model as `search` does, with other decisions: it begins by making the first of the
+/// literals `first` false that is not true at level 0, where it is unset. Once lemmas show that it
+/// is true, it goes on with the next one; so no lemma rests on these decisions.
 pub fn search_first(
     alloc: Global,
     core: &mut Core,
@@ -114,6 +111,8 @@ pub fn search_first(
         (appended log.old.steps log.new.steps) }
     ensures in_time { DropsInTime (dropped_by 0 log.old.steps) (wait_of log.old.steps)
         (appended log.old.steps log.new.steps) }
+    ensures halves { DropsHalf (clause_in core.old.clauses) (added_by [] log.old.steps)
+        (dropped_by 0 log.old.steps) (appended log.old.steps log.new.steps) }
     ensures few_drops { dropped_by 0 (appended log.old.steps log.new.steps)
         ≤ additions (appended log.old.steps log.new.steps) }
     ensures accepted { (k : Knowledge) → Knows k core.old →

@@ -35,6 +35,15 @@ returns-clause-in_time c =
     let ran = searched_back s old c.args.limit c.run-found.new.core now new c.run-found.result c.run-found.ensures c.back_to.ensures in
     ran.log.in_time
 
+pub returns-clause-halves : goal.returns-clause-halves
+returns-clause-halves c =
+    let s = c.args.core.now in
+    let old = c.args.log.now.steps in
+    let new = c.run-found.new.log.steps in
+    let now = c.back_to.new.self in
+    let ran = searched_back s old c.args.limit c.run-found.new.core now new c.run-found.result c.run-found.ensures c.back_to.ensures in
+    ran.log.halves
+
 pub returns-clause-few_drops : goal.returns-clause-few_drops
 returns-clause-few_drops c =
     let s = c.args.core.now in

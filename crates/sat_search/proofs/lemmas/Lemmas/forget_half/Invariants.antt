@@ -10,7 +10,8 @@ invariant-loop-place l = record {
   old : All (Contains (take (length l.used) l.self.ids.items)) l.ids;
   place : l.place ≤ length l.core.clauses;
   fewer : length l.core.clauses + length l.ids ≡ length l.fn.core.clauses;
-  half : Rise l.self.ids.items → (length l.ids ≤ l.half) × (l.half ≤ length l.ids + costing l.self l.used l.least l.core l.place);
+  most : length l.ids ≤ l.half;
+  half : Rise l.self.ids.items → l.half ≤ length l.ids + costing l.self l.used l.least l.core l.place;
 }
 
 abbrev pub decreases-loop-place : goal.decreases-loop-place
