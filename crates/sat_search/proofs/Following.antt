@@ -1,7 +1,7 @@
 -- How the log and the clauses of a core grow together, lemma by lemma, and lose clauses.
-use Rattle.std.proofs.Common.{◌≡◌, ◌≢◌, ℕ, ◌+◌, ◌≤◌, Bool, true, false, ◌||◌, IsTrue, IsSome, inl, inr, List, [], ◌∷◌, ◌++◌, length, drop, All, AllPairs, refl, ap, sym, ◌∙◌, subst, arith, Option, add-zero, ◌*◌}
+use Rattle.std.proofs.Common.{◌≡◌, ◌≢◌, ℕ, ◌+◌, ◌≤◌, Bool, true, false, ◌||◌, IsTrue, IsSome, inl, inr, List, [], ◌∷◌, ◌++◌, length, drop, All, AllPairs, refl, ap, sym, ◌∙◌, subst, arith, Option, Some, None, add-zero, ◌*◌}
 use Rattle.std.specs.List.{list_any}
-use Rattle.std.proofs.lemmas.Bool.{or_from}
+use Rattle.std.proofs.lemmas.Bool.{or_from, false≢true}
 use Rattle.std.proofs.lemmas.List.{drop_at, append_assoc, append-nil, length-append, drop_all}
 use Rattle.std.proofs.lemmas.List.Folds.{list_any-append}
 use Rattle.std.proofs.lemmas.List.Quantifiers.{all_pairs_push}
@@ -18,10 +18,12 @@ use Rattle.sat_search.specs.Live.{clause_in}
 use Rattle.sat_search.specs.Orders.{KeepsClauses}
 use Rattle.sat_search.specs.Searches.{appended, ends_empty, live_after, AreLearnt, HasIdsTo, IsLearnt, IsOld, HasLearnt, GoesOn, Teaches}
 use Rattle.sat_search.specs.Dropping.{Drops}
+use Rattle.sat_search.specs.DropSteps.{gap_after, wait_after, wait_of, is_long, DropsInTime, IsHalf, DropsHalf}
+use Rattle.sat_search.proofs.Waits.{wait_append, in_time_add, in_time_drop}
 use Rattle.sat_search.proofs.Steps.{additions-append}
 use Rattle.sat_search.proofs.Held.{held_push}
 use Rattle.sat_search.proofs.Learnt.{all_at}
-use Rattle.sat_search.proofs.Lives.{live_append, added_append, dropped_append, dropped_from, without_none, ids_to, lemma_step, learnt_add, learnt_drop}
+use Rattle.sat_search.proofs.Lives.{live_append, added_append, dropped_append, dropped_from, without_none, ids_to, lemma_step, learnt_add, learnt_drop, halves_add, halves_drop}
 
 -- what stands behind the old steps
 pub appended_is : (old more new : List Step) → new ≡ old ++ more → appended old new ≡ more
@@ -48,6 +50,8 @@ follows_start s old =
         grown = sym (append-nil old) ∙ ap (λ (xs : List Step). old ++ xs) (sym none);
         learnt = subst (λ (xs : List Step). AreLearnt s.vars (clause_in s.clauses) s.last_id (added_by [] old) (dropped_by 0 old) xs) (sym none) tt;
         few = omega (arith, ap (λ (xs : List Step). dropped_by 0 xs) none);
+        in_time = subst (λ (xs : List Step). DropsInTime (dropped_by 0 old) (wait_of old) xs) (sym none) tt;
+        halves = subst (λ (xs : List Step). DropsHalf (clause_in s.clauses) (added_by [] old) (dropped_by 0 old) xs) (sym none) tt;
       };
       vars = refl;
       clauses = λ id. ap (λ (xs : List Step). live_after (clause_in s.clauses) xs id) (sym none);
@@ -107,6 +111,10 @@ module _ (s now dived next : State) (old new newer : List Step) (empty : Bool) (
     learnt = subst (λ (xs : List Step). AreLearnt s.vars (clause_in s.clauses) s.last_id (added_by [] old) (dropped_by 0 old) xs) (sym (more_is ∙ ap (λ (n : ℕ). appended old new ++ lemma_step n taught.lits taught.hints) id_is))
         (learnt_add s.vars (clause_in s.clauses) s.last_id (added_by [] old) (dropped_by 0 old) (appended old new) taught.lits taught.hints follows.log.learnt known_from learnt_from);
     few = omega (arith, taught_few);
+    in_time = subst (λ (xs : List Step). DropsInTime (dropped_by 0 old) (wait_of old) xs) (sym more_is)
+        (in_time_add (dropped_by 0 old) (wait_of old) (appended old new) (dived.last_id + 1) taught.lits taught.hints follows.log.in_time);
+    halves = subst (λ (xs : List Step). DropsHalf (clause_in s.clauses) (added_by [] old) (dropped_by 0 old) xs) (sym more_is)
+        (halves_add (clause_in s.clauses) (added_by [] old) (dropped_by 0 old) (appended old new) (dived.last_id + 1) taught.lits taught.hints follows.log.halves);
   }
 
   pub taught_more : additions newer ≡ additions new + 1
@@ -136,6 +144,10 @@ taught_different s now old new empty different taught =
     subst (λ (cs : List Numbered). AllPairs (λ c d. c.id ≢ d.id) cs) (sym taught.clauses)
     (all_pairs_push (λ c d. c.id ≢ d.id) s.clauses (record { id = s.last_id + 1; lits = taught.lits }) different (All-weaker (λ (c : Numbered). c.id ≤ s.last_id) (λ c. c.id ≢ s.last_id + 1) (λ c low e. omega (arith, low, e)) s.clauses taught.known))
 
+long-there : (o : Option (List Lit)) → IsTrue (is_long o) → IsSome o
+long-there None long = absurd (false≢true long)
+long-there (Some lits) long = refl
+
 -- clauses are dropped
 module _ (s now next : State) (old new newer : List Step) (follows : GoesOn s old now new) (few : dropped_by 0 (appended old new) + 1 ≤ additions (appended old new)) (drops : Drops now new next newer) where
   abbrev left : ℕ → Option (List Lit)
@@ -145,16 +157,23 @@ module _ (s now next : State) (old new newer : List Step) (follows : GoesOn s ol
   left_is = λ i j. follows.clauses j i
 
   there : All (λ id. IsSome (left id)) drops.ids
-  there = subst (λ (l : ℕ → Option (List Lit)). All (λ id. IsSome (l id)) drops.ids) left_is drops.forgets.live
+  there = All-weaker (λ (id : ℕ). IsTrue (is_long (left id))) (λ id. IsSome (left id)) (λ id long. long-there (left id) long) drops.ids
+      (subst (λ (l : ℕ → Option (List Lit)). All (λ id. IsTrue (is_long (l id))) drops.ids) left_is drops.forgets.long)
+
+  added_is : added_by [] new ≡ added_by (added_by [] old) (appended old new)
+  added_is = ap (added_by []) follows.log.grown ∙ added_append [] old (appended old new)
+
+  drops_is : dropped_by 0 new ≡ dropped_by (dropped_by 0 old) (appended old new)
+  drops_is = ap (dropped_by 0) follows.log.grown ∙ dropped_append 0 old (appended old new)
 
   may_go : All (IsOld (added_by (added_by [] old) (appended old new)) (dropped_by (dropped_by 0 old) (appended old new))) drops.ids
-  may_go = subst (λ (xs : List ℕ). All (IsOld xs (dropped_by (dropped_by 0 old) (appended old new))) drops.ids) (ap (added_by []) follows.log.grown ∙ added_append [] old (appended old new))
-      (subst (λ (n : ℕ). All (IsOld (added_by [] new) n) drops.ids) (ap (dropped_by 0) follows.log.grown ∙ dropped_append 0 old (appended old new)) drops.may_go)
+  may_go = subst (λ (xs : List ℕ). All (IsOld xs (dropped_by (dropped_by 0 old) (appended old new))) drops.ids) added_is
+      (subst (λ (n : ℕ). All (IsOld (added_by [] new) n) drops.ids) drops_is drops.may_go)
 
   drop_clauses : (j : ℕ) → clause_in next.clauses j ≡ without_clauses left drops.ids j
   drop_clauses j = drops.forgets.clauses j ∙ ap (λ (l : ℕ → Option (List Lit)). without_clauses l drops.ids j) left_is
 
-  module _ (is : newer ≡ new ++ Drop drops.ids ∷ []) where
+  module _ (is : newer ≡ new ++ Drop drops.ids ∷ []) (due : wait_of new ≡ 0) (half : IsHalf (clause_in now.clauses) (added_by [] new) (dropped_by 0 new) drops.ids) where
     abbrev drop_step : List Step
     drop_step = Drop drops.ids ∷ []
 
@@ -167,12 +186,24 @@ module _ (s now next : State) (old new newer : List Step) (follows : GoesOn s ol
     one_drop : dropped_by 0 (appended old newer) ≡ dropped_by 0 (appended old new) + 1
     one_drop = ap (dropped_by 0) drop_is ∙ dropped_append 0 (appended old new) drop_step
 
+    still_due : wait_after (dropped_by 0 old) (wait_of old) (appended old new) ≡ 0
+    still_due = sym (wait_append 0 (gap_after 0) old (appended old new)) ∙ ap wait_of (sym follows.log.grown) ∙ due
+
+    still_half : IsHalf left (added_by (added_by [] old) (appended old new)) (dropped_by (dropped_by 0 old) (appended old new)) drops.ids
+    still_half = subst (λ (l : ℕ → Option (List Lit)). IsHalf l (added_by (added_by [] old) (appended old new)) (dropped_by (dropped_by 0 old) (appended old new)) drops.ids) left_is
+        (subst (λ (xs : List ℕ). IsHalf (clause_in now.clauses) xs (dropped_by (dropped_by 0 old) (appended old new)) drops.ids) added_is
+        (subst (λ (n : ℕ). IsHalf (clause_in now.clauses) (added_by [] new) n drops.ids) drops_is half))
+
     dropped_log : HasLearnt s old newer
     dropped_log = record {
       grown = is ∙ ap (λ (xs : List Step). xs ++ drop_step) follows.log.grown ∙ append_assoc old (appended old new) drop_step ∙ ap (λ (xs : List Step). old ++ xs) (sym drop_is);
       learnt = subst (λ (xs : List Step). AreLearnt s.vars (clause_in s.clauses) s.last_id (added_by [] old) (dropped_by 0 old) xs) (sym drop_is)
           (learnt_drop s.vars (clause_in s.clauses) s.last_id (added_by [] old) (dropped_by 0 old) (appended old new) drops.ids follows.log.learnt there may_go);
       few = omega (arith, same_additions, one_drop, few);
+      in_time = subst (λ (xs : List Step). DropsInTime (dropped_by 0 old) (wait_of old) xs) (sym drop_is)
+          (in_time_drop (dropped_by 0 old) (wait_of old) (appended old new) drops.ids follows.log.in_time still_due);
+      halves = subst (λ (xs : List Step). DropsHalf (clause_in s.clauses) (added_by [] old) (dropped_by 0 old) xs) (sym drop_is)
+          (halves_drop (clause_in s.clauses) (added_by [] old) (dropped_by 0 old) (appended old new) drops.ids follows.log.halves still_half);
     }
 
     follows_step : GoesOn s old next newer
@@ -197,14 +228,14 @@ module _ (s now next : State) (old new newer : List Step) (follows : GoesOn s ol
 
   pub follows_dropped : GoesOn s old next newer
   follows_dropped = elim drops.log [
-    | inl is ↦ follows_step is
+    | inl is ↦ follows_step is.0 is.1 is.2
     | inr same ↦ follows_none same.0 same.1
   ]
 
   -- no clause is added
   pub dropped_additions : additions newer ≡ additions new
   dropped_additions = elim drops.log [
-    | inl is ↦ ap additions is ∙ additions-append new (Drop drops.ids ∷ []) ∙ add-zero (additions new)
+    | inl is ↦ ap additions is.0 ∙ additions-append new (Drop drops.ids ∷ []) ∙ add-zero (additions new)
     | inr same ↦ ap additions same.0
   ]
 

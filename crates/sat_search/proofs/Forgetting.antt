@@ -1,7 +1,7 @@
 -- Clauses that a core forgets, and the lemmas of a log that may be dropped.
-use Rattle.std.proofs.Common.{◌≡◌, ◌≢◌, ℕ, ◌+◌, ◌-◌, ◌*◌, ◌<◌, ◌≤◌, ◌==◌, Bool, true, false, cond, ◌||◌, IsSome, IsSomeAnd, inl, inr, List, [], ◌∷◌, ◌++◌, length, take, drop, reverse, slice_get, get_or, All, AllPairs, Contains, refl, ap, sym, ◌∙◌, subst, arith, Option, Some, None, ℤ, Result, Ok, Err, IfOk}
+use Rattle.std.proofs.Common.{◌≡◌, ◌≢◌, ℕ, ◌+◌, ◌-◌, ◌*◌, ◌<◌, ◌≤◌, ◌==◌, Bool, true, false, cond, ◌||◌, IsTrue, IsSomeAnd, inl, inr, List, [], ◌∷◌, ◌++◌, length, take, drop, reverse, slice_get, get_or, All, AllPairs, Contains, refl, ap, sym, ◌∙◌, subst, arith, Option, Some, None, option_map, ℤ, Result, Ok, Err, IfOk}
 use Rattle.std.specs.List.{list_any}
-use Rattle.std.proofs.lemmas.Bool.{cases_eq, cases_lt, cases_order, eq-eqb}
+use Rattle.std.proofs.lemmas.Bool.{cases_eq, cases_lt, cases_order, eq-eqb, lt-ltb}
 use Rattle.std.proofs.lemmas.Option.{none-some, same_Some, slice_get_within, get_or_from_slice_get}
 use Rattle.std.proofs.lemmas.List.{append-nil, get_or-reverse, length-reverse, get_or-take, get_or-drop, length-take, length-take-le, length-drop, reverse-append, take_more}
 use Rattle.std.proofs.lemmas.List.Folds.{list_any-append}
@@ -15,7 +15,7 @@ use Rattle.sat_core.specs.declared.assigned.Assigned.{Assigned}
 use Rattle.sat_core.specs.declared.assigned.Held.{Held}
 use Rattle.sat_core.specs.declared.numbered.Numbered.{Numbered}
 use Rattle.sat_core.specs.States.{State, at_level}
-use Rattle.sat_core.specs.Trails.{id_at, is_on}
+use Rattle.sat_core.specs.Trails.{clause_at, id_at, is_on}
 use Rattle.sat_core.specs.Forgotten.{without_at, without_clause, moved_entries}
 use Rattle.sat_core.proofs.Removed.{from_removed, to_removed, pairs_removed}
 use Rattle.clean_logs.specs.CleanLogs.{added_after, drops_after, added_by, dropped_by}
@@ -25,11 +25,13 @@ use Rattle.sat_search.specs.Passes.{is_marked}
 use Rattle.sat_search.specs.Orders.{IsOrder}
 use Rattle.sat_search.specs.Learners.{IsReady}
 use Rattle.sat_search.specs.declared.learner.Learner.{Learner}
+use Rattle.sat_search.specs.DropSteps.{gap_after, after_one, wait_after, wait_of, is_long, IsHalf}
+use Rattle.sat_search.proofs.Waits.{wait_then}
 use Rattle.sat_search.specs.Dropping.{old_lemmas, AreLemmas, MayGo, Forgets, ForgetsMore, Drops}
 use Rattle.sat_search.specs.declared.lemmas.Lemmas.{Lemmas}
 use Rattle.sat_search.proofs.Held.{at_held, held_at}
 use Rattle.sat_search.proofs.Clauses.{id_found}
-use Rattle.sat_search.proofs.Lives.{some_is, without_some, without_other, added_append, dropped_append, dropped_few}
+use Rattle.sat_search.proofs.Lives.{without_long, without_other, added_append, dropped_append, dropped_few}
 
 -- ---- one clause
 
@@ -87,24 +89,29 @@ module _ (xs : List Numbered) (different : AllPairs (λ c d. c.id ≢ d.id) xs) 
   pub one_gone : (j : ℕ) → clause_in (without_at xs at) j ≡ without_clauses (clause_in xs) (c.id ∷ []) j
   one_gone j = one-gone j (clause_in ys j) refl
 
-  pub is_there : IsSome (clause_in xs c.id)
-  is_there = some_is (clause_in xs c.id) c.lits (held_at xs at c different here)
+  pub is_long_there : 2 < length c.lits → IsTrue (is_long (clause_in xs c.id))
+  is_long_there many = ap is_long (held_at xs at c different here) ∙ lt-ltb 2 (length c.lits) many
 
 -- nothing is forgotten
 pub forgets_none : (s : State) → Forgets s [] s
-forgets_none s = record { live = All-nil _; clauses = λ id. refl; vars = refl; last_id = refl; level = refl; trail = λ l on. on }
+forgets_none s = record { long = All-nil _; clauses = λ id. refl; vars = refl; last_id = refl; level = refl; trail = λ l on. on }
 
 -- other reasons leave what is true
 moved-on : (last at : ℕ) (trail : List Assigned) (l : Lit) → is_on (moved_entries last at trail) l ≡ is_on trail l
 moved-on last at [] l = refl
 moved-on last at (e ∷ trail) l = ap (λ (b : Bool). (e.lit.code == l.code) || b) (moved-on last at trail l)
 
+-- the literals of the clause at a place
+lits-of : (o : Option Numbered) (c : Numbered) → IsSomeAnd (option_map (λ d. d.lits) o) (λ lits. 2 < length lits) → o ≡ Some c → 2 < length c.lits
+lits-of None c many is = absurd (none-some c is)
+lits-of (Some d) c many is = subst (λ (e : Numbered). 2 < length e.lits) (same_Some d c is) many
+
 -- a clause is forgotten
-pub forgets_one : (s : State) (h : Held) (id : ℕ) → AllPairs (λ c d. c.id ≢ d.id) s.clauses → id_at s.clauses h ≡ Some id → Forgets s (id ∷ []) (without_clause s h)
-forgets_one s h id different is =
+pub forgets_one : (s : State) (h : Held) (id : ℕ) → AllPairs (λ c d. c.id ≢ d.id) s.clauses → id_at s.clauses h ≡ Some id → IsSomeAnd (clause_at s.clauses h) (λ lits. 2 < length lits) → Forgets s (id ∷ []) (without_clause s h)
+forgets_one s h id different is many =
     let c = id_found s.clauses h id is in
     subst (λ (n : ℕ). Forgets s (n ∷ []) (without_clause s h)) c.2 (record {
-      live = All-cons (λ n. IsSome (clause_in s.clauses n)) c.0.id [] (is_there s.clauses different h.0 c.0 c.1) (All-nil _);
+      long = All-cons (λ n. IsTrue (is_long (clause_in s.clauses n))) c.0.id [] (is_long_there s.clauses different h.0 c.0 c.1 (lits-of (slice_get s.clauses h.0) c.0 many c.1)) (All-nil _);
       clauses = one_gone s.clauses different h.0 c.0 c.1;
       vars = refl;
       last_id = refl;
@@ -133,8 +140,8 @@ pub forgets_more : (s mid now : State) (ids new : List ℕ) → Forgets s ids mi
 forgets_more s mid now ids new before more =
     let same : clause_in mid.clauses ≡ without_clauses (clause_in s.clauses) ids = λ i j. before.clauses j i in
     subst (λ (is : List ℕ). Forgets s is now) (sym more.grown) (record {
-      live = All-append (λ id. IsSome (clause_in s.clauses id)) ids more.more before.live
-          (All-weaker (λ id. IsSome (clause_in mid.clauses id)) (λ id. IsSome (clause_in s.clauses id)) (λ id some. without_some (clause_in s.clauses) ids id (subst (λ (l : ℕ → Option (List Lit)). IsSome (l id)) same some)) more.more more.forgets.live);
+      long = All-append (λ id. IsTrue (is_long (clause_in s.clauses id))) ids more.more before.long
+          (All-weaker (λ id. IsTrue (is_long (clause_in mid.clauses id))) (λ id. IsTrue (is_long (clause_in s.clauses id))) (λ id long. without_long (clause_in s.clauses) ids id (subst (λ (l : ℕ → Option (List Lit)). IsTrue (is_long (l id))) same long)) more.more more.forgets.long);
       clauses = λ j. more.forgets.clauses j ∙ ap (λ (l : ℕ → Option (List Lit)). without_clauses l more.more j) same ∙ without-twice (clause_in s.clauses) ids more.more j;
       vars = more.forgets.vars ∙ before.vars;
       last_id = more.forgets.last_id ∙ before.last_id;
@@ -145,35 +152,38 @@ forgets_more s mid now ids new before more =
 pub more_none : (s : State) (ids : List ℕ) → ForgetsMore s ids s ids
 more_none s ids = record { more = []; grown = sym (append-nil ids); forgets = forgets_none s }
 
-pub more_one : (s : State) (ids : List ℕ) (h : Held) (id : ℕ) → AllPairs (λ c d. c.id ≢ d.id) s.clauses → id_at s.clauses h ≡ Some id → ForgetsMore s ids (without_clause s h) (ids ++ id ∷ [])
-more_one s ids h id different is = record { more = id ∷ []; grown = refl; forgets = forgets_one s h id different is }
+pub more_one : (s : State) (ids : List ℕ) (h : Held) (id : ℕ) → AllPairs (λ c d. c.id ≢ d.id) s.clauses → id_at s.clauses h ≡ Some id → IsSomeAnd (clause_at s.clauses h) (λ lits. 2 < length lits) → ForgetsMore s ids (without_clause s h) (ids ++ id ∷ [])
+more_one s ids h id different is many = record { more = id ∷ []; grown = refl; forgets = forgets_one s h id different is many }
 
 -- ---- the lemmas of a log
 
-pub lemmas_none : (lemmas : Lemmas) → lemmas.ids.items ≡ [] → lemmas.drops ≡ 0 → AreLemmas [] lemmas
-lemmas_none lemmas none zero = record { ids = ap reverse none; drops = zero }
+pub lemmas_none : (lemmas : Lemmas) → lemmas.ids.items ≡ [] → lemmas.drops ≡ 0 → lemmas.wait ≡ gap_after 0 → AreLemmas [] lemmas
+lemmas_none lemmas none zero wait = record { ids = ap reverse none; drops = zero; wait = wait }
 
 -- a lemma joins
 pub lemmas_add : (steps : List Step) (old new : Lemmas) (id : ℕ) (step : Step) → AreLemmas steps old → new.ids.items ≡ old.ids.items ++ id ∷ [] → new.drops ≡ old.drops
-    → added_by (added_by [] steps) (step ∷ []) ≡ id ∷ added_by [] steps → dropped_by (dropped_by 0 steps) (step ∷ []) ≡ dropped_by 0 steps → AreLemmas (steps ++ step ∷ []) new
-lemmas_add steps old new id step are ids drops adds keeps = record {
+    → added_by (added_by [] steps) (step ∷ []) ≡ id ∷ added_by [] steps → dropped_by (dropped_by 0 steps) (step ∷ []) ≡ dropped_by 0 steps → new.wait ≡ wait_after (dropped_by 0 steps) (wait_of steps) (step ∷ []) → AreLemmas (steps ++ step ∷ []) new
+lemmas_add steps old new id step are ids drops adds keeps wait = record {
   ids = ap reverse ids ∙ reverse-append old.ids.items (id ∷ []) ∙ ap (λ (is : List ℕ). id ∷ is) are.ids ∙ sym adds ∙ sym (added_append [] steps (step ∷ []));
   drops = drops ∙ are.drops ∙ sym keeps ∙ sym (dropped_append 0 steps (step ∷ []));
+  wait = wait ∙ sym (wait_then steps step);
 }
 
 -- or some are dropped
-pub lemmas_drop : (steps : List Step) (old new : Lemmas) (ids : List ℕ) → AreLemmas steps old → new.ids.items ≡ old.ids.items → new.drops ≡ old.drops + 1 → AreLemmas (steps ++ Drop ids ∷ []) new
-lemmas_drop steps old new ids are same more = record {
+pub lemmas_drop : (steps : List Step) (old new : Lemmas) (ids : List ℕ) → AreLemmas steps old → new.ids.items ≡ old.ids.items → new.drops ≡ old.drops + 1 → new.wait ≡ gap_after (old.drops + 1) → AreLemmas (steps ++ Drop ids ∷ []) new
+lemmas_drop steps old new ids are same more wait = record {
   ids = ap reverse same ∙ are.ids ∙ sym (added_append [] steps (Drop ids ∷ []));
   drops = omega (arith, more, are.drops, dropped_append 0 steps (Drop ids ∷ []));
+  wait = wait ∙ ap (λ (n : ℕ). gap_after (n + 1)) are.drops ∙ sym (wait_then steps (Drop ids));
 }
 
 -- or nothing changes
 pub lemmas_keep : (steps : List Step) (old new : Lemmas) (step : Step) → AreLemmas steps old → new.ids.items ≡ old.ids.items → new.drops ≡ old.drops
-    → added_by (added_by [] steps) (step ∷ []) ≡ added_by [] steps → dropped_by (dropped_by 0 steps) (step ∷ []) ≡ dropped_by 0 steps → AreLemmas (steps ++ step ∷ []) new
-lemmas_keep steps old new step are same drops adds keeps = record {
+    → added_by (added_by [] steps) (step ∷ []) ≡ added_by [] steps → dropped_by (dropped_by 0 steps) (step ∷ []) ≡ dropped_by 0 steps → new.wait ≡ wait_after (dropped_by 0 steps) (wait_of steps) (step ∷ []) → AreLemmas (steps ++ step ∷ []) new
+lemmas_keep steps old new step are same drops adds keeps wait = record {
   ids = ap reverse same ∙ are.ids ∙ sym adds ∙ sym (added_append [] steps (step ∷ []));
   drops = drops ∙ are.drops ∙ sym keeps ∙ sym (dropped_append 0 steps (step ∷ []));
+  wait = wait ∙ sym (wait_then steps step);
 }
 
 -- what stands among the first of a list stands in the list turned round without its first
@@ -202,9 +212,9 @@ first_go steps lemmas n ids are few first = All-weaker (Contains (take n lemmas.
 
 -- ---- a step that drops clauses
 
-pub drops_some : (s now back : State) (old new : List Step) (ids : List ℕ) → Forgets s ids now → back ≡ now → All (MayGo old) ids → new ≡ old ++ Drop ids ∷ [] → Drops s old back new
-drops_some s now back old new ids forgets same may_go grown =
-    record { ids = ids; log = inl grown; may_go = may_go; forgets = subst (λ (b : State). Forgets s ids b) (sym same) forgets }
+pub drops_some : (s now back : State) (old new : List Step) (ids : List ℕ) → Forgets s ids now → back ≡ now → All (MayGo old) ids → new ≡ old ++ Drop ids ∷ [] → wait_of old ≡ 0 → IsHalf (clause_in s.clauses) (added_by [] old) (dropped_by 0 old) ids → Drops s old back new
+drops_some s now back old new ids forgets same may_go grown due half =
+    record { ids = ids; log = inl (grown, due, half); may_go = may_go; forgets = subst (λ (b : State). Forgets s ids b) (sym same) forgets }
 
 pub drops_none : (s now : State) (old : List Step) (ids : List ℕ) → Forgets s ids now → ids ≡ [] → Drops s old now old
 drops_none s now old ids forgets none =
@@ -223,23 +233,23 @@ first-more : (steps : List Step) (i : ℕ) (step : Step) → i < length steps �
 first-more steps i step low is = take_more steps i step low ∙ ap (λ (s : Step). take i steps ++ s ∷ []) (sym is)
 
 pub first_add : (steps : List Step) (i : ℕ) (step : Step) (old new now : Lemmas) (id : ℕ) (lits : List Lit) (hints : List ℤ) → AreLemmas (take i steps) old → i < length steps → step ≡ get_or steps i step → step ≡ Add id lits hints
-    → new.ids.items ≡ old.ids.items ++ id ∷ [] → new.drops ≡ old.drops → now ≡ new → AreLemmas (take (i + 1) steps) now
-first_add steps i step old new now id lits hints are low at is ids drops same =
+    → new.ids.items ≡ old.ids.items ++ id ∷ [] → new.drops ≡ old.drops → new.wait ≡ after_one old.wait → now ≡ new → AreLemmas (take (i + 1) steps) now
+first_add steps i step old new now id lits hints are low at is ids drops wait same =
     subst (λ (l : Lemmas). AreLemmas (take (i + 1) steps) l) (sym same)
     (subst (λ (xs : List Step). AreLemmas xs new) (sym (first-more steps i step low at))
-    (lemmas_add (take i steps) old new id step are ids drops (ap (λ (s : Step). added_after (added_by [] (take i steps)) s) is) (ap (λ (s : Step). drops_after (dropped_by 0 (take i steps)) s) is)))
+    (lemmas_add (take i steps) old new id step are ids drops (ap (λ (s : Step). added_after (added_by [] (take i steps)) s) is) (ap (λ (s : Step). drops_after (dropped_by 0 (take i steps)) s) is) (wait ∙ ap after_one are.wait ∙ sym (ap (λ (s : Step). wait_after (dropped_by 0 (take i steps)) (wait_of (take i steps)) (s ∷ [])) is))))
 
 pub first_drop : (steps : List Step) (i : ℕ) (step : Step) (old new now : Lemmas) (ids : List ℕ) → AreLemmas (take i steps) old → i < length steps → step ≡ get_or steps i step → step ≡ Drop ids
-    → new.ids.items ≡ old.ids.items → new.drops ≡ old.drops + 1 → now ≡ new → AreLemmas (take (i + 1) steps) now
-first_drop steps i step old new now ids are low at is same more now_is =
+    → new.ids.items ≡ old.ids.items → new.drops ≡ old.drops + 1 → new.wait ≡ gap_after (old.drops + 1) → now ≡ new → AreLemmas (take (i + 1) steps) now
+first_drop steps i step old new now ids are low at is same more wait now_is =
     subst (λ (l : Lemmas). AreLemmas (take (i + 1) steps) l) (sym now_is)
-    (subst (λ (xs : List Step). AreLemmas xs new) (sym (first-more steps i step low at ∙ ap (λ (s : Step). take i steps ++ s ∷ []) is)) (lemmas_drop (take i steps) old new ids are same more))
+    (subst (λ (xs : List Step). AreLemmas xs new) (sym (first-more steps i step low at ∙ ap (λ (s : Step). take i steps ++ s ∷ []) is)) (lemmas_drop (take i steps) old new ids are same more wait))
 
 pub first_bound : (steps : List Step) (i : ℕ) (step : Step) (old now : Lemmas) (id price : ℕ) → AreLemmas (take i steps) old → i < length steps → step ≡ get_or steps i step → step ≡ Bound id price → now ≡ old → AreLemmas (take (i + 1) steps) now
 first_bound steps i step old now id price are low at is now_is =
     subst (λ (l : Lemmas). AreLemmas (take (i + 1) steps) l) (sym now_is)
     (subst (λ (xs : List Step). AreLemmas xs old) (sym (first-more steps i step low at))
-    (lemmas_keep (take i steps) old old step are refl refl (ap (λ (s : Step). added_after (added_by [] (take i steps)) s) is) (ap (λ (s : Step). drops_after (dropped_by 0 (take i steps)) s) is)))
+    (lemmas_keep (take i steps) old old step are refl refl (ap (λ (s : Step). added_after (added_by [] (take i steps)) s) is) (ap (λ (s : Step). drops_after (dropped_by 0 (take i steps)) s) is) (are.wait ∙ sym (ap (λ (s : Step). wait_after (dropped_by 0 (take i steps)) (wait_of (take i steps)) (s ∷ [])) is))))
 
 -- ---- what is forgotten is old
 
@@ -261,12 +271,12 @@ taught_above s back now old new level (Err memory) is taught = tt
 
 -- and a search is ready again after it
 pub ready_again : (s now : State) (old new : List Step) (was learner : Learner) (r : Result Bool Memory) → IfOk r (Teaches s old now new) → length learner.marks ≡ 2 * s.vars + 2 → ((l : Lit) → is_marked learner.marks l ≡ false)
-    → IsOrder s.vars learner.order → AreLemmas old was.lemmas → learner.lemmas.ids.items ≡ was.lemmas.ids.items ++ (s.last_id + 1) ∷ [] → learner.lemmas.drops ≡ was.lemmas.drops → IfOk r (λ empty. IsReady now.vars new learner)
-ready_again s now old new was learner (Ok empty) taught size none order are ids drops =
+    → IsOrder s.vars learner.order → AreLemmas old was.lemmas → learner.lemmas.ids.items ≡ was.lemmas.ids.items ++ (s.last_id + 1) ∷ [] → learner.lemmas.drops ≡ was.lemmas.drops → learner.lemmas.wait ≡ after_one was.lemmas.wait → IfOk r (λ empty. IsReady now.vars new learner)
+ready_again s now old new was learner (Ok empty) taught size none order are ids drops wait =
     subst (λ (v : ℕ). IsReady v new learner) (sym taught.vars) (record {
       size = size;
       none = none;
       order = order;
-      lemmas = subst (λ (xs : List Step). AreLemmas xs learner.lemmas) (sym taught.log) (lemmas_add old was.lemmas learner.lemmas (s.last_id + 1) (Add (s.last_id + 1) taught.lits taught.hints) are ids drops refl refl);
+      lemmas = subst (λ (xs : List Step). AreLemmas xs learner.lemmas) (sym taught.log) (lemmas_add old was.lemmas learner.lemmas (s.last_id + 1) (Add (s.last_id + 1) taught.lits taught.hints) are ids drops refl refl (wait ∙ ap after_one are.wait));
     })
-ready_again s now old new was learner (Err memory) taught size none order are ids drops = tt
+ready_again s now old new was learner (Err memory) taught size none order are ids drops wait = tt

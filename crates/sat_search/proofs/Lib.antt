@@ -19,7 +19,8 @@ pub mod Models
 pub mod Lives
 pub mod Following
 pub mod Rising
-pub mod Uppers
+pub mod Halves
+pub mod Named
 pub mod Using
 pub mod Costs
 pub mod Waits

@@ -12,6 +12,7 @@ use Rattle.proof_check.specs.Knowledge.{with_clause, without_clauses}
 use Rattle.sat_core.specs.declared.numbered.Numbered.{Numbered}
 use Rattle.clean_logs.specs.CleanLogs.{added_after, drops_after, added_by, dropped_by, additions}
 use Rattle.sat_search.specs.Live.{clause_in}
+use Rattle.sat_search.specs.DropSteps.{is_long, IsHalf, DropsHalf}
 use Rattle.sat_search.specs.Searches.{AddsFrom, IsOld, DropsOld, IsLearnt, HasIdsTo, AreLearnt, live_then, live_after}
 use Rattle.sat_search.proofs.Held.{at_held}
 use Rattle.sat_search.proofs.Learnt.{all_at}
@@ -56,6 +57,13 @@ left-out false o some = some
 
 pub without_some : (live : Live) (ids : List ℕ) (id : ℕ) → IsSome (without_clauses live ids id) → IsSome (live id)
 without_some live ids id some = left-out (list_any (λ (d : ℕ). d == id) ids) (live id) some
+
+long-out : (b : Bool) (o : Option (List Lit)) → IsTrue (is_long (cond b None o)) → IsTrue (is_long o)
+long-out true o long = absurd (false≢true long)
+long-out false o long = long
+
+pub without_long : (live : Live) (ids : List ℕ) (id : ℕ) → IsTrue (is_long (without_clauses live ids id)) → IsTrue (is_long (live id))
+without_long live ids id long = long-out (list_any (λ (d : ℕ). d == id) ids) (live id) long
 
 pub without_other : (live : Live) (ids : List ℕ) (id : ℕ) → All (λ d. d ≢ id) ids → without_clauses live ids id ≡ live id
 without_other live ids id other =
@@ -180,6 +188,19 @@ learnt_drop vars live last added drops (Add id ls hs ∷ more) ids learnt there 
 learnt_drop vars live last added drops (Drop js ∷ more) ids learnt there old =
     (learnt.0, learnt.1, learnt_drop vars (without_clauses live js) last added (drops + 1) more ids learnt.2 there old)
 learnt_drop vars live last added drops (Bound id price ∷ more) ids learnt there old = absurd learnt
+
+-- a clause is added, or at most half of those that may go are dropped
+pub halves_add : (live : Live) (added : List ℕ) (drops : ℕ) (xs : List Step) (id : ℕ) (lits : List Lit) (hints : List ℤ) → DropsHalf live added drops xs → DropsHalf live added drops (xs ++ Add id lits hints ∷ [])
+halves_add live added drops [] id lits hints halves = tt
+halves_add live added drops (Add other of by ∷ xs) id lits hints halves = halves_add (with_clause live other of) (other ∷ added) drops xs id lits hints halves
+halves_add live added drops (Drop ids ∷ xs) id lits hints halves = (halves.0, halves_add (without_clauses live ids) added (drops + 1) xs id lits hints halves.1)
+halves_add live added drops (Bound other price ∷ xs) id lits hints halves = halves_add live added drops xs id lits hints halves
+
+pub halves_drop : (live : Live) (added : List ℕ) (drops : ℕ) (xs : List Step) (gone : List ℕ) → DropsHalf live added drops xs → IsHalf (live_after live xs) (added_by added xs) (dropped_by drops xs) gone → DropsHalf live added drops (xs ++ Drop gone ∷ [])
+halves_drop live added drops [] gone halves half = (half, tt)
+halves_drop live added drops (Add id lits hints ∷ xs) gone halves half = halves_drop (with_clause live id lits) (id ∷ added) drops xs gone halves half
+halves_drop live added drops (Drop ids ∷ xs) gone halves half = (halves.0, halves_drop (without_clauses live ids) added (drops + 1) xs gone halves.1 half)
+halves_drop live added drops (Bound id price ∷ xs) gone halves half = halves_drop live added drops xs gone halves half
 
 -- ---- what was learnt
 

@@ -1,7 +1,7 @@
 -- The clauses of a search, from what it leaves.
-use Rattle.std.proofs.Common.{◌≡◌, ℕ, ◌+◌, ◌<◌, ◌≤◌, ◌^◌, Bool, IsTrue, ◌↔◌, List, [], ◌++◌, All, refl, ap, sym, ◌∙◌, subst, arith, Option, Result, Ok, Err, IfOk}
+use Rattle.std.proofs.Common.{◌≡◌, ℕ, ◌+◌, ◌<◌, ◌≤◌, ◌^◌, Bool, IsTrue, ◌↔◌, List, [], ◌++◌, All, refl, ap, sym, ◌∙◌, subst, arith, Option, Result, Ok, Err, IsErr, IfOk}
 use Rattle.std.specs.List.{list_any}
-use Rattle.std.proofs.lemmas.Bool.{or_right}
+use Rattle.std.proofs.lemmas.Bool.{or_right, false≢true}
 use Rattle.std.proofs.lemmas.List.Folds.{list_any-append}
 use Rattle.std.proofs.lemmas.List.Elements.{All-append, All-nil, All-same}
 use Rattle.arc_base.specs.declared.memory.Memory.{Memory}
@@ -84,6 +84,11 @@ ends-back s old limit now new (Err memory) ends = tt
 pub searched_back : (s : State) (old : List Step) (limit : ℕ) (now back : State) (new : List Step) (r : Result Found Memory) → Searched s old limit now new r → back ≡ at_level now 0 → Searched s old limit back new r
 searched_back s old limit now back new r ran is =
     subst (λ (b : State). Searched s old limit b new r) (sym is) (record { log = ran.log; most = ran.most; ends = ends-back s old limit now new r ran.ends })
+
+-- an error says nothing of the state
+pub ends_err : (s : State) (old : List Step) (limit : ℕ) (now : State) (new : List Step) (r : Result Found Memory) → IsErr r → Ends s old limit now new r
+ends_err s old limit now new (Ok found) err = absurd (false≢true err)
+ends_err s old limit now new (Err memory) err = tt
 
 model-not : (values : List Bool) → Model values ≡ Refuted → ⊥
 model-not values e = cc

@@ -157,7 +157,7 @@ module _ (s : State) (sound : IsSound s) where
       omega (arith, after.1, sum),
     )
 
-    pub pass_keeps : (rest : ℕ) → length more ≡ length flags → current ≡ rest + once (a.level == s.level) → 1 ≤ a.level → (a.level ≡ s.level → current ≤ 1) → IsPass s first more (lits ++ negated a.lit ∷ []) hints rest
+    pub pass_keeps : (rest : ℕ) → length more ≡ length flags → current ≡ rest + once (a.level == s.level) → 1 ≤ s.level → (a.level ≡ s.level → current ≤ 1) → IsPass s first more (lits ++ negated a.lit ∷ []) hints rest
     pass_keeps rest size sum up few = record {
       size = size ∙ pass.size;
       pending = pending_below;
@@ -170,7 +170,7 @@ module _ (s : State) (sound : IsSound s) where
       live = pass.live;
       chain = makes_same (clause_in s.clauses) hints (so_far flags lits) (so_far more (lits ++ negated a.lit ∷ [])) so_far_kept pass.chain;
       counted = counted_less rest sum;
-      risen = λ m among. omega (arith, level_most s.clauses s.vars s.trail s.level sound.trail first a at);
+      risen = λ m among. up;
       one = λ risen. elim (cases_eq a.level s.level) [
         | inl level_is ↦ point_here rest sum level_is (few level_is) risen (pass.one risen)
         | inr other ↦ point_elsewhere rest sum other (pass.one risen)

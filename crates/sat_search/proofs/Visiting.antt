@@ -26,17 +26,20 @@ use Rattle.sat_search.proofs.Clauses.{clause_found}
 abbrev pub Resolved : ℕ → ℕ → Assigned → Type 0
 Resolved level current a = (a.level ≡ 0) ⊎ ((a.level ≢ level) ⊎ ((a.level ≡ level) × (2 ≤ current)))
 
--- what is asked of an entry above level 0
+-- what is asked of an entry
 abbrev goes : ℕ → ℕ → Bool → Assigned → Bool
-goes level current spared a = cond (a.level == level) (nat_lt 1 current) spared
+goes level current spared a = cond (a.level == level) ((level == 0) || nat_lt 1 current) spared
 
-test-true : (level current : ℕ) (spared : Bool) (a : Assigned) → ((a.level == 0) || goes level current spared a) ≡ true → Resolved level current a
-test-true level current spared a h = elim (or_cases (a.level == 0) (goes level current spared a) h) [
-  | inl bottom ↦ inl (eqb-true a.level 0 bottom)
-  | inr above ↦ elim (cases_eq a.level level) [
-    | inl is ↦ inr (inr (is, omega (arith, ltb-true 1 current (sym (cond-true (a.level == level) (nat_lt 1 current) spared (eq-eqb a.level level is)) ∙ above))))
-    | inr other ↦ inr (inl other)
+on-level : (level current : ℕ) (spared : Bool) (a : Assigned) → a.level ≡ level → goes level current spared a ≡ ((level == 0) || nat_lt 1 current)
+on-level level current spared a is = cond-true (a.level == level) ((level == 0) || nat_lt 1 current) spared (eq-eqb a.level level is)
+
+test-true : (level current : ℕ) (spared : Bool) (a : Assigned) → goes level current spared a ≡ true → Resolved level current a
+test-true level current spared a h = elim (cases_eq a.level level) [
+  | inl is ↦ elim (or_cases (level == 0) (nat_lt 1 current) (sym (on-level level current spared a is) ∙ h)) [
+    | inl bottom ↦ inl (is ∙ eqb-true level 0 bottom)
+    | inr many ↦ inr (inr (is, omega (arith, ltb-true 1 current many)))
   ]
+  | inr other ↦ inr (inl other)
 ]
 
 with-test : (b : Bool) (o : Option Held) (h : Held) → cond b o None ≡ Some h → (b ≡ true) × (o ≡ Some h)
@@ -45,18 +48,20 @@ with-test false o h e = absurd (none-some h e)
 
 pub resolved_why : (level current : ℕ) (spared : Bool) (a : Assigned) (h : Held) → resolving_reason level current spared a ≡ Some h → Resolved level current a × (a.reason ≡ Some h)
 resolved_why level current spared a h e =
-    let parts = with-test ((a.level == 0) || goes level current spared a) a.reason h e in
+    let parts = with-test (goes level current spared a) a.reason h e in
     (test-true level current spared a parts.0, parts.1)
 
 without-test : (b : Bool) (o : Option Held) → cond b o None ≡ None → (b ≡ false) ⊎ (o ≡ None)
 without-test true o e = inr e
 without-test false o e = inl refl
 
-few-level : (level current : ℕ) (spared : Bool) (a : Assigned) → goes level current spared a ≡ false → a.level ≡ level → current ≤ 1
-few-level level current spared a off is = ltb-false 1 current (sym (cond-true (a.level == level) (nat_lt 1 current) spared (eq-eqb a.level level is)) ∙ off)
-
 rises : (n : ℕ) → n ≢ 0 → 1 ≤ n
 rises n h = omega arith
+
+few-level : (level current : ℕ) (spared : Bool) (a : Assigned) → goes level current spared a ≡ false → a.level ≡ level → (1 ≤ level) × (current ≤ 1)
+few-level level current spared a off is =
+    let parts = or_parts (level == 0) (nat_lt 1 current) (sym (on-level level current spared a is) ∙ off) in
+    (rises level (eqb-false level 0 parts.0), ltb-false 1 current parts.1)
 
 -- a reason is the place of a clause
 pub reason_below : (s : State) (sound : IsSound s) (first : ℕ) (a : Assigned) → slice_get s.trail first ≡ Some a → (h : Held) → a.reason ≡ Some h → h.0 < length s.clauses
@@ -81,11 +86,19 @@ module _ (s : State) (sound : IsSound s) (first : ℕ) (flags : List Bool) (lits
       omega (arith, counted, zero_rest, sum, ap once (eq-eqb a.level s.level level_is))
 
   -- why a literal stays
-  pub kept_why : (rest : ℕ) (spared : Bool) → current ≡ rest + once (a.level == s.level) → resolving_reason s.level current spared a ≡ None → (1 ≤ a.level) × (a.level ≡ s.level → current ≤ 1)
-  kept_why rest spared sum e = elim (without-test ((a.level == 0) || goes s.level current spared a) a.reason e) [
-    | inl off ↦ let parts = or_parts (a.level == 0) (goes s.level current spared a) off in (rises a.level (eqb-false a.level 0 parts.0), few-level s.level current spared a parts.1)
-    | inr none ↦ (decision_rises s.clauses s.vars s.trail s.level sound.trail first a at none, λ is. alone rest none is sum)
-  ]
+  pub kept_why : (rest : ℕ) (spared : Bool) → current ≡ rest + once (a.level == s.level) → resolving_reason s.level current spared a ≡ None → (1 ≤ s.level) × (a.level ≡ s.level → current ≤ 1)
+  kept_why rest spared sum e =
+      let most = level_most s.clauses s.vars s.trail s.level sound.trail first a at in
+      elim (without-test (goes s.level current spared a) a.reason e) [
+        | inl off ↦ (up-where off most, λ is. (few-level s.level current spared a off is).1)
+        | inr none ↦ (omega (arith, decision_rises s.clauses s.vars s.trail s.level sound.trail first a at none, most), λ is. alone rest none is sum)
+      ]
+    where
+      up-where : goes s.level current spared a ≡ false → a.level ≤ s.level → 1 ≤ s.level
+      up-where off most = elim (cases_eq a.level s.level) [
+        | inl is ↦ (few-level s.level current spared a off is).0
+        | inr other ↦ omega (arith, other, most)
+      ]
 
   pub visit_keeps : (rest : ℕ) (spared : Bool) → length more ≡ length flags → current ≡ rest + once (a.level == s.level) → resolving_reason s.level current spared a ≡ None → IsPass s first more (lits ++ negated a.lit ∷ []) hints rest
   visit_keeps rest spared size sum e =

@@ -1,7 +1,7 @@
 -- Which clauses may be dropped, and what they cost: the greater the cost, the less a clause is
 -- worth.
-use Rattle.std.specs.Prelude.{◌≡◌, ℕ, zero, suc, ◌+◌, ◌<◌, ◌^◌, ◌==◌, ◌||◌, nat_le, ℤ, pos, negsuc}
-use Rattle.std.specs.Prelude.{Bool, true, false}
+use Rattle.std.specs.Prelude.{◌≡◌, ℕ, zero, suc, ◌+◌, ◌<◌, ◌^◌, ◌==◌, ◌&&◌, ◌||◌, nat_le, nat_lt, ℤ}
+use Rattle.std.specs.Prelude.{pos, negsuc, Bool, true, false}
 use Rattle.std.specs.Prelude.{if◌then◌else◌, List, length, take, position, slice_get}
 use Rattle.std.specs.Prelude.{slice_index_or, AllPairs, Option, Some, None}
 use Rattle.std.specs.List.{list_any}
@@ -84,6 +84,10 @@ count_below test (suc n) = count_below test n + one_if (test n)
 -- how many of the first clauses may be dropped and cost so much at least
 abbrev pub costing : Lemmas → List Bool → ℕ → State → ℕ → ℕ
 costing lemmas used least s = count_below (λ at. is_as_much least (cost_of lemmas used s at))
+
+-- whether the clause has more than two literals, and one of these ids
+abbrev pub may_be_named : List ℕ → Numbered → Bool
+may_be_named ids c = nat_lt 2 (length c.lits) && list_any (λ id. id == c.id) ids
 
 -- how many clauses of the core may be dropped, where so many of the first lemmas are old enough
 abbrev pub droppable : List ℕ → ℕ → State → ℕ

@@ -1,4 +1,5 @@
 pub mod Live
+pub mod DropSteps
 pub mod Passes
 pub mod Searches
 pub mod Orders

@@ -42,11 +42,11 @@ pub record HasRoom (s : State) (flags : List Bool) : Type 0 where
   pub size : length flags ≡ 2 * s.vars + 2
   pub few : length s.trail < 2 ^ 64
 
--- the reason of an entry of level 0, of one of the current level as long as others of the level are
--- open, and of one between them whose literal can be spared
+-- the reason of an entry of the current level as long as others of the level are open, or where it
+-- is level 0, and of one below it whose literal can be spared
 abbrev pub resolving_reason : ℕ → ℕ → Bool → Assigned → Option Held
 resolving_reason level current spared e =
-    if (e.level == 0) || (if e.level == level then nat_lt 1 current else spared)
+    if (if e.level == level then (level == 0) || nat_lt 1 current else spared)
     then e.reason else None
 
 -- an entry from place `low` on and before place `high` assigns the literal

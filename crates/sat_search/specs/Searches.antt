@@ -18,6 +18,7 @@ use Rattle.clean_logs.specs.Lemmas.{IsNew}
 use Rattle.clean_logs.specs.CleanLogs.{added_by, dropped_by, additions}
 use Rattle.sat_search.specs.declared.found.Found.{Found}
 use Rattle.sat_search.specs.declared.found.Found.TheVariants.{Model, Refuted, Budget}
+use Rattle.sat_search.specs.DropSteps.{wait_of, DropsInTime, DropsHalf}
 use Rattle.sat_search.specs.Live.{clause_in}
 use Rattle.sat_search.specs.Passes.{IsLive}
 
@@ -128,12 +129,15 @@ AreLearnt vars live last added drops (Drop ids ∷ steps) =
 AreLearnt vars live last added drops (Bound id price ∷ steps) = ⊥
 
 -- the log has grown by steps that were learnt from the clauses of a state, of which at most as many
--- drop clauses as add one
+-- drop clauses as add one, each when it is time and at most half of those that may go
 pub record HasLearnt (s : State) (old new : List Step) : Type 0 where
   pub grown : new ≡ old ++ appended old new
   pub learnt : AreLearnt s.vars (clause_in s.clauses) s.last_id (added_by [] old) (dropped_by 0 old)
       (appended old new)
   pub few : dropped_by 0 (appended old new) ≤ additions (appended old new)
+  pub in_time : DropsInTime (dropped_by 0 old) (wait_of old) (appended old new)
+  pub halves : DropsHalf (clause_in s.clauses) (added_by [] old) (dropped_by 0 old)
+      (appended old new)
 
 -- a state with the clauses that are live since an earlier one, and no step added an empty one
 pub record GoesOn (s : State) (old : List Step) (now : State) (new : List Step) : Type 0 where

@@ -1,8 +1,8 @@
 //! Decisions: variables are set one after another, until there is a conflict or all are set.
 ghost use Rattle.std.specs.Prelude.{◌≡◌, ◌≤◌, ◌<◌, ℕ, IsTrue, IsNone, IfSome, IsSomeAnd};
-ghost use Rattle.std.specs.Prelude.{IsFalse, false, slice_index_or};
+ghost use Rattle.std.specs.Prelude.{IsFalse, false, slice_index_or, All};
 ghost use Rattle.cnf_types.specs.Literals.{literal};
-ghost use Rattle.sat_core.specs.Trails.{is_on, clause_at, IsFalsified};
+ghost use Rattle.sat_core.specs.Trails.{is_on, clause_at, IsFalsified, IsOf};
 ghost use Rattle.sat_core.specs.Rest.{IsAtRest};
 ghost use Rattle.sat_core.specs.States.{IsSound};
 ghost use Rattle.sat_search.specs.Orders.{IsOrder, IsMostActive, HoldsUnset, is_set};
@@ -14,8 +14,10 @@ use sat_core::{Core, Held};
 
 impl Order {
     /// Propagates and decides until a clause is falsified, which is then the answer, or all
-    /// variables are set.
-    pub fn dive(&mut self, core: &mut Core) -> Option<Held>
+    /// variables are set. Of the literals handed in the first one that is not true is false from
+    /// level 1 on.
+    pub fn dive(&mut self, core: &mut Core, first: &[Lit]) -> Option<Held>
+        requires first { All (IsOf core.old.vars) first.now }
         requires order { IsOrder core.old.vars self.old }
         requires waiting { HoldsUnset core.old.vars core.old.trail self.old }
         ensures order { IsOrder core.old.vars self.new }
@@ -29,7 +31,7 @@ impl Order {
         ensures all_set { IsNone result →
             (var : ℕ) → 1 ≤ var → var ≤ core.new.vars → IsTrue (is_set core.new.trail var) }
     {
-        if let Some(held) = core.propagate() {
+        if let Some(held) = begin(core, first) {
             return Some(held);
         }
         self.walk(core)
@@ -86,4 +88,44 @@ impl Order {
         core.decide(lit);
         core.propagate()
     }
+}
+
+/// The first of these literals that is not true, where it is unset.
+fn pick(core: &Core, first: &[Lit]) -> Option<Lit>
+    requires sound { IsSound core.now }
+    requires range { All (IsOf core.now.vars) first.now }
+    ensures range { IfSome result (IsOf core.now.vars) }
+{
+    for lit in first {
+        match core.value(*lit) {
+            Some(false) => return None,
+            Some(true) => {}
+            None => return Some(*lit),
+        }
+    }
+    None
+}
+
+/// Propagates, then makes the first of these literals false that is not true, and propagates again.
+fn begin(core: &mut Core, first: &[Lit]) -> Option<Held>
+    requires first { All (IsOf core.old.vars) first.now }
+    ensures sound { IsSound core.new }
+    ensures kept { KeepsClauses core.old core.new }
+    ensures stays { KeepsTrue core.old.trail core.new.trail }
+    ensures conflict { IfSome result (λ held.
+        IsSomeAnd (clause_at core.new.clauses held) (IsFalsified core.new.trail)) }
+    ensures rest { IsNone result → IsAtRest core.new.clauses (is_on core.new.trail) }
+{
+    if let Some(held) = core.propagate() {
+        return Some(held);
+    }
+    let Some(lit) = pick(core, first) else {
+        return None;
+    };
+    let negation = lit.negated();
+    if core.value(negation).is_some() {
+        return None;
+    }
+    core.decide(negation);
+    core.propagate()
 }

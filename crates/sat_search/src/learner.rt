@@ -1,13 +1,14 @@
 //! What a search keeps between its conflicts, and what it does at one: conflict analysis, and the
 //! step back to the level where the lemma implies a literal.
 ghost use Rattle.std.specs.Prelude.{◌≡◌, ◌≢◌, ◌+◌, ◌*◌, ◌≤◌, ◌<◌, ◌-◌, ◌^◌, All, AllPairs, length};
-ghost use Rattle.std.specs.Prelude.{IsSomeAnd, IfOk, OnOk, OnErr, IsTrue, ◌||◌, ◌⊎◌, nat_le};
+ghost use Rattle.std.specs.Prelude.{IsSomeAnd, IfOk, OnOk, OnErr, IsTrue, ◌==◌, ◌||◌, ◌⊎◌};
 ghost use Rattle.proof_log.specs.declared.steps.Log.{Log};
 ghost use Rattle.sat_core.specs.Trails.{clause_at, IsOf, IsFalsified};
 ghost use Rattle.sat_core.specs.States.{IsSound};
 ghost use Rattle.sat_search.specs.Live.{clause_in};
 ghost use Rattle.sat_search.specs.Learners.{IsReady};
-ghost use Rattle.sat_search.specs.Dropping.{Drops, DropsMost, WaitsAgain};
+ghost use Rattle.sat_search.specs.Dropping.{Drops, HalvesDroppable, WaitsAgain};
+ghost use Rattle.sat_search.specs.DropSteps.{after_one};
 ghost use Rattle.sat_search.specs.Orders.{IsOrder, IsFresh, HoldsUnset};
 ghost use Rattle.sat_search.specs.Costs.{Rise};
 ghost use Rattle.sat_search.specs.Restarting.{after_conflict, ends_gap};
@@ -69,8 +70,8 @@ impl Learner {
         ensures restarts { IfOk result (λ empty.
             self.new.restarts ≡ after_conflict self.old.restarts) }
         ensures wait { IfOk result (λ empty.
-            self.new.lemmas.wait ≡ self.old.lemmas.wait - 1) }
-        ensures anew { IsTrue (ends_gap self.old.restarts || nat_le self.old.lemmas.wait 1) →
+            self.new.lemmas.wait ≡ after_one self.old.lemmas.wait) }
+        ensures anew { IsTrue (ends_gap self.old.restarts || (self.old.lemmas.wait == 1)) →
             IfOk result (λ empty. core.new.level ≡ 0) }
         ensures err { OnErr result (log.new.steps ≡ log.old.steps) }
     {
@@ -101,9 +102,9 @@ impl Learner {
         requires short { length log.old.steps < 2 ^ 32 - 1 }
         ensures ready { OnOk result (IsReady core.new.vars log.new.steps self.new) }
         ensures drops { OnOk result (Drops core.old log.old.steps core.new log.new.steps) }
-        ensures most { Rise self.old.lemmas.ids.items → self.old.lemmas.wait ≡ 0 →
+        ensures half { Rise self.old.lemmas.ids.items → self.old.lemmas.wait ≡ 0 →
             core.old.level ≡ 0 →
-            OnOk result (DropsMost self.old.lemmas core.old core.new) }
+            OnOk result (HalvesDroppable self.old.lemmas core.old core.new) }
         ensures waits { self.old.lemmas.wait ≡ 0 → core.old.level ≡ 0 →
             OnOk result (WaitsAgain self.old.lemmas self.new.lemmas log.new.steps) }
         ensures later { (0 < self.old.lemmas.wait) ⊎ (0 < core.old.level) →
@@ -115,7 +116,7 @@ impl Learner {
         if !self.lemmas.is_due() || core.level() > 0 {
             return Ok(());
         }
-        self.lemmas.drop_most(core, log)
+        self.lemmas.drop_half(core, log)
     }
 }
 

@@ -3,34 +3,31 @@
 //! dropped bears on nothing but speed.
 ghost use Rattle.std.specs.Prelude.{◌≡◌, ◌≢◌, ◌+◌, ◌-◌, ◌*◌, ◌<◌, ◌≤◌, ◌^◌, ◌∷◌, ◌++◌, []};
 ghost use Rattle.std.specs.Prelude.{length, take, All, AllPairs, Contains, Some, IsSome, IfSome};
-ghost use Rattle.std.specs.Prelude.{IsSomeAnd, IfOk, OnOk, OnErr, slice_get, nat_le, ◌==◌, ◌/◌, ℕ};
-ghost use Rattle.std.specs.Prelude.{sum_by, slice_index_or, true};
+ghost use Rattle.std.specs.Prelude.{IsSomeAnd, IfOk, OnOk, OnErr, slice_get, ◌==◌, ◌/◌, ℕ};
+ghost use Rattle.std.specs.Prelude.{count_by, sum_by, slice_index_or, true};
 ghost use Rattle.std.specs.List.{list_any};
 ghost use Rattle.std.specs.List.Sorted.{IsNonDecreasing};
-ghost use Rattle.sat_core.specs.Trails.{id_at};
+ghost use Rattle.sat_core.specs.Trails.{clause_at, id_at};
 ghost use Rattle.sat_core.specs.Forgotten.{IsNoReason};
 ghost use Rattle.sat_search.specs.Dropping.{AreLemmas, Drops, Forgets, ForgetsMore};
-ghost use Rattle.sat_search.specs.Dropping.{sizes, gap_after, wait_after, old_lemmas};
-ghost use Rattle.sat_search.specs.Dropping.{DropsMost, WaitsAgain};
+ghost use Rattle.sat_search.specs.Dropping.{sizes, old_lemmas};
+ghost use Rattle.sat_search.specs.DropSteps.{after_one, gap_after, is_long};
+ghost use Rattle.sat_search.specs.Dropping.{HalvesDroppable, WaitsAgain};
 ghost use Rattle.sat_search.specs.Costs.{cost_of, costing, counts, droppable, is_as_much, one_if};
-ghost use Rattle.sat_search.specs.Costs.{AreSetToo, is_hint_of, uses, Rise};
+ghost use Rattle.sat_search.specs.Costs.{may_be_named, AreSetToo, is_hint_of, uses, Rise};
+ghost use Rattle.sat_search.specs.Live.{clause_in};
 
 use arc_base::{List, Memory};
 use proof_log::{Log, Step};
 use sat_core::{Core, Held};
 use std::alloc::Global;
 
-/// The first drop step comes after so many added clauses.
-const FIRST: u64 = 3000;
+/// A drop step comes after so many times its number added clauses, counted from the drop step
+/// before it.
+const ADDED: u64 = 1500;
 
-/// Each later one comes after so many more than the one before it did, counted from that one.
-const MORE: u64 = 500;
-
-/// A drop step leaves so many times its number of the clauses that were added last.
+/// It leaves so many times its number of the clauses that were added last.
 const KEPT: u64 = 1000;
-
-/// Of the clauses that may be dropped one in so many stays.
-const STAYS: usize = 4;
 
 /// What is added to the worth of a lemma that was not used lately.
 const UNUSED: u64 = 1 << 32;
@@ -56,8 +53,6 @@ impl Lemmas {
     pub fn of(alloc: Global, steps: &[Step]) -> Result<Lemmas, Memory>
         ensures lemmas { IfOk result (AreLemmas steps.now) }
         ensures levels { IfOk result (λ lemmas. lemmas.levels.items ≡ sizes steps.now) }
-        ensures wait { IfOk result (λ lemmas.
-            lemmas.wait ≡ wait_after 0 (gap_after 0) steps.now) }
         ensures from { IfOk result (λ lemmas. lemmas.from ≡ 0) }
     {
         let mut lemmas = Lemmas {
@@ -65,7 +60,7 @@ impl Lemmas {
             ids: Vec::new(alloc),
             levels: Vec::new(alloc),
             drops: 0,
-            wait: FIRST,
+            wait: ADDED,
             from: 0,
         };
         for step in steps {
@@ -78,18 +73,23 @@ impl Lemmas {
         Ok(lemmas)
     }
 
-    /// A lemma joins the log.
+    /// A lemma joins the log. Where it was time to drop some and none could be, this is the first of
+    /// those after which it is tried again.
     pub fn add(&mut self, id: u64, levels: u32) -> Result<(), Memory>
         ensures ids { OnOk result (self.new.ids.items ≡ self.old.ids.items ++ id ∷ []) }
         ensures levels { OnOk result
             (self.new.levels.items ≡ self.old.levels.items ++ levels ∷ []) }
-        ensures wait { OnOk result (self.new.wait ≡ self.old.wait - 1) }
+        ensures wait { OnOk result (self.new.wait ≡ after_one self.old.wait) }
         ensures drops { self.new.drops ≡ self.old.drops }
         ensures from { self.new.from ≡ self.old.from }
     {
         self.ids.push(id)?;
         self.levels.push(levels)?;
-        self.wait = self.wait.saturating_sub(1);
+        self.wait = if self.wait == 0 {
+            ADDED - 1
+        } else {
+            self.wait - 1
+        };
         Ok(())
     }
 
@@ -100,14 +100,14 @@ impl Lemmas {
             { drops = self.old.drops + 1; wait = gap_after (self.old.drops + 1) } }
     {
         self.drops += 1;
-        self.wait = MORE.saturating_mul(self.drops).saturating_add(FIRST);
+        self.wait = ADDED.saturating_mul(self.drops).saturating_add(ADDED);
     }
 
     /// Whether lemmas are to be dropped once another one is added.
     pub fn is_due_with_next(&self) -> bool
-        ensures { result ≡ nat_le self.now.wait 1 }
+        ensures { result ≡ (self.now.wait == 1) }
     {
-        self.wait <= 1
+        self.wait == 1
     }
 
     /// Whether lemmas are to be dropped now.
@@ -187,6 +187,8 @@ impl Lemmas {
         ensures old { IsSome result →
             IsSomeAnd (id_at core.now.clauses held)
             (Contains (take (length used.now) self.now.ids.items)) }
+        ensures long { IsSome result →
+            IsSomeAnd (clause_at core.now.clauses held) (λ lits. 2 < length lits) }
         ensures exact { Rise self.now.ids.items →
             result ≡ cost_of self.now used.now core.now held.0 }
     {
@@ -211,6 +213,8 @@ impl Lemmas {
         ensures counts { Rise self.now.ids.items → IfOk result (λ costs. (least : ℕ) →
             sum_by (counts least) costs.items
             ≡ costing self.now used.now least core.now (length core.now.clauses)) }
+        ensures few { IfOk result (λ costs. length costs.items ≤ count_by
+            (may_be_named (take (length used.now) self.now.ids.items)) core.now.clauses) }
     {
         let mut costs = Vec::new(self.alloc);
         for place in 0..core.clauses() {
@@ -222,25 +226,26 @@ impl Lemmas {
         Ok(costs)
     }
 
-    /// Forgets most of the clauses that may be dropped, those that cost most, and tells their ids.
-    fn forget_most(&self, core: &mut Core, used: &[bool]) -> Result<List<u64>, Memory>
+    /// Forgets half of the clauses that may be dropped, none that costs less than the one in the
+    /// middle, and tells their ids.
+    fn forget_half(&self, core: &mut Core, used: &[bool]) -> Result<List<u64>, Memory>
         requires { AllPairs (λ c d. c.id ≢ d.id) core.old.clauses }
         ensures forgets { IfOk result (λ ids. Forgets core.old ids core.new) }
         ensures old { IfOk result (All (Contains (take (length used.now) self.now.ids.items))) }
         ensures fewer { IfOk result (λ ids.
             length core.new.clauses + length ids ≡ length core.old.clauses) }
-        ensures most { Rise self.now.ids.items → IfOk result (λ ids.
-            length ids + droppable self.now.ids.items (length used.now) core.old / 4
-            ≡ droppable self.now.ids.items (length used.now) core.old) }
+        ensures half { Rise self.now.ids.items → IfOk result (λ ids.
+            length ids ≡ (droppable self.now.ids.items (length used.now) core.old + 1) / 2) }
+        ensures most { IfOk result (λ ids. length ids ≤
+            (count_by (λ id. is_long (clause_in core.old.clauses id))
+            (take (length used.now) self.now.ids.items) + 1) / 2) }
     {
         let costs = self.costs(core, used)?;
-        let many = costs.len();
-        let stay = many / STAYS;
-        let most = (many - stay).min(u32::MAX as usize);
-        let least = costs.get(stay).copied().unwrap_or(0);
+        let half = costs.len().div_ceil(2).min(u32::MAX as usize);
+        let least = costs.get(costs.len() / 2).copied().unwrap_or(0);
         let mut ids = List::make(self.alloc);
         let mut place = core.clauses();
-        while place > 0 && (ids.len() as usize) < most {
+        while place > 0 && (ids.len() as usize) < half {
             place -= 1;
             self.forget(core, used, least, Held(place), &mut ids)?;
         }
@@ -267,6 +272,7 @@ impl Lemmas {
         ensures places { OnOk result (held.0 ≤ length core.new.clauses) }
         ensures takes { Rise self.now.ids.items → OnOk result (length ids.new ≡ length ids.old +
             one_if (is_as_much least (cost_of self.now used.now core.old held.0))) }
+        ensures one { OnOk result (length ids.new ≤ length ids.old + 1) }
         ensures fewer { OnOk result (length core.new.clauses + length ids.new
             ≡ length core.old.clauses + length ids.old) }
         ensures before { OnOk result ((n : ℕ) → n ≤ held.0 →
@@ -283,24 +289,24 @@ impl Lemmas {
         }
     }
 
-    /// Drops lemmas, at level 0, by a step of the log: most of those that may be dropped, the ones
-    /// that cost most. Where none may be dropped, it is tried again later.
-    pub fn drop_most(&mut self, core: &mut Core, log: &mut Log) -> Result<(), Memory>
+    /// Drops lemmas, at level 0, by a step of the log: the half that costs most of those that may
+    /// be dropped. Where none may be dropped, it is tried again later.
+    pub fn drop_half(&mut self, core: &mut Core, log: &mut Log) -> Result<(), Memory>
         requires lemmas { AreLemmas log.old.steps self.old }
+        requires due { self.old.wait ≡ 0 }
         requires short { length log.old.steps < 2 ^ 32 - 1 }
         requires different { AllPairs (λ c d. c.id ≢ d.id) core.old.clauses }
         ensures lemmas { OnOk result (AreLemmas log.new.steps self.new) }
         ensures drops { OnOk result (Drops core.old log.old.steps core.new log.new.steps) }
-        ensures most { Rise self.old.ids.items → OnOk result
-            (DropsMost self.old core.old core.new) }
+        ensures half { Rise self.old.ids.items → OnOk result
+            (HalvesDroppable self.old core.old core.new) }
         ensures waits { OnOk result (WaitsAgain self.old self.new log.new.steps) }
         ensures err { OnErr result (log.new.steps ≡ log.old.steps) }
     {
         let steps = log.steps.slice();
         let used = self.used(&steps[(self.from as usize).min(steps.len())..], self.old())?;
-        let ids = self.forget_most(core, used.as_slice())?;
+        let ids = self.forget_half(core, used.as_slice())?;
         if ids.is_empty() {
-            self.wait = FIRST;
             return Ok(());
         }
         log.steps.push(Step::Drop { ids })?;

@@ -76,22 +76,18 @@ fn hint(core: &Core, held: Held) -> i64
 }
 
 impl Lesson {
-    /// The reason with which an entry is resolved away, where it is: on level 0, on the current
-    /// level as long as other literals of this level are marked, and between them where its literal
-    /// can be spared.
+    /// The reason with which an entry is resolved away, where it is: on the current level as long
+    /// as other literals of this level are marked, or where it is level 0, and below it where its
+    /// literal can be spared.
     fn resolving_reason(&self, entry: Assigned, level: u32, spared: bool) -> Option<Held>
         ensures { result ≡ resolving_reason level self.now.current spared entry }
     {
         let goes = if entry.level == level {
-            self.current > 1
+            level == 0 || self.current > 1
         } else {
             spared
         };
-        if entry.level == 0 || goes {
-            entry.reason
-        } else {
-            None
-        }
+        if goes { entry.reason } else { None }
     }
 
     /// Marks a literal, where it is false.

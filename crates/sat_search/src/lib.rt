@@ -22,4 +22,4 @@ mod values;
 pub use beginning::core_of;
 pub use counting::additions;
 pub use found::Found;
-pub use searching::search;
+pub use searching::{search, search_first};

@@ -17,6 +17,11 @@ use std::alloc::Global;
 pub(crate) struct Spares {
     /// For each variable the number of the last conflict at which its literal was implied.
     implied: Vec<u64>,
+    /// For each variable the number of the last conflict at which it was found not to be: it is not
+    /// asked again there.
+    failed: Vec<u64>,
+    /// For each variable that is taken for implied the one for whose reason it is.
+    parents: Vec<u64>,
     /// The variables that are taken for implied while one question is open, and those of them whose
     /// reasons are still to be looked at.
     supposed: Vec<u64>,
@@ -31,6 +36,8 @@ impl Spares {
     {
         Ok(Spares {
             implied: vec![in alloc; 0; vars as usize + 1]?,
+            failed: vec![in alloc; 0; vars as usize + 1]?,
+            parents: vec![in alloc; 0; vars as usize + 1]?,
             supposed: Vec::new(alloc),
             waiting: Vec::new(alloc),
             conflict: 0,
@@ -46,18 +53,39 @@ impl Spares {
         self.implied.get(var as usize).copied().unwrap_or(0) == self.conflict
     }
 
+    fn is_failed(&self, var: u64) -> bool {
+        self.failed.get(var as usize).copied().unwrap_or(0) == self.conflict
+    }
+
     fn set(&mut self, var: u64, conflict: u64) {
         if (var as usize) < self.implied.len() {
             self.implied[var as usize] = conflict;
         }
     }
 
+    /// Takes a variable for one that is not implied, and tells for whose reason it was asked.
+    fn fail(&mut self, var: u64) -> u64 {
+        if (var as usize) < self.failed.len() {
+            self.failed[var as usize] = self.conflict;
+        }
+        self.parents.get(var as usize).copied().unwrap_or(0)
+    }
+
+    /// Whether a variable is known to be implied, or is taken for it from now on, for the reason of
+    /// another one.
+    fn accept(&mut self, var: u64, parent: u64) -> bool {
+        self.is_implied(var) || (!self.is_failed(var) && self.suppose(var, parent))
+    }
+
     /// Takes a variable for implied, where there is memory for it.
-    fn suppose(&mut self, var: u64) -> bool {
+    fn suppose(&mut self, var: u64, parent: u64) -> bool {
         if self.supposed.push(var).is_err() || self.waiting.push(var).is_err() {
             return false;
         }
         self.set(var, self.conflict);
+        if (var as usize) < self.parents.len() {
+            self.parents[var as usize] = parent;
+        }
         true
     }
 
@@ -79,7 +107,7 @@ impl Spares {
         for lit in core.clause(held) {
             let other = lit.var();
             let is_left = other != var && !marks.has(*lit) && level_of_false(core, *lit) > 0;
-            if is_left && !self.is_implied(other) && !self.suppose(other) {
+            if is_left && !self.accept(other, var) {
                 return false;
             }
         }
@@ -94,14 +122,18 @@ impl Spares {
         if self.is_implied(var) {
             return true;
         }
+        if self.is_failed(var) {
+            return false;
+        }
         self.supposed.clear();
         self.waiting.clear();
-        let mut holds = self.suppose(var);
+        let mut holds = self.suppose(var, 0);
         for _ in 0..core.entries().len() {
             let Some(next) = self.waiting.pop() else {
                 break;
             };
             if !self.look(marks, core, next) {
+                self.fail_from(next);
                 holds = false;
                 break;
             }
@@ -112,7 +144,18 @@ impl Spares {
         holds
     }
 
-    /// Nothing is known of the variables that were taken for implied.
+    /// Neither a variable is implied nor those for whose reasons it was asked, one after another.
+    fn fail_from(&mut self, var: u64) {
+        let mut next = var;
+        for _ in 0..self.supposed.len() {
+            if next == 0 {
+                return;
+            }
+            next = self.fail(next);
+        }
+    }
+
+    /// Nothing is known of the variables that were taken for implied, but that some are not.
     fn take_back(&mut self) {
         for _ in 0..self.supposed.len() {
             let Some(var) = self.supposed.pop() else {

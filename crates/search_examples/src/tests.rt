@@ -59,7 +59,7 @@ fn put(core: &mut Core, lits: &[Lit]) -> Result<(), Memory>
     requires range { All (IsOf core.old.vars) lits.now }
     requires few { length lits.now ≤ 3 }
     requires known { All (λ c. c.id ≤ core.old.last_id) core.old.clauses }
-    requires ids { core.old.last_id < 4000 }
+    requires ids { core.old.last_id < 2000 }
     ensures level { OnOk result (core.new.level ≡ 0) }
     ensures vars { OnOk result (core.new.vars ≡ core.old.vars) }
     ensures last_id { OnOk result (core.new.last_id ≡ core.old.last_id + 1) }
@@ -101,11 +101,11 @@ fn again(alloc: Global, id: u64) -> Result<Step, Memory>
     })
 }
 
-/// The log that adds the last clause 2,999 times again, and the core with all these clauses.
+/// The log that adds the last clause 1,499 times again, and the core with all these clauses.
 fn core_and_log(alloc: Global) -> Result<(Core, Log), Memory>
     ensures level { IfOk result (λ r. r.0.level ≡ 0) }
-    ensures last_id { IfOk result (λ r. r.0.last_id ≤ 4000) }
-    ensures room { IfOk result (λ r. additions r.1.steps < 4000) }
+    ensures last_id { IfOk result (λ r. r.0.last_id ≤ 2000) }
+    ensures room { IfOk result (λ r. additions r.1.steps < 2000) }
     ensures filled { IfOk result (λ r. IsFalse (list_any adds_empty r.1.steps)) }
     ensures short { IfOk result (λ r. length r.1.steps < 2 ^ 31) }
 {
@@ -113,38 +113,38 @@ fn core_and_log(alloc: Global) -> Result<(Core, Log), Memory>
     let mut log = Log {
         steps: List::make(alloc),
     };
-    for id in 10..3009 {
+    for id in 10..1509 {
         put(&mut core, &[D, E, F])?;
         log.steps.push(again(alloc, id)?)?;
     }
     Ok((core, log))
 }
 
-/// How many ids the step drops, where each of them is one from 10 to 2009.
+/// How many ids the step drops, where each of them is one from 10 to 509.
 fn old_drops(step: &Step) -> Option<u32> {
     let Step::Drop { ids } = step else {
         return None;
     };
     for id in ids.slice() {
-        if *id < 10 || *id > 2009 {
+        if *id < 10 || *id > 509 {
             return None;
         }
     }
     Some(ids.len())
 }
 
-/// Whether the steps add a clause that is not empty, and then drop from 1 to 1,500 clauses with ids
-/// from 10 to 2009.
+/// Whether the steps add a clause that is not empty, and then drop from 1 to 250 clauses with ids
+/// from 10 to 509.
 fn drops_old(steps: &[Step]) -> bool {
-    let adds = match steps.get(2999) {
+    let adds = match steps.get(1499) {
         Some(Step::Add { lits, .. }) => !lits.is_empty(),
         _ => false,
     };
-    let dropped = match steps.get(3000) {
+    let dropped = match steps.get(1500) {
         Some(step) => old_drops(step).unwrap_or(0),
         None => 0,
     };
-    adds && dropped >= 1 && dropped <= 1500
+    adds && dropped >= 1 && dropped <= 250
 }
 
 /// Whether each step of a log is accepted.
@@ -159,7 +159,7 @@ fn is_accepted(alloc: Global, formula: &Formula, log: &Log) -> Result<bool, Memo
 }
 
 #[test]
-fn lemmas_are_dropped_after_3000(rt: HostRuntime) -> Result<(), Fail> {
+fn lemmas_are_dropped_after_1500(rt: HostRuntime) -> Result<(), Fail> {
     let alloc = rt.alloc();
     let Ok(formula) = formula(alloc) else {
         return Err(Fail::from("memory"));
@@ -167,7 +167,7 @@ fn lemmas_are_dropped_after_3000(rt: HostRuntime) -> Result<(), Fail> {
     let Ok((mut core, mut log)) = core_and_log(alloc) else {
         return Err(Fail::from("memory"));
     };
-    let Ok(found) = search(alloc, &mut core, &mut log, 4000) else {
+    let Ok(found) = search(alloc, &mut core, &mut log, 2000) else {
         return Err(Fail::from("memory"));
     };
     assert!(rt; matches!(found, Found::Refuted));

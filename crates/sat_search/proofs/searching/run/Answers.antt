@@ -2,6 +2,7 @@ use Rattle.std.proofs.Common.{ℕ, ap, arith, rules, subst}
 use Rattle.clean_logs.specs.CleanLogs.{additions}
 use Rattle.sat_search.specs.Orders.{IsFresh}
 use Rattle.sat_search.proofs.Following.{follows_start, follows_taught, taught_log, taught_few, taught_more, taught_empty, follows_dropped, dropped_additions, log_same, log_short, log_additions, taught_different}
+use Rattle.sat_search.proofs.Outcomes.{ends_err}
 use Rattle.sat_search.proofs.Unset.{fresh_waits, waits_dropped}
 use Rattle.sat_search.proofs.searching.run.Goals as goal
 
@@ -70,7 +71,7 @@ returns-in_err-drop_lemmas c =
     record {
       log = log_same s c.args.log.now.steps c.learn.new.log.steps c.drop_lemmas.new.log.steps log same;
       most = omega (arith, more, ap additions same, c.loop-conflict.invariant.added, c.loop-conflict.invariant.most, c.if-added-limit.false);
-      ends = search rules;
+      ends = ends_err s c.args.log.now.steps c.args.limit c.drop_lemmas.new.core c.drop_lemmas.new.log.steps c.from_residual-in_err-drop_lemmas.result c.from_residual-in_err-drop_lemmas.ensures.0;
     }
 
 pub loop-conflict-preserved : goal.loop-conflict-preserved

@@ -21,4 +21,4 @@ returns-clause-ready c =
     let ids = c.in_ok-add.ensures.ids ∙ ap (λ (n : ℕ). c.args.self.now.lemmas.ids.items ++ (n + 1) ∷ []) (c.last_id.ensures ∙ ap (λ (b : State). b.last_id) c.take_back.ensures.taken) in
     let order = subst (λ (b : State). IsOrder b.vars c.enter.new.order) c.take_back.ensures.taken c.enter.ensures.order in
     ready_again s c.enter.new.core c.args.log.now.steps c.enter.new.log.steps c.args.self.now _ c.enter.result taught
-    (c.of.ensures.size ∙ c.requires.ready.size) c.in_ok-lesson.ensures.none order c.requires.ready.lemmas ids c.add.ensures.drops
+    (c.of.ensures.size ∙ c.requires.ready.size) c.in_ok-lesson.ensures.none order c.requires.ready.lemmas ids c.add.ensures.drops c.in_ok-add.ensures.wait

@@ -12,7 +12,7 @@ pub returns-in_ok-push-in-Some-clause-forgets : goal.returns-in_ok-push-in-Some-
 returns-in_ok-push-in-Some-clause-forgets c =
     let s = c.args.core.now in
     subst (λ (now : State). ForgetsMore s c.args.ids.now now c.push.new.self) (sym c.forget.ensures)
-    (subst (λ (ids : List ℕ). ForgetsMore s c.args.ids.now (without_clause s c.args.held) ids) (sym c.in_ok-push-in-Some.ensures.ok) (more_one s c.args.ids.now c.args.held c.id.result c.requires.different c.id.ensures))
+    (subst (λ (ids : List ℕ). ForgetsMore s c.args.ids.now (without_clause s c.args.held) ids) (sym c.in_ok-push-in-Some.ensures.ok) (more_one s c.args.ids.now c.args.held c.id.result c.requires.different c.id.ensures (c.in-Some.ensures.long refl)))
 
 pub returns-in_ok-push-in-Some-clause-different : goal.returns-in_ok-push-in-Some-clause-different
 returns-in_ok-push-in-Some-clause-different c =

@@ -1,5 +1,5 @@
--- How many of a list cost as much as the one at a place of it.
-use Rattle.std.proofs.Common.{◌≡◌, ℕ, zero, suc, ◌+◌, ◌-◌, ◌<◌, ◌≤◌, List, [], ◌∷◌, length, drop, get_or, refl, ap, arith}
+-- How many of a list cost as much as the one in its middle.
+use Rattle.std.proofs.Common.{◌≡◌, ℕ, zero, suc, ◌+◌, ◌-◌, ◌/◌, ◌<◌, ◌≤◌, List, [], ◌∷◌, length, drop, get_or, refl, ap, arith}
 use Rattle.std.specs.List.{sum_by}
 use Rattle.std.specs.List.Sorted.{IsNonDecreasing}
 use Rattle.std.proofs.lemmas.Bool.{le-leb}
@@ -21,10 +21,11 @@ drop_counts least (suc n) (x ∷ xs) =
     let rest : sum_by (counts least) (drop (suc n) (x ∷ xs)) ≡ sum_by (counts least) (drop n xs) = refl in
     omega (arith, sum_by-cons (counts least) x xs, rest, drop_counts least n xs)
 
--- of a list that does not fall those from a place on are no less than the one there
-pub upper_count : (xs : List ℕ) (place least : ℕ) → IsNonDecreasing xs → least ≡ get_or xs place 0 → length xs - place ≤ sum_by (counts least) xs
-upper_count xs place least ordered is =
-    let size = length-drop place xs in
-    let great : (i : ℕ) → i < length (drop place xs) → least ≤ get_or (drop place xs) i 0 = λ i low.
-    rw (get_or-drop place xs i 0, is) (ordered place (place + i) 0 (omega arith) (omega (arith, low, size))) in
-    omega (arith, all_count least (drop place xs) great, size, drop_counts least place xs)
+-- at least half of a list that does not fall are no less than the one in its middle
+pub upper_half : (xs : List ℕ) (least : ℕ) → IsNonDecreasing xs → least ≡ get_or xs (length xs / 2) 0 → length xs - length xs / 2 ≤ sum_by (counts least) xs
+upper_half xs least ordered is =
+    let middle = length xs / 2 in
+    let size = length-drop middle xs in
+    let great : (i : ℕ) → i < length (drop middle xs) → least ≤ get_or (drop middle xs) i 0 = λ i low.
+    rw (get_or-drop middle xs i 0, is) (ordered middle (middle + i) 0 (omega arith) (omega (arith, low, size))) in
+    omega (arith, all_count least (drop middle xs) great, size, drop_counts least middle xs)

@@ -1,7 +1,7 @@
 use Rattle.std.proofs.Common.{◌≡◌, ◌≢◌, ◌+◌, ◌≤◌, length, take, All, AllPairs, Contains}
 use Rattle.sat_search.specs.Dropping.{Forgets}
 use Rattle.sat_search.specs.Costs.{costing, Rise}
-use Rattle.sat_search.proofs.lemmas.Lemmas.forget_most.Given as goal
+use Rattle.sat_search.proofs.lemmas.Lemmas.forget_half.Given as goal
 
 abbrev pub invariant-loop-place : goal.invariant-loop-place
 invariant-loop-place l = record {
@@ -10,7 +10,8 @@ invariant-loop-place l = record {
   old : All (Contains (take (length l.used) l.self.ids.items)) l.ids;
   place : l.place ≤ length l.core.clauses;
   fewer : length l.core.clauses + length l.ids ≡ length l.fn.core.clauses;
-  most : Rise l.self.ids.items → (length l.ids ≤ l.most) × (l.most ≤ length l.ids + costing l.self l.used l.least l.core l.place);
+  most : length l.ids ≤ l.half;
+  half : Rise l.self.ids.items → l.half ≤ length l.ids + costing l.self l.used l.least l.core l.place;
 }
 
 abbrev pub decreases-loop-place : goal.decreases-loop-place

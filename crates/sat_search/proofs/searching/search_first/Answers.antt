@@ -6,7 +6,7 @@ use Rattle.clean_logs.specs.CleanLogs.{IsClean, added_by, additions}
 use Rattle.sat_search.specs.Live.{clause_in}
 use Rattle.sat_search.specs.Searches.{appended, live_after, KeepsOthers, Knows}
 use Rattle.sat_search.proofs.Outcomes.{log_ids, log_old, log_accepted, log_hints, log_lines, refuted_exactly, refuting_then, model_then, spent_then, is_model_then, follows_knows, follows_clean, follows_others, searched_back}
-use Rattle.sat_search.proofs.searching.search.Goals as goal
+use Rattle.sat_search.proofs.searching.search_first.Goals as goal
 
 pub returns-clause-ids : goal.returns-clause-ids
 returns-clause-ids c =
@@ -25,6 +25,24 @@ returns-clause-dropped c =
     let now = c.back_to.new.self in
     let ran = searched_back s old c.args.limit c.run-found.new.core now new c.run-found.result c.run-found.ensures c.back_to.ensures in
     log_old s old new ran.log
+
+pub returns-clause-in_time : goal.returns-clause-in_time
+returns-clause-in_time c =
+    let s = c.args.core.now in
+    let old = c.args.log.now.steps in
+    let new = c.run-found.new.log.steps in
+    let now = c.back_to.new.self in
+    let ran = searched_back s old c.args.limit c.run-found.new.core now new c.run-found.result c.run-found.ensures c.back_to.ensures in
+    ran.log.in_time
+
+pub returns-clause-halves : goal.returns-clause-halves
+returns-clause-halves c =
+    let s = c.args.core.now in
+    let old = c.args.log.now.steps in
+    let new = c.run-found.new.log.steps in
+    let now = c.back_to.new.self in
+    let ran = searched_back s old c.args.limit c.run-found.new.core now new c.run-found.result c.run-found.ensures c.back_to.ensures in
+    ran.log.halves
 
 pub returns-clause-few_drops : goal.returns-clause-few_drops
 returns-clause-few_drops c =
