@@ -1,0 +1,9 @@
+pub mod Ways
+pub mod ClosedSides
+pub mod Verdicts
+pub mod Everywhere
+pub mod Covered
+pub mod OpenExample
+pub mod Wider
+pub mod Hubs
+pub mod HubExample

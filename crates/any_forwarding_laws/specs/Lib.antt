@@ -1,0 +1,5 @@
+pub mod Forwardings
+pub mod Copies
+pub mod Hubs
+pub mod HubExample
+pub mod Laws
