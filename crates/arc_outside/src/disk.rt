@@ -6,6 +6,7 @@ use arc_base::{Memory, Name};
 use std::alloc::Global;
 use std::fs::{File, OpenFile, Permissions};
 use std::io::{Read, Seek, SeekFrom, Write};
+use std::os::unix::fs::MetadataExt;
 use std::rt::Files;
 use std::{fs, io, str};
 
@@ -16,12 +17,22 @@ pub enum Operation {
     Writing,
 }
 
-/// What the system refused: which file was read or written, and what the system said.
+/// What failed: which file was read or written, and what the system said. Where a write was refused
+/// because the file had been read, also the name by which it was.
 #[derive(Drop)]
 pub struct Failure {
     pub name: Name,
     pub operation: Operation,
     pub error: io::Error,
+    pub read_as: Option<Name>,
+}
+
+/// A plain file that was read: the name by which it was, and its device and inode.
+#[derive(Drop)]
+struct Seen {
+    name: Name,
+    dev: u64,
+    ino: u64,
 }
 
 /// A file that is being read, how many of its bytes were, and whether it is a plain one.
@@ -31,6 +42,8 @@ struct Reading<F: Drop> {
     file: F,
     place: u64,
     is_plain: bool,
+    dev: u64,
+    ino: u64,
 }
 
 /// The files of the system, named by paths in UTF-8. A file to be read that is not there is Missing
@@ -43,13 +56,15 @@ struct Reading<F: Drop> {
 /// not the end of a file. A plain file is written beside its name, as NAME.part, and then renamed,
 /// so that it is whole or as it was; where no such file can be made, and at a link, a pipe or a
 /// device, the bytes are written in its place.
-/// Where there is no memory for the name NAME.part nothing is written.
+/// Where there is no memory for the name NAME.part nothing is written. A plain file that was read is
+/// not written, by whatever name it is called: that is Failed, and nothing is lost.
 #[derive(Drop)]
 pub struct DiskStore<R: Files> {
     rt: R,
     alloc: Global,
     reading: Option<Reading<R::File>>,
     emptied: Vec<Name>,
+    seen: Vec<Seen>,
     failure: Option<Failure>,
     faults: u64,
     absences: u64,
@@ -68,6 +83,7 @@ impl<R: Files> DiskStore<R> {
             alloc,
             reading: None,
             emptied: Vec::new(alloc),
+            seen: Vec::new(alloc),
             failure: None,
             faults: 0,
             absences: 0,
@@ -102,12 +118,14 @@ fn failure_of(
     name: &Name,
     operation: Operation,
     error: io::Error,
+    read_as: Option<Name>,
 ) -> Option<Failure> {
     match copy_of(alloc, name) {
         Ok(name) => Some(Failure {
             name,
             operation,
             error,
+            read_as,
         }),
         Err(_) => None,
     }
@@ -125,12 +143,14 @@ fn opened<R: Files>(
     if place > 0 {
         file.seek(SeekFrom::Start(place))?;
     }
-    let is_plain = file.metadata()?.is_file();
+    let found = file.metadata()?;
     Ok(Reading {
         name: copy_of(alloc, name)?,
         file,
         place,
-        is_plain,
+        is_plain: found.is_file(),
+        dev: found.dev(),
+        ino: found.ino(),
     })
 }
 
@@ -156,6 +176,38 @@ fn reading_at<R: Files>(
     }
 }
 
+/// The file among these that has this device and inode.
+fn seen_at(seen: &[Seen], dev: u64, ino: u64) -> Option<&Seen> {
+    seen.iter().find(|it| it.dev == dev && it.ino == ino)
+}
+
+/// Notes that a plain file was read.
+fn note<F: Drop>(alloc: Global, seen: &mut Vec<Seen>, reading: &Reading<F>) -> io::Result<()> {
+    let (dev, ino) = (reading.dev, reading.ino);
+    if reading.is_plain && seen_at(seen, dev, ino).is_none() {
+        let name = copy_of(alloc, &reading.name)?;
+        seen.push(Seen { name, dev, ino })?;
+    }
+    Ok(())
+}
+
+/// The name by which the plain file of this name was read, if it was.
+fn read_as<R: Files>(
+    rt: &R,
+    alloc: Global,
+    seen: &[Seen],
+    name: &Name,
+) -> io::Result<Option<Name>> {
+    let found = match fs::metadata(rt, path_of(name)?) {
+        Ok(found) if found.is_file() => found,
+        Ok(_) | Err(_) => return Ok(None),
+    };
+    match seen_at(seen, found.dev(), found.ino()) {
+        Some(it) => Ok(Some(copy_of(alloc, &it.name)?)),
+        None => Ok(None),
+    }
+}
+
 /// Reads on where the file stands open at this place, and else opens it there. At its end it is
 /// closed. One that is no plain file and gave bytes is noted, since it does not give them again.
 fn read_on<R: Files>(
@@ -163,6 +215,7 @@ fn read_on<R: Files>(
     alloc: Global,
     reading: &mut Option<Reading<R::File>>,
     emptied: &mut Vec<Name>,
+    seen: &mut Vec<Seen>,
     name: &Name,
     place: u64,
     buf: &mut [u8],
@@ -170,6 +223,7 @@ fn read_on<R: Files>(
     ensures { IfOk result (λ n. n ≤ length buf.new) }
 {
     let mut current = reading_at(rt, alloc, reading.take(), emptied, name, place)?;
+    note(alloc, seen, &current)?;
     let n = current.file.read(buf)?;
     if n > 0 {
         if place == 0 && !current.is_plain {
@@ -245,6 +299,7 @@ impl<R: Files> Store for DiskStore<R> {
             self.alloc,
             &mut self.reading,
             &mut self.emptied,
+            &mut self.seen,
             name,
             place,
             buf,
@@ -261,7 +316,7 @@ impl<R: Files> Store for DiskStore<R> {
                     self.absences = self.absences.saturating_add(1);
                     return Err(Fault::Missing);
                 }
-                self.failure = failure_of(self.alloc, name, Operation::Reading, error);
+                self.failure = failure_of(self.alloc, name, Operation::Reading, error, None);
                 self.faults = self.faults.saturating_add(1);
                 Err(Fault::Failed)
             }
@@ -269,13 +324,18 @@ impl<R: Files> Store for DiskStore<R> {
     }
 
     fn write_whole(&mut self, name: &Name, bytes: &[u8]) -> Result<(), Fault> {
-        match write_to(&self.rt, self.alloc, name, bytes) {
+        let (read_as, written) = match read_as(&self.rt, self.alloc, &self.seen, name) {
+            Ok(None) => (None, write_to(&self.rt, self.alloc, name, bytes)),
+            Ok(read_as) => (read_as, Err(io::Error::from(io::ErrorKind::AlreadyExists))),
+            Err(error) => (None, Err(error)),
+        };
+        match written {
             Ok(()) => Ok(()),
             Err(error) => {
                 if error.kind() == io::ErrorKind::OutOfMemory {
                     return Err(Fault::Memory);
                 }
-                self.failure = failure_of(self.alloc, name, Operation::Writing, error);
+                self.failure = failure_of(self.alloc, name, Operation::Writing, error, read_as);
                 self.faults = self.faults.saturating_add(1);
                 Err(Fault::Failed)
             }

@@ -5,8 +5,9 @@ use arc_base::Name;
 use arc_base::limits::ROUTER_FILE_LIMIT;
 use arc_outside::{DiskStore, Operation, StdSink, read_all};
 use run_messages::{
-    FORMS, Refused, Tee, WrongWord, asks_for_help, document_fault, form_of, front_of, line_at,
-    told_refusal, visible, words_fault, wrong_word,
+    FORMS, Refused, Tee, VERSION, WrongWord, asks_for_help, asks_for_version, document_fault,
+    document_item, form_of, front_of, line_at, near_form, told_refusal, visible, words_fault,
+    wrong_word,
 };
 use std::io::Write;
 use std::{env, fs, io, str};
@@ -20,16 +21,26 @@ fn say(rt: &HostRuntime, pieces: &[&[u8]]) -> io::Result<()> {
     err.write_all(b"\n")
 }
 
-/// Help is asked for: the forms of all commands.
+/// Help is asked for: the forms of all commands, and what their words stand for.
 fn explain_commands(rt: &HostRuntime) -> io::Result<()> {
     for form in FORMS.iter() {
         let usage = form.to_string(rt.alloc())?;
         say(rt, &[b"arcv ", usage.as_bytes()])?;
+        say(rt, &[b"    ", form.meaning.as_bytes()])?;
     }
-    say(
-        rt,
-        &[b"arcv: `arcv COMMAND` prints what the words of one stand for"],
-    )
+    say(rt, &[b"The manual is docs/manual.md beside the sources."])
+}
+
+/// The first word names no command: the one that may be meant.
+fn explain_name(rt: &HostRuntime, word: &[u8]) -> io::Result<()> {
+    let unknown = b"arcv: no command is named ".as_slice();
+    match near_form(word) {
+        Some(form) => say(
+            rt,
+            &[unknown, word, b"; is it ", form.name.as_bytes(), b"?"],
+        ),
+        None => say(rt, &[unknown, word]),
+    }
 }
 
 /// The words match no command: what is wrong with them, and the form of the command that the first
@@ -44,8 +55,11 @@ fn explain_words(rt: &HostRuntime, words: &[Name]) -> io::Result<()> {
     if asks_for_help(command.bytes()) {
         return explain_commands(rt);
     }
+    if asks_for_version(command.bytes()) {
+        return say(rt, &[b"arcv ", VERSION.as_bytes()]);
+    }
     let Some(form) = form_of(command.bytes()) else {
-        return say(rt, &[b"arcv: no command is named ", command.bytes()]);
+        return explain_name(rt, command.bytes());
     };
     if let Some(fault) = words_fault(rt.alloc(), form, given) {
         say(rt, &[b"arcv: ", fault.as_bytes()])?;
@@ -102,7 +116,30 @@ fn explain_line(rt: &HostRuntime, told: Refused<'_>, text: &[u8]) -> io::Result<
     }
 }
 
-/// A file is refused: why it is no document, or the line that the refusal names.
+/// The link or policy of the document that a refusal names.
+fn explain_item(rt: &HostRuntime, told: Refused<'_>, list: &str, text: &[u8]) -> io::Result<()> {
+    let Some(item) = document_item(rt.alloc(), text, list, told.number)? else {
+        return Ok(());
+    };
+    let number = told.number.to_string(rt.alloc())?;
+    let what = if list == "links" {
+        b", link ".as_slice()
+    } else {
+        b", policy "
+    };
+    say(
+        rt,
+        &[
+            told.name,
+            what,
+            number.as_bytes(),
+            b": ",
+            front_of(item.as_bytes()),
+        ],
+    )
+}
+
+/// A file is refused: why it is no document, or the line, link or policy that the refusal names.
 fn explain_refusal(
     rt: &HostRuntime,
     words: &[Name],
@@ -113,17 +150,25 @@ fn explain_refusal(
         return Ok(());
     };
     let is_of_the_words = words.iter().any(|word| word.bytes() == told.name);
-    if !told.is_of_a_document() && !told.names_line(is_of_the_words) {
+    if told.is_of_no_file() && !is_of_the_words {
+        let why = b", which is not in the folder where the command runs".as_slice();
+        return say(rt, &[b"arcv: the document names ", told.name, why]);
+    }
+    let list = if is_of_the_words { told.list() } else { None };
+    if !told.is_of_a_document() && list.is_none() && !told.names_line(is_of_the_words) {
         return Ok(());
     }
     let Some(text) = text_of(rt, store, told.name) else {
         return Ok(());
     };
-    if !told.is_of_a_document() {
-        return explain_line(rt, told, &text);
+    if told.is_of_a_document() {
+        let fault = document_fault(rt.alloc(), &text)?;
+        return say(rt, &[b"arcv: ", told.name, b" ", fault.as_bytes()]);
     }
-    let fault = document_fault(rt.alloc(), &text)?;
-    say(rt, &[b"arcv: ", told.name, b" ", fault.as_bytes()])
+    match list {
+        Some(list) => explain_item(rt, told, list, &text),
+        None => explain_line(rt, told, &text),
+    }
 }
 
 /// A file could not be read or written: which one, and what the system said.
@@ -135,6 +180,13 @@ fn explain_failure(rt: &HostRuntime, store: &DiskStore<HostRuntime>) -> io::Resu
         Operation::Reading => b"arcv: cannot read ".as_slice(),
         Operation::Writing => b"arcv: cannot write ".as_slice(),
     };
+    if let Some(read_as) = &failure.read_as {
+        let why = b" was read in this run, and is not written over".as_slice();
+        return say(
+            rt,
+            &[operation, failure.name.bytes(), b": ", read_as.bytes(), why],
+        );
+    }
     let why = failure.error.to_string(rt.alloc())?;
     say(
         rt,

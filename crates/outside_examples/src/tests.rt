@@ -184,10 +184,21 @@ fn disk_and_standard_output(rt: HostRuntime) -> Result<(), Fail> {
         read_all(alloc, &mut store, &name, 6).err(),
         Some(ReadAll::TooLong)
     );
-    store.write_whole(&name, b"written again")?;
+    let other = Name::make(alloc, format!(in alloc; "/.{path}")?.as_bytes())?;
+    assert_eq!(rt;
+        store.write_whole(&other, b"lost").err(),
+        Some(Fault::Failed)
+    );
+    assert_eq!(rt;
+        store
+            .failure()
+            .and_then(|failure| failure.read_as.as_ref())
+            .map(Name::bytes),
+        Some(path.as_bytes())
+    );
     assert_eq!(rt;
         read_all(alloc, &mut store, &name, 99)?.as_slice(),
-        b"written again".as_slice()
+        b"written".as_slice()
     );
     let no_path = Name::make(alloc, b"\xff")?;
     assert_eq!(rt;

@@ -93,9 +93,26 @@ pub fn form_of(command: &[u8]) -> Option<Form> {
         .copied()
 }
 
+/// The version of the program, as CHANGELOG.md counts.
+pub const VERSION: &str = "1.1.0";
+
+/// The command that begins with the same three letters as this word, which names none.
+pub fn near_form(word: &[u8]) -> Option<Form> {
+    let front = word.get(..3)?;
+    FORMS
+        .iter()
+        .find(|form| form.name.as_bytes().starts_with(front))
+        .copied()
+}
+
 /// Whether a first word asks for help, though it names no command.
 pub fn asks_for_help(word: &[u8]) -> bool {
-    matches!(word, b"--help" | b"-h" | b"help" | b"--version")
+    matches!(word, b"--help" | b"-h" | b"help")
+}
+
+/// Whether a first word asks for the version.
+pub fn asks_for_version(word: &[u8]) -> bool {
+    matches!(word, b"--version" | b"-V" | b"version")
 }
 
 impl Form {

@@ -92,3 +92,22 @@ pub fn document_fault(alloc: Global, text: &[u8]) -> Result<String, AllocError> 
         None => format!(in alloc; "is JSON, but no document; usual causes: {USUAL_CAUSES}"),
     }
 }
+
+/// The link or policy of this number, from 1, in a document, as JSON on one line. There is none
+/// where the text is no JSON or has no such item.
+pub fn document_item(
+    alloc: Global,
+    text: &[u8],
+    list: &str,
+    number: u32,
+) -> Result<Option<String>, AllocError> {
+    let Ok(value) = Value::from_slice(alloc, text) else {
+        return Ok(None);
+    };
+    let items = value.get(list).and_then(Value::as_array);
+    let place = (number as usize).checked_sub(1);
+    match items.zip(place).and_then(|(items, place)| items.get(place)) {
+        Some(item) => Ok(Some(item.to_string(alloc)?)),
+        None => Ok(None),
+    }
+}

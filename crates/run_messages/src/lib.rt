@@ -16,8 +16,8 @@ mod tests;
 mod values;
 mod words;
 
-pub use commands::{FORMS, Form, asks_for_help, form_of};
-pub use documents::document_fault;
+pub use commands::{FORMS, Form, VERSION, asks_for_help, asks_for_version, form_of, near_form};
+pub use documents::{document_fault, document_item};
 pub use lines::{WrongWord, line_at, wrong_word};
 pub use refusals::{Refused, told_refusal};
 pub use showing::{front_of, visible};

@@ -46,6 +46,20 @@ impl Refused<'_> {
         self.kind == b"bad-word".as_slice()
     }
 
+    /// The list of the document of which one item is refused.
+    pub fn list(&self) -> Option<&'static str> {
+        match self.kind {
+            b"link-face" | b"link-subnets" | b"adjacency-form" => Some("links"),
+            b"endpoint" => Some("policies"),
+            _ => None,
+        }
+    }
+
+    /// Whether there is no file of this name.
+    pub fn is_of_no_file(&self) -> bool {
+        self.kind == b"missing".as_slice()
+    }
+
     /// Whether the named file is no document.
     pub fn is_of_a_document(&self) -> bool {
         self.kind == b"document-form".as_slice()

@@ -1,6 +1,6 @@
 use crate::{
-    WrongWord, asks_for_help, document_fault, form_of, front_of, line_at, told_refusal, visible,
-    words_fault, wrong_word,
+    WrongWord, asks_for_help, asks_for_version, document_fault, document_item, form_of, front_of,
+    line_at, near_form, told_refusal, visible, words_fault, wrong_word,
 };
 use arc_base::Name;
 use std::alloc::Global;
@@ -126,8 +126,9 @@ const COMMAND_LINES: &[(&str, &str)] = &[
     ),
     // no command
     ("help", "help"),
-    ("--version", "help"),
-    ("ver d", "none"),
+    ("--version", "version"),
+    ("ver d", "verify"),
+    ("what d", "none"),
 ];
 
 /// What is said of the words of a command line.
@@ -138,8 +139,13 @@ fn said_of_words(alloc: Global, line: &str) -> Result<String, Fail> {
     }
     let (command, given) = words.split_first().ok_or("no word")?;
     let Some(form) = form_of(command.bytes()) else {
-        let is_help = asks_for_help(command.bytes());
-        return Ok(String::from_str(alloc, if is_help { "help" } else { "none" })?);
+        let said = match near_form(command.bytes()) {
+            Some(form) => form.name,
+            None if asks_for_help(command.bytes()) => "help",
+            None if asks_for_version(command.bytes()) => "version",
+            None => "none",
+        };
+        return Ok(String::from_str(alloc, said)?);
     };
     match words_fault(alloc, form, given) {
         Some(fault) => Ok(fault),
@@ -185,6 +191,23 @@ fn faults_of_documents_are_told(rt: HostRuntime) -> Result<(), Fail> {
     for (text, want) in TEXTS {
         let said = document_fault(rt.alloc(), text.as_bytes())?;
         assert!(rt; said.as_str().starts_with(*want), "{said}");
+    }
+    Ok(())
+}
+
+#[test]
+fn refused_items_are_shown(rt: HostRuntime) -> Result<(), Fail> {
+    let text = br#"{"links": [{"a": "r1:E"}, 2], "policies": []}"#;
+    let shown = [
+        ("links", 1, Some(r#"{"a":"r1:E"}"#)),
+        ("links", 2, Some("2")),
+        ("links", 0, None),
+        ("links", 3, None),
+        ("policies", 1, None),
+    ];
+    for (list, number, want) in shown {
+        let item = document_item(rt.alloc(), text, list, number)?;
+        assert_eq!(rt; item.as_deref(), want);
     }
     Ok(())
 }
