@@ -1,9 +1,10 @@
 //! The command `arcv`: `run` over the files of the system and its standard output, with the words
 //! that follow the program's name. The exit status is the run's. What more there is to say of a run
-//! that did not end well goes to the standard error, and bears on neither.
+//! goes to the standard error, and bears on neither.
 #![tactic(auto)]
 
 mod messages;
+mod notes;
 
 use crate::messages::explain;
 use arc_base::{List, Memory, Name};

@@ -1,6 +1,7 @@
-//! What is said on the standard error of a run that did not end well.
+//! What is said on the standard error of a run.
 ghost use Rattle.std.specs.Prelude.{◌≤◌, length, IfSome};
 
+use crate::notes::explain_answer;
 use arc_base::Name;
 use arc_base::limits::ROUTER_FILE_LIMIT;
 use arc_outside::{DiskStore, Operation, StdSink, read_all};
@@ -13,7 +14,7 @@ use std::io::Write;
 use std::{env, fs, io, str};
 
 /// Writes these pieces as one line. Control characters in them are shown as question marks.
-fn say(rt: &HostRuntime, pieces: &[&[u8]]) -> io::Result<()> {
+pub fn say(rt: &HostRuntime, pieces: &[&[u8]]) -> io::Result<()> {
     let mut err = rt.stderr();
     for piece in pieces {
         err.write_all(visible(rt.alloc(), piece)?.as_slice())?;
@@ -71,7 +72,7 @@ fn explain_words(rt: &HostRuntime, words: &[Name]) -> io::Result<()> {
 
 /// Whether a file can be read again at once, as a pipe cannot: there a second reading would wait
 /// for ever.
-fn is_plain(rt: &HostRuntime, name: &[u8]) -> bool {
+pub fn is_plain(rt: &HostRuntime, name: &[u8]) -> bool {
     let Ok(path) = str::from_utf8(name) else {
         return false;
     };
@@ -203,6 +204,7 @@ pub fn explain(
     out: &Tee<StdSink<HostRuntime>>,
 ) -> io::Result<()> {
     match code {
+        0 | 1 => explain_answer(rt, words, code, store, out),
         4 => explain_words(rt, words),
         5 => explain_refusal(rt, words, store, out.front()),
         6 => explain_failure(rt, store),

@@ -1,13 +1,14 @@
-//! What the program says on the standard error of a run that did not end well, for whoever sits
-//! before it: the line that a refusal names and what is wrong in it, why a text is no document, and
-//! why words match no command. It bears on no answer and no status, and no contract says what the
-//! messages are.
+//! What the program says on standard error for whoever sits before it: the line that a refusal
+//! names and what is wrong in it, why a text is no document, why words match no command, and
+//! whether a report has a yes of which more is to be said. It bears on no answer and no status, and
+//! no contract says what the messages are.
 #![tactic(auto)]
 
 mod commands;
 mod documents;
 mod lines;
 mod refusals;
+mod reports;
 mod showing;
 mod stop;
 mod tee;
@@ -20,6 +21,7 @@ pub use commands::{FORMS, Form, VERSION, asks_for_help, asks_for_version, form_o
 pub use documents::{document_fault, document_item};
 pub use lines::{WrongWord, line_at, wrong_word};
 pub use refusals::{Refused, told_refusal};
+pub use reports::is_barred;
 pub use showing::{front_of, visible};
 pub use tee::Tee;
 pub use words::words_fault;

@@ -1,6 +1,7 @@
-//! A sink that keeps the front of what is put.
+//! A sink that keeps the front of what is put, and looks at the lines of a report.
 ghost use Rattle.std.specs.Prelude.{◌≡◌, ◌<◌, ◌≤◌, length, IfOk};
 
+use crate::reports::look;
 use arc_outside::{Fault, Sink};
 use std::alloc::Global;
 
@@ -8,12 +9,14 @@ use std::alloc::Global;
 /// fits in.
 const KEPT: usize = 4096;
 
-/// A sink that puts all into another one, and keeps the front of it for messages, as far as there
-/// is memory for it.
+/// A sink that puts all into another one, and keeps for messages the front of it and whether a
+/// report has a yes of a blocked or through policy, as far as there is memory for it.
 #[derive(Drop)]
 pub struct Tee<K: Drop> {
     pub out: K,
     front: Vec<u8>,
+    line: Vec<u8>,
+    is_barred: bool,
 }
 
 impl<K: Drop> Tee<K> {
@@ -24,12 +27,19 @@ impl<K: Drop> Tee<K> {
         Tee {
             out,
             front: Vec::new(alloc),
+            line: Vec::new(alloc),
+            is_barred: false,
         }
     }
 
     /// The front of what was put.
     pub fn front(&self) -> &[u8] {
         &self.front
+    }
+
+    /// Whether a report was put in which the answer on a blocked or through policy is yes.
+    pub fn is_barred(&self) -> bool {
+        self.is_barred
     }
 }
 
@@ -46,7 +56,9 @@ impl<K: Sink + Drop> Sink for Tee<K> {
 
     fn put(&mut self, bytes: &[u8]) -> Result<usize, Fault> {
         let n = self.out.put(bytes)?;
-        keep(&mut self.front, bytes.get(..n).unwrap_or(bytes));
+        let put = bytes.get(..n).unwrap_or(bytes);
+        keep(&mut self.front, put);
+        look(&mut self.line, &mut self.is_barred, put);
         Ok(n)
     }
 }

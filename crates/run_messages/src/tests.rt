@@ -1,8 +1,9 @@
 use crate::{
-    WrongWord, asks_for_help, asks_for_version, document_fault, document_item, form_of, front_of,
-    line_at, near_form, told_refusal, visible, words_fault, wrong_word,
+    Tee, WrongWord, asks_for_help, asks_for_version, document_fault, document_item, form_of,
+    front_of, is_barred, line_at, near_form, told_refusal, visible, words_fault, wrong_word,
 };
 use arc_base::Name;
+use arc_outside::{Sink, SureSink};
 use std::alloc::Global;
 use std::test::Fail;
 
@@ -208,6 +209,29 @@ fn refused_items_are_shown(rt: HostRuntime) -> Result<(), Fail> {
     for (list, number, want) in shown {
         let item = document_item(rt.alloc(), text, list, number)?;
         assert_eq!(rt; item.as_deref(), want);
+    }
+    Ok(())
+}
+
+/// Texts in the pieces in which they are put, and whether a yes of blocked or through is in them.
+const REPORTS: &[(&[&str], bool)] = &[
+    (
+        &["arc-report 1\n1 reach yes 0\n2 blo", "cked yes 1\nclosed"],
+        true,
+    ),
+    (&["arc-report 1\n256 through yes 1\n"], true),
+    (&["arc-report 1\n1 blocked no 1\nwalk 1\nend\n"], false),
+    (&["side blocked yes\n1 blocked yes 1"], false),
+];
+
+#[test]
+fn yeses_are_found_in_reports(rt: HostRuntime) -> Result<(), Fail> {
+    for (pieces, want) in REPORTS {
+        let mut out = Tee::make(rt.alloc(), SureSink::make(rt.alloc()));
+        for piece in *pieces {
+            assert!(rt; out.put(piece.as_bytes()).is_ok());
+        }
+        assert_eq!(rt; out.is_barred(), *want);
     }
     Ok(())
 }

@@ -1,0 +1,142 @@
+//! What is said on the standard error of a run that ended with an answer: whether a yes of it holds
+//! for any forwarding.
+
+use crate::messages::{is_plain, say};
+use arc_base::Name;
+use arc_base::limits::{EDIT_FILE_LIMIT, PROOF_LIMIT};
+use arc_outside::{DiskStore, Pieces, StdSink};
+use command_words::{Command, read_words};
+use forwarding_notes::{edits_close, holds_for_any};
+use run_inputs::read_document;
+use run_messages::{Tee, is_barred};
+use std::io;
+
+const HOLDS: &[u8] = b"arcv: OSPF runs everywhere here, so each yes of blocked or through \
+    holds for any forwarding over these interfaces and lists";
+
+const CLOSES: &[u8] = b"arcv: after these edits OSPF no longer runs everywhere, so a yes of \
+    blocked or through then holds for its routes, and no longer for any forwarding";
+
+/// Whether a document and its router files can be read again at once.
+fn can_be_read(rt: &HostRuntime, document: &Name, store: &mut DiskStore<HostRuntime>) -> bool {
+    if !is_plain(rt, document.bytes()) {
+        return false;
+    }
+    match read_document(rt.alloc(), document, store) {
+        Ok(doc) => doc
+            .routers
+            .slice()
+            .iter()
+            .all(|name| is_plain(rt, name.bytes())),
+        Err(_) => false,
+    }
+}
+
+/// A report has a yes of a blocked or through policy.
+fn explain_yes(
+    rt: &HostRuntime,
+    document: &Name,
+    store: &mut DiskStore<HostRuntime>,
+) -> io::Result<()> {
+    if !can_be_read(rt, document, store) {
+        return Ok(());
+    }
+    match holds_for_any(rt.alloc(), document, store) {
+        Ok(true) => say(rt, &[HOLDS]),
+        _ => Ok(()),
+    }
+}
+
+/// The edits of a certificate of a repair, a line each; nothing where it is no such certificate.
+fn edit_lines(
+    rt: &HostRuntime,
+    certificate: &Name,
+    store: &mut DiskStore<HostRuntime>,
+) -> io::Result<Vec<u8>> {
+    let mut pieces = Pieces::make(rt.alloc(), PROOF_LIMIT);
+    let mut text = Vec::new(rt.alloc());
+    for number in 0..u64::MAX {
+        if pieces.failed() || !matches!(pieces.next(store, certificate), Ok(true)) {
+            break;
+        }
+        let line = pieces.line();
+        if number == 0 && line != b"arc-repair 1".as_slice() {
+            break;
+        }
+        if number > 1 && !line.starts_with(b"edit ") {
+            break;
+        }
+        if number > 1 {
+            text.extend_from_slice(line)?;
+            text.push(b'\n')?;
+        }
+    }
+    Ok(text)
+}
+
+/// Whether a certificate is a report with a yes of a blocked or through policy.
+fn is_barred_report(
+    rt: &HostRuntime,
+    certificate: &Name,
+    store: &mut DiskStore<HostRuntime>,
+) -> bool {
+    let mut pieces = Pieces::make(rt.alloc(), PROOF_LIMIT);
+    for number in 0..u64::MAX {
+        if pieces.failed() || !matches!(pieces.next(store, certificate), Ok(true)) {
+            return false;
+        }
+        if number == 0 && pieces.line() != b"arc-report 1".as_slice() {
+            return false;
+        }
+        if is_barred(pieces.line()) {
+            return true;
+        }
+    }
+    false
+}
+
+/// A certificate was written or accepted: edits of sessions in it.
+fn explain_edits(
+    rt: &HostRuntime,
+    document: &Name,
+    certificate: &Name,
+    store: &mut DiskStore<HostRuntime>,
+) -> io::Result<()> {
+    let text = edit_lines(rt, certificate, store)?;
+    let is_of_sessions = text
+        .split(|byte| *byte == b'\n')
+        .any(|line| line.starts_with(b"edit session "));
+    if !is_of_sessions || text.len() as u64 > EDIT_FILE_LIMIT || !can_be_read(rt, document, store) {
+        return Ok(());
+    }
+    match edits_close(rt.alloc(), document, &text, store) {
+        Ok(true) => say(rt, &[CLOSES]),
+        _ => Ok(()),
+    }
+}
+
+/// Says what there is to say of an answer.
+pub fn explain_answer(
+    rt: &HostRuntime,
+    words: &[Name],
+    code: u8,
+    store: &mut DiskStore<HostRuntime>,
+    out: &Tee<StdSink<HostRuntime>>,
+) -> io::Result<()> {
+    match read_words(rt.alloc(), words) {
+        Ok(Some(Command::Verify(document))) if out.is_barred() => explain_yes(rt, &document, store),
+        Ok(Some(Command::Repair(words))) if code == 0 => {
+            explain_edits(rt, &words.document, &words.proof, store)
+        }
+        Ok(Some(Command::Check(document, certificate))) if code == 0 => {
+            if !is_plain(rt, certificate.bytes()) {
+                return Ok(());
+            }
+            if is_barred_report(rt, &certificate, store) {
+                return explain_yes(rt, &document, store);
+            }
+            explain_edits(rt, &document, &certificate, store)
+        }
+        _ => Ok(()),
+    }
+}

@@ -1,0 +1,80 @@
+//! Whether the network of router files is open, and whether edits close it.
+ghost use Rattle.std.specs.Prelude.{◌≤◌, ◌<◌, ◌^◌, length, IfOk, IfSome, IsTrue};
+ghost use Rattle.run_files.specs.Answers.{OnlyReads};
+ghost use Rattle.run_files.specs.Limits.{least_limit};
+ghost use Rattle.run_inputs.specs.Inputs.{AreFit};
+ghost use Rattle.forwarding_notes.specs.Notes.{SaysOfAny, IsAfterLines, AreClosed};
+
+use arc_base::limits::POLICY_LIMIT;
+use arc_base::{Memory, Name};
+use arc_outside::Store;
+use edit_files::{Named, named_edits};
+use edit_space::{EditFault, edits};
+use edited_networks::after;
+use net_model::{Document, Network};
+use open_networks::runs_everywhere;
+use run_files::{Limits, Stop};
+use run_inputs::{read_document, read_input, read_sources};
+use std::alloc::Global;
+
+/// Whether OSPF runs everywhere in the network of a document and its router files: then each yes of
+/// a blocked or through policy over it holds for any forwarding.
+pub fn holds_for_any<S: Store>(alloc: Global, document: &Name, store: &mut S) -> Result<bool, Stop>
+    ensures told { IfSome (S.held store.old) (λ files.
+        IfOk result (SaysOfAny document.now files)) }
+    ensures reads { OnlyReads least_limit S.held S.faults S.absences S.taken
+        store.old store.new result }
+{
+    let input = read_input(alloc, document, &[], Limits::Judging, store)?;
+    Ok(runs_everywhere(&input.net))
+}
+
+/// The network after the edits that the lines of a text name, where each names one.
+fn after_lines(
+    alloc: Global,
+    net: &Network,
+    doc: &Document,
+    text: &[u8],
+) -> Result<Option<Network>, Memory>
+    requires fit { AreFit doc.now net.now }
+    requires policies { length doc.now.policies ≤ POLICY_LIMIT }
+    requires few { length text.now < 2 ^ 32 }
+    ensures { IfOk result (λ found. IfSome found (IsAfterLines net.now doc.now text.now)) }
+{
+    let list = match edits(alloc, net, doc) {
+        Ok(list) => list,
+        Err(EditFault::Limit(_, _)) => return Ok(None),
+        Err(EditFault::Memory) => return Err(Memory),
+    };
+    match named_edits(alloc, net, &list, text)? {
+        Named::Edits(chosen) => Ok(Some(after(alloc, net, &list, chosen.slice())?)),
+        Named::Wrong(_) => Ok(None),
+    }
+}
+
+/// Whether OSPF runs everywhere in the network of a document and its router files, and no longer
+/// after the edits that the lines of a text name: then a yes over the network after them is no
+/// longer shown to hold for any forwarding.
+pub fn edits_close<S: Store>(
+    alloc: Global,
+    document: &Name,
+    text: &[u8],
+    store: &mut S,
+) -> Result<bool, Stop>
+    requires { length text.now < 2 ^ 32 }
+    ensures told { IfSome (S.held store.old) (λ files.
+        IfOk result (λ closes. IsTrue closes → AreClosed document.now text.now files)) }
+    ensures reads { OnlyReads least_limit S.held S.faults S.absences S.taken
+        store.old store.new result }
+{
+    let doc = read_document(alloc, document, store)?;
+    let sources = read_sources(alloc, document, &doc, &[], Limits::Editing, store)?;
+    let net = &sources.built.net;
+    if !runs_everywhere(net) {
+        return Ok(false);
+    }
+    match after_lines(alloc, net, &doc, text)? {
+        Some(after) => Ok(!runs_everywhere(&after)),
+        None => Ok(false),
+    }
+}
