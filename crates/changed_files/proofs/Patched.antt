@@ -43,10 +43,10 @@ module _ (configs : List Config) (clear : IsClear (RefusesEntries 2048 configs))
   short_lists : IsClear (RefusesEntries 16384 configs)
   short_lists r bad = long_refused r bad (long_list 2048 bad.config) refl
 
-no_long_list : (doc : Document) (configs : List Config) → AreClear (RefusesWithin [] 2048 doc configs) tries → IsClear (RefusesEntries 2048 configs)
+pub no_long_list : (doc : Document) (configs : List Config) → AreClear (RefusesWithin [] 2048 doc configs) tries → IsClear (RefusesEntries 2048 configs)
 no_long_list doc configs clear = clear.1.1.1.1.1.1.1.1.1.1.1.1.1.0
 
-still_clear : (doc : Document) (configs : List Config) → AreClear (RefusesWithin [] 2048 doc configs) tries → AreClear (Refuses doc configs) tries
+pub still_clear : (doc : Document) (configs : List Config) → AreClear (RefusesWithin [] 2048 doc configs) tries → AreClear (Refuses doc configs) tries
 still_clear doc configs clear =
     let links = clear.1.1.1.1 in
     let network = links.1.1.1.1 in

@@ -29,7 +29,3 @@ all_taken [] zero e = refl
 all_taken [] (suc n) e = refl
 all_taken (x ∷ xs) zero e = sym e
 all_taken (x ∷ xs) (suc n) e = ap (λ (ys : List _). x ∷ ys) (all_taken xs n e)
-
-pub nothing_left : {X : Type 0} (xs : List X) → length xs ≡ 0 → xs ≡ []
-nothing_left [] e = refl
-nothing_left (x ∷ xs) e = absurd (omega (arith, e))

@@ -3,7 +3,7 @@ use Rattle.std.specs.Prelude.{◌≡◌, ◌≢◌, ℕ, ◌+◌, ◌<◌, ◌==
 use Rattle.std.specs.Prelude.{All, AllPairs, map, take, length}
 use Rattle.std.specs.List.{filter, list_all, list_any, range_with_len}
 use Rattle.std.specs.Option.{option_map_or}
-use Rattle.cnf_types.specs.Words.{lines, without_return}
+use Rattle.bstr.specs.Text.{lines_of, without_terminator}
 use Rattle.arc_base.specs.Words.{is_blank}
 use Rattle.net_model.specs.declared.rows.Network.{Network}
 use Rattle.edit_space.specs.declared.edit_kinds.Edit.{Edit}
@@ -11,9 +11,9 @@ use Rattle.policy_report.specs.Edits.{edit_of}
 use Rattle.edit_files.specs.declared.reading.Named.{Named}
 use Rattle.edit_files.specs.declared.reading.Named.TheVariants.{Edits, Wrong}
 
--- the lines of a text, without their ends
+-- the lines of a text, each without its end: a line feed, or a carriage return and a line feed
 abbrev pub line_texts : List ℕ → List (List ℕ)
-line_texts text = map without_return (lines text)
+line_texts text = map without_terminator (lines_of text)
 
 -- a line of spaces and tabs alone
 abbrev pub is_blank_line : List ℕ → Bool

@@ -7,7 +7,7 @@ ghost use Rattle.edit_files.specs.Places.{AreBelow, FindsEdits};
 
 use crate::places::{TextPlaces, edit_texts};
 use arc_base::{List, Memory};
-use cnf_types::{first_line, without_return};
+use bstr::ByteSlice;
 use edit_space::Edit;
 use net_model::Network;
 use std::alloc::Global;
@@ -52,8 +52,9 @@ fn mark(places: &TextPlaces<'_>, line: &[u8], chosen: &mut Vec<bool>) -> bool
 }
 
 /// The edits that the lines of a text name, each line one by its text. Lines may end in a carriage
-/// return and a line feed, and lines of spaces and tabs alone are skipped. The time is linear in
-/// the texts of all edits and in the bytes of the text.
+/// return and a line feed, and lines of spaces and tabs alone are skipped. A carriage return at the
+/// end of a text that has no line feed there is a byte of its line. The time is linear in the texts
+/// of all edits and in the bytes of the text.
 pub fn named_edits(
     alloc: Global,
     net: &Network,
@@ -67,15 +68,12 @@ pub fn named_edits(
     let texts = edit_texts(alloc, net, edits)?;
     let places = TextPlaces::of(alloc, texts.slice())?;
     let mut chosen = Vec::from_elem(alloc, false, edits.len() as usize)?;
-    let mut rest = text;
     let mut number = 0;
-    while !rest.is_empty() {
-        let (line, after) = first_line(rest);
+    for line in text.lines() {
         number += 1;
-        if !mark(&places, without_return(line), &mut chosen) {
+        if !mark(&places, line, &mut chosen) {
             return Ok(Named::Wrong(number));
         }
-        rest = after;
     }
     Ok(Named::Edits(List::of(chosen)?))
 }
