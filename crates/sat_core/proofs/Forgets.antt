@@ -2,12 +2,12 @@
 use Rattle.std.proofs.Common.{◌≡◌, ◌≢◌, ℕ, ◌-◌, ◌<◌, ◌≤◌, inl, inr, Bool, option_map, List, length, take, All, Contains, Option, Some, None, IfSome, IsSomeAnd, IsTrue, refl, sym, ap, ◌∙◌, subst, arith}
 use Rattle.std.specs.List.{slice_get}
 use Rattle.std.proofs.lemmas.Bool.{cases_lt}
-use Rattle.std.proofs.lemmas.Option.{same_Some, slice_get_within}
-use Rattle.std.proofs.lemmas.List.Elements.{All-contains, All-weaker}
+use Rattle.std.proofs.lemmas.Option.{slice_get_within}
+use Rattle.std.proofs.lemmas.List.Elements.{All-contains}
 use Rattle.cnf_types.specs.declared.literal.Lit.{Lit}
 use Rattle.cnf_types.specs.Literals.{negated}
 use Rattle.clause_pool.specs.declared.place.Place.{Place}
-use Rattle.clause_pool.specs.Pools.{Entry, State, IsOf as IsOfPool, IsSound, clause_at}
+use Rattle.clause_pool.specs.Pools.{Entry, State, IsSound, clause_at}
 use Rattle.clause_pool.specs.Compacted.{IsCompacted}
 use Rattle.clause_pool.proofs.Sound.{if-some, at-some, and-some, some-and}
 use Rattle.sat_core.specs.declared.numbered.Numbered.{Numbered}
@@ -19,26 +19,16 @@ use Rattle.sat_core.specs.Trails.{IsOf, IsTrail, IsUnset, Implies, MayFollow, cl
 use Rattle.sat_core.specs.Rest.{IsAtRest, RestsOn}
 use Rattle.sat_core.specs.Assignments.{Assignment}
 use Rattle.sat_core.specs.Progressing.{AreInRange}
+use Rattle.sat_core.specs.Stores.{Stored, without_row}
+use Rattle.sat_core.specs.Placed.{IsPlaced}
 use Rattle.sat_core.specs.Watches.{AreSame, Guards, IsGuarded, IsLinked}
 use Rattle.sat_core.specs.Kept.{IsKeptCore}
 use Rattle.sat_core.specs.Forgotten.{moved, moved_entries, moved_reason, without_at, IsNoReason, IsMoved}
-use Rattle.sat_core.proofs.Clauses.{clause-there, range-at}
-use Rattle.sat_core.proofs.Walks.{to-pool}
+use Rattle.sat_core.proofs.Clauses.{clause-there}
 use Rattle.sat_core.proofs.Linking.{in-list}
-use Rattle.sat_core.proofs.Removed.{length_removed, from_removed, to_removed, all_removed, pairs_removed}
+use Rattle.sat_core.proofs.Placed.{placed-removed}
+use Rattle.sat_core.proofs.Removed.{no_clause, length_removed, from_removed, to_removed, all_removed, pairs_removed}
 use Rattle.sat_core.proofs.Moved.{counted, same-on, decisions-moved, take-moved, length-moved, level-moved, at-moved, each-moved}
-
--- the literals of a clause of the list are in the pool's range
-pub range-list : (vars : ℕ) (clauses : List Numbered) (h : Held) (lits : List Lit) → AreInRange vars clauses → list_clause clauses h ≡ Some lits → All (IsOfPool vars) lits
-range-list vars clauses h lits range is = All-weaker (IsOf vars) (IsOfPool vars) (λ l of. to-pool vars l of) lits (range-at vars clauses h lits range is)
-
--- the literals of the pool's clause are those of the list's
-pub among-list : (vars : ℕ) (clauses : List Numbered) (pool : State) (h : Held) (lits : List Lit) → IsLinked vars clauses pool → list_clause clauses h ≡ Some lits → (p : Place) (e : Entry) → clause_at pool p ≡ Some e → e.id ≡ h.0 → (l : Lit) → Contains e.lits l → Contains lits l
-among-list vars clauses pool h lits linked is p e at same l held =
-    let (n, there, alike) = in-list vars clauses pool p e linked at in
-    let (c, here, lits_are) = clause-there clauses h lits is in
-    let n_is : n ≡ c = same_Some n c (sym there ∙ ap (λ (k : ℕ). slice_get clauses k) same ∙ here) in
-    subst (λ (ls : List Lit). Contains ls l) (ap (λ (x : Numbered). x.lits) n_is ∙ lits_are) (alike.back l held)
 
 -- the pool and the list lost the same clause
 pub linked-forgotten : (vars : ℕ) (clauses : List Numbered) (pool new : State) (at : ℕ) → at < length clauses → IsLinked vars clauses pool → IsMoved (length clauses - 1) at pool new → IsLinked vars (without_at clauses at) new
@@ -49,10 +39,10 @@ linked-forgotten vars clauses pool new at inside linked m = record {
       let r = m.from p e is in
       let (n, there, same) = in-list vars clauses pool p r.0 linked r.1 in
       some-and (slice_get (without_at clauses at) e.id) n (λ (x : Numbered). AreSame x.lits e.lits)
-      (ap (λ (k : ℕ). slice_get (without_at clauses at) k) r.4 ∙ to_removed clauses at inside r.0.id n r.3 there)
+      (ap (λ (k : ℕ). slice_get (without_at clauses at) k) r.4 ∙ to_removed no_clause clauses at inside r.0.id n r.3 there)
       (subst (λ (ls : List Lit). AreSame n.lits ls) (sym r.2) same));
   all = λ k c is.
-      let r = from_removed clauses at inside k c is in
+      let r = from_removed no_clause clauses at inside k c is in
       elim (linked.all r.0 c r.2) [
         | inr beside ↦ inr beside
         | inl i ↦
@@ -73,7 +63,7 @@ reason-moved clauses at before l (Some held) inside other h =
     let f = and-some (list_clause clauses held) (λ (lits : List Lit). Implies before lits l) h in
     let (c, there, lits_are) = clause-there clauses held f.value f.is in
     let to : Held = record { 0 = moved (length clauses - 1) at held.0 } in
-    let now : list_clause (without_at clauses at) to ≡ Some f.value = ap (λ (o : Option Numbered). option_map (λ (c : Numbered). c.lits) o) (to_removed clauses at inside held.0 c (other held refl) there) ∙ ap (λ (ls : List Lit). Some ls) lits_are in
+    let now : list_clause (without_at clauses at) to ≡ Some f.value = ap (λ (o : Option Numbered). option_map (λ (c : Numbered). c.lits) o) (to_removed no_clause clauses at inside held.0 c (other held refl) there) ∙ ap (λ (ls : List Lit). Some ls) lits_are in
     some-and (list_clause (without_at clauses at) to) f.value (λ (lits : List Lit). Implies (moved_entries (length clauses - 1) at before) lits l) now (implies-moved (length clauses - 1) at before f.value l f.holds)
 
 trail-forgotten : (clauses : List Numbered) (h : Held) (a : Assignment) → h.0 < length clauses → IsNoReason a.entries h → IsTrail clauses a.vars a.entries a.level → IsTrail (without_at clauses h.0) a.vars (moved_entries (length clauses - 1) h.0 a.entries) a.level
@@ -106,7 +96,7 @@ rest-moved last at clauses left xs level kept rest =
 -- a clause is forgotten
 pub kept-forgotten : (c : Inside) (h : Held) (pool : State) (q : Progress) → IsKeptCore c → h.0 < length c.store.clauses → IsNoReason c.trail.entries h → IsMoved (length c.store.clauses - 1) h.0 c.pool pool →
     (length c.store.clauses - 1 < c.progress.seen → q.seen ≡ length c.store.clauses - 1) → (c.progress.seen ≤ length c.store.clauses - 1 → q.seen ≡ 0) → q.done ≡ c.progress.done → q.floor ≡ c.progress.floor →
-    IsKeptCore (record c { store = record c.store { clauses = without_at c.store.clauses h.0 }; pool = pool; trail = record c.trail { entries = moved_entries (length c.store.clauses - 1) h.0 c.trail.entries }; progress = q })
+    IsKeptCore (record c { store = without_row c.store h.0; pool = pool; trail = record c.trail { entries = moved_entries (length c.store.clauses - 1) h.0 c.trail.entries }; progress = q })
 kept-forgotten c h pool q kept inside free m all anew done floor =
     let a = c.trail in
     let clauses = c.store.clauses in
@@ -116,18 +106,18 @@ kept-forgotten c h pool q kept inside free m all anew done floor =
     let sound = kept.sound in
     let u = kept.underway in
     let p = c.progress in
-    let size = length_removed clauses h.0 inside in
+    let size = length_removed no_clause clauses h.0 inside in
     let trail = trail-forgotten clauses h a inside free sound.trail in
-    let range : AreInRange a.vars left = all_removed clauses h.0 inside (λ d. All (IsOf a.vars) d.lits) sound.range in
+    let range : AreInRange a.vars left = all_removed no_clause clauses h.0 inside (λ d. All (IsOf a.vars) d.lits) sound.range in
     record {
       sound = record {
         range = range;
-        ids = all_removed clauses h.0 inside (λ d. d.id ≤ c.last_id) sound.ids;
-        different = pairs_removed clauses h.0 inside (λ d e. d.id ≢ e.id) (λ d e other same. other (sym same)) sound.different;
+        ids = all_removed no_clause clauses h.0 inside (λ d. d.id ≤ c.last_id) sound.ids;
+        different = pairs_removed no_clause clauses h.0 inside (λ d e. d.id ≢ e.id) (λ d e other same. other (sym same)) sound.different;
         few = omega (arith, sound.few, size);
         small = sound.small;
         trail = trail;
-        rest = λ lower below. rest-moved (length clauses - 1) h.0 clauses left xs lower (λ P. all_removed clauses h.0 inside P) (sound.rest lower below);
+        rest = λ lower below. rest-moved (length clauses - 1) h.0 clauses left xs lower (λ P. all_removed no_clause clauses h.0 inside P) (sound.rest lower below);
       };
       marks = kept.marks;
       underway = record {
@@ -136,11 +126,12 @@ kept-forgotten c h pool q kept inside free m all anew done floor =
         range = range;
         trail_is = trail;
         linked = linked-forgotten a.vars clauses c.pool pool h.0 inside u.linked m;
+        placed = placed-removed c.store c.pool pool h.0 inside u.placed m;
         seen = elim (cases_lt (length clauses - 1) p.seen) [ inl l ↦ omega (arith, all l, size) | inr l ↦ omega (arith, anew l) ];
         fresh = λ l. elim (cases_lt (length clauses - 1) p.seen) [ inl k ↦ absurd (omega (arith, all k, size, l)) | inr k ↦ u.fresh (omega (arith, k, inside)) ];
         narrow = λ place n l is thin. elim (cases_lt (length clauses - 1) p.seen) [
           | inl k ↦
-              let r = from_removed clauses h.0 inside place n is in
+              let r = from_removed no_clause clauses h.0 inside place n is in
               let (i, x, within, at, on) = u.narrow r.0 n (omega (arith, k, slice_get_within clauses r.0 n r.2)) r.2 thin in
               (i, x, within, at, level-moved (length clauses - 1) h.0 xs 0 x ∙ on)
           | inr k ↦ absurd (omega (arith, anew k, l))
@@ -159,13 +150,14 @@ kept-forgotten c h pool q kept inside free m all anew done floor =
     }
 
 -- the pool is compacted
-pub kept-compacted : (c : Inside) (pool : State) (before after : List (Place × Place)) → IsKeptCore c → IsCompacted c.pool pool before after → IsSound pool → IsKeptCore (record c { pool = pool })
-kept-compacted c pool before after kept m sound =
+pub kept-compacted : (c : Inside) (store : Stored) (pool : State) (before after : List (Place × Place)) → IsKeptCore c → IsCompacted c.pool pool before after → IsSound pool → store.clauses ≡ c.store.clauses → IsPlaced store pool → IsKeptCore (record c { store = store; pool = pool })
+kept-compacted c store pool before after kept m sound clauses placed =
     let u = kept.underway in
     let from : (q : Place) (e : Entry) → clause_at pool q ≡ Some e → (p : Place) × (clause_at c.pool p ≡ Some e) = λ q e is.
     let t = at-some (clause_at pool q) e (λ (_ : Entry). (p : Place) × Contains m.moves (p, q)) is (m.only q) in
     (t.0, sym (m.same t.0 q t.1).0 ∙ is) in
-    record {
+    let clauses_are : c.store.clauses ≡ store.clauses = sym clauses in
+    subst (λ (s : Stored). IsKeptCore (record c { store = s; pool = pool })) (ap (λ (cs : List Numbered). let s : Stored = record { clauses = cs; places = store.places } in s) clauses_are) (record {
       sound = kept.sound;
       marks = kept.marks;
       underway = record {
@@ -185,6 +177,11 @@ kept-compacted c pool before after kept m sound =
                 inl (record { place = t.0; is = some-and (clause_at pool t.0) f.value (λ (x : Entry). x.id ≡ k) ((m.same i.place t.0 t.1).0 ∙ f.is) f.holds })
           ];
         };
+        placed = record {
+          size = placed.size ∙ sym (ap length clauses_are);
+          live = placed.live;
+          known = placed.known;
+        };
         seen = u.seen;
         fresh = u.fresh;
         narrow = u.narrow;
@@ -193,4 +190,4 @@ kept-compacted c pool before after kept m sound =
         guarded = λ q. if-some (clause_at pool q) _ (λ e is. let t = from q e is in at-some (clause_at c.pool t.0) e (λ (x : Entry). IsGuarded c.progress.floor (take c.progress.done c.trail.entries) c.trail.entries x.lits) t.1 (u.guarded t.0));
         late = u.late;
       };
-    }
+    })

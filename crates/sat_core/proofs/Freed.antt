@@ -1,25 +1,18 @@
 -- The pool, when a clause is taken out and another one takes its id.
-use Rattle.std.proofs.Common.{◌≡◌, ◌≢◌, ℕ, ◌<◌, inl, inr, List, [], ◌∷◌, ◌++◌, length, get_or, Contains, Option, Some, None, IsSome, IfSome, IsSomeAnd, is_some, refl, sym, ap, ◌∙◌, subst, arith}
-use Rattle.std.specs.List.{slice_get}
-use Rattle.std.proofs.lemmas.Bool.{cases_eq, false≢true}
-use Rattle.std.proofs.lemmas.List.{append_assoc, append-nil}
-use Rattle.std.proofs.lemmas.List.Elements.{Contains-append_right, Contains-append_cases}
-use Rattle.arc_base.proofs.Items.{Contains-head, Contains-cases, Contains-none}
+use Rattle.std.proofs.Common.{◌≡◌, ◌≢◌, ℕ, inl, inr, Option, Some, None, IsSome, IfSome, IsSomeAnd, is_some, refl, sym, ap, ◌∙◌}
+use Rattle.std.proofs.lemmas.Bool.{cases_eq}
 use Rattle.std.proofs.lemmas.Option.{same_Some, none-some}
-use Rattle.cnf_types.specs.declared.literal.Lit.{Lit}
 use Rattle.clause_pool.specs.declared.place.Place.{Place}
-use Rattle.clause_pool.specs.Pools.{Entry, State, IsClause, IsSound, IsFreshId, IsWatch, chain, clause_at, freed, lit_at, without_clause}
+use Rattle.clause_pool.specs.Pools.{Entry, State, IsSound, IsFreshId, clause_at, freed, without_clause}
 use Rattle.clause_pool.specs.Renumbered.{with_id_at}
-use Rattle.clause_pool.specs.Chains.{IsFollowed, from_on}
-use Rattle.clause_pool.proofs.Places.{same-place, walk-shorter}
+use Rattle.clause_pool.proofs.Places.{same-place}
 use Rattle.clause_pool.proofs.Maps.{get-gone_same, get-gone_other, get-changed_same, get-changed_other}
 use Rattle.clause_pool.proofs.Sound.{if-some, at-some, and-some}
 use Rattle.sat_core.specs.Forgotten.{moved, IsFreed, IsRenumbered, IsMoved}
-use Rattle.sat_core.proofs.Linking.{at-place}
 use Rattle.sat_core.proofs.Removed.{moved-last, moved-other}
 
 -- no other place has the id of one
-other-id : (s : State) (p q : Place) (d e : Entry) → IsSound s → clause_at s p ≡ Some d → clause_at s q ≡ Some e → (q ≡ p → ⊥) → e.id ≢ d.id
+pub other-id : (s : State) (p q : Place) (d e : Entry) → IsSound s → clause_at s p ≡ Some d → clause_at s q ≡ Some e → (q ≡ p → ⊥) → e.id ≢ d.id
 other-id s p q d e sound at other_at differ =
     at-some (clause_at s p) d (λ (y : Entry). e.id ≢ y.id) at (at-some (clause_at s q) e (λ (x : Entry). IfSome (clause_at s p) (λ (y : Entry). x.id ≢ y.id)) other_at (sound.ids q p differ))
 
@@ -87,79 +80,6 @@ moved-by s mid new last at freed renumbered = record {
       (r.0, freed.from p r.0 r.1, r.2, at-some (clause_at mid p) r.0 (λ (x : Entry). x.id ≢ at) r.1 (freed.gone p), r.3);
   to = λ p d is other. renumbered.to p d (freed.to p d is other);
 }
-
--- how far a look along a chain for an id has come
-pub record Looked (s : State) (l : Lit) (id : ℕ) (at : Option Place) : Type 0 where
-  pub front : List Place
-  pub rest : List Place
-  pub is : chain s l ≡ front ++ rest
-  pub here : at ≡ slice_get rest 0
-  pub passed : (p : Place) → Contains front p → IfSome (clause_at s p) (λ e. e.id ≢ id)
-
-pub looked-begun : (s : State) (l : Lit) (id : ℕ) (at : Option Place) → at ≡ slice_get (chain s l) 0 → Looked s l id at
-looked-begun s l id at e = record { front = []; rest = chain s l; is = refl; here = e; passed = λ p h. absurd (Contains-none p h) }
-
--- the place where the look is
-pub record LooksAt (s : State) (l : Lit) (id : ℕ) (p : Place) : Type 0 where
-  pub front : List Place
-  pub rest : List Place
-  pub is : chain s l ≡ front ++ p ∷ rest
-  pub passed : (q : Place) → Contains front q → IfSome (clause_at s q) (λ e. e.id ≢ id)
-
-pub looks-at : (s : State) (l : Lit) (id : ℕ) (at : Option Place) (p : Place) → Looked s l id at → at ≡ Some p → LooksAt s l id p
-looks-at s l id at p k e = split k.rest k.is (sym k.here ∙ e)
-  where
-    split : (rest : List Place) → chain s l ≡ k.front ++ rest → slice_get rest 0 ≡ Some p → LooksAt s l id p
-    split [] is f = cc
-    split (r ∷ rest) is f = record { front = k.front; rest = rest; is = is ∙ ap (λ (z : Place). k.front ++ z ∷ rest) (same_Some r p f); passed = k.passed }
-
-pub looks-live : (s : State) (l : Lit) (id : ℕ) (p : Place) → IsSound s → LooksAt s l id p → IsSome (clause_at s p)
-looks-live s l id p sound k =
-    ap is_some (and-some (clause_at s p) (λ (e : Entry). IsWatch e.lits l) (sound.watches p l (subst (λ (ps : List Place). Contains ps p) (sym k.is) (Contains-append_right k.front (p ∷ k.rest) p (Contains-head p k.rest))))).is
-
-pub looks-in : (s : State) (l : Lit) (id : ℕ) (p : Place) → LooksAt s l id p → Contains (chain s l) p
-looks-in s l id p k = subst (λ (ps : List Place). Contains ps p) (sym k.is) (Contains-append_right k.front (p ∷ k.rest) p (Contains-head p k.rest))
-
-pub looked-on : (s : State) (l : Lit) (id : ℕ) (p : Place) (next : Option Place) (k : LooksAt s l id p) → IfSome (clause_at s p) (λ e. e.id ≢ id) → IsFollowed (chain s l) p next → Looked s l id next
-looked-on s l id p next k other f = record {
-  front = k.front ++ p ∷ [];
-  rest = k.rest;
-  is = k.is ∙ sym (append_assoc k.front (p ∷ []) k.rest);
-  here = f k.front k.rest k.is;
-  passed = λ q h. elim (Contains-append_cases k.front (p ∷ []) q h) [
-    | inl before ↦ k.passed q before
-    | inr last ↦ elim (Contains-cases p q [] last) [ inl e ↦ subst (λ (z : Place). IfSome (clause_at s z) (λ x. x.id ≢ id)) e other | inr none ↦ absurd (Contains-none q none) ]
-  ];
-}
-
-pub looked-over : (s : State) (l : Lit) (id : ℕ) (at : Option Place) → Looked s l id at → at ≡ None → (p : Place) → Contains (chain s l) p → IfSome (clause_at s p) (λ e. e.id ≢ id)
-looked-over s l id at k e p h = over k.rest k.is (sym k.here ∙ e)
-  where
-    over : (rest : List Place) → chain s l ≡ k.front ++ rest → slice_get rest 0 ≡ None → IfSome (clause_at s p) (λ x. x.id ≢ id)
-    over [] is f = k.passed p (subst (λ (ps : List Place). Contains ps p) (is ∙ append-nil k.front) h)
-    over (r ∷ rest) is f = cc
-
-pub looks-shorter : (s : State) (l : Lit) (id : ℕ) (p : Place) (next : Option Place) (k : LooksAt s l id p) → IsSound s → IsFollowed (chain s l) p next → length (from_on next (chain s l)) < length (from_on (Some p) (chain s l))
-looks-shorter s l id p next k sound f = walk-shorter (chain s l) k.front k.rest p next (sound.once l) k.is (f k.front k.rest k.is)
-
--- no chain of a literal of a clause has a place with the id: so no clause has it
-pub none-found : (s : State) (lits : List Lit) (id : ℕ) → IsSound s → ((p : Place) (e : Entry) → clause_at s p ≡ Some e → e.id ≡ id → (l : Lit) → Contains e.lits l → Contains lits l) → ((k : ℕ) (d : Lit) → k < length lits → (p : Place) → Contains (chain s (get_or lits k d)) p → IfSome (clause_at s p) (λ e. e.id ≢ id)) → IsFreshId s id
-none-found s lits id sound among none p = if-some (clause_at s p) _ (λ e is same.
-    let clause : IsClause s.vars e.lits = at-some (clause_at s p) e (λ (x : Entry). IsClause s.vars x.lits) is (sound.clauses p) in
-    let first : Lit = lit_at e.lits 0 in
-    let (k, within, at) = among p e is same first (at-place e.lits 0 (omega (arith, clause.two))) in
-    let watched : Contains (chain s first) p = (at-some (clause_at s p) e (λ (x : Entry). Contains (chain s (lit_at x.lits 0)) p × Contains (chain s (lit_at x.lits 1)) p) is (sound.watched p)).0 in
-    at-some (clause_at s p) e (λ (x : Entry). x.id ≢ id) is (none k first within p (subst (λ (l : Lit). Contains (chain s l) p) (sym at) watched)) same)
-
-pub found-here : (s : State) (p : Place) (n id : ℕ) → IsSome (clause_at s p) → IfSome (clause_at s p) (λ e. n ≡ e.id) → n ≡ id → IsSomeAnd (clause_at s p) (λ e. e.id ≡ id)
-found-here s p n id live own is = here (clause_at s p) live own
-  where
-    here : (o : Option Entry) → IsSome o → IfSome o (λ e. n ≡ e.id) → IsSomeAnd o (λ e. e.id ≡ id)
-    here None l h = absurd (false≢true l)
-    here (Some e) l h = sym h ∙ is
-
-pub other-here : (s : State) (p : Place) (n id : ℕ) → IfSome (clause_at s p) (λ e. n ≡ e.id) → (n ≡ id → ⊥) → IfSome (clause_at s p) (λ e. e.id ≢ id)
-other-here s p n id own other = if-some (clause_at s p) _ (λ e is same. other (at-some (clause_at s p) e (λ (x : Entry). n ≡ x.id) is own ∙ same))
 
 pub some-live : (s : State) (p : Place) (id : ℕ) → IsSomeAnd (clause_at s p) (λ e. e.id ≡ id) → IsSome (clause_at s p)
 some-live s p id h = ap is_some (and-some (clause_at s p) (λ (e : Entry). e.id ≡ id) h).is

@@ -6,6 +6,7 @@ use Rattle.std.proofs.lemmas.List.{length_push}
 use Rattle.std.proofs.lemmas.List.Elements.{All-push, All-weaker}
 use Rattle.std.proofs.lemmas.List.Quantifiers.{all_pairs_push}
 use Rattle.std.proofs.lemmas.Option.{slice_get_within}
+use Rattle.clause_pool.specs.declared.place.Place.{Place}
 use Rattle.clause_pool.specs.Pools.{Entry, State as Pool, clause_at, lit_at}
 use Rattle.clause_pool.proofs.Sound.{if-some, at-some}
 use Rattle.sat_core.specs.declared.numbered.Numbered.{Numbered}
@@ -17,13 +18,14 @@ use Rattle.sat_core.specs.Rest.{IsAtRest, RestsOn}
 use Rattle.sat_core.specs.States.{IsAsserting}
 use Rattle.sat_core.specs.Assignments.{with_entry}
 use Rattle.sat_core.specs.Progressing.{AreInRange, Continues}
+use Rattle.sat_core.specs.Stores.{with_row}
+use Rattle.sat_core.specs.Placed.{IsPlaced}
 use Rattle.sat_core.specs.Watches.{Gains, IsGuarded, IsLinked, IsNarrow}
 use Rattle.sat_core.specs.Kept.{IsKeptCore, state}
-use Rattle.sat_core.proofs.Gets.{slice_get-push}
+use Rattle.sat_core.proofs.Gets.{slice_get-push, get-last}
 use Rattle.sat_core.proofs.Guards.{guarded-grown, level-over}
 use Rattle.sat_core.proofs.Growing.{continues-implied, implied, lower-same}
 use Rattle.sat_core.proofs.Underway.{true-more}
-use Rattle.sat_core.proofs.Putting.{get-last}
 use Rattle.sat_core.proofs.Steps.{trail-more}
 use Rattle.sat_core.proofs.Asserting.{implies_first, not_narrow, rests_below, guards_lemma}
 
@@ -31,10 +33,10 @@ some-at : {X : Type 0} (o : Option X) (x : X) (P : X → Type 0) → o ≡ Some 
 some-at {X} o x P is h = subst (λ (q : Option X). IsSomeAnd q P) is h
 
 -- a lemma joins the list and the pool, and implies its first literal
-pub kept-learnt : (c : Inside) (n : Numbered) (pool : Pool) (last : ℕ) (held : Held) → IsKeptCore c → IsAsserting (state c) n.lits → All (IsOf c.trail.vars) n.lits → length c.store.clauses < 2 ^ 32 - 1 → All (λ d. d.id ≢ n.id) c.store.clauses → last ≡ max c.last_id n.id → held.0 ≡ length c.store.clauses →
-    IsLinked c.trail.vars (c.store.clauses ++ n ∷ []) pool → Gains c.pool (lit_at n.lits 0) (lit_at n.lits 1) pool →
-    IsKeptCore (record c { store = record c.store { clauses = c.store.clauses ++ n ∷ [] }; pool = pool; trail = with_entry c.trail (implied c.trail (lit_at n.lits 0) held); last_id = last; progress = record { seen = held.0 + 1; done = c.progress.done; floor = c.progress.floor } })
-kept-learnt c n pool last held kept asserts range few fresh most held_is linked gains =
+pub kept-learnt : (c : Inside) (n : Numbered) (place : Option Place) (pool : Pool) (last : ℕ) (held : Held) → IsKeptCore c → IsAsserting (state c) n.lits → All (IsOf c.trail.vars) n.lits → length c.store.clauses < 2 ^ 32 - 1 → All (λ d. d.id ≢ n.id) c.store.clauses → last ≡ max c.last_id n.id → held.0 ≡ length c.store.clauses →
+    IsLinked c.trail.vars (c.store.clauses ++ n ∷ []) pool → IsPlaced (with_row c.store n place) pool → Gains c.pool (lit_at n.lits 0) (lit_at n.lits 1) pool →
+    IsKeptCore (record c { store = with_row c.store n place; pool = pool; trail = with_entry c.trail (implied c.trail (lit_at n.lits 0) held); last_id = last; progress = record { seen = held.0 + 1; done = c.progress.done; floor = c.progress.floor } })
+kept-learnt c n place pool last held kept asserts range few fresh most held_is linked placed gains =
     let a = c.trail in
     let clauses = c.store.clauses in
     let sound = kept.sound in
@@ -69,6 +71,7 @@ kept-learnt c n pool last held kept asserts range few fresh most held_is linked 
         range = in_range;
         trail_is = continues.trail;
         linked = linked;
+        placed = placed;
         seen = omega arith;
         fresh = λ l. absurd (omega arith);
         narrow = λ place d m is thin. elim (slice_get-push clauses n place d is) [

@@ -18,6 +18,7 @@ use Rattle.sat_core.specs.Rest.{IsAtRest}
 use Rattle.sat_core.specs.Assignments.{Assignment}
 use Rattle.sat_core.specs.Stores.{Stored}
 use Rattle.sat_core.specs.Progressing.{AreInRange, IsUnderway, IsWalkedFor, Continues, RestsAt, HasTrue}
+use Rattle.sat_core.specs.Placed.{IsPlaced}
 use Rattle.sat_core.specs.Watches.{AreGuarded, IsGuarded, AreSame, IsLate, IsLinked}
 use Rattle.sat_core.proofs.Literals.{variable-negated, negated-negated}
 use Rattle.sat_core.proofs.Fronts.{each-at}
@@ -34,13 +35,14 @@ pub true-more : (xs ys : List Assigned) (level : ℕ) (lits : List Lit) → HasT
 true-more xs ys level lits (k, l, within, at, on) = (k, l, within, at, on-more xs ys level l on)
 
 -- the trail grew, and the pool's clauses are guarded by so many entries
-pub underway-walked : (store : Stored) (pool new : State) (a b : Assignment) (p : Progress) (n : ℕ) → IsUnderway store pool a p → Continues store.clauses a b → IsLinked b.vars store.clauses new → p.done ≤ n → n ≤ length b.entries → AreGuarded p.floor n b.entries new → IsUnderway store new b (record { seen = p.seen; done = n; floor = p.floor })
-underway-walked store pool new a b p n u continues linked more within guarded = record {
+pub underway-walked : (store : Stored) (pool new : State) (a b : Assignment) (p : Progress) (n : ℕ) → IsUnderway store pool a p → Continues store.clauses a b → IsLinked b.vars store.clauses new → IsPlaced store new → p.done ≤ n → n ≤ length b.entries → AreGuarded p.floor n b.entries new → IsUnderway store new b (record { seen = p.seen; done = n; floor = p.floor })
+underway-walked store pool new a b p n u continues linked placed more within guarded = record {
   small = omega (arith, u.small, continues.vars);
   few = u.few;
   range = subst (λ (v : ℕ). AreInRange v store.clauses) (sym continues.vars) u.range;
   trail_is = continues.trail;
   linked = linked;
+  placed = placed;
   seen = u.seen;
   fresh = λ l. continues.level ∙ u.fresh l;
   narrow = λ place c l at is. subst (λ (xs : List Assigned). HasTrue (up_to xs 0) c.lits) (sym continues.grown.grown) (true-more a.entries continues.grown.more 0 c.lits (u.narrow place c l at is));
@@ -55,7 +57,7 @@ underway-walked store pool new a b p n u continues linked more within guarded = 
 
 pub underway-stays : (store : Stored) (pool : State) (a b : Assignment) (p : Progress) → IsUnderway store pool a p → Continues store.clauses a b → IsUnderway store pool b p
 underway-stays store pool a b p u continues =
-    underway-walked store pool pool a b p p.done u continues (subst (λ (v : ℕ). IsLinked v store.clauses pool) (sym continues.vars) u.linked) (omega arith) (omega (arith, u.done, longer store.clauses a b continues))
+    underway-walked store pool pool a b p p.done u continues (subst (λ (v : ℕ). IsLinked v store.clauses pool) (sym continues.vars) u.linked) u.placed (omega arith) (omega (arith, u.done, longer store.clauses a b continues))
     (λ q. if-some (clause_at pool q) _ (λ e is. subst (λ (xs : List Assigned). IsGuarded p.floor (take p.done xs) xs e.lits) (sym continues.grown.grown)
     (guarded-grown p.floor p.done a.entries continues.grown.more e.lits u.done (at-some (clause_at pool q) e (λ (x : Entry). IsGuarded p.floor (take p.done a.entries) a.entries x.lits) is (u.guarded q)))))
 
@@ -69,6 +71,7 @@ underway-seen store pool a b p held u continues is within rests =
       range = stays.range;
       trail_is = stays.trail_is;
       linked = stays.linked;
+      placed = stays.placed;
       seen = omega arith;
       fresh = λ l. stays.fresh within;
       narrow = λ place c l at thin. elim (cases_lt place p.seen) [

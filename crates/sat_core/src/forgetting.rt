@@ -1,16 +1,17 @@
 //! How a clause is forgotten, and how the gaps that forgotten clauses leave are closed.
-ghost use Rattle.std.specs.Prelude.{◌≡◌, ◌≢◌, ℕ, ◌-◌, ◌<◌, ◌≤◌, length, All, Contains, Some};
-ghost use Rattle.std.specs.Prelude.{IsNone, IfSome, IsSomeAnd, IsTrue, IsFalse, slice_index_or};
+ghost use Rattle.std.specs.Prelude.{◌≡◌, ◌≢◌, ℕ, ◌-◌, ◌^◌, ◌<◌, ◌≤◌, length, All, Some, None};
+ghost use Rattle.std.specs.Prelude.{IsSomeAnd, IsTrue, IsFalse, slice_get, slice_index_or};
 ghost use Rattle.std.specs.List.{Any};
 ghost use Rattle.cnf_types.specs.Literals.{variable};
 ghost use Rattle.sat_core.specs.Trails.{IsOf, IsTrail, entry_of};
 ghost use Rattle.std.specs.Option.{option_and_then};
 ghost use Rattle.cnf_types.specs.declared.literal.Lit.{Lit};
 ghost use Rattle.clause_pool.specs.declared.place.Place.{Place};
-ghost use Rattle.clause_pool.specs.Pools.{Entry, IsSound as IsSoundPool, IsFreshId};
-ghost use Rattle.clause_pool.specs.Pools.{IsOf as IsOfPool, chain, clause_at as clause_in};
+ghost use Rattle.clause_pool.specs.Pools.{IsSound as IsSoundPool, IsFreshId};
+ghost use Rattle.clause_pool.specs.Pools.{clause_at as clause_in};
 ghost use Rattle.sat_core.specs.Progressing.{AreInRange};
 ghost use Rattle.sat_core.specs.Watches.{IsLinked};
+ghost use Rattle.sat_core.specs.Placed.{AreToMove, IsPlaced};
 ghost use Rattle.sat_core.specs.Forgotten.{IsFreed, IsMoved, IsRenumbered, moved_entries};
 
 use crate::assigned::{Assigned, Held};
@@ -32,7 +33,7 @@ impl Core {
         ensures yes { IsTrue result → Any (λ e. e.reason ≡ Some held) self.now.trail }
         ensures no { IsFalse result → IsNoReason self.now.trail held }
     {
-        implied(&self.trail, self.store.lits(held), held)
+        implied(&self.trail, self.store.lits(&self.pool, held), held)
     }
 
     /// Takes a clause out that implied no literal of the trail. The last clause takes its place. It
@@ -42,8 +43,8 @@ impl Core {
         requires no_reason { IsNoReason self.old.trail held }
         ensures { self.new ≡ without_clause self.old held }
     {
+        rename(&self.store, &self.pool, &mut self.trail, held);
         take_out(&self.store, &mut self.pool, held);
-        rename(&self.store, &mut self.trail, held);
         self.store.remove(held);
         let last = self.store.len();
         self.progress = self.progress.forgotten(last);
@@ -55,6 +56,7 @@ impl Core {
     {
         let mut moved: List<(Place, Place)> = List::make(self.alloc);
         self.pool.compact(&mut moved)?;
+        put_anew(&mut self.store, &self.pool, moved.slice());
         Ok(())
     }
 }
@@ -92,7 +94,9 @@ fn implied(trail: &Trail, lits: &[Lit], held: Held) -> bool
 
 /// Gives each entry whose reason is the last clause of the list the place that this one is to take.
 /// It goes through the trail only where there is such an entry.
-fn rename(store: &Store, trail: &mut Trail, held: Held)
+fn rename(store: &Store, pool: &Pool, trail: &mut Trail, held: Held)
+    requires linked { IsLinked pool.now.vars store.now.clauses pool.now }
+    requires placed { IsPlaced store.now pool.now }
     requires some { 1 ≤ length store.now.clauses }
     requires range { AreInRange trail.old.vars store.now.clauses }
     requires trail { IsTrail store.now.clauses trail.old.vars trail.old.entries trail.old.level }
@@ -100,72 +104,37 @@ fn rename(store: &Store, trail: &mut Trail, held: Held)
         { entries = moved_entries (length store.now.clauses - 1) held.0 trail.old.entries } }
 {
     let last = Held(store.len() - 1);
-    if implied(trail, store.lits(last), last) {
+    if implied(trail, store.lits(pool, last), last) {
         trail.rename(last.0, held.0);
     }
 }
 
-/// The place in a literal's chain of the clause with an id.
-fn find_in(pool: &Pool, lit: Lit, id: u64) -> Option<Place>
-    requires { IsOfPool pool.now.vars lit }
-    ensures some { IfSome result (λ p. IsSomeAnd (clause_in pool.now p) (λ e. e.id ≡ id)) }
-    ensures none { IsNone result →
-        (p : Place) → Contains (chain pool.now lit) p →
-        IfSome (clause_in pool.now p) (λ e. e.id ≢ id) }
-{
-    let mut at = pool.first(lit);
-    while let Some(place) = at {
-        let own = pool.id(place);
-        if own == id {
-            return Some(place);
-        }
-        at = pool.next(place, lit);
-    }
-    None
-}
-
-/// The place of the clause with an id, whose literals are among these.
-fn find(pool: &Pool, lits: &[Lit], id: u64) -> Option<Place>
-    requires range { All (IsOfPool pool.now.vars) lits.now }
-    requires sound { IsSoundPool pool.now }
-    requires among { (p : Place) (e : Entry) → clause_in pool.now p ≡ Some e → e.id ≡ id →
-        (l : Lit) → Contains e.lits l → Contains lits.now l }
-    ensures some { IfSome result (λ p. IsSomeAnd (clause_in pool.now p) (λ e. e.id ≡ id)) }
-    ensures none { IsNone result → IsFreshId pool.now id }
-{
-    for lit in lits {
-        if let Some(place) = find_in(pool, *lit, id) {
-            return Some(place);
-        }
-    }
-    None
-}
-
-/// Takes the clause with an id out, where the pool has one.
-fn free(pool: &mut Pool, lits: &[Lit], id: u64)
-    requires range { All (IsOfPool pool.old.vars) lits.now }
+/// Takes a clause of the list out of the pool, where it keeps it.
+fn free(store: &Store, pool: &mut Pool, held: Held)
+    requires held { held.0 < length store.now.clauses }
     requires sound { IsSoundPool pool.old }
-    requires among { (p : Place) (e : Entry) → clause_in pool.old p ≡ Some e → e.id ≡ id →
-        (l : Lit) → Contains e.lits l → Contains lits.now l }
-    ensures { IsFreed id pool.old pool.new }
+    requires placed { IsPlaced store.now pool.old }
+    ensures { IsFreed held.0 pool.old pool.new }
 {
-    match find(pool, lits, id) {
+    match store.place(held) {
         Some(place) => pool.free(place),
         None => {}
     }
 }
 
-/// Gives the clause with an id another one, where the pool has one.
-fn renumber(pool: &mut Pool, lits: &[Lit], id: u64, new_id: u64)
-    requires range { All (IsOfPool pool.old.vars) lits.now }
+/// Gives the pool's clause of one place in the list the number of another place, whose clause it
+/// does not keep.
+fn renumber(store: &Store, pool: &mut Pool, held: Held, new: Held)
+    requires held { held.0 < length store.now.clauses }
     requires sound { IsSoundPool pool.old }
-    requires among { (p : Place) (e : Entry) → clause_in pool.old p ≡ Some e → e.id ≡ id →
-        (l : Lit) → Contains e.lits l → Contains lits.now l }
-    requires fresh { IsFreshId pool.old new_id }
-    ensures { IsRenumbered id new_id pool.old pool.new }
+    requires fresh { IsFreshId pool.old new.0 }
+    requires live { (p : Place) → slice_get store.now.places held.0 ≡ Some (Some p) →
+        IsSomeAnd (clause_in pool.old p) (λ e. e.id ≡ held.0) }
+    requires none { slice_get store.now.places held.0 ≡ Some None → IsFreshId pool.old held.0 }
+    ensures { IsRenumbered held.0 new.0 pool.old pool.new }
 {
-    match find(pool, lits, id) {
-        Some(place) => pool.renumber(place, new_id),
+    match store.place(held) {
+        Some(place) => pool.renumber(place, new.0 as u64),
         None => {}
     }
 }
@@ -174,11 +143,26 @@ fn renumber(pool: &mut Pool, lits: &[Lit], id: u64, new_id: u64)
 /// one at this place.
 fn take_out(store: &Store, pool: &mut Pool, held: Held)
     requires held { held.0 < length store.now.clauses }
-    requires linked { IsLinked pool.old.vars store.now.clauses pool.old }
-    requires range { AreInRange pool.old.vars store.now.clauses }
+    requires sound { IsSoundPool pool.old }
+    requires placed { IsPlaced store.now pool.old }
     ensures { IsMoved (length store.now.clauses - 1) held.0 pool.old pool.new }
 {
     let last = Held(store.len() - 1);
-    free(pool, store.lits(held), held.0 as u64);
-    renumber(pool, store.lits(last), last.0 as u64, held.0 as u64);
+    free(store, pool, held);
+    if held.0 < last.0 {
+        renumber(store, pool, last, held);
+    }
+}
+
+/// Gives the clauses that the pool moved their new places.
+fn put_anew(store: &mut Store, pool: &Pool, moved: &[(Place, Place)])
+    requires few { length store.old.clauses < 2 ^ 32 }
+    requires moves { AreToMove store.old pool.now moved.now }
+    ensures clauses { store.new.clauses ≡ store.old.clauses }
+    ensures placed { IsPlaced store.new pool.now }
+{
+    for (_, place) in moved {
+        let at = pool.id(*place);
+        store.put_at(at as u32, *place);
+    }
 }

@@ -3,6 +3,7 @@
 //! clauses and its trail.
 #![tactic(auto)]
 
+mod added;
 mod adding;
 mod assigned;
 mod engine;
@@ -16,6 +17,7 @@ mod numbered;
 mod progress;
 mod propagating;
 mod reading;
+mod rows;
 mod store;
 mod trail;
 mod visiting;

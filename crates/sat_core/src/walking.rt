@@ -2,6 +2,7 @@
 ghost use Rattle.std.specs.Prelude.{◌+◌, IsNone, IfSome};
 ghost use Rattle.sat_core.specs.Progressing.{Continues, FalsifiedAt, IsWalkedFor};
 ghost use Rattle.sat_core.specs.Watches.{AreGuarded, IsLinked};
+ghost use Rattle.sat_core.specs.Placed.{SameIds};
 
 use crate::assigned::Held;
 use crate::store::Store;
@@ -22,6 +23,7 @@ pub(crate) fn walk(
 ) -> Option<Held>
     requires walked { IsWalkedFor floor done lit store.now.clauses pool.old trail.old }
     ensures linked { IsLinked trail.new.vars store.now.clauses pool.new }
+    ensures ids { SameIds pool.old pool.new }
     ensures continues { Continues store.now.clauses trail.old trail.new }
     ensures guarded { AreGuarded floor done trail.new.entries pool.new }
     ensures none { IsNone result → AreGuarded floor (done + 1) trail.new.entries pool.new }

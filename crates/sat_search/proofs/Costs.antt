@@ -16,7 +16,7 @@ use Rattle.sat_core.specs.declared.assigned.Held.{Held}
 use Rattle.sat_core.specs.declared.numbered.Numbered.{Numbered}
 use Rattle.sat_core.specs.States.{State}
 use Rattle.sat_core.specs.Forgotten.{IsNoReason, moved, moved_reason, moved_entries, without_at, without_clause}
-use Rattle.sat_core.proofs.Removed.{moved-last, moved-other, to_removed}
+use Rattle.sat_core.proofs.Removed.{no_clause, moved-last, moved-other, to_removed}
 use Rattle.sat_search.specs.declared.lemmas.Lemmas.{Lemmas}
 use Rattle.sat_search.specs.Costs.{is_at, is_reason, place_among, dropping_place, cost_at, cost_of, is_as_much, one_if, count_below, counts, costing, droppable, Rise}
 
@@ -125,7 +125,7 @@ same-clause xs at p inside low =
     let none : Numbered = record { id = 0; lits = [] } in
     let is : slice_get xs p ≡ Some (get_or xs p none) = slice_get-get_or xs p none (omega (arith, inside, low)) in
     ap (λ (n : ℕ). slice_get (without_at xs at) n) (sym (moved-other (length xs - 1) at p (λ e. omega (arith, e, inside, low))))
-    ∙ to_removed xs at inside p (get_or xs p none) (λ e. omega (arith, e, low)) is ∙ sym is
+    ∙ to_removed no_clause xs at inside p (get_or xs p none) (λ e. omega (arith, e, low)) is ∙ sym is
 
 -- those before it may be dropped as before
 pub before_stays : (ids : List ℕ) (old : ℕ) (s : State) (h : Held) (p : ℕ) → h.0 < length s.clauses → p < h.0 → dropping_place ids old (without_clause s h) p ≡ dropping_place ids old s p

@@ -17,7 +17,7 @@ use Rattle.sat_core.specs.declared.numbered.Numbered.{Numbered}
 use Rattle.sat_core.specs.States.{State, at_level}
 use Rattle.sat_core.specs.Trails.{clause_at, id_at, is_on}
 use Rattle.sat_core.specs.Forgotten.{without_at, without_clause, moved_entries}
-use Rattle.sat_core.proofs.Removed.{from_removed, to_removed, pairs_removed}
+use Rattle.sat_core.proofs.Removed.{no_clause, from_removed, to_removed, pairs_removed}
 use Rattle.clean_logs.specs.CleanLogs.{added_after, drops_after, added_by, dropped_by}
 use Rattle.sat_search.specs.Live.{clause_in}
 use Rattle.sat_search.specs.Searches.{IsOld, Teaches}
@@ -55,7 +55,7 @@ module _ (xs : List Numbered) (different : AllPairs (λ c d. c.id ≢ d.id) xs) 
 
   -- the ids of those that are left still differ
   pub still_different : AllPairs (λ a b. a.id ≢ b.id) (without_at xs at)
-  still_different = pairs_removed xs at inside (λ a b. a.id ≢ b.id) (λ a b ne e. ne (sym e)) different
+  still_different = pairs_removed no_clause xs at inside (λ a b. a.id ≢ b.id) (λ a b ne e. ne (sym e)) different
 
   other-id : (j place : ℕ) (a : Numbered) → place ≢ at → slice_get xs place ≡ Some a → a.id ≡ j → c.id ≢ j
   other-id j place a other there is e = apart xs place at a c different other there here (is ∙ sym e)
@@ -63,7 +63,7 @@ module _ (xs : List Numbered) (different : AllPairs (λ c d. c.id ≢ d.id) xs) 
   found : (j : ℕ) (lits : List Lit) → clause_in ys j ≡ Some lits → clause_in ys j ≡ without_clauses (clause_in xs) (c.id ∷ []) j
   found j lits is =
       let held = at_held ys j lits is in
-      let was = from_removed xs at inside held.place held.clause held.at in
+      let was = from_removed no_clause xs at inside held.place held.clause held.at in
       let before : clause_in xs j ≡ Some lits = ap (clause_in xs) (sym held.id_is) ∙ held_at xs was.0 held.clause different was.2 ∙ ap (λ (ls : List Lit). Some ls) held.lits_are in
       is ∙ sym before ∙ sym (without_other (clause_in xs) (c.id ∷ []) j (All-cons (λ d. d ≢ j) c.id [] (other-id j was.0 held.clause was.1 was.2 held.id_is) (All-nil (λ d. d ≢ j))))
 
@@ -72,7 +72,7 @@ module _ (xs : List Numbered) (different : AllPairs (λ c d. c.id ≢ d.id) xs) 
   missing j none other (Some lits) is =
       let held = at_held xs j lits is in
       let away : held.place ≢ at = λ e. other (ap (λ (d : Numbered). d.id) (same_Some c held.clause (sym here ∙ ap (slice_get xs) (sym e) ∙ held.at)) ∙ held.id_is) in
-      let there = to_removed xs at inside held.place held.clause away held.at in
+      let there = to_removed no_clause xs at inside held.place held.clause away held.at in
       absurd (none-some held.clause.lits (sym none ∙ ap (clause_in ys) (sym held.id_is) ∙ held_at ys _ held.clause still_different there))
 
   gone : (j : ℕ) → clause_in ys j ≡ None → clause_in ys j ≡ without_clauses (clause_in xs) (c.id ∷ []) j

@@ -7,9 +7,10 @@ use Rattle.cnf_types.specs.Literals.{negated}
 use Rattle.proof_check.specs.Propagation.{same, is_among}
 use Rattle.sat_core.specs.declared.assigned.Assigned.{Assigned}
 use Rattle.sat_core.specs.Trails.{is_on}
+use Rattle.sat_core.specs.Placed.{AreAlike}
 use Rattle.sat_search.specs.Passes.{is_marked, IsCleared, IsJoined}
 use Rattle.sat_search.proofs.Literals.{same-eq, eq-same, same_code}
-use Rattle.sat_search.proofs.Among.{among_push}
+use Rattle.sat_search.proofs.Among.{among_contains, among_push, contains_among, same_test}
 
 -- literals are one or apart
 pub one_or_apart : (l m : Lit) → (l ≡ m) ⊎ (l ≢ m)
@@ -81,3 +82,9 @@ joined_next trail old new more lits i d l low here joined next m =
     next m ∙ ap (λ b. b || ((same l m || false) && is_on trail (negated m))) (joined m)
     ∙ two-joined (is_marked old m) (is_among (take i lits) m) (same l m) (is_on trail (negated m))
     ∙ ap (λ b. is_marked old m || (b && is_on trail (negated m))) (sym (ap (λ (ls : List Lit). is_among ls m) (take_more lits i d low ∙ ap (λ (x : Lit). take i lits ++ x ∷ []) here) ∙ among_push (take i lits) l m))
+
+-- the same literals are joined alike
+pub joined_alike : (trail : List Assigned) (old new : List Bool) (lits of : List Lit) → AreAlike lits of → IsJoined trail old new of → IsJoined trail old new lits
+joined_alike trail old new lits of alike joined m =
+    joined m ∙ ap (λ b. is_marked old m || (b && is_on trail (negated m)))
+    (same_test (is_among of m) (is_among lits m) (λ h. among_contains lits m (alike.back m (contains_among of m h))) (λ h. among_contains of m (alike.there m (contains_among lits m h))))

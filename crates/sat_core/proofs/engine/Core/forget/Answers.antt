@@ -1,12 +1,11 @@
 use Rattle.std.proofs.Common.{◌≡◌, ℕ, ◌-◌, ◌<◌, length, sym, ap, ◌∙◌, subst, arith}
 use Rattle.sat_core.specs.States.{State}
-use Rattle.sat_core.specs.Stores.{Stored}
+use Rattle.sat_core.specs.Stores.{Stored, without_row}
 use Rattle.sat_core.specs.Assignments.{Assignment}
-use Rattle.sat_core.specs.Progressing.{AreInRange}
 use Rattle.sat_core.specs.Watches.{IsLinked}
 use Rattle.sat_core.specs.Kept.{IsKeptCore}
 use Rattle.sat_core.specs.Forgotten.{without_at, without_clause, IsNoReason}
-use Rattle.sat_core.proofs.Removed.{length_removed}
+use Rattle.sat_core.proofs.Removed.{no_clause, length_removed}
 use Rattle.sat_core.proofs.Forgets.{kept-forgotten}
 use Rattle.sat_core.proofs.engine.Core.forget.Goals as goal
 
@@ -14,15 +13,19 @@ use Rattle.sat_core.proofs.engine.Core.forget.Goals as goal
 pub take_out-requires-clause-held : goal.take_out-requires-clause-held
 take_out-requires-clause-held c = subst (λ (s : State). c.args.held.0 < length s.clauses) (sym c.self.view_is) c.requires.held
 
-pub take_out-requires-clause-linked : goal.take_out-requires-clause-linked
-take_out-requires-clause-linked c =
+pub rename-requires-clause-linked : goal.rename-requires-clause-linked
+rename-requires-clause-linked c =
     let u = c.self.invariant.underway in
     subst (λ (v : ℕ). IsLinked v c.self.inside.store.clauses c.self.inside.pool) (sym u.linked.vars_are) u.linked
 
-pub take_out-requires-clause-range : goal.take_out-requires-clause-range
-take_out-requires-clause-range c =
-    let u = c.self.invariant.underway in
-    subst (λ (v : ℕ). AreInRange v c.self.inside.store.clauses) (sym u.linked.vars_are) u.range
+pub rename-requires-clause-placed : goal.rename-requires-clause-placed
+rename-requires-clause-placed c = c.self.invariant.underway.placed
+
+pub take_out-requires-clause-sound : goal.take_out-requires-clause-sound
+take_out-requires-clause-sound c = c.self.invariant.underway.linked.sound
+
+pub take_out-requires-clause-placed : goal.take_out-requires-clause-placed
+take_out-requires-clause-placed c = c.self.invariant.underway.placed
 
 pub rename-requires-clause-some : goal.rename-requires-clause-some
 rename-requires-clause-some c =
@@ -42,7 +45,7 @@ last-is : (c : goal.After-self-1) → c.len-last.result ≡ length c.self.inside
 last-is c =
     let i = c.self.inside in
     let inside = subst (λ (s : State). c.args.held.0 < length s.clauses) (sym c.self.view_is) c.requires.held in
-    omega (arith, c.len-last.ensures.number, ap (λ (s : Stored). length s.clauses) c.remove.ensures, length_removed i.store.clauses c.args.held.0 inside)
+    omega (arith, c.len-last.ensures.number, ap (λ (s : Stored). length s.clauses) c.remove.ensures, length_removed no_clause i.store.clauses c.args.held.0 inside)
 
 pub invariant_of-self : goal.invariant_of-self
 invariant_of-self c =
@@ -55,7 +58,7 @@ invariant_of-self c =
     let no = subst (λ (s : State). IsNoReason s.trail h) back c.requires.no_reason in
     let last = last-is c in
     subst (λ (t : Stored). IsKeptCore (record i { store = t; pool = c.take_out.new.pool; trail = c.rename.new.trail; progress = q })) (sym c.remove.ensures)
-    (subst (λ (a : Assignment). IsKeptCore (record i { store = record i.store { clauses = without_at i.store.clauses h.0 }; pool = c.take_out.new.pool; trail = a; progress = q })) (sym c.rename.ensures)
+    (subst (λ (a : Assignment). IsKeptCore (record i { store = without_row i.store h.0; pool = c.take_out.new.pool; trail = a; progress = q })) (sym c.rename.ensures)
     (kept-forgotten i h c.take_out.new.pool q c.self.invariant inside no c.take_out.ensures (λ l. d.all (omega (arith, l, last)) ∙ last) (λ l. d.anew (omega (arith, l, last))) d.done d.floor))
 
 pub returns : goal.returns

@@ -4,7 +4,8 @@ use Rattle.sat_core.specs.declared.assigned.Held.{Held}
 use Rattle.sat_core.specs.declared.progress.Progress.{Progress}
 use Rattle.sat_core.specs.Trails.{IsOf}
 use Rattle.sat_core.specs.States.{State, IsAsserting}
-use Rattle.sat_core.specs.Stores.{Stored}
+use Rattle.sat_core.specs.Stores.{Stored, with_row}
+use Rattle.sat_core.specs.Placed.{IsPlaced}
 use Rattle.sat_core.specs.Assignments.{Assignment}
 use Rattle.sat_core.specs.Watches.{IsLinked}
 use Rattle.sat_core.specs.Kept.{IsKeptCore}
@@ -37,8 +38,10 @@ invariant_of-self-2 c =
     let asserts : IsAsserting _ lits = subst (λ (s : State). IsAsserting s lits) back c.requires.asserting in
     let e = c.in_ok-enter_watched.ensures in
     let vars : i.pool.vars ≡ i.trail.vars = c.self.invariant.underway.linked.vars_are in
-    let linked : IsLinked i.trail.vars (i.store.clauses ++ n ∷ []) c.enter_watched.new.pool = subst (λ (v : ℕ). IsLinked v (i.store.clauses ++ n ∷ []) c.enter_watched.new.pool) vars (subst (λ (t : Stored). IsLinked i.pool.vars t.clauses c.enter_watched.new.pool) e.ok e.linked) in
+    let place = e.ok.0 in
+    let linked : IsLinked i.trail.vars (i.store.clauses ++ n ∷ []) c.enter_watched.new.pool = subst (λ (v : ℕ). IsLinked v (i.store.clauses ++ n ∷ []) c.enter_watched.new.pool) vars (subst (λ (t : Stored). IsLinked i.pool.vars t.clauses c.enter_watched.new.pool) e.ok.1 e.linked) in
+    let placed : IsPlaced (with_row i.store n place) c.enter_watched.new.pool = subst (λ (t : Stored). IsPlaced t c.enter_watched.new.pool) e.ok.1 e.placed in
     let progress : Progress = record { seen = c.len.result + 1; done = i.progress.done; floor = i.progress.floor } in
-    subst (λ (t : Stored). IsKeptCore (record i { store = t; pool = c.enter_watched.new.pool; trail = c.assign.new.self; last_id = c.max-self-inside.result; progress = progress })) (sym e.ok)
-    (subst (λ (a : Assignment). IsKeptCore (record i { store = record i.store { clauses = i.store.clauses ++ n ∷ [] }; pool = c.enter_watched.new.pool; trail = a; last_id = c.max-self-inside.result; progress = progress })) (sym c.assign.ensures)
-    (kept-learnt i n c.enter_watched.new.pool c.max-self-inside.result held c.self.invariant asserts range few fresh c.max-self-inside.ensures c.len.ensures.number linked e.gains))
+    subst (λ (t : Stored). IsKeptCore (record i { store = t; pool = c.enter_watched.new.pool; trail = c.assign.new.self; last_id = c.max-self-inside.result; progress = progress })) (sym e.ok.1)
+    (subst (λ (a : Assignment). IsKeptCore (record i { store = with_row i.store n place; pool = c.enter_watched.new.pool; trail = a; last_id = c.max-self-inside.result; progress = progress })) (sym c.assign.ensures)
+    (kept-learnt i n place c.enter_watched.new.pool c.max-self-inside.result held c.self.invariant asserts range few fresh c.max-self-inside.ensures c.len.ensures.number linked placed e.gains))

@@ -1,13 +1,17 @@
-use Rattle.std.proofs.Common.{◌<◌, List, length, ap, ◌∙◌, sym, subst}
+use Rattle.std.proofs.Common.{◌≡◌, ◌<◌, List, length, map, Option, None, ap, ◌∙◌, arith}
+use Rattle.std.specs.List.{swap_remove}
+use Rattle.clause_pool.specs.declared.place.Place.{Place}
 use Rattle.sat_core.specs.declared.numbered.Numbered.{Numbered}
-use Rattle.sat_core.specs.Forgotten.{without_at}
-use Rattle.sat_core.specs.Stores.{Stored}
-use Rattle.sat_core.proofs.Removed.{same_removed}
+use Rattle.sat_core.specs.declared.rows.Row.{Row}
+use Rattle.sat_core.specs.Stores.{Stored, place_in, without_row}
+use Rattle.sat_core.proofs.Removed.{map_removed}
 use Rattle.sat_core.proofs.store.Store.remove.Goals as goal
 
 pub returns : goal.returns
 returns c =
-    let xs = c.self.inside.clauses.items in
-    let view = ap (λ (s : Stored). s.clauses) c.self.view_is in
-    let inside = subst (λ (cs : List Numbered). c.args.held.0 < length cs) (sym view) c.requires in
-    ap (λ (cs : List Numbered). let s : Stored = record { clauses = cs } in s) (c.swap_remove.ensures.items ∙ same_removed xs c.args.held.0 inside c.swap_remove.result ∙ ap (λ (cs : List Numbered). without_at cs c.args.held.0) view)
+    let s = c.self.inside in
+    let inside : c.args.held.0 < length s.rows.items = omega (arith, c.requires, ap (λ (t : Stored). length t.clauses) c.self.view_is, c.self.invariant.size) in
+    let places : map place_in c.swap_remove.new.self.items ≡ swap_remove (map place_in s.rows.items) c.args.held.0 None = ap (λ (rs : List Row). map place_in rs) c.swap_remove.ensures.items ∙ map_removed c.swap_remove.result s.rows.items c.args.held.0 inside place_in None in
+    ap (λ (ps : List (Option Place)). let t : Stored = record { clauses = c.without-self-inside.result.clauses; places = ps } in t) places
+    ∙ ap (λ (cs : List Numbered). let t : Stored = record { clauses = cs; places = swap_remove (map place_in s.rows.items) c.args.held.0 None } in t) c.without-self-inside.ensures
+    ∙ ap (λ (t : Stored). without_row t c.args.held.0) c.self.view_is
