@@ -1,5 +1,7 @@
 //! What is said on the standard error of a run that ended with an answer: whether a yes of it holds
 //! for any forwarding.
+ghost use Rattle.std.specs.Prelude.{IfSome};
+ghost use Rattle.net_doc.specs.Documents.{IsWellFormed};
 
 use crate::messages::{is_plain, say};
 use arc_base::Name;
@@ -7,6 +9,7 @@ use arc_base::limits::{EDIT_FILE_LIMIT, PROOF_LIMIT};
 use arc_outside::{DiskStore, Pieces, StdSink};
 use command_words::{Command, read_words};
 use forwarding_notes::{edits_close, holds_for_any};
+use net_model::Document;
 use run_inputs::read_document;
 use run_messages::{Tee, is_barred};
 use std::io;
@@ -17,19 +20,23 @@ const HOLDS: &[u8] = b"arcv: OSPF runs everywhere here, so each yes of blocked o
 const CLOSES: &[u8] = b"arcv: after these edits OSPF no longer runs everywhere, so a yes of \
     blocked or through then holds for its routes, and no longer for any forwarding";
 
-/// Whether a document and its router files can be read again at once.
-fn can_be_read(rt: &HostRuntime, document: &Name, store: &mut DiskStore<HostRuntime>) -> bool {
-    if !is_plain(rt, document.bytes()) {
-        return false;
+/// A document, where it and its router files can be read again at once.
+fn document_again(
+    rt: &HostRuntime,
+    name: &Name,
+    store: &mut DiskStore<HostRuntime>,
+) -> Option<Document>
+    ensures { IfSome result IsWellFormed }
+{
+    if !is_plain(rt, name.bytes()) {
+        return None;
     }
-    match read_document(rt.alloc(), document, store) {
-        Ok(doc) => doc
-            .routers
-            .slice()
-            .iter()
-            .all(|name| is_plain(rt, name.bytes())),
-        Err(_) => false,
+    let doc = read_document(rt.alloc(), name, store).ok()?;
+    let mut names = doc.routers.slice().iter();
+    if !names.all(|name| is_plain(rt, name.bytes())) {
+        return None;
     }
+    Some(doc)
 }
 
 /// A report has a yes of a blocked or through policy.
@@ -38,10 +45,10 @@ fn explain_yes(
     document: &Name,
     store: &mut DiskStore<HostRuntime>,
 ) -> io::Result<()> {
-    if !can_be_read(rt, document, store) {
+    let Some(doc) = document_again(rt, document, store) else {
         return Ok(());
-    }
-    match holds_for_any(rt.alloc(), document, store) {
+    };
+    match holds_for_any(rt.alloc(), document, doc, store) {
         Ok(true) => say(rt, &[HOLDS]),
         _ => Ok(()),
     }
@@ -106,10 +113,13 @@ fn explain_edits(
     let is_of_sessions = text
         .split(|byte| *byte == b'\n')
         .any(|line| line.starts_with(b"edit session "));
-    if !is_of_sessions || text.len() as u64 > EDIT_FILE_LIMIT || !can_be_read(rt, document, store) {
+    if !is_of_sessions || text.len() as u64 > EDIT_FILE_LIMIT {
         return Ok(());
     }
-    match edits_close(rt.alloc(), document, &text, store) {
+    let Some(doc) = document_again(rt, document, store) else {
+        return Ok(());
+    };
+    match edits_close(rt.alloc(), document, &doc, &text, store) {
         Ok(true) => say(rt, &[CLOSES]),
         _ => Ok(()),
     }

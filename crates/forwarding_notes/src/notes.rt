@@ -1,8 +1,7 @@
 //! Whether the network of router files is open, and whether edits close it.
-ghost use Rattle.std.specs.Prelude.{◌≤◌, ◌<◌, ◌^◌, length, IfOk, IfSome, IsTrue};
-ghost use Rattle.run_files.specs.Answers.{OnlyReads};
-ghost use Rattle.run_files.specs.Limits.{least_limit};
-ghost use Rattle.run_inputs.specs.Inputs.{AreFit};
+ghost use Rattle.std.specs.Prelude.{◌≡◌, ◌≤◌, ◌<◌, ◌^◌, length, IfOk, IfSome, IsTrue};
+ghost use Rattle.net_doc.specs.Documents.{IsWellFormed};
+ghost use Rattle.run_inputs.specs.Inputs.{AreFit, HoldsDocument};
 ghost use Rattle.forwarding_notes.specs.Notes.{SaysOfAny, IsAfterLines, AreClosed};
 
 use arc_base::limits::POLICY_LIMIT;
@@ -14,18 +13,23 @@ use edited_networks::after;
 use net_model::{Document, Network};
 use open_networks::runs_everywhere;
 use run_files::{Limits, Stop};
-use run_inputs::{read_document, read_input, read_sources};
+use run_inputs::{read_files, read_sources};
 use std::alloc::Global;
 
 /// Whether OSPF runs everywhere in the network of a document and its router files: then each yes of
 /// a blocked or through policy over it holds for any forwarding.
-pub fn holds_for_any<S: Store>(alloc: Global, document: &Name, store: &mut S) -> Result<bool, Stop>
-    ensures told { IfSome (S.held store.old) (λ files.
-        IfOk result (SaysOfAny document.now files)) }
-    ensures reads { OnlyReads least_limit S.held S.faults S.absences S.taken
-        store.old store.new result }
+pub fn holds_for_any<S: Store>(
+    alloc: Global,
+    document: &Name,
+    doc: Document,
+    store: &mut S,
+) -> Result<bool, Stop>
+    requires { IsWellFormed doc }
+    ensures told { IfSome (S.held store.old) (λ files. HoldsDocument document.now files doc
+        → IfOk result (SaysOfAny document.now files)) }
+    ensures same { S.held store.new ≡ S.held store.old }
 {
-    let input = read_input(alloc, document, &[], Limits::Judging, store)?;
+    let input = read_files(alloc, document, doc, &[], Limits::Judging, store)?;
     Ok(runs_everywhere(&input.net))
 }
 
@@ -58,22 +62,22 @@ fn after_lines(
 pub fn edits_close<S: Store>(
     alloc: Global,
     document: &Name,
+    doc: &Document,
     text: &[u8],
     store: &mut S,
 ) -> Result<bool, Stop>
-    requires { length text.now < 2 ^ 32 }
-    ensures told { IfSome (S.held store.old) (λ files.
-        IfOk result (λ closes. IsTrue closes → AreClosed document.now text.now files)) }
-    ensures reads { OnlyReads least_limit S.held S.faults S.absences S.taken
-        store.old store.new result }
+    requires well_formed { IsWellFormed doc.now }
+    requires few { length text.now < 2 ^ 32 }
+    ensures told { IfSome (S.held store.old) (λ files. HoldsDocument document.now files doc.now
+        → IfOk result (λ closes. IsTrue closes → AreClosed document.now text.now files)) }
+    ensures same { S.held store.new ≡ S.held store.old }
 {
-    let doc = read_document(alloc, document, store)?;
-    let sources = read_sources(alloc, document, &doc, &[], Limits::Editing, store)?;
+    let sources = read_sources(alloc, document, doc, &[], Limits::Editing, store)?;
     let net = &sources.built.net;
     if !runs_everywhere(net) {
         return Ok(false);
     }
-    match after_lines(alloc, net, &doc, text)? {
+    match after_lines(alloc, net, doc, text)? {
         Some(after) => Ok(!runs_everywhere(&after)),
         None => Ok(false),
     }

@@ -1,6 +1,7 @@
 use crate::{edits_close, holds_for_any};
 use arc_base::{List, Name};
 use arc_outside::SureStore;
+use run_inputs::read_document;
 use std::alloc::Global;
 use std::test::Fail;
 
@@ -60,10 +61,13 @@ fn open_networks_are_told(rt: HostRuntime) -> Result<(), Fail> {
     let document = Name::make(alloc, b"net.json")?;
     for (first, edits, any, closed) in ROWS {
         let mut store = files(alloc, first)?;
-        let told = holds_for_any(alloc, &document, &mut store);
-        assert!(rt; matches!(told, Ok(told) if told == *any));
-        let told = edits_close(alloc, &document, edits.as_bytes(), &mut store);
+        let Ok(doc) = read_document(alloc, &document, &mut store) else {
+            return Err(Fail::from("no document"));
+        };
+        let told = edits_close(alloc, &document, &doc, edits.as_bytes(), &mut store);
         assert!(rt; matches!(told, Ok(told) if told == *closed));
+        let told = holds_for_any(alloc, &document, doc, &mut store);
+        assert!(rt; matches!(told, Ok(told) if told == *any));
     }
     Ok(())
 }
