@@ -29,17 +29,30 @@ const BLOCKED: &str = r#"{"version": 1, "routers": ["r1.cfg", "r2.cfg"],
  "links": [{"a": "r1:GigabitEthernet0/1", "b": "r2:GigabitEthernet0/1"}],
  "policies": [{"kind": "blocked", "from": "10.1.0.0/24", "to": "10.2.0.0/24"}]}"#;
 
-const OF_EACH_KIND: &str = r#"{"version": 1, "routers": ["r1.cfg", "r2.cfg"],
- "links": [{"a": "r1:GigabitEthernet0/1", "b": "r2:GigabitEthernet0/1"}],
- "policies": [{"kind": "blocked", "from": "10.1.0.0/24", "to": "10.2.0.0/24"},
- {"kind": "through", "from": "10.1.0.0/24", "to": "10.2.0.0/24"},
- {"kind": "reach", "from": "10.1.0.0/24", "to": "10.2.0.0/24", "failures": 0},
- {"kind": "reach", "from": "10.1.0.0/24", "to": "10.2.0.0/24", "failures": 1}]}"#;
+const R1_OF_TWO_LINKS: &str =
+    "hostname r1\n!\ninterface GigabitEthernet0/0\n ip address 10.1.0.1 255.255.255.0\n!\n\
+      interface GigabitEthernet0/1\n\x20ip address 10.0.1.1 255.255.255.252\n!\n\
+      interface GigabitEthernet0/2\n\x20ip address 10.0.2.1 255.255.255.252\n!\n\
+      router ospf 1\n\x20network 0.0.0.0 255.255.255.255 area 0\n!\nend\n";
 
-const BLOCKED_AND_WEIGHED: &str = r#"{"version": 1, "routers": ["r1.cfg", "r2.cfg"],
- "links": [{"a": "r1:GigabitEthernet0/1", "b": "r2:GigabitEthernet0/1"}],
- "policies": [{"kind": "blocked", "from": "10.1.0.0/24", "to": "10.2.0.0/24"}],
- "weights": {"list": 2, "session": 3}}"#;
+const R2_OF_TWO_LINKS: &str =
+    "hostname r2\n!\ninterface GigabitEthernet0/0\n ip address 10.2.0.1 255.255.255.0\n!\n\
+      interface GigabitEthernet0/1\n\x20ip address 10.0.1.2 255.255.255.252\n!\n\
+      interface GigabitEthernet0/2\n\x20ip address 10.0.2.2 255.255.255.252\n!\n\
+      router ospf 1\n\x20network 0.0.0.0 255.255.255.255 area 0\n!\nend\n";
+
+/// Its lines end in carriage returns and line feeds, but the last one, which has no end.
+const R1_WITH_A_BANNER: &str =
+    "hostname r1\r\nbanner motd ^C\r\ninterface FastEthernet0/0\r\nrouter bgp 1^C\r\n!\r\n\
+      interface GigabitEthernet0/0\r\n\x20ip address 10.1.0.1 255.255.255.0\r\n!\r\n\
+      interface GigabitEthernet0/1\r\n\x20ip address 10.0.1.1 255.255.255.252\r\n!\r\n\
+      router ospf 1\r\n\x20network 0.0.0.0 255.255.255.255 area 0";
+
+const REACH_OVER_TWO_LINKS: &str = r#"{"version": 1, "routers": ["r1.cfg", "r2.cfg"],
+ "links": [{"a": "r1:GigabitEthernet0/1", "b": "r2:GigabitEthernet0/1"},
+ {"a": "r1:GigabitEthernet0/2", "b": "r2:GigabitEthernet0/2"}],
+ "policies": [{"kind": "reach", "from": "10.1.0.0/24", "to": "10.2.0.0/24", "failures": 1},
+ {"kind": "reach", "from": "10.1.0.0/24", "to": "10.2.0.0/24", "failures": 2}]}"#;
 
 const BLOCKED_BY_LISTS: &str = r#"{"version": 1, "routers": ["r1.cfg", "r2.cfg"],
  "links": [{"a": "r1:GigabitEthernet0/1", "b": "r2:GigabitEthernet0/1"}],
@@ -54,18 +67,23 @@ const CERTIFICATE: &str =
 
 const WALK: &str = "arc-report 1\n1 blocked no 1\nwalk 10.1.0.0/24 10.2.0.0/24 1\nend\n";
 
-/// No assignment gives both variables a value.
-const FOUR: &str = "p cnf 2 4\n1 2 0\n1 -2 0\n-1 2 0\n-1 -2 0\n";
+/// No assignment gives the variables values.
+const EIGHT: &str =
+    "p cnf 3 8\n1 2 3 0\n1 2 -3 0\n1 -2 3 0\n1 -2 -3 0\n\
+      -1 2 3 0\n-1 2 -3 0\n-1 -2 3 0\n-1 -2 -3 0\n";
 
-const FOUR_REFUTED: &str = "5 1 0 1 2 0\n6 0 5 3 4 0\n";
+const EIGHT_REFUTED: &str =
+    "9 2 1 0 2 1 0\n10 1 0 9 4 3 0\n11 -2 0 10 8 7 0\n12 0 10 11 6 5 0\n";
 
 pub const CASES: [Case; 11] = [
     Case {
-        files: &[("net.json", OF_EACH_KIND), ("r1.cfg", R1), ("r2.cfg", R2)],
+        files: &[
+            ("net.json", REACH_OVER_TWO_LINKS),
+            ("r1.cfg", R1_OF_TWO_LINKS),
+            ("r2.cfg", R2_OF_TWO_LINKS),
+        ],
         words: &["verify", "net.json"],
-        text: "arc-report 1\n1 blocked no 1\nwalk 10.1.0.0/24 10.2.0.0/24 1\n\
-            2 through no 1\nwalk 10.1.0.0/24 10.2.0.0/24 1\n3 reach yes 1\npath 1\n\
-            4 reach no 2\ncut 1\nside r1\nend\n",
+        text: "arc-report 1\n1 reach yes 2\npath 1\npath 2\n2 reach no 2\ncut 1 2\nside r1\nend\n",
         code: 1,
         calls: 6,
         outputs: &[],
@@ -133,15 +151,15 @@ pub const CASES: [Case; 11] = [
         calls: 6,
         outputs: &[],
     },
-    // r2 binds a list that does not stand, so that only a new list where the packets enter is cheap
+    // r2 binds a list that does not stand, so that only an entry of the list at r1 is cheap
     Case {
         files: &[
-            ("net.json", BLOCKED_AND_WEIGHED),
-            ("r1.cfg", R1),
+            ("net.json", BLOCKED_BY_LISTS),
+            ("r1.cfg", R1_WITH_A_LIST),
             ("r2.cfg", R2_WITH_A_LIST),
         ],
         words: &["repair", "net.json", "--out", ".new", "--proof", "cert"],
-        text: "repaired 2\nedit packet r1 interface GigabitEthernet0/0 10.1.0.0/24 10.2.0.0/24\n\
+        text: "repaired 1\nedit packet r1 list F 10.1.0.0/24 10.2.0.0/24\n\
             wrote r1.cfg.new\nwrote cert\n",
         code: 0,
         calls: 8,
@@ -150,21 +168,18 @@ pub const CASES: [Case; 11] = [
     Case {
         files: &[
             ("net.json", BLOCKED),
-            (
-                "edits",
-                "edit session r1 GigabitEthernet0/1\nedit session r2 GigabitEthernet0/1\n",
-            ),
-            ("r1.cfg", R1),
+            ("edits", "edit session r1 GigabitEthernet0/1\n"),
+            ("r1.cfg", R1_WITH_A_BANNER),
             ("r2.cfg", R2),
         ],
         words: &["apply", "net.json", "edits", "--out", ".new"],
-        text: "wrote r1.cfg.new\nwrote r2.cfg.new\n",
+        text: "wrote r1.cfg.new\n",
         code: 0,
-        calls: 10,
-        outputs: &["r1.cfg.new", "r2.cfg.new"],
+        calls: 9,
+        outputs: &["r1.cfg.new"],
     },
     Case {
-        files: &[("f.cnf", FOUR)],
+        files: &[("f.cnf", EIGHT)],
         words: &["solve", "f.cnf", "--proof", "proof"],
         text: "s UNSATISFIABLE\n",
         code: 2,
@@ -172,7 +187,7 @@ pub const CASES: [Case; 11] = [
         outputs: &["proof"],
     },
     Case {
-        files: &[("f.cnf", FOUR), ("proof", FOUR_REFUTED)],
+        files: &[("f.cnf", EIGHT), ("proof", EIGHT_REFUTED)],
         words: &["lrat", "f.cnf", "proof"],
         text: "accepted\n",
         code: 0,
