@@ -1,6 +1,6 @@
 -- The services of which a policy speaks, by the protocol and the port that it names.
-use Rattle.std.specs.Prelude.{◌≡◌, ℕ, ◌+◌, ◌*◌, ◌/◌, ◌^◌, ◌==◌, ◌&&◌, ◌||◌, ◌≤◌, ◌⊎◌, nat_le, nat_lt}
-use Rattle.std.specs.Prelude.{Bool, true, false, List, codes, bytes_eq, Option, Some, None}
+use Rattle.std.specs.Prelude.{◌≡◌, ℕ, ◌+◌, ◌*◌, ◌/◌, ◌^◌, ◌==◌, ◌&&◌, ◌||◌, ◌≤◌, ◌⊎◌, nat_le}
+use Rattle.std.specs.Prelude.{nat_lt, Bool, true, false, List, codes, bytes_eq, Option, Some, None}
 use Rattle.std.specs.Prelude.{option_and_then, if◌then◌else◌, refl, IfSome, IsSomeAnd}
 use Rattle.std.specs.Option.{option_map_or}
 use Rattle.std.proofs.lemmas.Bool.{and_parts, leb-true, ltb-true}
