@@ -23,3 +23,4 @@ pub mod Returns
 pub mod ValuesKept
 pub mod ListLines
 pub mod PrefixNames
+pub mod WritableReads

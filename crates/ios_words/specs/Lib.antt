@@ -22,3 +22,4 @@ pub mod Values
 pub mod Views
 pub mod Returns
 pub mod ListLines
+pub mod Writable

@@ -12,6 +12,7 @@ ghost use Rattle.ios_words.specs.Renumbered.{NumberedLinesHaveSequences};
 ghost use Rattle.ios_words.specs.ListLines.{ListLinesAreTopLines, PrefixListsHaveOtherNames};
 ghost use Rattle.ios_words.specs.Laws.{HeadsAreTopLines, AnswersAreOne, UnknownMatchesNone};
 ghost use Rattle.ios_words.specs.Laws.{InertCounts};
+ghost use Rattle.ios_words.specs.Writable.{ReadEntriesAreWritable};
 
 /// A line reads as one command, or is unknown, or has one faulty word.
 pub fn a_line_has_one_answer()
@@ -81,4 +82,10 @@ pub fn returns_say_nothing()
 pub fn list_lines_are_top_lines()
     ensures top { ListLinesAreTopLines }
     ensures names { PrefixListsHaveOtherNames }
+{}
+
+/// The services of an entry of a packet list are all, all of one protocol, or ports of TCP or of
+/// UDP: so they lie in one protocol or are all, and one entry can say them again.
+pub fn entries_are_writable()
+    ensures { ReadEntriesAreWritable }
 {}

@@ -5,3 +5,4 @@ pub mod Drafted
 pub mod Refused
 pub mod SameService
 pub mod OldPolicies
+pub mod OneProtocol

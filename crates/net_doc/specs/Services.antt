@@ -1,7 +1,7 @@
 -- The services of which a policy speaks, by the protocol and the port that it names.
-use Rattle.std.specs.Prelude.{◌≡◌, ℕ, ◌+◌, ◌*◌, ◌^◌, ◌==◌, ◌&&◌, ◌||◌, ◌≤◌, ◌⊎◌, nat_le, nat_lt}
-use Rattle.std.specs.Prelude.{Bool, true, false, List, codes, bytes_eq, Option, Some, None}
-use Rattle.std.specs.Prelude.{option_and_then, if◌then◌else◌, refl, IsSomeAnd}
+use Rattle.std.specs.Prelude.{◌≡◌, ℕ, ◌+◌, ◌*◌, ◌/◌, ◌^◌, ◌==◌, ◌&&◌, ◌||◌, ◌≤◌, ◌⊎◌, nat_le}
+use Rattle.std.specs.Prelude.{nat_lt, Bool, true, false, List, codes, bytes_eq, Option, Some, None}
+use Rattle.std.specs.Prelude.{option_and_then, if◌then◌else◌, refl, IfSome, IsSomeAnd}
 use Rattle.std.specs.Option.{option_map_or}
 use Rattle.std.proofs.lemmas.Bool.{and_parts, leb-true, ltb-true}
 use Rattle.arc_base.specs.Options.{◌>>=◌}
@@ -91,3 +91,11 @@ PortsHaveServices =
     (protocol port : ℕ) → (protocol ≡ 6) ⊎ (protocol ≡ 17) → port ≤ 65535 →
     IsSomeAnd (of_port protocol port) (λ s.
     (s.low ≡ protocol * 65536 + port) × (s.high ≡ protocol * 65536 + port))
+
+-- the services are all, or lie in one protocol
+abbrev pub AreOfOneProtocol : Service → Type 0
+AreOfOneProtocol s = ((s.low ≡ 0) × (s.high ≡ 16777215)) ⊎ (s.low / 65536 ≡ s.high / 65536)
+
+-- a policy speaks of all services or of some of one protocol
+abbrev pub PoliciesSpeakOfOneProtocol : Type 0
+PoliciesSpeakOfOneProtocol = (d : Data) → IfSome (services_of d) AreOfOneProtocol

@@ -5,6 +5,7 @@ ghost use Rattle.net_doc.specs.declared.fault.Refusal.{Refusal};
 ghost use Rattle.net_doc.specs.Documents.{reading, IsFormOrLimit, IsWellFormed};
 ghost use Rattle.net_doc.specs.Documents.{OldPoliciesAreWhole};
 ghost use Rattle.net_doc.specs.Services.{ProtocolsHaveServices, PortsHaveServices};
+ghost use Rattle.net_doc.specs.Services.{PoliciesSpeakOfOneProtocol};
 
 /// What holds of every document that is read.
 pub fn documents_are_well_formed()
@@ -30,4 +31,9 @@ pub fn protocols_have_services()
 /// A policy may name each port of TCP and UDP.
 pub fn ports_have_services()
     ensures { PortsHaveServices }
+{}
+
+/// A policy speaks of all services or of some of one protocol.
+pub fn policies_speak_of_one_protocol()
+    ensures { PoliciesSpeakOfOneProtocol }
 {}

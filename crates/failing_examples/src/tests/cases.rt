@@ -68,12 +68,10 @@ const CERTIFICATE: &str =
 const WALK: &str = "arc-report 1\n1 blocked no 1\nwalk 10.1.0.0/24 10.2.0.0/24 1\nend\n";
 
 /// No assignment gives the variables values.
-const EIGHT: &str =
-    "p cnf 3 8\n1 2 3 0\n1 2 -3 0\n1 -2 3 0\n1 -2 -3 0\n\
+const EIGHT: &str = "p cnf 3 8\n1 2 3 0\n1 2 -3 0\n1 -2 3 0\n1 -2 -3 0\n\
       -1 2 3 0\n-1 2 -3 0\n-1 -2 3 0\n-1 -2 -3 0\n";
 
-const EIGHT_REFUTED: &str =
-    "9 2 1 0 2 1 0\n10 1 0 9 4 3 0\n11 -2 0 10 8 7 0\n12 0 10 11 6 5 0\n";
+const EIGHT_REFUTED: &str = "9 2 1 0 2 1 0\n10 1 0 9 4 3 0\n11 -2 0 10 8 7 0\n12 0 10 11 6 5 0\n";
 
 pub const CASES: [Case; 11] = [
     Case {
