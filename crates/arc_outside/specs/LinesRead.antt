@@ -17,6 +17,12 @@ left p file = p.window ++ drop p.place (unwrap_or file [])
 abbrev pub ahead : Pieces → ℕ
 ahead p = p.limit - p.place + length p.window
 
+-- What the reader may hand out is less by the bytes of the line, and by its line feed if it has one:
+-- each byte that was read is handed out or stands in the window.
+pub record HandsOut (before after : Pieces) : Type 0 where
+  pub line : ahead after + length after.line.items ≤ ahead before
+  pub feed : ahead before ≤ ahead after + length after.line.items + 1
+
 -- What moving to the next line answers: that there is one, the first of what was left; that nothing
 -- was left, of a file within the limit; TooLong where the file is longer; Missing where it holds
 -- nothing.

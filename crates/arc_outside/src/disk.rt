@@ -1,11 +1,12 @@
 //! The trusted edge to the files of the system. Nothing is told of what they hold.
-ghost use Rattle.std.specs.Prelude.{◌≡◌, ◌<◌, ◌≤◌, None, length, IfOk};
+ghost use Rattle.std.specs.Prelude.{◌≡◌, ◌≢◌, ◌<◌, ◌≤◌, None, length, IfOk, IfErr};
+ghost use Rattle.std.specs.IoError.{error_kind};
 
 use crate::{Fault, Store};
 use arc_base::{Memory, Name};
 use std::alloc::Global;
 use std::fs::{File, OpenFile, Permissions};
-use std::io::{Read, Seek, SeekFrom, Write};
+use std::io::{ErrorKind, Read, Seek, SeekFrom, Write};
 use std::os::unix::fs::MetadataExt;
 use std::rt::Files;
 use std::{fs, io, str};
@@ -49,7 +50,8 @@ struct Reading<F: Drop> {
 /// The files of the system, named by paths in UTF-8. A file to be read that is not there is Missing
 /// and raises the count of absences. Want of memory is Memory, whether the program had none for a
 /// name or the system says that it had none. Every other error is Failed and raises the count of
-/// faults, also a name that is no path.
+/// faults, also a name that is no path, and also want of memory while bytes are read, since what is
+/// then in the buffer is not known.
 ///
 /// A file stays open from its first piece to its last, so that one that is replaced meanwhile is
 /// read as it was, and a pipe can be read once: to read it from its start again is an error, and
@@ -102,14 +104,14 @@ fn path_of(name: &Name) -> io::Result<&str>
 {
     match str::from_utf8(name.bytes()) {
         Ok(path) => Ok(path),
-        Err(_) => Err(io::Error::from(io::ErrorKind::InvalidInput)),
+        Err(_) => Err(io::Error::from(ErrorKind::InvalidInput)),
     }
 }
 
 fn copy_of(alloc: Global, name: &Name) -> io::Result<Name> {
     match Name::make(alloc, name.bytes()) {
         Ok(copy) => Ok(copy),
-        Err(Memory) => Err(io::Error::from(io::ErrorKind::OutOfMemory)),
+        Err(Memory) => Err(io::Error::from(ErrorKind::OutOfMemory)),
     }
 }
 
@@ -169,7 +171,7 @@ fn reading_at<R: Files>(
             Ok(open)
         }
         _ if emptied.iter().any(|it| it.bytes() == name.bytes()) => Err(io::Error::new(
-            io::ErrorKind::NotSeekable,
+            ErrorKind::NotSeekable,
             "it has to be read twice, and a pipe can be read once",
         )),
         _ => opened(rt, alloc, name, place),
@@ -208,6 +210,16 @@ fn read_as<R: Files>(
     }
 }
 
+/// The error of a read that failed, as one that is no want of memory.
+fn failed_read(error: io::Error) -> io::Error
+    ensures { error_kind result ≢ ErrorKind.OutOfMemory }
+{
+    if error.kind() == ErrorKind::OutOfMemory {
+        return io::Error::new(ErrorKind::Other, "the system had no memory to read");
+    }
+    error
+}
+
 /// Reads on where the file stands open at this place, and else opens it there. At its end it is
 /// closed. One that is no plain file and gave bytes is noted, since it does not give them again.
 fn read_on<R: Files>(
@@ -220,17 +232,25 @@ fn read_on<R: Files>(
     place: u64,
     buf: &mut [u8],
 ) -> io::Result<usize>
-    ensures { IfOk result (λ n. n ≤ length buf.new) }
+    ensures bound { IfOk result (λ n. n ≤ length buf.new) }
+    ensures lent { IfErr result (λ e.
+        error_kind e ≡ ErrorKind.OutOfMemory → buf.new ≡ buf.old) }
 {
     let mut current = reading_at(rt, alloc, reading.take(), emptied, name, place)?;
     note(alloc, seen, &current)?;
-    let n = current.file.read(buf)?;
+    let is_begun = place == 0 && !current.is_plain;
+    if is_begun {
+        emptied.push(copy_of(alloc, name)?)?;
+    }
+    let n = match current.file.read(buf) {
+        Ok(n) => n,
+        Err(error) => return Err(failed_read(error)),
+    };
     if n > 0 {
-        if place == 0 && !current.is_plain {
-            emptied.push(copy_of(alloc, name)?)?;
-        }
         current.place = current.place.saturating_add(n as u64);
         *reading = Some(current);
+    } else if is_begun {
+        emptied.pop();
     }
     Ok(n)
 }
@@ -277,7 +297,7 @@ fn write_to<R: Files>(rt: &R, alloc: Global, name: &Name, bytes: &[u8]) -> io::R
     match fs::symlink_metadata(rt, path) {
         Ok(old) if old.is_file() => write_beside(rt, alloc, path, bytes, Some(old.permissions())),
         Ok(_) => fs::write(rt, path, bytes),
-        Err(error) if error.kind() == io::ErrorKind::NotFound => {
+        Err(error) if error.kind() == ErrorKind::NotFound => {
             write_beside(rt, alloc, path, bytes, None)
         }
         Err(error) => Err(error),
@@ -309,10 +329,10 @@ impl<R: Files> Store for DiskStore<R> {
                 Ok(n)
             }
             Err(error) => {
-                if error.kind() == io::ErrorKind::OutOfMemory {
+                if error.kind() == ErrorKind::OutOfMemory {
                     return Err(Fault::Memory);
                 }
-                if error.kind() == io::ErrorKind::NotFound {
+                if error.kind() == ErrorKind::NotFound {
                     self.absences = self.absences.saturating_add(1);
                     return Err(Fault::Missing);
                 }
@@ -326,13 +346,13 @@ impl<R: Files> Store for DiskStore<R> {
     fn write_whole(&mut self, name: &Name, bytes: &[u8]) -> Result<(), Fault> {
         let (read_as, written) = match read_as(&self.rt, self.alloc, &self.seen, name) {
             Ok(None) => (None, write_to(&self.rt, self.alloc, name, bytes)),
-            Ok(read_as) => (read_as, Err(io::Error::from(io::ErrorKind::AlreadyExists))),
+            Ok(read_as) => (read_as, Err(io::Error::from(ErrorKind::AlreadyExists))),
             Err(error) => (None, Err(error)),
         };
         match written {
             Ok(()) => Ok(()),
             Err(error) => {
-                if error.kind() == io::ErrorKind::OutOfMemory {
+                if error.kind() == ErrorKind::OutOfMemory {
                     return Err(Fault::Memory);
                 }
                 self.failure = failure_of(self.alloc, name, Operation::Writing, error, read_as);

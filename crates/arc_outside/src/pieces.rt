@@ -44,7 +44,7 @@ fn take_front(window: &mut Window, line: &mut Vec<u8>) -> Result<bool, Memory>
 impl Pieces {
     ghost use Rattle.std.specs.Prelude.{◌≡◌, ◌+◌, ◌-◌, ◌^◌, ◌<◌, ◌≤◌, [], ℕ, true, false, List};
     ghost use Rattle.std.specs.Prelude.{Option, unwrap_or, min, IfOk, IfSome, OnOk, OnErr, IsTrue};
-    ghost use Rattle.arc_outside.specs.LinesRead.{ahead, left, ReadsLine};
+    ghost use Rattle.arc_outside.specs.LinesRead.{ahead, left, HandsOut, ReadsLine};
     ghost use Rattle.arc_outside.specs.Reads.{OnlyReadsFile};
 
     /// A reader at the start of a file that may have so many bytes. It takes no memory yet.
@@ -83,11 +83,14 @@ impl Pieces {
         ensures told { IfSome (S.held store.old) (λ files.
             ReadsLine (files name.now) self.old self.new result) }
         ensures fewer { IfOk result (λ found. IsTrue found → ahead self.new < ahead self.old) }
+        ensures handed { OnOk result (HandsOut self.old self.new) }
         ensures limit { self.new.limit ≡ self.old.limit }
         ensures kept { self.new.failed ≡ self.old.failed }
         ensures onward { self.old.place ≤ self.new.place }
         ensures took { min (S.taken store.old + (self.new.place - self.old.place)) (2 ^ 64 - 1)
             ≤ S.taken store.new }
+        ensures no_more { OnOk result
+            (S.taken store.new ≤ S.taken store.old + (self.new.place - self.old.place)) }
         ensures reads { OnlyReadsFile (self.old.limit - self.old.place) S.held S.faults S.absences
             S.taken store.old store.new result }
     {
@@ -121,12 +124,15 @@ impl Pieces {
         ensures told { IfSome (S.held store.old) (λ files.
             ReadsLine (files name.now) self.old self.new result) }
         ensures fewer { IfOk result (λ found. IsTrue found → ahead self.new < ahead self.old) }
+        ensures handed { OnOk result (HandsOut self.old self.new) }
         ensures limit { self.new.limit ≡ self.old.limit }
         ensures ok { OnOk result (self.new.failed ≡ false) }
         ensures err { OnErr result (self.new.failed ≡ true) }
         ensures onward { self.old.place ≤ self.new.place }
         ensures took { min (S.taken store.old + (self.new.place - self.old.place)) (2 ^ 64 - 1)
             ≤ S.taken store.new }
+        ensures no_more { OnOk result
+            (S.taken store.new ≤ S.taken store.old + (self.new.place - self.old.place)) }
         ensures reads { OnlyReadsFile (self.old.limit - self.old.place) S.held S.faults S.absences
             S.taken store.old store.new result }
     {

@@ -1,7 +1,7 @@
 //! The common ending of all commands: the files are written, and then the text is put.
 ghost use Rattle.std.specs.Prelude.{◌≡◌, ◌⊎◌, ◌<◌, ◌≤◌, ◌+◌, ◌++◌, take, drop, option_map, length};
 ghost use Rattle.std.specs.Prelude.{IfOk, IfErr, OnOk, OnErr, IsErrOf, ℕ};
-ghost use Rattle.arc_outside.specs.Causes.{Rose};
+ghost use Rattle.arc_outside.specs.Causes.{HasCause, Rose, RoseWhere};
 ghost use Rattle.arc_outside.specs.Files.{WhereTold};
 ghost use Rattle.arc_run.specs.Outcomes.{text_of, writes_of, status_of};
 ghost use Rattle.arc_run.specs.Runs.{WasPut, WereWritten, FailsWithin};
@@ -21,9 +21,8 @@ fn put_from<K: Sink>(out: &mut K, text: &[u8], at: usize) -> Result<usize, Fault
     ensures appended { IfOk result (λ n. K.written out.new
         ≡ option_map (λ written. written ++ take n (drop at text.now)) (K.written out.old)) }
     ensures nothing { OnErr result (K.written out.new ≡ K.written out.old) }
-    ensures cause { IsErrOf result Fault.Failed → Rose (K.faults out.old) (K.faults out.new) }
+    ensures cause { HasCause Fault.Failed (K.faults out.old) (K.faults out.new) result }
     ensures never_missing { IsErrOf result Fault.Missing → ⊥ }
-    ensures faults { K.faults out.old ≤ K.faults out.new }
 {
     let (_, rest) = text.split_at(at);
     out.put(rest)
@@ -34,9 +33,8 @@ fn put_all<K: Sink>(out: &mut K, text: &[u8]) -> Result<(), Fault>
     ensures put { OnOk result (WasPut text.now (K.written out.old) (K.written out.new)) }
     ensures stopped { OnErr result
         ((count : ℕ) × WasPut (take count text.now) (K.written out.old) (K.written out.new)) }
-    ensures cause { IsErrOf result Fault.Failed → Rose (K.faults out.old) (K.faults out.new) }
+    ensures cause { HasCause Fault.Failed (K.faults out.old) (K.faults out.new) result }
     ensures never_missing { IsErrOf result Fault.Missing → ⊥ }
-    ensures faults { K.faults out.old ≤ K.faults out.new }
 {
     let mut at = 0;
     while at < text.len() {
@@ -100,7 +98,8 @@ pub fn finish<S: Store, K: Sink>(
     ensures code { result.code ≤ 8 }
     ensures absences { S.absences store.old ≤ S.absences store.new }
     ensures taken { S.taken store.new ≡ S.taken store.old }
-    ensures faults { S.faults store.old ≤ S.faults store.new }
+    ensures faults { RoseWhere (result.code ≡ 6) (S.faults store.old) (S.faults store.new) }
+    ensures sink_faults { RoseWhere (result.code ≡ 7) (K.faults out.old) (K.faults out.new) }
 {
     let plan = match plan(alloc, outcome) {
         Ok(plan) => plan,

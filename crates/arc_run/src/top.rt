@@ -1,7 +1,7 @@
 //! The top call.
 ghost use Rattle.std.specs.Prelude.{◌≡◌, ◌⊎◌, ◌<◌, ◌≤◌, Some, None, IfSome, IsSomeAnd, IfOk};
 ghost use Rattle.std.specs.Prelude.{IsErrOf};
-ghost use Rattle.arc_outside.specs.Causes.{Rose};
+ghost use Rattle.arc_outside.specs.Causes.{Rose, RoseWhere};
 ghost use Rattle.arc_outside.specs.Reads.{TookMore, TookOn};
 ghost use Rattle.command_words.specs.Commands.{command_of, HasLimit};
 ghost use Rattle.run_files.specs.Answers.{Answers, OnlyReads};
@@ -64,10 +64,10 @@ fn perform<S: Store>(alloc: Global, words: &[Name], store: &mut S) -> Result<Out
     ensures cause { IfOk result
         (HasOutcomeCause (Rose (S.absences store.old) (S.absences store.new))
         (TookMore least_limit (S.taken store.old) (S.taken store.new))) }
-    ensures failed { IsErrOf result Halt.Failed → Rose (S.faults store.old) (S.faults store.new) }
+    ensures failed { RoseWhere (IsErrOf result Halt.Failed) (S.faults store.old)
+        (S.faults store.new) }
     ensures failed_in_command { IsErrOf result Halt.Failed → command_of words.now ≡ None → ⊥ }
     ensures same { S.held store.new ≡ S.held store.old }
-    ensures faults { S.faults store.old ≤ S.faults store.new }
     ensures absences { S.absences store.old ≤ S.absences store.new }
     ensures taken { TookOn (S.taken store.old) (S.taken store.new) }
 {
@@ -91,11 +91,13 @@ fn run_defined<S: Store, K: Sink>(
     store: &mut S,
     out: &mut K,
 ) -> Status
-    ensures { Runs (command_of words.now) (Rose (S.absences store.old) (S.absences store.new))
+    ensures runs { Runs (command_of words.now) (Rose (S.absences store.old) (S.absences store.new))
         (TookMore least_limit (S.taken store.old) (S.taken store.new))
         (Rose (S.faults store.old) (S.faults store.new))
         (Rose (K.faults out.old) (K.faults out.new))
         (S.held store.old) (S.held store.new) (K.written out.old) (K.written out.new) result.code }
+    ensures store_fault { RoseWhere (result.code ≡ 6) (S.faults store.old) (S.faults store.new) }
+    ensures sink_fault { RoseWhere (result.code ≡ 7) (K.faults out.old) (K.faults out.new) }
 {
     match perform(alloc, words, store) {
         Ok(outcome) => finish(alloc, outcome, store, out),
@@ -112,6 +114,11 @@ pub fn run<S: Store, K: Sink>(alloc: Global, words: &[Name], store: &mut S, out:
         (Rose (S.faults store.old) (S.faults store.new))
         (Rose (K.faults out.old) (K.faults out.new))
         (S.held store.old) (S.held store.new) (K.written out.old) (K.written out.new) result.code }
+
+    // A failed call ends the run: 6 comes exactly where a call of the store failed, and 7 exactly
+    // where one of the sink did, and no second one fails.
+    ensures store_fault { RoseWhere (result.code ≡ 6) (S.faults store.old) (S.faults store.new) }
+    ensures sink_fault { RoseWhere (result.code ≡ 7) (K.faults out.old) (K.faults out.new) }
 
     // The usage line comes exactly where the words match no command, except for 7 and 8.
     ensures usage { result.code ≡ 4 → command_of words.now ≡ None }

@@ -1,6 +1,6 @@
 //! Files that are written.
 ghost use Rattle.std.specs.Prelude.{◌≡◌, ◌<◌, ◌≤◌, length, IsErrOf, OnOk, OnErr};
-ghost use Rattle.arc_outside.specs.Causes.{Rose};
+ghost use Rattle.arc_outside.specs.Causes.{HasCause};
 ghost use Rattle.arc_outside.specs.Files.{WhereTold};
 ghost use Rattle.arc_run.specs.Runs.{WereWritten, FailsWithin};
 
@@ -13,9 +13,8 @@ pub fn write_all<S: Store>(store: &mut S, writes: &[(Name, Name)]) -> Result<(),
     ensures stopped { OnErr result
         (WhereTold (FailsWithin writes.now) (S.held store.old) (S.held store.new)) }
     ensures some { OnErr result (0 < length writes.now) }
-    ensures cause { IsErrOf result Fault.Failed → Rose (S.faults store.old) (S.faults store.new) }
+    ensures cause { HasCause Fault.Failed (S.faults store.old) (S.faults store.new) result }
     ensures never_missing { IsErrOf result Fault.Missing → ⊥ }
-    ensures faults { S.faults store.old ≤ S.faults store.new }
     ensures absences { S.absences store.old ≤ S.absences store.new }
     ensures taken { S.taken store.new ≡ S.taken store.old }
 {

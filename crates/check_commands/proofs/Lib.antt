@@ -5,3 +5,4 @@ pub mod LineByLine
 pub mod Told
 pub mod OneFault
 pub mod OneCheck
+pub mod ReadOn

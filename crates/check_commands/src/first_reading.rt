@@ -1,5 +1,5 @@
 //! The first reading of a certificate: how long it is, and how it begins.
-ghost use Rattle.std.specs.Prelude.{◌≡◌, ◌∷◌, [], IfSome};
+ghost use Rattle.std.specs.Prelude.{◌≡◌, ◌∷◌, ◌+◌, ◌≤◌, [], IfSome, OnOk};
 ghost use Rattle.run_files.specs.Answers.{OnlyReads};
 ghost use Rattle.check_commands.specs.Readings.{ReadsHead};
 ghost use Rattle.check_commands.specs.RepairChecks.{begins_repair};
@@ -27,6 +27,7 @@ pub fn begins_repair<S: Store>(
     ensures told { IfSome (S.held store.old) (λ files.
         ReadsHead limit files certificate.now result) }
     ensures reads { OnlyReads limit S.held S.faults S.absences S.taken store.old store.new result }
+    ensures no_more { OnOk result (S.taken store.new ≤ S.taken store.old + limit) }
 {
     let mut pieces = Pieces::make(alloc, limit);
     match next_line(alloc, &mut pieces, store, certificate) {

@@ -3,6 +3,7 @@ use Rattle.std.proofs.Common.{◌≡◌, ℕ, ◌≤◌, inl, inr, List, [], sub
 use Rattle.std.specs.Prelude.{Option, Some, None, IfSome, Ok, Err}
 use Rattle.arc_base.specs.declared.place.Router.{Router}
 use Rattle.arc_outside.specs.Files.{Files}
+use Rattle.arc_outside.proofs.Counting.{stood}
 use Rattle.net_model.specs.declared.policies.Document.{Document}
 use Rattle.net_model.specs.declared.policies.Policy.{Policy}
 use Rattle.net_model.specs.declared.rows.Network.{Network}
@@ -63,7 +64,7 @@ answered (Some files) words doc net judged wanted answer done told valid adds na
 )
 
 -- want of memory after a call that only reads
-pub out_of_memory : {S : Type 0} (held : S → Option Files) (faults absences taken : S → ℕ) (before after : S) → held after ≡ held before → faults before ≤ faults after →
+pub out_of_memory : {S : Type 0} (held : S → Option Files) (faults absences taken : S → ℕ) (before after : S) → held after ≡ held before → faults after ≡ faults before →
     absences before ≤ absences after → TookOn (taken before) (taken after) → OnlyReads {S = S} {X = Done} least_limit held faults absences taken before after (Err stops.Memory)
-out_of_memory held faults absences taken before after same faults_rise absences_rise taken_rise =
-    record { same = same; cause = tt; faults_rise = faults_rise; absences_rise = absences_rise; taken_rise = taken_rise }
+out_of_memory held faults absences taken before after same stands absences_rise taken_rise =
+    record { same = same; cause = tt; failed = stood _ _ stands (λ is. cc); absences_rise = absences_rise; taken_rise = taken_rise }

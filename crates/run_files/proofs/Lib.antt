@@ -4,3 +4,4 @@ pub mod LineByLine
 pub mod ReadPast
 pub mod RoutersRead
 pub mod Answering
+pub mod Stops

@@ -1,7 +1,7 @@
 -- What calls over a store answer, and what they leave of it.
-use Rattle.std.specs.Prelude.{◌≡◌, ℕ, ◌≤◌, [], Option, IfSome, Result, Ok, Err, IfErr}
+use Rattle.std.specs.Prelude.{◌≡◌, ℕ, ◌≤◌, [], Option, IfSome, Result, Ok, Err, IfErr, IsErrOf}
 use Rattle.arc_base.specs.declared.refusal.Kind.TheVariants.{Missing, TooLong}
-use Rattle.arc_outside.specs.Causes.{Rose}
+use Rattle.arc_outside.specs.Causes.{Rose, RoseWhere}
 use Rattle.arc_outside.specs.Files.{Files, with_files}
 use Rattle.arc_outside.specs.Reads.{TookMore, TookOn}
 use Rattle.run_files.specs.declared.outcome.Done.{Done}
@@ -45,14 +45,15 @@ HasStopCause failed absent long stops.Failed = failed
 HasStopCause failed absent long (stops.Refused r) = HasRefusalCause absent long r
 
 -- A call that only reads: what the store holds stays, its counts never fall, and a stop has its
--- cause. No file that it refuses as too long may have fewer bytes than the limit.
+-- cause. No file that it refuses as too long may have fewer bytes than the limit. A read that fails
+-- ends the call, which tells of it.
 pub record OnlyReads {S X : Type 0} (limit : ℕ) (held : S → Option Files)
     (faults absences taken : S → ℕ) (before after : S) (result : Result X Stop) : Type 0 where
   pub same : held after ≡ held before
   pub cause : IfErr result
       (HasStopCause (Rose (faults before) (faults after)) (Rose (absences before) (absences after))
       (TookMore limit (taken before) (taken after)))
-  pub faults_rise : faults before ≤ faults after
+  pub failed : RoseWhere (IsErrOf result stops.Failed) (faults before) (faults after)
   pub absences_rise : absences before ≤ absences after
   pub taken_rise : TookOn (taken before) (taken after)
 

@@ -1,5 +1,6 @@
 //! Files that are read.
-ghost use Rattle.std.specs.Prelude.{◌≡◌, ◌+◌, ◌-◌, ◌^◌, ◌<◌, ◌≤◌, All, length, min, IfOk, IfSome};
+ghost use Rattle.std.specs.Prelude.{◌≡◌, ◌^◌, ◌<◌, ◌≤◌, All, length, min, IfOk, IfSome};
+ghost use Rattle.arc_outside.specs.Reads.{TookJust};
 ghost use Rattle.run_files.specs.Answers.{OnlyReads};
 ghost use Rattle.run_files.specs.Limits.{least_limit, router_limit};
 ghost use Rattle.run_files.specs.Reading.{ReadsFile, ReadsRouters};
@@ -23,7 +24,7 @@ pub fn read_file<S: Store>(
     ensures few { IfOk result (λ bytes. length bytes.items ≤ limit) }
     ensures reads { OnlyReads limit S.held S.faults S.absences S.taken store.old store.new result }
     ensures took { IfOk result (λ bytes.
-        min (S.taken store.old + length bytes.items) (2 ^ 64 - 1) ≤ S.taken store.new) }
+        TookJust (length bytes.items) (S.taken store.old) (S.taken store.new)) }
 {
     match read_all(alloc, store, name, limit) {
         Ok(bytes) => Ok(bytes),
@@ -47,7 +48,7 @@ fn read_router<S: Store>(
     ensures reads { OnlyReads (min least_limit room) S.held S.faults S.absences S.taken
         store.old store.new result }
     ensures took { IfOk result (λ bytes.
-        min (S.taken store.old + length bytes.items) (2 ^ 64 - 1) ≤ S.taken store.new) }
+        TookJust (length bytes.items) (S.taken store.old) (S.taken store.new)) }
 {
     read_file(alloc, store, name, limits.router_bytes().min(room))
 }

@@ -1,4 +1,6 @@
 use Rattle.std.proofs.Common.{arith, refl}
+use Rattle.arc_outside.proofs.Counting.{stood}
+use Rattle.run_files.proofs.Stops.{not_failed}
 use Rattle.generate_commands.proofs.Answered.{answers, any_cause}
 use Rattle.arc_run.proofs.top.answer.Goals as goal
 
@@ -39,7 +41,7 @@ pub returns-in-Generate-clause-reads : goal.returns-in-Generate-clause-reads
 returns-in-Generate-clause-reads g c = record {
   same = refl;
   cause = any_cause _ _ _ c.generate.result c.generate.ensures.cause;
-  faults_rise = omega arith;
+  failed = stood _ _ refl (not_failed c.generate.result c.generate.ensures.cause);
   absences_rise = omega arith;
   taken_rise = omega arith;
 }

@@ -14,7 +14,8 @@ lines-init g c = record {
   going = c.in-Ok-true.ensures.ok;
   same = c.in-Ok-true.ensures.reads.same;
   took = omega (arith, c.make-pieces.ensures.place, c.in-Ok-true.ensures.took, c.in-Ok-true.ensures.onward);
-  faults = omega (arith, c.in-Ok-true.ensures.reads.faults_rise);
+  no_more = omega (arith, c.make-pieces.ensures.place, c.in-Ok-true.ensures.no_more);
+  faults = c.in-Ok-true.ensures.reads.failed.only (λ is. cc);
   absences = omega (arith, c.in-Ok-true.ensures.reads.absences_rise);
 }
 
@@ -25,7 +26,8 @@ lines-preserved g c = record {
   going = c.in-Ok-true-next_line.ensures.ok;
   same = c.in-Ok-true-next_line.ensures.reads.same ∙ c.lines.invariant.same;
   took = omega (arith, c.lines.invariant.took, c.in-Ok-true-next_line.ensures.took, c.in-Ok-true-next_line.ensures.onward);
-  faults = omega (arith, c.lines.invariant.faults, c.in-Ok-true-next_line.ensures.reads.faults_rise);
+  no_more = omega (arith, c.lines.invariant.no_more, c.in-Ok-true-next_line.ensures.no_more, c.in-Ok-true-next_line.ensures.onward);
+  faults = c.in-Ok-true-next_line.ensures.reads.failed.only (λ is. cc) ∙ c.lines.invariant.faults;
   absences = omega (arith, c.lines.invariant.absences, c.in-Ok-true-next_line.ensures.reads.absences_rise);
 }
 

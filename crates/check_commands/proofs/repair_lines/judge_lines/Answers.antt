@@ -1,4 +1,4 @@
-use Rattle.std.proofs.Common.{ℕ, ◌∙◌, List, arith, refl}
+use Rattle.std.proofs.Common.{ℕ, ◌-◌, ◌∙◌, List, arith, refl}
 use Rattle.std.specs.Prelude.{Ok, Err}
 use Rattle.arc_outside.specs.Files.{Files}
 use Rattle.repair_check.specs.LineByLine.{HasComeTo}
@@ -6,6 +6,7 @@ use Rattle.run_files.specs.Refusals.{bytes_at}
 use Rattle.run_files.proofs.LineByLine.{at_end, begun, left_lines, line_taken}
 use Rattle.check_commands.specs.Readings.{JudgesLines}
 use Rattle.check_commands.proofs.LineByLine.{refused}
+use Rattle.check_commands.proofs.ReadOn.{read_on}
 use Rattle.check_commands.proofs.repair_lines.judge_lines.Goals as goal
 
 pub lines-init : goal.lines-init
@@ -18,7 +19,7 @@ lines-init g c = record {
   going = c.make-pieces.ensures.failed;
   same = refl;
   took = omega (arith, c.make-pieces.ensures.place);
-  faults = omega arith;
+  faults = refl;
   absences = omega arith;
 }
 
@@ -34,7 +35,7 @@ lines-preserved g c = record {
   going = c.in-Ok-true.ensures.ok;
   same = c.in-Ok-true.ensures.reads.same ∙ c.lines.invariant.same;
   took = omega (arith, c.lines.invariant.took, c.in-Ok-true.ensures.took, c.in-Ok-true.ensures.onward);
-  faults = omega (arith, c.lines.invariant.faults, c.in-Ok-true.ensures.reads.faults_rise);
+  faults = c.in-Ok-true.ensures.reads.failed.only (λ is. cc) ∙ c.lines.invariant.faults;
   absences = omega (arith, c.lines.invariant.absences, c.in-Ok-true.ensures.reads.absences_rise);
 }
 
@@ -60,3 +61,8 @@ returns-in-Err-line-clause-told g c =
     (λ files come.
     refused c.args.limit c.args.document.now c.args.net.now c.args.doc.now c.args.list.now c.args.certificate.now c.in-Err-line.fault c.fault_stop.result c.fault_stop.ensures files
     (c.in-Err-line.ensures.fault (bytes_at files c.args.certificate.now) (left_lines files c.args.certificate.now c.next_line.new.pieces) come))
+
+pub returns-in-Err-clause-reads : goal.returns-in-Err-clause-reads
+returns-in-Err-clause-reads g c =
+    read_on c.args.limit (c.lines.pieces.limit - c.lines.pieces.place) c.lines.pieces.place g.S.Store.held g.S.Store.faults g.S.Store.absences g.S.Store.taken c.args.store.now c.lines.store c.next_line.new.store c.in-Err.stop
+    c.in-Err.ensures.reads c.lines.invariant.same c.lines.invariant.faults c.lines.invariant.absences c.lines.invariant.took (omega (arith, c.lines.invariant.limit))

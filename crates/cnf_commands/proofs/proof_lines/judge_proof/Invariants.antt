@@ -13,7 +13,7 @@ invariant-lines g l = record {
   going : l.pieces.failed ≡ false;
   same : g.S.Store.held l.store ≡ g.S.Store.held l.fn.store;
   took : min (g.S.Store.taken l.fn.store + l.pieces.place) (2 ^ 64 - 1) ≤ g.S.Store.taken l.store;
-  faults : g.S.Store.faults l.fn.store ≤ g.S.Store.faults l.store;
+  faults : g.S.Store.faults l.store ≡ g.S.Store.faults l.fn.store;
   absences : g.S.Store.absences l.fn.store ≤ g.S.Store.absences l.store;
 }
 

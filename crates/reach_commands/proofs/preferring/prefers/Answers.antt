@@ -54,4 +54,4 @@ pub returns-in_err-text-clause-reads : goal.returns-in_err-text-clause-reads
 returns-in_err-text-clause-reads g c =
     let p = err_from_is_err_and c.from_residual-in_err-text.result c.from_residual-in_err-text.ensures.1 in
     let reads = c.in_ok-input.ensures.reads in
-    rw (p.1, p.2) (out_of_memory g.S.Store.held g.S.Store.faults g.S.Store.absences g.S.Store.taken c.args.store.now c.read_input.new.store reads.same reads.faults_rise reads.absences_rise reads.taken_rise)
+    rw (p.1, p.2) (out_of_memory g.S.Store.held g.S.Store.faults g.S.Store.absences g.S.Store.taken c.args.store.now c.read_input.new.store reads.same (reads.failed.only (λ is. cc)) reads.absences_rise reads.taken_rise)

@@ -1,6 +1,7 @@
-use Rattle.std.proofs.Common.{◌∙◌, ap}
+use Rattle.std.proofs.Common.{◌∙◌, ap, arith}
 use Rattle.std.proofs.lemmas.Result.{err_from_is_err_and}
 use Rattle.reach_commands.specs.RecheckRuns.{rechecked_status}
+use Rattle.reach_commands.proofs.PrefersAnswered.{out_of_memory}
 use Rattle.reach_commands.proofs.RecheckAnswered.{answered, classes_stopped, reading_stopped}
 use Rattle.reach_commands.proofs.RecheckedEach.{are_right}
 use Rattle.reach_commands.proofs.rechecked.recheck.Goals as goal
@@ -35,3 +36,16 @@ returns-clause-answer g c =
     c.in_ok-doc.ensures.told c.in_ok-try_file.ensures.told c.in_ok-input.ensures.told c.in_ok-input.ensures.fit c.in_ok-count_classes.ensures
     c.in_ok-held.ensures.told c.in_ok-rechecked.ensures c.in_ok-found.ensures
     (c.of.ensures ∙ c.in_ok-text.ensures) c.make.ensures (c.status_of.ensures.value ∙ ap rechecked_status c.slice.ensures.items) c.status_of.ensures.small
+
+pub returns-in_err-text-clause-reads : goal.returns-in_err-text-clause-reads
+returns-in_err-text-clause-reads g c =
+    let p = err_from_is_err_and c.from_residual-in_err-text.result c.from_residual-in_err-text.ensures.1 in
+    let doc = c.in_ok-doc.ensures.reads in
+    let past = c.in_ok-try_file.ensures.reads in
+    let input = c.in_ok-input.ensures.reads in
+    let held = c.in_ok-held.ensures.reads in
+    rw (p.1, p.2) (out_of_memory g.S.Store.held g.S.Store.faults g.S.Store.absences g.S.Store.taken c.args.store.now c.read_held.new.store
+    (held.same ∙ input.same ∙ past.same ∙ doc.same)
+    (held.failed.only (λ is. cc) ∙ input.failed.only (λ is. cc) ∙ past.failed.only (λ is. cc) ∙ doc.failed.only (λ is. cc))
+    (omega (arith, doc.absences_rise, past.absences_rise, input.absences_rise, held.absences_rise))
+    (omega (arith, doc.taken_rise, past.taken_rise, input.taken_rise, held.taken_rise)))

@@ -15,7 +15,7 @@ lines-init g c = record {
   going = c.make-pieces.ensures.failed;
   same = refl;
   took = omega (arith, c.make-pieces.ensures.place);
-  faults = omega arith;
+  faults = refl;
   absences = omega arith;
 }
 
@@ -29,7 +29,7 @@ lines-preserved g c = record {
   going = c.in-Ok-true.ensures.ok;
   same = c.in-Ok-true.ensures.reads.same ∙ c.lines.invariant.same;
   took = omega (arith, c.lines.invariant.took, c.in-Ok-true.ensures.took, c.in-Ok-true.ensures.onward);
-  faults = omega (arith, c.lines.invariant.faults, c.in-Ok-true.ensures.reads.faults_rise);
+  faults = c.in-Ok-true.ensures.reads.failed.only (λ is. cc) ∙ c.lines.invariant.faults;
   absences = omega (arith, c.lines.invariant.absences, c.in-Ok-true.ensures.reads.absences_rise);
 }
 

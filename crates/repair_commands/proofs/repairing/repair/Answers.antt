@@ -1,5 +1,8 @@
 use Rattle.std.proofs.Common.{◌∙◌, sym, arith}
 use Rattle.std.proofs.lemmas.Result.{err_from_is_err_and}
+use Rattle.std.specs.Prelude.{Err}
+use Rattle.arc_outside.proofs.Counting.{stood}
+use Rattle.run_files.proofs.Stops.{not_failed}
 use Rattle.repair_commands.proofs.Repaired.{counts_stopped, repaired, stop_cause, whole}
 use Rattle.repair_commands.proofs.repairing.repair.Goals as goal
 
@@ -13,7 +16,7 @@ pub returns-in-Err-clause-reads : goal.returns-in-Err-clause-reads
 returns-in-Err-clause-reads g c = record {
   same = c.in_ok-sources.ensures.reads.same ∙ c.in_ok-doc.ensures.reads.same;
   cause = stop_cause _ _ _ c.args.words.now.document c.in-Err.fault c.fault_stop.result c.fault_stop.ensures;
-  faults_rise = omega (arith, c.in_ok-doc.ensures.reads.faults_rise, c.in_ok-sources.ensures.reads.faults_rise);
+  failed = stood _ _ (c.in_ok-sources.ensures.reads.failed.only (λ is. cc) ∙ c.in_ok-doc.ensures.reads.failed.only (λ is. cc)) (not_failed (Err c.fault_stop.result) (stop_cause ⊥ ⊥ ⊥ c.args.words.now.document c.in-Err.fault c.fault_stop.result c.fault_stop.ensures));
   absences_rise = omega (arith, c.in_ok-doc.ensures.reads.absences_rise, c.in_ok-sources.ensures.reads.absences_rise);
   taken_rise = omega (arith, c.in_ok-doc.ensures.reads.taken_rise, c.in_ok-sources.ensures.reads.taken_rise);
 }
@@ -33,7 +36,7 @@ returns-in_err-done-clause-reads g c =
     rw (p.1, p.2) (record {
       same = c.in_ok-sources.ensures.reads.same ∙ c.in_ok-doc.ensures.reads.same;
       cause = tt;
-      faults_rise = omega (arith, c.in_ok-doc.ensures.reads.faults_rise, c.in_ok-sources.ensures.reads.faults_rise);
+      failed = stood _ _ (c.in_ok-sources.ensures.reads.failed.only (λ is. cc) ∙ c.in_ok-doc.ensures.reads.failed.only (λ is. cc)) (λ is. cc);
       absences_rise = omega (arith, c.in_ok-doc.ensures.reads.absences_rise, c.in_ok-sources.ensures.reads.absences_rise);
       taken_rise = omega (arith, c.in_ok-doc.ensures.reads.taken_rise, c.in_ok-sources.ensures.reads.taken_rise);
     })

@@ -1,6 +1,20 @@
-use Rattle.std.proofs.Common.{arith, ◌∙◌}
-use Rattle.run_files.proofs.ReadPast.{told_end, told_too_many, told_fault}
+use Rattle.std.proofs.Common.{arith, refl, ◌∙◌}
+use Rattle.arc_outside.proofs.Counting.{carried}
+use Rattle.run_files.proofs.ReadPast.{told_end, told_further, told_too_many, told_fault}
+use Rattle.run_files.proofs.WhereTold.{told}
 use Rattle.run_files.proofs.by_lines.read_past.Goals as goal
+
+pub pieces-init : goal.pieces-init
+pieces-init g c = record {
+  same = refl;
+  few = omega arith;
+  room = c.in-Ok.ensures.len;
+  taken = omega arith;
+  no_more = omega arith;
+  reached = told (g.S.Store.held c.args.store.now) (λ files. omega arith);
+  faults = refl;
+  absences = refl;
+}
 
 pub returns-in-Err-read_at-clause-told : goal.returns-in-Err-read_at-clause-told
 returns-in-Err-read_at-clause-told g c =
@@ -8,7 +22,7 @@ returns-in-Err-read_at-clause-told g c =
 
 pub returns-then-n-eq0-clause-told : goal.returns-then-n-eq0-clause-told
 returns-then-n-eq0-clause-told g c =
-    told_end c.args.name.now (g.S.Store.held c.args.store.now) (g.S.Store.held c.pieces.store) c.pieces.place c.args.limit c.in-Ok-read_at.n c.read_at.new.buf c.pieces.invariant.same (omega arith) c.pieces.invariant.few c.in-Ok-read_at.ensures.told
+    told_end c.args.name.now (g.S.Store.held c.args.store.now) (g.S.Store.held c.pieces.store) c.pieces.place c.args.limit c.in-Ok-read_at.n c.read_at.new.buf c.pieces.invariant.same (omega arith) c.pieces.invariant.few c.pieces.invariant.reached c.in-Ok-read_at.ensures.told
 
 pub returns-then-n-limit-clause-told : goal.returns-then-n-limit-clause-told
 returns-then-n-limit-clause-told g c =
@@ -19,10 +33,8 @@ returns-in-Err-read_at-clause-reads g c = record {
   same = c.read_at.ensures.same ∙ c.pieces.invariant.same;
   taken_rise = omega (arith, c.in-Err-read_at.ensures.count);
   too_long = λ is. cc;
-  failed = λ is. let blamed = c.in-Err-read_at.ensures.cause.rose (cc is) in omega (arith, blamed);
-  missing = λ is. let absent = c.in-Err-read_at.ensures.absence.rose (cc is) in omega (arith, absent);
-  faults_rise = omega (arith, c.in-Err-read_at.ensures.cause.later);
-  absences_rise = omega (arith, c.in-Err-read_at.ensures.absence.later);
+  failed = carried _ _ _ c.in-Err-read_at.ensures.cause c.pieces.invariant.faults (λ is. cc) (λ is. cc);
+  missing = carried _ _ _ c.in-Err-read_at.ensures.absence c.pieces.invariant.absences (λ is. cc) (λ is. cc);
 }
 
 pub returns-then-n-eq0-clause-reads : goal.returns-then-n-eq0-clause-reads
@@ -30,10 +42,8 @@ returns-then-n-eq0-clause-reads g c = record {
   same = c.read_at.ensures.same ∙ c.pieces.invariant.same;
   taken_rise = omega (arith, c.in-Ok-read_at.ensures.count.0);
   too_long = λ is. cc;
-  failed = λ is. cc;
-  missing = λ is. cc;
-  faults_rise = omega (arith, c.in-Ok-read_at.ensures.cause.later);
-  absences_rise = omega (arith, c.in-Ok-read_at.ensures.absence.later);
+  failed = carried _ _ _ c.in-Ok-read_at.ensures.cause c.pieces.invariant.faults (λ is. cc) (λ is. cc);
+  missing = carried _ _ _ c.in-Ok-read_at.ensures.absence c.pieces.invariant.absences (λ is. cc) (λ is. cc);
 }
 
 pub returns-then-n-limit-clause-reads : goal.returns-then-n-limit-clause-reads
@@ -41,10 +51,8 @@ returns-then-n-limit-clause-reads g c = record {
   same = c.read_at.ensures.same ∙ c.pieces.invariant.same;
   taken_rise = omega (arith, c.in-Ok-read_at.ensures.count.0);
   too_long = λ is. omega (arith, c.in-Ok-read_at.ensures.count.0);
-  failed = λ is. cc;
-  missing = λ is. cc;
-  faults_rise = omega (arith, c.in-Ok-read_at.ensures.cause.later);
-  absences_rise = omega (arith, c.in-Ok-read_at.ensures.absence.later);
+  failed = carried _ _ _ c.in-Ok-read_at.ensures.cause c.pieces.invariant.faults (λ is. cc) (λ is. cc);
+  missing = carried _ _ _ c.in-Ok-read_at.ensures.absence c.pieces.invariant.absences (λ is. cc) (λ is. cc);
 }
 
 pub pieces-preserved : goal.pieces-preserved
@@ -54,6 +62,8 @@ pieces-preserved g c =
       few = omega arith;
       room = c.pieces.invariant.room;
       taken = omega (arith, c.in-Ok-read_at.ensures.count.0);
-      faults = omega (arith, c.in-Ok-read_at.ensures.cause.later);
-      absences = omega (arith, c.in-Ok-read_at.ensures.absence.later);
+      no_more = omega (arith, c.in-Ok-read_at.ensures.count.1);
+      reached = told_further c.args.name.now (g.S.Store.held c.args.store.now) (g.S.Store.held c.pieces.store) c.pieces.place c.in-Ok-read_at.n c.read_at.new.buf c.pieces.invariant.same c.pieces.invariant.reached c.in-Ok-read_at.ensures.told;
+      faults = c.in-Ok-read_at.ensures.cause.only (λ is. cc) ∙ c.pieces.invariant.faults;
+      absences = c.in-Ok-read_at.ensures.absence.only (λ is. cc) ∙ c.pieces.invariant.absences;
     }

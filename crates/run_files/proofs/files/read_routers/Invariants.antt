@@ -13,6 +13,6 @@ invariant-loop-name g l = record {
   bytes : All (λ text. length text ≤ router_limit l.fn.limits) l.contents;
   room : l.room ≤ 67108864;
   took : min (g.S.Store.taken l.fn.store + (least_limit - l.room)) (2 ^ 64 - 1) ≤ g.S.Store.taken l.store;
-  faults : g.S.Store.faults l.fn.store ≤ g.S.Store.faults l.store;
+  faults : g.S.Store.faults l.store ≡ g.S.Store.faults l.fn.store;
   absences : g.S.Store.absences l.fn.store ≤ g.S.Store.absences l.store;
 }

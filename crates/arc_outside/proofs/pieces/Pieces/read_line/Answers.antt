@@ -18,6 +18,7 @@ pieces-preserved g c = record {
   kept = c.pieces.invariant.kept;
   onward = omega (arith, c.pieces.invariant.onward);
   took = omega (arith, c.pieces.invariant.took, c.pieces.invariant.onward, c.in-Ok.ensures.taken.0);
-  faults = omega (arith, c.pieces.invariant.faults, c.in-Ok.ensures.cause.later);
-  absences = omega (arith, c.pieces.invariant.absences, c.in-Ok.ensures.absence.later);
+  no_more = omega (arith, c.pieces.invariant.no_more, c.pieces.invariant.onward, c.in-Ok.ensures.taken.1);
+  faults = c.in-Ok.ensures.cause.only (λ is. cc) ∙ c.pieces.invariant.faults;
+  absences = c.in-Ok.ensures.absence.only (λ is. cc) ∙ c.pieces.invariant.absences;
 }

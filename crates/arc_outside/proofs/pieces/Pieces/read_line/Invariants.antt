@@ -15,8 +15,9 @@ invariant-pieces g l = record {
   kept : l.self.failed ≡ l.fn.self.failed;
   onward : l.fn.self.place ≤ l.self.place;
   took : min (g.S.Store.taken l.fn.store + (l.self.place - l.fn.self.place)) (2 ^ 64 - 1) ≤ g.S.Store.taken l.store;
-  faults : g.S.Store.faults l.fn.store ≤ g.S.Store.faults l.store;
-  absences : g.S.Store.absences l.fn.store ≤ g.S.Store.absences l.store;
+  no_more : g.S.Store.taken l.store ≤ g.S.Store.taken l.fn.store + (l.self.place - l.fn.self.place);
+  faults : g.S.Store.faults l.store ≡ g.S.Store.faults l.fn.store;
+  absences : g.S.Store.absences l.store ≡ g.S.Store.absences l.fn.store;
 }
 
 abbrev pub decreases-pieces : goal.decreases-pieces
