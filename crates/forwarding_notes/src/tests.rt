@@ -50,7 +50,10 @@ fn files(alloc: Global, first: &str) -> Result<SureStore, Fail> {
     let mut files = List::make(alloc);
     for (name, text) in [("net.json", DOCUMENT), ("r1.cfg", first), ("r2.cfg", R2)] {
         let name = Name::make(alloc, name.as_bytes())?;
-        files.push((name, Name::make(alloc, text.as_bytes())?))?;
+        let text = Name::make(alloc, text.as_bytes())?;
+        if files.len() < 3 {
+            files.push((name, text))?;
+        }
     }
     Ok(SureStore::make(alloc, files)?)
 }
