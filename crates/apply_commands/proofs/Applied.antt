@@ -5,8 +5,8 @@ use Rattle.arc_outside.specs.Files.{Files}
 use Rattle.net_model.specs.declared.policies.Document.{Document}
 use Rattle.net_doc.specs.Documents.{IsWellFormed}
 use Rattle.net_build.specs.Networks.{IsBuiltWithin}
-use Rattle.edit_space.specs.declared.edit_kinds.Edit.{Edit}
-use Rattle.edit_space.specs.Prices.{chosen_of}
+use Rattle.edit_list.specs.declared.edit_kinds.Edit.{Edit}
+use Rattle.edit_list.specs.Prices.{chosen_of}
 use Rattle.edit_files.specs.EditFiles.{chosen_by, line_texts, AreEditLines}
 use Rattle.changed_files.specs.Changes.{Changes, IsEditable}
 use Rattle.changed_files.proofs.ReadAgain.{copies_named}

@@ -6,8 +6,8 @@ use Rattle.arc_outside.specs.Files.{Files}
 use Rattle.net_model.specs.declared.policies.Document.{Document}
 use Rattle.net_model.specs.declared.rows.Network.{Network}
 use Rattle.net_model.specs.Validity.{IsValid}
-use Rattle.edit_space.specs.declared.edit_kinds.Edit.{Edit}
-use Rattle.edit_space.proofs.OneEditList.{edit_lists_are_one}
+use Rattle.edit_list.specs.declared.edit_kinds.Edit.{Edit}
+use Rattle.edit_list.proofs.OneEditList.{edit_lists_are_one}
 use Rattle.edit_files.specs.EditFiles.{AreEditLines, IsWrongLine}
 use Rattle.changed_files.proofs.FewEdits.{few_or_limit}
 use Rattle.changed_files.proofs.OneRefusal.{as_input, held_or_refused, limit_refusal, one_limit}

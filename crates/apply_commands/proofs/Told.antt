@@ -4,8 +4,8 @@ use Rattle.std.specs.Prelude.{bytes_eq}
 use Rattle.std.specs.List.{list_any}
 use Rattle.std.proofs.lemmas.Bool.{or_parts}
 use Rattle.arc_outside.specs.Files.{Files, with_files}
-use Rattle.edit_space.specs.declared.edit_kinds.Edit.{Edit}
-use Rattle.edited_networks.proofs.SomeAfter.{after_is_there}
+use Rattle.edit_list.specs.declared.edit_kinds.Edit.{Edit}
+use Rattle.edit_space.proofs.SomeAfter.{after_is_there}
 use Rattle.edit_files.specs.EditFiles.{chosen_by}
 use Rattle.output_files.specs.Outputs.{clashes, copy_names}
 use Rattle.changed_files.specs.Changes.{AreLeftPatched}

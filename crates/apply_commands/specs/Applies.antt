@@ -11,11 +11,11 @@ use Rattle.net_model.specs.declared.rows.Network.{Network}
 use Rattle.net_model.specs.Validity.{IsValid}
 use Rattle.net_build.specs.declared.built.Built.{Built}
 use Rattle.net_build.specs.Networks.{IsNetworkOf}
-use Rattle.edit_space.specs.declared.edit_kinds.Edit.{Edit}
-use Rattle.edit_space.specs.declared.edit_kinds.EditFault.TheVariants as faults
-use Rattle.edit_space.specs.After.{IsAfter}
-use Rattle.edit_space.specs.EditLists.{AreEdits, HasFewClasses, NamesLimit}
-use Rattle.edit_space.specs.Prices.{chosen_of}
+use Rattle.edit_list.specs.declared.edit_kinds.Edit.{Edit}
+use Rattle.edit_list.specs.declared.edit_kinds.EditFault.TheVariants as faults
+use Rattle.edit_list.specs.After.{IsAfter}
+use Rattle.edit_list.specs.EditLists.{AreEdits, HasFewClasses, NamesLimit}
+use Rattle.edit_list.specs.Prices.{chosen_of}
 use Rattle.edit_files.specs.EditFiles.{line_texts, chosen_by, AreEditLines, IsWrongLine}
 use Rattle.output_files.specs.Outputs.{clashes, copy_names, wrote_lines, IsCopyName}
 use Rattle.changed_files.specs.Changes.{changed_names, AreLeftPatched, Changes, IsEditable}

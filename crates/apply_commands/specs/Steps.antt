@@ -4,8 +4,8 @@ use Rattle.arc_outside.specs.Files.{Files}
 use Rattle.net_model.specs.declared.policies.Document.{Document}
 use Rattle.net_model.specs.declared.rows.Network.{Network}
 use Rattle.net_build.specs.declared.built.Built.{Built}
-use Rattle.edit_space.specs.declared.edit_kinds.Edit.{Edit}
-use Rattle.edit_space.specs.Determined.{IsCountable}
+use Rattle.edit_list.specs.declared.edit_kinds.Edit.{Edit}
+use Rattle.edit_list.specs.Determined.{IsCountable}
 use Rattle.edit_files.specs.EditFiles.{line_texts, chosen_by, AreEditLines}
 use Rattle.output_files.specs.Outputs.{wrote_lines}
 use Rattle.changed_files.specs.Changes.{Changes}

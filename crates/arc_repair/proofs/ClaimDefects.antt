@@ -7,12 +7,12 @@ use Rattle.arc_base.specs.declared.certificate.CertKind.TheVariants as kinds
 use Rattle.net_model.specs.declared.policies.Document.{Document}
 use Rattle.net_model.specs.declared.rows.Network.{Network}
 use Rattle.net_model.specs.declared.verdicts.Verdict.{Verdict}
-use Rattle.edit_space.specs.declared.claims.Claim.{Claim}
-use Rattle.edit_space.specs.declared.claims.Claim.TheVariants.{Repaired, NoRepair}
-use Rattle.edit_space.specs.declared.edit_kinds.Edit.{Edit}
-use Rattle.edit_space.specs.After.{IsAfter}
-use Rattle.edit_space.specs.EditLists.{AreEdits}
-use Rattle.edit_space.specs.Prices.{chosen_of}
+use Rattle.edit_list.specs.declared.claims.Claim.{Claim}
+use Rattle.edit_list.specs.declared.claims.Claim.TheVariants.{Repaired, NoRepair}
+use Rattle.edit_list.specs.declared.edit_kinds.Edit.{Edit}
+use Rattle.edit_list.specs.After.{IsAfter}
+use Rattle.edit_list.specs.EditLists.{AreEdits}
+use Rattle.edit_list.specs.Prices.{chosen_of}
 use Rattle.arc_repair.specs.Checks.{HasFlags, HasFlagsOf, IsMispriced, IsVerdictDefect, IsDefect}
 use Rattle.arc_repair.specs.Claims.{IsRightYes, IsRightClaim, claim_bound}
 use Rattle.arc_repair.specs.Repairs.{cost}

@@ -3,11 +3,11 @@ use Rattle.std.proofs.Common.{◌≡◌, ◌≤◌, ℕ, inl, inr, Bool, List, l
 use Rattle.net_model.specs.declared.policies.Document.{Document}
 use Rattle.net_model.specs.declared.rows.Network.{Network}
 use Rattle.net_model.specs.Validity.{IsValid}
-use Rattle.edit_space.specs.declared.edit_kinds.Edit.{Edit}
-use Rattle.edit_space.specs.declared.edit_kinds.EditFault.{EditFault}
-use Rattle.edit_space.specs.declared.edit_kinds.EditFault.TheVariants.{Memory}
-use Rattle.edit_space.specs.Determined.{EditListsAreOne}
-use Rattle.edit_space.specs.EditLists.{AreEdits, HasFewClasses}
+use Rattle.edit_list.specs.declared.edit_kinds.Edit.{Edit}
+use Rattle.edit_list.specs.declared.edit_kinds.EditFault.{EditFault}
+use Rattle.edit_list.specs.declared.edit_kinds.EditFault.TheVariants.{Memory}
+use Rattle.edit_list.specs.Determined.{EditListsAreOne}
+use Rattle.edit_list.specs.EditLists.{AreEdits, HasFewClasses}
 use Rattle.policy_encode.specs.Formulas as encoded
 use Rattle.arc_repair.specs.declared.answer.Answer.{Answer}
 use Rattle.arc_repair.specs.Answers.{IsUntouched, IsRepairFault}

@@ -9,13 +9,13 @@ use Rattle.net_model.specs.declared.rows.Network.{Network}
 use Rattle.net_model.specs.declared.verdicts.Verdict.{Verdict}
 use Rattle.net_model.specs.Policies.{MeetsDocument}
 use Rattle.net_model.specs.Validity.{IsValid}
-use Rattle.edit_space.specs.declared.claims.Claim.TheVariants.{Repaired}
-use Rattle.edit_space.specs.declared.edit_kinds.Edit.{Edit}
-use Rattle.edit_space.specs.After.{IsAfter}
-use Rattle.edit_space.specs.Ordered.{IsInOrder}
+use Rattle.edit_list.specs.declared.claims.Claim.TheVariants.{Repaired}
+use Rattle.edit_list.specs.declared.edit_kinds.Edit.{Edit}
+use Rattle.edit_list.specs.After.{IsAfter}
+use Rattle.edit_list.specs.Ordered.{IsInOrder}
 use Rattle.edit_laws.proofs.NoEdits.{none_change}
 use Rattle.edit_laws.specs.Laws.{NoEditsChangeNothing}
-use Rattle.edit_space.specs.Prices.{chosen_of, price_of}
+use Rattle.edit_list.specs.Prices.{chosen_of, price_of}
 use Rattle.policy_encode.specs.Formulas.{IsRepairFormula}
 use Rattle.arc_repair.specs.Claims.{Shows}
 use Rattle.arc_repair.specs.Laws.{MetNetworksNeedNoEdits}

@@ -18,11 +18,11 @@ use Rattle.traffic_classes.proofs.Unions.{have_one_list}
 use Rattle.verdicts.specs.declared.fault.JudgeFault.{JudgeFault}
 use Rattle.verdicts.specs.declared.fault.JudgeFault.TheVariants.{TooMany}
 use Rattle.verdicts.specs.Judged.{CountsMore}
-use Rattle.edit_space.specs.declared.edit_kinds.Edit.{Edit}
-use Rattle.edit_space.specs.After.{IsAfter}
-use Rattle.edit_space.specs.EditLists.{AreEdits, HasFewClasses}
+use Rattle.edit_list.specs.declared.edit_kinds.Edit.{Edit}
+use Rattle.edit_list.specs.After.{IsAfter}
+use Rattle.edit_list.specs.EditLists.{AreEdits, HasFewClasses}
 use Rattle.edit_laws.specs.Kept.{ClassesStay}
-use Rattle.edit_space.specs.Prices.{chosen_of}
+use Rattle.edit_list.specs.Prices.{chosen_of}
 use Rattle.arc_repair.specs.Claims.{IsRightYes}
 use Rattle.arc_repair.specs.Search.{HasFewClassesEach}
 

@@ -8,11 +8,11 @@ use Rattle.net_model.specs.declared.policies.Document.{Document}
 use Rattle.net_model.specs.declared.rows.Network.{Network}
 use Rattle.net_model.specs.declared.verdicts.Verdict.{Verdict}
 use Rattle.net_model.specs.declared.verdicts.Verdict.TheVariants.{Closed, Paths}
-use Rattle.edit_space.specs.declared.claims.Claim.{Claim}
-use Rattle.edit_space.specs.declared.claims.Claim.TheVariants.{Repaired, NoRepair}
-use Rattle.edit_space.specs.declared.edit_kinds.Edit.{Edit}
-use Rattle.edit_space.specs.declared.edit_kinds.EditFault.{EditFault}
-use Rattle.edit_space.specs.EditLists.{AreEdits, HasFewClasses, NamesLimit}
+use Rattle.edit_list.specs.declared.claims.Claim.{Claim}
+use Rattle.edit_list.specs.declared.claims.Claim.TheVariants.{Repaired, NoRepair}
+use Rattle.edit_list.specs.declared.edit_kinds.Edit.{Edit}
+use Rattle.edit_list.specs.declared.edit_kinds.EditFault.{EditFault}
+use Rattle.edit_list.specs.EditLists.{AreEdits, HasFewClasses, NamesLimit}
 use Rattle.policy_encode.specs.Formulas.{IsRepairFormula, IsWithin, IsFaultOf}
 use Rattle.proof_log.specs.declared.steps.Step.{Step}
 use Rattle.proof_log.specs.declared.steps.Step.TheVariants.{Add, Drop, Bound}

@@ -4,11 +4,11 @@ use Rattle.net_model.specs.declared.policies.Document.{Document}
 use Rattle.net_model.specs.declared.rows.Network.{Network}
 use Rattle.net_model.specs.Policies.{MeetsDocument}
 use Rattle.net_model.specs.Validity.{IsValid}
-use Rattle.edit_space.specs.declared.claims.Claim.{Claim}
-use Rattle.edit_space.specs.declared.edit_kinds.Edit.{Edit}
-use Rattle.edit_space.specs.Determined.{IsCountable}
-use Rattle.edit_space.specs.EditLists.{AreEdits}
-use Rattle.edit_space.specs.Ordered.{IsKeyBefore}
+use Rattle.edit_list.specs.declared.claims.Claim.{Claim}
+use Rattle.edit_list.specs.declared.edit_kinds.Edit.{Edit}
+use Rattle.edit_list.specs.Determined.{IsCountable}
+use Rattle.edit_list.specs.EditLists.{AreEdits}
+use Rattle.edit_list.specs.Ordered.{IsKeyBefore}
 use Rattle.arc_base.specs.NameForms.{IsNameBefore}
 use Rattle.proof_check.specs.Logs.{after_all, IsAccepted}
 use Rattle.proof_log.specs.declared.steps.Step.{Step}

@@ -10,10 +10,10 @@ use Rattle.net_model.specs.declared.policies.Policy.{Policy}
 use Rattle.net_model.specs.declared.rows.Network.{Network}
 use Rattle.net_model.specs.declared.verdicts.Verdict.{Verdict}
 use Rattle.traffic_classes.specs.Classes.{AreClasses}
-use Rattle.edit_space.specs.declared.edit_kinds.Edit.{Edit}
-use Rattle.edit_space.specs.declared.claims.Claim.TheVariants.{NoRepair}
-use Rattle.edit_space.specs.After.{IsAfter}
-use Rattle.edit_space.specs.Prices.{chosen_of}
+use Rattle.edit_list.specs.declared.edit_kinds.Edit.{Edit}
+use Rattle.edit_list.specs.declared.claims.Claim.TheVariants.{NoRepair}
+use Rattle.edit_list.specs.After.{IsAfter}
+use Rattle.edit_list.specs.Prices.{chosen_of}
 use Rattle.policy_encode.specs.Formulas.{IsRepairFormula}
 use Rattle.price_descent.specs.declared.found.Found.{Found}
 use Rattle.price_descent.specs.declared.found.Found.TheVariants.{Cheapest, Nothing, Budget}

@@ -1,6 +1,6 @@
 //! The answers of a repair.
 
-use edit_space::Claim;
+use edit_list::Claim;
 use proof_log::Log;
 
 /// What a repair answers.

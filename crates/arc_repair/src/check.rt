@@ -2,8 +2,8 @@
 use crate::defects::{bound_of, defect, least_bound, needs_refutation};
 use arc_base::CertKind;
 use arc_base::limits::{POLICY_LIMIT, PRICE_LIMIT};
-use edit_space::laws::edit_lists_are_one;
-use edit_space::{Claim, EditFault, edits};
+use edit_list::laws::edit_lists_are_one;
+use edit_list::{Claim, EditFault, edits};
 use net_model::{Document, Network};
 use policy_encode::encode;
 use proof_check::{Checker, StepFault};
@@ -32,8 +32,8 @@ impl Check {
     ghost use Rattle.net_model.specs.Forwarding.{HasEnds};
     ghost use Rattle.net_model.specs.Packets.{subject};
     ghost use Rattle.net_model.specs.Validity.{IsValid};
-    ghost use Rattle.edit_space.specs.declared.edit_kinds.Edit.{Edit as AnyEdit};
-    ghost use Rattle.edit_space.specs.EditLists.{AreEdits};
+    ghost use Rattle.edit_list.specs.declared.edit_kinds.Edit.{Edit as AnyEdit};
+    ghost use Rattle.edit_list.specs.EditLists.{AreEdits};
     ghost use Rattle.proof_check.specs.Knowledge.{step_fault, after, IsFirst};
     ghost use Rattle.net_model.specs.Policies.{HasFewFailures};
     ghost use Rattle.arc_repair.specs.Answers.{IsRepairFault};

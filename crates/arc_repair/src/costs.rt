@@ -1,7 +1,7 @@
 //! The prices of edits, as the descent asks for them.
 
 use arc_base::List;
-use edit_space::{Edit, price};
+use edit_list::{Edit, price};
 use net_model::Document;
 use price_descent::Prices;
 

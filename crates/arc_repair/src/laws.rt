@@ -3,7 +3,7 @@ ghost use Rattle.arc_repair.specs.Laws.{CertificatesAreTrue, ChecksAreExact, Cer
 ghost use Rattle.arc_repair.specs.Laws.{MetNetworksNeedNoEdits};
 
 use edit_laws::no_edits_change_nothing;
-use edited_networks::laws::networks_after_edits_are_valid;
+use edit_space::laws::networks_after_edits_are_valid;
 use net_laws::verdicts_are_right;
 use policy_encode::laws::{
     formulas_are_searchable, models_are_repairs, one_formula, one_model_serves,

@@ -17,7 +17,7 @@ use Rattle.run_inputs.specs.Inputs.{HoldTheSame, contents}
 use Rattle.run_inputs.proofs.Determined.{determined}
 use Rattle.arc_repair.specs.declared.answer.Answer.{Answer}
 use Rattle.arc_repair.specs.declared.answer.Answer.TheVariants.{Done as Claimed, Budget}
-use Rattle.edit_space.specs.declared.claims.Claim.TheVariants.{Repaired, NoRepair}
+use Rattle.edit_list.specs.declared.claims.Claim.TheVariants.{Repaired, NoRepair}
 use Rattle.repair_commands.specs.Repairs.{IsRepaired, Writes, WritesAnswer}
 
 none_is : (names : List (List ℕ)) (output name : List ℕ) → list_any (λ other. bytes_eq other output) names ≡ false → Contains names name → name ≡ output → ⊥

@@ -6,7 +6,7 @@ use Rattle.net_build.specs.Networks.{IsNetworkWithin}
 use Rattle.net_gen.specs.declared.generating.Generated.{Generated}
 use Rattle.generated_networks.specs.Laws.{IsGeneratedWithin}
 use Rattle.net_gen.proofs.Lengths.{texts_short}
-use Rattle.edit_space.specs.declared.claims.Claim.{Claim}
+use Rattle.edit_list.specs.declared.claims.Claim.{Claim}
 use Rattle.proof_log.specs.declared.steps.Log.{Log}
 use Rattle.policy_report.specs.Certificates.{certificate_text}
 use Rattle.arc_repair.specs.declared.answer.Answer.{Answer}

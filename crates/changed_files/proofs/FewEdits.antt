@@ -5,10 +5,10 @@ use Rattle.arc_base.specs.declared.refusal.LimitKind.TheVariants.{Classes, Edits
 use Rattle.net_model.specs.declared.policies.Document.{Document}
 use Rattle.net_model.specs.declared.rows.Network.{Network}
 use Rattle.net_model.specs.Validity.{IsValid}
-use Rattle.edit_space.specs.declared.edit_kinds.Edit.{Edit}
-use Rattle.edit_space.specs.declared.edit_kinds.EditFault.TheVariants.{Limit}
-use Rattle.edit_space.specs.EditLists.{AreEdits, HasFewClasses, NamesLimit}
-use Rattle.edit_space.proofs.OneEditList.{edit_lists_are_one}
+use Rattle.edit_list.specs.declared.edit_kinds.Edit.{Edit}
+use Rattle.edit_list.specs.declared.edit_kinds.EditFault.TheVariants.{Limit}
+use Rattle.edit_list.specs.EditLists.{AreEdits, HasFewClasses, NamesLimit}
+use Rattle.edit_list.proofs.OneEditList.{edit_lists_are_one}
 use Rattle.run_inputs.proofs.ClassCounts.{few_or_many}
 
 pub few_or_limit : (net : Network) (doc : Document) (list : List Edit) → IsValid net → AreEdits net doc list → length list ≤ 8192 → HasFewClasses net doc

@@ -7,9 +7,9 @@ use Rattle.arc_outside.specs.Files.{Files}
 use Rattle.net_model.specs.declared.policies.Document.{Document}
 use Rattle.net_model.specs.declared.rows.Network.{Network}
 use Rattle.net_model.specs.Validity.{IsValid}
-use Rattle.edit_space.specs.declared.edit_kinds.EditFault.TheVariants.{Limit}
-use Rattle.edit_space.specs.EditLists.{NamesLimit}
-use Rattle.edit_space.proofs.OneEditList.{edit_lists_are_one}
+use Rattle.edit_list.specs.declared.edit_kinds.EditFault.TheVariants.{Limit}
+use Rattle.edit_list.specs.EditLists.{NamesLimit}
+use Rattle.edit_list.proofs.OneEditList.{edit_lists_are_one}
 use Rattle.run_files.specs.declared.limits.Limits.TheVariants.{Editing}
 use Rattle.run_files.specs.declared.outcome.FileRefusal.{FileRefusal}
 use Rattle.run_files.specs.Refusals.{refusal_of}

@@ -8,7 +8,7 @@ use Rattle.arc_base.proofs.Items.{Contains-head, Contains-tail}
 use Rattle.arc_outside.specs.Files.{Files, with_file, with_files}
 use Rattle.net_model.specs.declared.policies.Document.{Document}
 use Rattle.net_build.specs.declared.built.Built.{Built}
-use Rattle.edit_space.specs.declared.edit_kinds.Edit.{Edit}
+use Rattle.edit_list.specs.declared.edit_kinds.Edit.{Edit}
 use Rattle.output_files.specs.Outputs.{copy_name, copy_names, copies, clashes, IsLeft}
 use Rattle.output_files.proofs.Copied.{texts_differ}
 use Rattle.output_files.proofs.Left.{copies_left}

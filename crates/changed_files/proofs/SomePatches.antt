@@ -9,7 +9,7 @@ use Rattle.ios_lines.specs.Lines.{AreLinesOf}
 use Rattle.net_build.specs.declared.built.Places.{Places}
 use Rattle.net_build.specs.Networks.{Says}
 use Rattle.net_build.specs.Places.{places_of}
-use Rattle.edit_space.specs.Numbered.{EachRow}
+use Rattle.edit_list.specs.Numbered.{EachRow}
 use Rattle.line_patcher.specs.Patches.{patched_file, IsPatched}
 use Rattle.changed_files.specs.Changes.{PatchesAreThere}
 

@@ -10,11 +10,11 @@ use Rattle.net_model.specs.declared.rows.Network.{Network}
 use Rattle.net_doc.specs.Documents.{IsWellFormed}
 use Rattle.net_build.specs.declared.built.Built.{Built}
 use Rattle.net_build.specs.Networks.{IsBuiltWithin, IsNetworkOf}
-use Rattle.edit_space.specs.declared.edit_kinds.Edit.{Edit}
-use Rattle.edit_space.specs.After.{IsAfter}
-use Rattle.edit_space.specs.Determined.{IsCountable}
-use Rattle.edit_space.specs.EditLists.{AreEdits}
-use Rattle.edit_space.specs.Prices.{chosen_of}
+use Rattle.edit_list.specs.declared.edit_kinds.Edit.{Edit}
+use Rattle.edit_list.specs.After.{IsAfter}
+use Rattle.edit_list.specs.Determined.{IsCountable}
+use Rattle.edit_list.specs.EditLists.{AreEdits}
+use Rattle.edit_list.specs.Prices.{chosen_of}
 use Rattle.line_patcher.specs.Patches.{ArePatched}
 use Rattle.output_files.specs.Outputs.{IsLeft, clashes, copies, copy_names}
 use Rattle.run_files.specs.declared.limits.Limits.TheVariants.{Editing}

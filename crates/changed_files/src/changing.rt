@@ -1,13 +1,13 @@
 //! The copies of the router files that edits change.
 ghost use Rattle.std.specs.Prelude.{◌≡◌, ◌≤◌, [], length, All, IfOk};
 ghost use Rattle.net_build.specs.Networks.{IsBuiltWithin};
-ghost use Rattle.edit_space.specs.EditLists.{AreEdits};
-ghost use Rattle.edit_space.specs.Prices.{chosen_of};
+ghost use Rattle.edit_list.specs.EditLists.{AreEdits};
+ghost use Rattle.edit_list.specs.Prices.{chosen_of};
 ghost use Rattle.changed_files.specs.Changes.{Changes};
 
 use arc_base::limits::{EDIT_LIMIT, EDITED_ENTRY_LIMIT, EDITED_FILE_LIMIT};
 use arc_base::{List, Memory, Name};
-use edit_space::Edit;
+use edit_list::Edit;
 use line_patcher::patch;
 use net_build::laws::asking_more_changes_no_network;
 use net_model::Document;

@@ -6,11 +6,11 @@ use Rattle.arc_outside.specs.Files.{Files}
 use Rattle.net_model.specs.declared.policies.Document.{Document}
 use Rattle.net_model.specs.declared.rows.Network.{Network}
 use Rattle.net_model.specs.Validity.{IsValid}
-use Rattle.edit_space.specs.declared.edit_kinds.Edit.{Edit}
-use Rattle.edit_space.specs.declared.edit_kinds.EditFault.{EditFault}
-use Rattle.edit_space.specs.declared.edit_kinds.EditFault.TheVariants as faults
-use Rattle.edit_space.specs.Determined.{IsCountable}
-use Rattle.edit_space.specs.EditLists.{AreEdits, HasFewClasses, NamesLimit}
+use Rattle.edit_list.specs.declared.edit_kinds.Edit.{Edit}
+use Rattle.edit_list.specs.declared.edit_kinds.EditFault.{EditFault}
+use Rattle.edit_list.specs.declared.edit_kinds.EditFault.TheVariants as faults
+use Rattle.edit_list.specs.Determined.{IsCountable}
+use Rattle.edit_list.specs.EditLists.{AreEdits, HasFewClasses, NamesLimit}
 use Rattle.policy_report.specs.Edits.{HasAddresses}
 use Rattle.report_check.specs.declared.outcome.Outcome.{Outcome}
 use Rattle.repair_check.specs.Certifies.{CertificatesAreAccepted, CertifiedClaimsAreTrue}

@@ -4,9 +4,9 @@ use Rattle.std.specs.Prelude.{Err}
 use Rattle.arc_outside.specs.Files.{Files}
 use Rattle.net_model.specs.declared.policies.Document.{Document}
 use Rattle.net_model.specs.declared.rows.Network.{Network}
-use Rattle.edit_space.specs.declared.edit_kinds.Edit.{Edit}
-use Rattle.edit_space.specs.declared.edit_kinds.EditFault.{EditFault}
-use Rattle.edit_space.specs.declared.edit_kinds.EditFault.TheVariants as faults
+use Rattle.edit_list.specs.declared.edit_kinds.Edit.{Edit}
+use Rattle.edit_list.specs.declared.edit_kinds.EditFault.{EditFault}
+use Rattle.edit_list.specs.declared.edit_kinds.EditFault.TheVariants as faults
 use Rattle.repair_check.specs.Certifies.{IsCountFault, text_answers}
 use Rattle.repair_commands.specs.Steps.{StopsFor}
 use Rattle.run_files.specs.declared.outcome.Stop.{Stop}

@@ -3,9 +3,9 @@ use Rattle.std.proofs.Common.{◌≡◌, ◌⊎◌, ◌∙◌, ℕ, inl, inr, Li
 use Rattle.arc_base.specs.declared.refusal.Kind.TheVariants.{Limit}
 use Rattle.arc_outside.specs.Files.{Files}
 use Rattle.net_model.specs.declared.policies.Document.{Document}
-use Rattle.edit_space.specs.declared.edit_kinds.Edit.{Edit}
-use Rattle.edit_space.specs.declared.edit_kinds.EditFault.TheVariants as faults
-use Rattle.edit_space.proofs.OneEditList.{edit_lists_are_one}
+use Rattle.edit_list.specs.declared.edit_kinds.Edit.{Edit}
+use Rattle.edit_list.specs.declared.edit_kinds.EditFault.TheVariants as faults
+use Rattle.edit_list.proofs.OneEditList.{edit_lists_are_one}
 use Rattle.report_check.specs.declared.outcome.Outcome.{Outcome}
 use Rattle.repair_check.specs.Outcomes.{HasOneOutcome, IsOutcome}
 use Rattle.run_files.specs.declared.limits.Limits.TheVariants.{Editing}

@@ -5,10 +5,10 @@ use Rattle.arc_base.specs.declared.refusal.LimitKind.TheVariants.{Classes, Edits
 use Rattle.net_model.specs.declared.policies.Document.{Document}
 use Rattle.net_model.specs.declared.rows.Network.{Network}
 use Rattle.net_model.specs.Validity.{IsValid}
-use Rattle.edit_space.specs.declared.edit_kinds.Edit.{Edit}
-use Rattle.edit_space.specs.declared.edit_kinds.EditFault.TheVariants.{Limit}
-use Rattle.edit_space.specs.EditLists.{NamesLimit}
-use Rattle.edit_space.proofs.OneEditList.{edit_lists_are_one}
+use Rattle.edit_list.specs.declared.edit_kinds.Edit.{Edit}
+use Rattle.edit_list.specs.declared.edit_kinds.EditFault.TheVariants.{Limit}
+use Rattle.edit_list.specs.EditLists.{NamesLimit}
+use Rattle.edit_list.proofs.OneEditList.{edit_lists_are_one}
 use Rattle.repair_check.specs.Certifies.{IsCountFault, text_answers}
 use Rattle.repair_check.proofs.OneFault as formulas
 use Rattle.changed_files.proofs.FewEdits.{few_or_limit}

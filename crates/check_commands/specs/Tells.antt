@@ -4,9 +4,9 @@ use Rattle.arc_base.specs.declared.limits.TheConstants.{EDIT_LIMIT}
 use Rattle.arc_outside.specs.Files.{Files}
 use Rattle.net_model.specs.declared.policies.Document.{Document}
 use Rattle.net_model.specs.declared.rows.Network.{Network}
-use Rattle.edit_space.specs.declared.claims.Claim.{Claim}
-use Rattle.edit_space.specs.declared.edit_kinds.Edit.{Edit}
-use Rattle.edit_space.specs.EditLists.{AreEdits, HasFewClasses}
+use Rattle.edit_list.specs.declared.claims.Claim.{Claim}
+use Rattle.edit_list.specs.declared.edit_kinds.Edit.{Edit}
+use Rattle.edit_list.specs.EditLists.{AreEdits, HasFewClasses}
 use Rattle.arc_repair.specs.Claims.{IsTrueClaim}
 use Rattle.repair_check.specs.Certifies.{Certifies, IsCertified, IsCounted, text_answers}
 use Rattle.run_files.specs.declared.limits.Limits.TheVariants.{Editing}

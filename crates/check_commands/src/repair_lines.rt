@@ -9,7 +9,7 @@ ghost use Rattle.check_commands.specs.Readings.{JudgesLines, JudgesRepair};
 use arc_base::limits::{POLICY_LIMIT, PROOF_LIMIT};
 use arc_base::{List, Name};
 use arc_outside::{Pieces, Store};
-use edit_space::{Edit, edits};
+use edit_list::{Edit, edits};
 use net_model::{Document, Network};
 use repair_check::laws::{certificates_are_accepted, certified_claims_are_true};
 use repair_check::{RepairJudge, read_addresses};

@@ -9,8 +9,8 @@ use Rattle.std.proofs.lemmas.List.Folds.{list_any-append, list_any_at, Any-from_
 use Rattle.std.proofs.lemmas.List.FromFn.{fill_by_all, length-map-range_with_len, get_or-map-range_with_len}
 use Rattle.std.proofs.lemmas.List.Quantifiers.{all_pairs_push, position-Some}
 use Rattle.net_model.specs.declared.rows.Network.{Network}
-use Rattle.edit_space.specs.declared.edit_kinds.Edit.{Edit}
-use Rattle.edit_space.specs.declared.edit_kinds.Edit.TheVariants.{Session}
+use Rattle.edit_list.specs.declared.edit_kinds.Edit.{Edit}
+use Rattle.edit_list.specs.declared.edit_kinds.Edit.TheVariants.{Session}
 use Rattle.policy_report.specs.Edits.{edit_of, edit_text}
 use Rattle.edit_files.specs.EditFiles.{is_blank_line, named_by, is_at, AreEditLines, AreMarked}
 

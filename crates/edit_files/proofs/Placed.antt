@@ -10,7 +10,7 @@ use Rattle.std.proofs.lemmas.List.Sums.{fails_before_first}
 use Rattle.std.proofs.lemmas.Option.{none-some, slice_get_cases}
 use Rattle.std.proofs.lemmas.Slice.Eq.{bytes_eq-Decides}
 use Rattle.net_model.specs.declared.rows.Network.{Network}
-use Rattle.edit_space.specs.declared.edit_kinds.Edit.{Edit}
+use Rattle.edit_list.specs.declared.edit_kinds.Edit.{Edit}
 use Rattle.policy_report.specs.Edits.{edit_of, edit_text, IsTextAt}
 use Rattle.policy_report.proofs.EditsFound.{position_is, position_none}
 use Rattle.edit_files.specs.declared.places.TextPlaces.{TextPlaces}

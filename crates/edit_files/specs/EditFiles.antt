@@ -6,7 +6,7 @@ use Rattle.std.specs.Option.{option_map_or}
 use Rattle.bstr.specs.Text.{lines_of, without_terminator}
 use Rattle.arc_base.specs.Words.{is_blank}
 use Rattle.net_model.specs.declared.rows.Network.{Network}
-use Rattle.edit_space.specs.declared.edit_kinds.Edit.{Edit}
+use Rattle.edit_list.specs.declared.edit_kinds.Edit.{Edit}
 use Rattle.policy_report.specs.Edits.{edit_of}
 use Rattle.edit_files.specs.declared.reading.Named.{Named}
 use Rattle.edit_files.specs.declared.reading.Named.TheVariants.{Edits, Wrong}

@@ -3,7 +3,7 @@ use Rattle.std.specs.Prelude.{◌≡◌, ℕ, ◌<◌, Option, List, IfSome, byt
 use denote.Ref.{Bor}
 use Rattle.indexmap.specs.IndexMap.{get_by}
 use Rattle.net_model.specs.declared.rows.Network.{Network}
-use Rattle.edit_space.specs.declared.edit_kinds.Edit.{Edit}
+use Rattle.edit_list.specs.declared.edit_kinds.Edit.{Edit}
 use Rattle.policy_report.specs.Edits.{edit_of}
 use Rattle.edit_files.specs.declared.places.TextPlaces.{TextPlaces}
 

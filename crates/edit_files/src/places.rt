@@ -7,7 +7,7 @@ ghost use Rattle.policy_report.specs.Edits.{edit_text};
 ghost use Rattle.edit_files.specs.Places.{place_of, FindsEdits};
 
 use arc_base::{List, Memory, Name};
-use edit_space::Edit;
+use edit_list::Edit;
 use indexmap::IndexMap;
 use net_model::Network;
 use policy_report::edit_text;

@@ -8,7 +8,7 @@ ghost use Rattle.edit_files.specs.Places.{AreBelow, FindsEdits};
 use crate::places::{TextPlaces, edit_texts};
 use arc_base::{List, Memory};
 use bstr::ByteSlice;
-use edit_space::Edit;
+use edit_list::Edit;
 use net_model::Network;
 use std::alloc::Global;
 

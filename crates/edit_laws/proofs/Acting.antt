@@ -23,13 +23,13 @@ use Rattle.net_model.specs.Witnesses.{IsUniform}
 use Rattle.net_model.proofs.Readings.{item_at_place}
 use Rattle.traffic_classes.specs.Parts.{IsUniformFor, TellApart}
 use Rattle.traffic_classes.proofs.Unions.{tell_apart}
-use Rattle.edit_space.specs.declared.edit_kinds.Edit.{Edit}
-use Rattle.edit_space.specs.declared.edit_kinds.Edit.TheVariants as edits
-use Rattle.edit_space.specs.After.{with_classes, with_prefixes, edited_packet_list, edited_route_list, IsNewPacketList, IsNewRouteList, PacketListMoves, RouteListMoves, StaysBound, IsFaceAfter, IsSessionAfter, IsAfter}
-use Rattle.edit_space.specs.Changes.{list_classes, list_prefixes, new_classes, new_prefixes}
-use Rattle.edit_space.specs.EditLists.{AreEdits}
-use Rattle.edit_space.specs.Numbered.{is_empty}
-use Rattle.edit_space.specs.Prices.{chosen_of}
+use Rattle.edit_list.specs.declared.edit_kinds.Edit.{Edit}
+use Rattle.edit_list.specs.declared.edit_kinds.Edit.TheVariants as edits
+use Rattle.edit_list.specs.After.{with_classes, with_prefixes, edited_packet_list, edited_route_list, IsNewPacketList, IsNewRouteList, PacketListMoves, RouteListMoves, StaysBound, IsFaceAfter, IsSessionAfter, IsAfter}
+use Rattle.edit_list.specs.Changes.{list_classes, list_prefixes, new_classes, new_prefixes}
+use Rattle.edit_list.specs.EditLists.{AreEdits}
+use Rattle.edit_list.specs.Numbered.{is_empty}
+use Rattle.edit_list.specs.Prices.{chosen_of}
 use Rattle.edit_laws.proofs.Listed.{chosen_listed, class_listed}
 use Rattle.edit_laws.proofs.Turning.{turning_classes, staying_packets, turning_prefixes, staying_prefixes}
 use Rattle.edit_laws.specs.Acting.{ActsOnPackets, ActsOnPrefixes, PacketListsActWhereverBound, RouteListsActWhereverBound}

@@ -8,9 +8,9 @@ use Rattle.std.proofs.lemmas.List.Kept.{AllPairs-cons}
 use Rattle.std.proofs.lemmas.List.FromFn.{length-range_with_len, get_or-range_with_len}
 use Rattle.std.proofs.lemmas.Option.{slice_get-get_or}
 use Rattle.arc_base.proofs.Items.{Contains-head, Contains-tail, Contains-cases, Contains-none, from_piece, All-from, AllPairs-append, AllPairs-rest, AllPairs-first, AllPairs-none}
-use Rattle.edit_space.specs.Numbered.{placed, if_number, of_number, by_number}
-use Rattle.edit_space.proofs.Placing.{placed_length}
-use Rattle.edit_space.proofs.PriceSteps.{pair_at}
+use Rattle.edit_list.specs.Numbered.{placed, if_number, of_number, by_number}
+use Rattle.edit_list.proofs.Placing.{placed_length}
+use Rattle.edit_list.proofs.PriceSteps.{pair_at}
 
 -- pieces of a list whose items differ, put together
 pub AllPairs-flat_map : {X Y : Type 0} (R : Y → Y → Type 0) (f : X → List Y) (xs : List X) → ((x : X) → Contains xs x → AllPairs R (f x)) →

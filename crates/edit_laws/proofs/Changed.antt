@@ -14,14 +14,14 @@ use Rattle.net_model.specs.declared.policies.Document.{Document}
 use Rattle.net_model.specs.declared.rows.FaceRow.{FaceRow}
 use Rattle.net_model.specs.declared.rows.SessionRow.{SessionRow}
 use Rattle.net_model.specs.declared.rows.Network.{Network}
-use Rattle.edit_space.specs.declared.edit_kinds.Edit.{Edit}
-use Rattle.edit_space.specs.declared.edit_kinds.Edit.TheVariants as edits
-use Rattle.edit_space.specs.declared.sites.Site.{Site}
-use Rattle.edit_space.specs.declared.sites.Site.TheVariants.{Bound, New}
-use Rattle.edit_space.specs.Changes.{session_change, route_list_change, new_route_change, packet_list_change, new_packet_change, turns_session, list_prefixes, new_prefixes, list_classes, new_classes}
-use Rattle.edit_space.specs.EditLists.{has_session, edits_at, link_edits, route_edit, packet_edit, AreEdits, writable_classes}
-use Rattle.edit_space.specs.Numbered.{placed, if_number, of_number, by_number}
-use Rattle.edit_space.specs.Sites.{route_list_site, neighbor_site, packet_list_site, face_site, takes_list, route_sites, packet_sites}
+use Rattle.edit_list.specs.declared.edit_kinds.Edit.{Edit}
+use Rattle.edit_list.specs.declared.edit_kinds.Edit.TheVariants as edits
+use Rattle.edit_list.specs.declared.sites.Site.{Site}
+use Rattle.edit_list.specs.declared.sites.Site.TheVariants.{Bound, New}
+use Rattle.edit_list.specs.Changes.{session_change, route_list_change, new_route_change, packet_list_change, new_packet_change, turns_session, list_prefixes, new_prefixes, list_classes, new_classes}
+use Rattle.edit_list.specs.EditLists.{has_session, edits_at, link_edits, route_edit, packet_edit, AreEdits, writable_classes}
+use Rattle.edit_list.specs.Numbered.{placed, if_number, of_number, by_number}
+use Rattle.edit_list.specs.Sites.{route_list_site, neighbor_site, packet_list_site, face_site, takes_list, route_sites, packet_sites}
 use Rattle.edit_laws.proofs.Apart.{from_picked, to_picked, number_of, from_placed}
 
 -- things of a number that edits change, and the edits

@@ -10,11 +10,11 @@ use Rattle.net_model.specs.declared.policies.Class.{Class}
 use Rattle.net_model.specs.declared.policies.Document.{Document}
 use Rattle.net_model.specs.declared.rows.Network.{Network}
 use Rattle.net_model.proofs.Readings.{place_of_item, item_at_place}
-use Rattle.edit_space.specs.declared.edit_kinds.Edit.{Edit}
-use Rattle.edit_space.specs.After.{class_entry, every_packet, opposite_packet_entry, with_classes, new_packet_entries, edited_packet_list, IsPacketListAfter, IsAfter}
-use Rattle.edit_space.specs.Changes.{list_classes, new_classes}
-use Rattle.edit_space.specs.EditLists.{AreEdits}
-use Rattle.edit_space.specs.Prices.{chosen_of}
+use Rattle.edit_list.specs.declared.edit_kinds.Edit.{Edit}
+use Rattle.edit_list.specs.After.{class_entry, every_packet, opposite_packet_entry, with_classes, new_packet_entries, edited_packet_list, IsPacketListAfter, IsAfter}
+use Rattle.edit_list.specs.Changes.{list_classes, new_classes}
+use Rattle.edit_list.specs.EditLists.{AreEdits}
+use Rattle.edit_list.specs.Prices.{chosen_of}
 use Rattle.edit_laws.proofs.Listed.{class_put, chosen_listed, class_of_list, class_of_new, class_listed}
 
 -- the entry stands in a packet list of the network

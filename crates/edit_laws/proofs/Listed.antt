@@ -10,18 +10,18 @@ use Rattle.arc_base.specs.declared.prefix.Prefix.{Prefix}
 use Rattle.net_model.specs.declared.policies.Class.{Class}
 use Rattle.net_model.specs.declared.policies.Document.{Document}
 use Rattle.net_model.specs.declared.rows.Network.{Network}
-use Rattle.edit_space.specs.declared.edit_kinds.Edit.{Edit}
-use Rattle.edit_space.specs.declared.edit_kinds.Edit.TheVariants as edits
-use Rattle.edit_space.specs.declared.sites.Site.{Site}
-use Rattle.edit_space.specs.declared.sites.Site.TheVariants.{Bound, New}
-use Rattle.edit_space.specs.Changes.{route_list_change, new_route_change, packet_list_change, new_packet_change, list_prefixes, new_prefixes, list_classes, new_classes}
-use Rattle.edit_space.specs.EditLists.{has_session, edits_at, link_edits, route_edit, packet_edit, all_edits, writable_classes, AreEdits}
+use Rattle.edit_list.specs.declared.edit_kinds.Edit.{Edit}
+use Rattle.edit_list.specs.declared.edit_kinds.Edit.TheVariants as edits
+use Rattle.edit_list.specs.declared.sites.Site.{Site}
+use Rattle.edit_list.specs.declared.sites.Site.TheVariants.{Bound, New}
+use Rattle.edit_list.specs.Changes.{route_list_change, new_route_change, packet_list_change, new_packet_change, list_prefixes, new_prefixes, list_classes, new_classes}
+use Rattle.edit_list.specs.EditLists.{has_session, edits_at, link_edits, route_edit, packet_edit, all_edits, writable_classes, AreEdits}
 use Rattle.edit_laws.specs.Laws.{PacketEditsAreWritable, ChosenClassesAreWritable}
-use Rattle.edit_space.specs.Numbered.{if_number, of_number}
-use Rattle.edit_space.specs.Prices.{if_chosen, chosen_of}
-use Rattle.edit_space.specs.Sites.{route_sites, packet_sites}
-use Rattle.edit_space.specs.Writable.{is_writable}
-use Rattle.edit_space.proofs.NewListFacts.{picked_from}
+use Rattle.edit_list.specs.Numbered.{if_number, of_number}
+use Rattle.edit_list.specs.Prices.{if_chosen, chosen_of}
+use Rattle.edit_list.specs.Sites.{route_sites, packet_sites}
+use Rattle.edit_list.specs.Writable.{is_writable}
+use Rattle.edit_list.proofs.NewListFacts.{picked_from}
 
 zip_first : {X Y : Type 0} (xs : List X) (ys : List Y) (p : X × Y) → Contains (zip xs ys) p → Contains xs p.0
 zip_first [] ys p there = absurd (Contains-none p there)

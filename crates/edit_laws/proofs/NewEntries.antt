@@ -18,7 +18,7 @@ use Rattle.net_model.specs.Services.{serves, Serves, whole_service}
 use Rattle.net_model.specs.Packets.{IsOf}
 use Rattle.net_model.proofs.ServiceRanges.{bounds, serve}
 use Rattle.traffic_classes.proofs.Ranges.{same_length, holds_range}
-use Rattle.edit_space.specs.After.{any, every_packet, class_entry, exact_entry, new_packet_entries, new_route_entries}
+use Rattle.edit_list.specs.After.{any, every_packet, class_entry, exact_entry, new_packet_entries, new_route_entries}
 
 abbrev packet_answer : Option PacketEntry → Bool
 packet_answer o = option_map_or (λ (e : PacketEntry). e.permit) o false

@@ -16,13 +16,13 @@ use Rattle.net_model.specs.declared.rows.SessionRow.{SessionRow}
 use Rattle.net_model.specs.declared.rows.Network.{Network}
 use Rattle.net_model.specs.Validity.{IsValid, IsValidSession}
 use Rattle.net_model.proofs.Readings.{place_of_item, item_at_place}
-use Rattle.edit_space.specs.declared.list_kinds.NewList.{NewList}
-use Rattle.edit_space.specs.After.{PacketListMoves, RouteListMoves, StaysBound, passive_after, IsRouterAfter, IsFaceAfter, IsSessionAfter, IsPacketListAfter, IsRouteListAfter}
+use Rattle.edit_list.specs.declared.list_kinds.NewList.{NewList}
+use Rattle.edit_list.specs.After.{PacketListMoves, RouteListMoves, StaysBound, passive_after, IsRouterAfter, IsFaceAfter, IsSessionAfter, IsPacketListAfter, IsRouteListAfter}
 use Rattle.edit_laws.specs.Laws.{NoEditsChangeNothing, NoEditsCostNothing}
-use Rattle.edit_space.specs.NewLists.{new_route_list, new_packet_list, new_lists, new_lists_of, new_names_of, free_names, names_of, IsNewList}
-use Rattle.edit_space.specs.Numbered.{placed, of_number}
+use Rattle.edit_list.specs.NewLists.{new_route_list, new_packet_list, new_lists, new_lists_of, new_names_of, free_names, names_of, IsNewList}
+use Rattle.edit_list.specs.Numbered.{placed, of_number}
 use Rattle.arc_base.specs.NameForms.{IsNameBefore}
-use Rattle.edit_space.proofs.RowFacts.{one_item}
+use Rattle.edit_list.proofs.RowFacts.{one_item}
 
 pub none_cost : NoEditsCostNothing
 none_cost weights = refl

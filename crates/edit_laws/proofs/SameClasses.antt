@@ -20,11 +20,11 @@ use Rattle.traffic_classes.specs.Parts.{IsClassOf}
 use Rattle.traffic_classes.proofs.MakingUp.{from_leaf, to_leaf, service_leaf}
 use Rattle.traffic_classes.proofs.Ranges.{nested}
 use Rattle.traffic_classes.proofs.Unions.{comes_from, tell_apart}
-use Rattle.edit_space.specs.declared.edit_kinds.Edit.{Edit}
-use Rattle.edit_space.specs.After.{any, class_entry, every_packet, IsAfter}
-use Rattle.edit_space.specs.EditLists.{AreEdits}
+use Rattle.edit_list.specs.declared.edit_kinds.Edit.{Edit}
+use Rattle.edit_list.specs.After.{any, class_entry, every_packet, IsAfter}
+use Rattle.edit_list.specs.EditLists.{AreEdits}
 use Rattle.edit_laws.specs.Kept.{ClassesStay, AllClassesStay, ListsStayUniform}
-use Rattle.edit_space.specs.Prices.{chosen_of}
+use Rattle.edit_list.specs.Prices.{chosen_of}
 use Rattle.edit_laws.proofs.KeptEntries.{IsEntry, IsForClass, entry_was, entry_stays}
 use Rattle.edit_laws.proofs.SameServices.{same_cuts, same_service_leaves}
 

@@ -8,11 +8,11 @@ use Rattle.net_model.specs.declared.rows.FaceRow.{FaceRow}
 use Rattle.net_model.specs.declared.rows.Network.{Network}
 use Rattle.net_model.specs.Forwarding.{HasEnds}
 use Rattle.net_model.proofs.Readings.{place_of_item, item_at_place}
-use Rattle.edit_space.specs.declared.edit_kinds.Edit.{Edit}
-use Rattle.edit_space.specs.After.{IsFaceAfter, IsAfter}
-use Rattle.edit_space.specs.EditLists.{LiesInHost}
+use Rattle.edit_list.specs.declared.edit_kinds.Edit.{Edit}
+use Rattle.edit_list.specs.After.{IsFaceAfter, IsAfter}
+use Rattle.edit_list.specs.EditLists.{LiesInHost}
 use Rattle.edit_laws.specs.Kept.{HostsStay, EndsStay}
-use Rattle.edit_space.proofs.RowFacts.{row_was, row_now}
+use Rattle.edit_list.proofs.RowFacts.{row_was, row_now}
 
 module _ (net after : Network) (chosen : List Edit) (is : IsAfter net chosen after) where
   -- the row that an interface has now

@@ -19,10 +19,10 @@ use Rattle.net_model.proofs.ServiceRanges.{bounds, serve}
 use Rattle.traffic_classes.specs.Classes.{service_marks, marks_of, whole_protocol}
 use Rattle.traffic_classes.specs.ServiceLeaves.{IsCut, IsServiceLeaf, AreServiceLeaves}
 use Rattle.traffic_classes.proofs.ServiceCuts.{ends_or_alike, ends_part, ends_inside, inside_ends}
-use Rattle.edit_space.specs.declared.edit_kinds.Edit.{Edit}
-use Rattle.edit_space.specs.After.{class_entry, every_packet, IsAfter}
-use Rattle.edit_space.specs.EditLists.{AreEdits}
-use Rattle.edit_space.specs.Prices.{chosen_of}
+use Rattle.edit_list.specs.declared.edit_kinds.Edit.{Edit}
+use Rattle.edit_list.specs.After.{class_entry, every_packet, IsAfter}
+use Rattle.edit_list.specs.EditLists.{AreEdits}
+use Rattle.edit_list.specs.Prices.{chosen_of}
 use Rattle.edit_laws.proofs.KeptEntries.{IsEntry, IsForClass, entry_was, entry_stays}
 
 -- marks that cut the same ranges give the same leaves

@@ -3,7 +3,7 @@ use Rattle.std.proofs.Common.{◌≡◌, ◌↔◌, Bool, true, false, not, IsTr
 use Rattle.std.specs.Prelude.{Contains, IsSomeAnd}
 use Rattle.std.proofs.lemmas.Bool.{false≢true}
 use Rattle.arc_base.proofs.Items.{Contains-head, Contains-none}
-use Rattle.edit_space.specs.Numbered.{is_empty}
+use Rattle.edit_list.specs.Numbered.{is_empty}
 
 -- a list that is not empty has an item
 pub some_item : {X : Type 0} (xs : List X) → is_empty xs ≡ false → (x : X) × Contains xs x

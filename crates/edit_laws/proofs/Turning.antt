@@ -19,7 +19,7 @@ use Rattle.net_model.specs.Packets.{IsOf, first_packet}
 use Rattle.net_model.specs.Witnesses.{IsUniform}
 use Rattle.net_model.proofs.Packets.{first_is_of}
 use Rattle.traffic_classes.proofs.Ranges.{same_length}
-use Rattle.edit_space.specs.After.{opposite_packet_entry, opposite_route_entry}
+use Rattle.edit_list.specs.After.{opposite_packet_entry, opposite_route_entry}
 use Rattle.edit_laws.specs.Laws.{ClassesTurn, OthersStay, PrefixesTurn, OtherPrefixesStay}
 
 -- the answer of the entry that is found

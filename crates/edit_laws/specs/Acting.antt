@@ -13,11 +13,11 @@ use Rattle.net_model.specs.Forwarding.{ListPermits}
 use Rattle.net_model.specs.Packets.{IsOf}
 use Rattle.net_model.specs.Routing.{RouteListPermits}
 use Rattle.net_model.specs.Validity.{IsValid}
-use Rattle.edit_space.specs.declared.edit_kinds.Edit.{Edit}
-use Rattle.edit_space.specs.declared.edit_kinds.Edit.TheVariants as edits
-use Rattle.edit_space.specs.After.{IsAfter}
-use Rattle.edit_space.specs.EditLists.{AreEdits}
-use Rattle.edit_space.specs.Prices.{chosen_of}
+use Rattle.edit_list.specs.declared.edit_kinds.Edit.{Edit}
+use Rattle.edit_list.specs.declared.edit_kinds.Edit.TheVariants as edits
+use Rattle.edit_list.specs.After.{IsAfter}
+use Rattle.edit_list.specs.EditLists.{AreEdits}
+use Rattle.edit_list.specs.Prices.{chosen_of}
 
 -- some of the edits put an entry into the packet list for a class of the packet
 abbrev pub NamesPacket : List Edit → ListId → Packet → Type 0

@@ -10,10 +10,10 @@ use Rattle.net_model.specs.Forwarding.{HasEnds}
 use Rattle.traffic_classes.specs.AllClasses.{AreAllClasses}
 use Rattle.traffic_classes.specs.Classes.{AreClasses}
 use Rattle.traffic_classes.specs.Parts.{IsUniformFor}
-use Rattle.edit_space.specs.declared.edit_kinds.Edit.{Edit}
-use Rattle.edit_space.specs.EditLists.{AreEdits, LiesInHost}
-use Rattle.edit_space.specs.Prices.{chosen_of}
-use Rattle.edit_space.specs.After.{IsAfter}
+use Rattle.edit_list.specs.declared.edit_kinds.Edit.{Edit}
+use Rattle.edit_list.specs.EditLists.{AreEdits, LiesInHost}
+use Rattle.edit_list.specs.Prices.{chosen_of}
+use Rattle.edit_list.specs.After.{IsAfter}
 
 -- after any edits the same host networks hold a prefix
 abbrev pub HostsStay : Type 0

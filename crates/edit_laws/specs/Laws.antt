@@ -14,15 +14,15 @@ use Rattle.net_model.specs.Lists.{permits, route_permits}
 use Rattle.net_model.specs.Packets.{IsOf}
 use Rattle.net_model.specs.Validity.{IsValid}
 use Rattle.net_model.specs.Witnesses.{IsUniform}
-use Rattle.edit_space.specs.declared.edit_kinds.Edit.{Edit}
-use Rattle.edit_space.specs.declared.edit_kinds.Edit.TheVariants as edits
-use Rattle.edit_space.specs.Changes.{list_classes, new_classes}
-use Rattle.edit_space.specs.EditLists.{AreEdits}
-use Rattle.edit_space.specs.Ordered.{IsKeyBefore}
+use Rattle.edit_list.specs.declared.edit_kinds.Edit.{Edit}
+use Rattle.edit_list.specs.declared.edit_kinds.Edit.TheVariants as edits
+use Rattle.edit_list.specs.Changes.{list_classes, new_classes}
+use Rattle.edit_list.specs.EditLists.{AreEdits}
+use Rattle.edit_list.specs.Ordered.{IsKeyBefore}
 use Rattle.arc_base.specs.NameForms.{IsNameBefore}
-use Rattle.edit_space.specs.After.{with_prefixes, with_classes, IsAfter}
-use Rattle.edit_space.specs.Prices.{price_of, chosen_of}
-use Rattle.edit_space.specs.Writable.{is_writable}
+use Rattle.edit_list.specs.After.{with_prefixes, with_classes, IsAfter}
+use Rattle.edit_list.specs.Prices.{price_of, chosen_of}
+use Rattle.edit_list.specs.Writable.{is_writable}
 
 -- a packet list that is uniform on classes that share no packet answers the opposite, with entries
 -- for them at its front, to each packet of one of them

@@ -8,11 +8,11 @@ use Rattle.net_model.specs.declared.lists.Packet.{Packet}
 use Rattle.net_model.specs.declared.policies.Class.{Class}
 use Rattle.net_model.specs.Lists.{permits, route_permits}
 use Rattle.net_model.specs.Packets.{IsOf}
-use Rattle.edit_space.specs.declared.edit_kinds.Edit.{Edit}
-use Rattle.edit_space.specs.declared.edit_kinds.Edit.TheVariants as edits
-use Rattle.edit_space.specs.After.{new_packet_entries, new_route_entries}
-use Rattle.edit_space.specs.Changes.{turns_session, list_prefixes, new_prefixes, list_classes}
-use Rattle.edit_space.specs.Changes.{new_classes}
+use Rattle.edit_list.specs.declared.edit_kinds.Edit.{Edit}
+use Rattle.edit_list.specs.declared.edit_kinds.Edit.TheVariants as edits
+use Rattle.edit_list.specs.After.{new_packet_entries, new_route_entries}
+use Rattle.edit_list.specs.Changes.{turns_session, list_prefixes, new_prefixes, list_classes}
+use Rattle.edit_list.specs.Changes.{new_classes}
 
 -- a new packet list denies the packets of its classes
 abbrev pub NewClassesAreDenied : Type 0

@@ -1,4 +1,4 @@
-//! Laws over the definitions of `edit_space`, each the contract of a function that does nothing.
+//! Laws over the definitions of `edit_list`, each the contract of a function that does nothing.
 //! They show that the network after edits is the right one: each edit turns its own answers and no
 //! others, wherever its list is bound, and the traffic classes stay as they are.
 #![tactic(auto)]

@@ -1,8 +1,17 @@
-pub mod Numbers
-mod HostNetworks
-pub mod Counts
-pub mod PriceSteps
-pub mod Placing
-pub mod NewListFacts
-pub mod RowFacts
-pub mod OneEditList
+mod NameSets
+pub mod FreeNames
+mod Keys
+mod PlacesFound
+pub mod Naming
+mod Picking
+pub mod NamedFacts
+pub mod ListKinds
+mod ListPlaces
+mod Bound
+mod Whole
+mod AfterValid
+mod Sorting
+pub mod SomeNames
+pub mod SomeAfter
+pub mod OneAfter
+mod NewNames

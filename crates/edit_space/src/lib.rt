@@ -1,25 +1,22 @@
-//! The modelled edits of a network: sessions that are turned, and entries that are put at the front
-//! of lists that stand or into new ones. It lists the edits of a network for a document in their
-//! one order, and tells what a set of them costs. What the network after them is, is defined here;
-//! `edited_networks` makes it.
+//! The network after edits. What the edits change is put together once, interface by interface and
+//! list by list; new lists get the first names that are free at their routers, and the lists that
+//! stand and the new ones are sorted by router and name. The list of edits and their price are
+//! those of `edit_list`, and are handed on.
 #![tactic(auto)]
 
-mod claims;
-mod countable;
-mod destinations;
-mod edit_kinds;
+mod changes;
+mod entries;
 pub mod laws;
-mod list_kinds;
-mod listing;
-mod numbered;
-mod prices;
-mod sites;
-mod writable;
+mod names;
+mod network_after;
+mod new_lists;
+mod order;
+mod packet_lists;
+mod route_lists;
+mod rows;
 
-pub use claims::Claim;
-pub use edit_kinds::{Edit, EditFault};
-pub use list_kinds::NewList;
-pub use listing::edits;
-pub use numbered::{Group, add, append, empty_groups, grouped, is_filled, marked, things_at};
-pub use prices::{chosen_edits, price, weight};
-pub use sites::Site;
+pub use changes::Changes;
+pub use edit_list::{Claim, Edit, EditFault, edits, price};
+pub use entries::{any, opposite_packet_entry, opposite_route_entry};
+pub use network_after::after;
+pub use new_lists::{lists_made, new_names};

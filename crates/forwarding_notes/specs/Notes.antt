@@ -3,10 +3,10 @@ use Rattle.std.specs.Prelude.{◌↔◌, ℕ, Bool, IsTrue, List, []}
 use Rattle.arc_outside.specs.Files.{Files}
 use Rattle.net_model.specs.declared.policies.Document.{Document}
 use Rattle.net_model.specs.declared.rows.Network.{Network}
-use Rattle.edit_space.specs.declared.edit_kinds.Edit.{Edit}
-use Rattle.edit_space.specs.After.{IsAfter}
-use Rattle.edit_space.specs.EditLists.{AreEdits}
-use Rattle.edit_space.specs.Prices.{chosen_of}
+use Rattle.edit_list.specs.declared.edit_kinds.Edit.{Edit}
+use Rattle.edit_list.specs.After.{IsAfter}
+use Rattle.edit_list.specs.EditLists.{AreEdits}
+use Rattle.edit_list.specs.Prices.{chosen_of}
 use Rattle.edit_files.specs.EditFiles.{line_texts, chosen_by, AreEditLines}
 use Rattle.run_files.specs.declared.limits.Limits.TheVariants.{Judging, Editing}
 use Rattle.run_inputs.specs.Inputs.{HoldsInput}

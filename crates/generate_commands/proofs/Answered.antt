@@ -12,13 +12,13 @@ use Rattle.net_model.specs.declared.verdicts.Verdict.{Verdict}
 use Rattle.net_model.specs.Validity.{IsValid}
 use Rattle.net_model.specs.Witnesses.{IsRight}
 use Rattle.net_laws.specs.Laws.{HasOnePairOfEnds, RightVerdictsAreTrue, RightVerdictsDecide}
-use Rattle.edit_space.specs.declared.claims.Claim.TheVariants.{Repaired, NoRepair}
-use Rattle.edit_space.specs.declared.edit_kinds.Edit.{Edit}
-use Rattle.edit_space.specs.declared.edit_kinds.EditFault.{EditFault}
-use Rattle.edit_space.specs.declared.edit_kinds.EditFault.TheVariants as faults
-use Rattle.edit_space.specs.Determined.{AfterIsValid, IsCountable}
-use Rattle.edit_space.specs.EditLists.{HasFewClasses}
-use Rattle.edit_space.specs.Prices.{chosen_of}
+use Rattle.edit_list.specs.declared.claims.Claim.TheVariants.{Repaired, NoRepair}
+use Rattle.edit_list.specs.declared.edit_kinds.Edit.{Edit}
+use Rattle.edit_list.specs.declared.edit_kinds.EditFault.{EditFault}
+use Rattle.edit_list.specs.declared.edit_kinds.EditFault.TheVariants as faults
+use Rattle.edit_list.specs.Determined.{AfterIsValid, IsCountable}
+use Rattle.edit_list.specs.EditLists.{HasFewClasses}
+use Rattle.edit_list.specs.Prices.{chosen_of}
 use Rattle.traffic_classes.proofs.EachPolicy.{no_more}
 use Rattle.traffic_classes.proofs.Unions.{have_one_list}
 use Rattle.arc_repair.specs.declared.answer.Answer.{Answer}

@@ -11,11 +11,11 @@ use Rattle.net_build.specs.Networks.{IsBuiltWithin}
 use Rattle.net_gen.specs.declared.generating.Generated.{Generated}
 use Rattle.net_gen.specs.Generated.{IsGenerated}
 use Rattle.net_model.specs.Validity.{IsValid}
-use Rattle.edit_space.specs.declared.claims.Claim.TheVariants.{Repaired, NoRepair}
-use Rattle.edit_space.specs.declared.edit_kinds.Edit.{Edit}
-use Rattle.edit_space.specs.declared.edit_kinds.EditFault.TheVariants as faults
-use Rattle.edit_space.specs.After.{IsAfter}
-use Rattle.edit_space.specs.Prices.{chosen_of}
+use Rattle.edit_list.specs.declared.claims.Claim.TheVariants.{Repaired, NoRepair}
+use Rattle.edit_list.specs.declared.edit_kinds.Edit.{Edit}
+use Rattle.edit_list.specs.declared.edit_kinds.EditFault.TheVariants as faults
+use Rattle.edit_list.specs.After.{IsAfter}
+use Rattle.edit_list.specs.Prices.{chosen_of}
 use Rattle.policy_report.specs.Certificates.{budget_text, certificate_text}
 use Rattle.arc_repair.specs.declared.answer.Answer.{Answer}
 use Rattle.arc_repair.specs.declared.answer.Answer.TheVariants.{Done as Claimed, Budget}

@@ -5,8 +5,8 @@ use Rattle.net_model.specs.declared.policies.Document.{Document}
 use Rattle.net_model.specs.declared.rows.Network.{Network}
 use Rattle.net_gen.specs.declared.generating.Generated.{Generated}
 use Rattle.generated_networks.specs.Laws.{IsGeneratedWithin}
-use Rattle.edit_space.specs.declared.edit_kinds.Edit.{Edit}
-use Rattle.edit_space.specs.Determined.{IsCountable}
+use Rattle.edit_list.specs.declared.edit_kinds.Edit.{Edit}
+use Rattle.edit_list.specs.Determined.{IsCountable}
 use Rattle.arc_repair.specs.declared.answer.Answer.{Answer}
 use Rattle.repair_commands.specs.Repairs.{IsAnswered}
 use Rattle.generate_commands.specs.Generates.{default_bound, default_conflicts}

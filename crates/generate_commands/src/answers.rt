@@ -14,7 +14,7 @@ use arc_base::limits::{DEFAULT_CONFLICTS, DEFAULT_PRICE, MOST_GENERATED, PROOF_L
 use arc_base::{List, Memory, Name};
 use arc_repair::Answer;
 use command_words::GenerateWords;
-use edit_space::{Claim, Edit};
+use edit_list::{Claim, Edit};
 use net_model::{Document, Network, Verdict};
 use output_files::push_wrote;
 use policy_report::{budget, certificate};

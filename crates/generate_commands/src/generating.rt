@@ -18,8 +18,8 @@ use arc_base::limits::{
 use arc_base::{Kind, List, Memory, Name};
 use arc_repair::Answer;
 use command_words::GenerateWords;
-use edit_space::{Edit, EditFault, edits};
-use edited_networks::laws::networks_after_edits_are_valid;
+use edit_list::{Edit, EditFault, edits};
+use edit_space::laws::networks_after_edits_are_valid;
 use generated_networks::laws::generated_files_are_not_refused;
 use net_build::{Built, network_within};
 use net_doc::NetFault;

@@ -9,7 +9,7 @@ use crate::tallies::{Tally, counted};
 use arc_base::Memory;
 use arc_base::limits::MOST_GENERATED;
 use arc_repair::Answer;
-use edit_space::Claim;
+use edit_list::Claim;
 use net_model::Verdict;
 use policy_report::{push_count, push_word};
 use std::alloc::Global;

@@ -2,7 +2,7 @@
 ghost use Rattle.std.specs.Prelude.{◌≡◌, ◌+◌, ◌<◌, ◌^◌, length, IfOk};
 ghost use Rattle.std.specs.List.{AllZip};
 ghost use Rattle.net_model.specs.Witnesses.{IsRight};
-ghost use Rattle.edit_space.specs.EditLists.{HasFewClasses};
+ghost use Rattle.edit_list.specs.EditLists.{HasFewClasses};
 ghost use Rattle.run_inputs.specs.Inputs.{AreFit};
 ghost use Rattle.generate_commands.specs.Tallies.{one_more, tally_of};
 

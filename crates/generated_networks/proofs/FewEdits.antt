@@ -18,16 +18,16 @@ use Rattle.net_rows.specs.Sites.{sites_of, sites, ends_of}
 use Rattle.net_rows.proofs.Distinct.{at_Contains}
 use Rattle.net_gen.specs.Generated.{Asks, asked}
 use Rattle.traffic_classes.specs.AllClasses.{AreAllClasses, FirstHaveMore}
-use Rattle.edit_space.specs.declared.edit_kinds.Edit.{Edit}
-use Rattle.edit_space.specs.declared.edit_kinds.Edit.TheVariants as edits
-use Rattle.edit_space.specs.declared.edit_kinds.EditFault.{EditFault}
-use Rattle.edit_space.specs.declared.edit_kinds.EditFault.TheVariants.{Limit, Memory}
+use Rattle.edit_list.specs.declared.edit_kinds.Edit.{Edit}
+use Rattle.edit_list.specs.declared.edit_kinds.Edit.TheVariants as edits
+use Rattle.edit_list.specs.declared.edit_kinds.EditFault.{EditFault}
+use Rattle.edit_list.specs.declared.edit_kinds.EditFault.TheVariants.{Limit, Memory}
 use Rattle.arc_base.specs.declared.refusal.LimitKind.TheVariants as limits
-use Rattle.edit_space.specs.EditLists.{has_session, edits_at, link_edits, writable_classes, AreEdits, NamesLimit, HasEdits}
-use Rattle.edit_space.specs.Writable.{is_writable}
-use Rattle.edit_space.specs.Numbered.{placed}
-use Rattle.edit_space.specs.Sites.{route_list_site, neighbor_site, packet_list_site, face_site, route_sites, packet_sites}
-use Rattle.edit_space.proofs.Counts.{few_picked, few_placed, few_by_number, all_counted}
+use Rattle.edit_list.specs.EditLists.{has_session, edits_at, link_edits, writable_classes, AreEdits, NamesLimit, HasEdits}
+use Rattle.edit_list.specs.Writable.{is_writable}
+use Rattle.edit_list.specs.Numbered.{placed}
+use Rattle.edit_list.specs.Sites.{route_list_site, neighbor_site, packet_list_site, face_site, route_sites, packet_sites}
+use Rattle.edit_list.proofs.Counts.{few_picked, few_placed, few_by_number, all_counted}
 use Rattle.generated_networks.specs.Limits.{GeneratedNetworksHaveFewEdits}
 use Rattle.generated_networks.proofs.Degrees.{degree}
 use Rattle.generated_networks.proofs.FewClasses.{AreEven, one-class, few-classes, few-first, told-few}

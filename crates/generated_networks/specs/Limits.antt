@@ -9,10 +9,10 @@ use Rattle.net_build.specs.Networks.{IsNetworkWithin}
 use Rattle.net_gen.specs.declared.generating.Generated.{Generated}
 use Rattle.traffic_classes.specs.AllClasses.{AreAllClasses, FirstHaveMore}
 use Rattle.traffic_classes.specs.Classes.{HasClasses}
-use Rattle.edit_space.specs.declared.edit_kinds.Edit.{Edit}
-use Rattle.edit_space.specs.declared.edit_kinds.EditFault.{EditFault}
-use Rattle.edit_space.specs.declared.edit_kinds.EditFault.TheVariants.{Memory}
-use Rattle.edit_space.specs.EditLists.{AreEdits, NamesLimit}
+use Rattle.edit_list.specs.declared.edit_kinds.Edit.{Edit}
+use Rattle.edit_list.specs.declared.edit_kinds.EditFault.{EditFault}
+use Rattle.edit_list.specs.declared.edit_kinds.EditFault.TheVariants.{Memory}
+use Rattle.edit_list.specs.EditLists.{AreEdits, NamesLimit}
 use Rattle.generated_networks.specs.Laws.{IsGeneratedWithin}
 
 -- each policy has one class, and there are at most EDIT_LIMIT edits: so neither of the two counts

@@ -18,7 +18,7 @@ pub fn generated_networks_have_their_plan()
 {}
 
 /// The network of a generated network's files has one class for each policy, and few edits: no
-/// limit of `edit_space::edits` is passed.
+/// limit of `edit_list::edits` is passed.
 pub fn generated_networks_have_few_edits()
     ensures { GeneratedNetworksHaveFewEdits }
 {}

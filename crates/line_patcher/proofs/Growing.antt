@@ -5,8 +5,8 @@ use Rattle.std.specs.Prelude.{Option, Some, None}
 use Rattle.std.proofs.lemmas.List.{append-nil, take_more, take_all, map-append}
 use Rattle.std.proofs.lemmas.List.Concat.{flat_map-append}
 use Rattle.std.proofs.Common.{Bool, true, false, not}
-use Rattle.edit_space.proofs.Numbers.{picked_more}
-use Rattle.edit_space.proofs.PriceSteps.{pair_at, pairs_length}
+use Rattle.edit_list.proofs.Numbers.{picked_more}
+use Rattle.edit_list.proofs.PriceSteps.{pair_at, pairs_length}
 
 -- what a list has after what it had before, with a piece more
 pub grown : {X : Type 0} (old a b piece now next : List X) → now ≡ old ++ a → next ≡ now ++ piece → b ≡ a ++ piece → next ≡ old ++ b

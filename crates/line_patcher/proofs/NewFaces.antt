@@ -8,13 +8,13 @@ use Rattle.arc_base.proofs.Items.{Contains-cases, Contains-none, Contains-head, 
 use Rattle.net_model.specs.declared.rows.FaceRow.{FaceRow}
 use Rattle.net_model.specs.declared.rows.SessionRow.{SessionRow}
 use Rattle.net_model.specs.declared.rows.Network.{Network}
-use Rattle.edit_space.specs.declared.edit_kinds.Edit.{Edit}
-use Rattle.edit_space.specs.declared.list_kinds.NewList.{NewList}
-use Rattle.edit_space.specs.declared.list_kinds.NewList.TheVariants.{Route, Packet}
-use Rattle.edit_space.specs.Changes.{new_prefixes, new_classes}
-use Rattle.edit_space.specs.NewLists.{new_route_list, new_packet_list, new_lists, new_lists_of, new_names_of, named_lists}
-use Rattle.edit_space.specs.Numbered.{placed, if_number, is_empty}
-use Rattle.edit_space.proofs.NewListFacts.{picked_from, placed_is}
+use Rattle.edit_list.specs.declared.edit_kinds.Edit.{Edit}
+use Rattle.edit_list.specs.declared.list_kinds.NewList.{NewList}
+use Rattle.edit_list.specs.declared.list_kinds.NewList.TheVariants.{Route, Packet}
+use Rattle.edit_list.specs.Changes.{new_prefixes, new_classes}
+use Rattle.edit_list.specs.NewLists.{new_route_list, new_packet_list, new_lists, new_lists_of, new_names_of, named_lists}
+use Rattle.edit_list.specs.Numbered.{placed, if_number, is_empty}
+use Rattle.edit_list.proofs.NewListFacts.{picked_from, placed_is}
 use Rattle.line_patcher.specs.Working.{face_of}
 
 -- the interface of a list lies in the network

@@ -4,7 +4,7 @@ use Rattle.std.specs.Prelude.{Option, Some, IsSomeAnd, slice_get}
 use Rattle.ios_lines.specs.declared.line.Lines.{Lines}
 use Rattle.net_build.specs.declared.built.Built.{Built}
 use Rattle.net_build.specs.declared.built.Places.{Places}
-use Rattle.edit_space.specs.declared.edit_kinds.Edit.{Edit}
+use Rattle.edit_list.specs.declared.edit_kinds.Edit.{Edit}
 use Rattle.line_patcher.specs.declared.additions.Additions.{Additions}
 use Rattle.line_patcher.specs.Additions.{lines_before, lines_after, numbers_at}
 use Rattle.line_patcher.specs.Patches.{patched_text, patched_file, IsPatched}

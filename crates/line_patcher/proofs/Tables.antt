@@ -9,15 +9,15 @@ use Rattle.std.specs.Option.{option_map_or}
 use Rattle.net_model.specs.declared.rows.Network.{Network}
 use Rattle.net_build.specs.declared.built.ListPlace.{ListPlace}
 use Rattle.ios_lines.specs.declared.line.Line.{Line}
-use Rattle.edit_space.specs.declared.edit_kinds.Edit.{Edit}
-use Rattle.edit_space.specs.Numbered.{if_number, of_number, is_empty, placed, Tells}
-use Rattle.edit_space.specs.Prices.{if_chosen, chosen_of}
-use Rattle.edit_space.proofs.Counts.{few_picked}
-use Rattle.edit_space.specs.NewLists.{new_lists, new_lists_of, new_names_of}
-use Rattle.edited_networks.specs.Working.{AreNewNames}
-use Rattle.edit_space.proofs.Numbers.{things_told, told_at, picked_unless_empty}
-use Rattle.edit_space.proofs.Placing.{placed_picked, placed_not_picked}
-use Rattle.edit_space.proofs.PriceSteps.{pairs_length}
+use Rattle.edit_list.specs.declared.edit_kinds.Edit.{Edit}
+use Rattle.edit_list.specs.Numbered.{if_number, of_number, is_empty, placed, Tells}
+use Rattle.edit_list.specs.Prices.{if_chosen, chosen_of}
+use Rattle.edit_list.proofs.Counts.{few_picked}
+use Rattle.edit_list.specs.NewLists.{new_lists, new_lists_of, new_names_of}
+use Rattle.edit_space.specs.Working.{AreNewNames}
+use Rattle.edit_list.proofs.Numbers.{things_told, told_at, picked_unless_empty}
+use Rattle.edit_list.proofs.Placing.{placed_picked, placed_not_picked}
+use Rattle.edit_list.proofs.PriceSteps.{pairs_length}
 use Rattle.line_patcher.specs.declared.additions.NewNumber.{NewNumber}
 use Rattle.line_patcher.specs.declared.texts.Table.{Table}
 use Rattle.line_patcher.specs.Patches.{end_of, row_bytes, ended, following, patched_row}

@@ -3,7 +3,7 @@
 use Rattle.std.specs.Prelude.{ℕ, List, ◌++◌, map, flat_map}
 use Rattle.net_model.specs.declared.rows.Network.{Network}
 use Rattle.net_build.specs.declared.built.Places.{Places}
-use Rattle.edit_space.specs.declared.edit_kinds.Edit.{Edit}
+use Rattle.edit_list.specs.declared.edit_kinds.Edit.{Edit}
 use Rattle.line_patcher.specs.declared.additions.NewNumber.{NewNumber}
 use Rattle.line_patcher.specs.SessionLines.{session_lines}
 use Rattle.line_patcher.specs.NewListLines.{lines_of_new_lists, filter_lines, group_lines}

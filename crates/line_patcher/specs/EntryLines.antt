@@ -18,10 +18,10 @@ use Rattle.ios_config.specs.declared.settings.ListForm.TheVariants.{Block, Lines
 use Rattle.net_build.specs.declared.built.Places.{Places}
 use Rattle.net_build.specs.declared.built.ListPlace.{ListPlace}
 use Rattle.net_rows.specs.Lists.{packet_text}
-use Rattle.edit_space.specs.declared.edit_kinds.Edit.{Edit}
-use Rattle.edit_space.specs.After.{opposite_packet_entry, opposite_route_entry}
-use Rattle.edit_space.specs.Changes.{list_prefixes, list_classes}
-use Rattle.edit_space.specs.Numbered.{of_number, placed, is_empty}
+use Rattle.edit_list.specs.declared.edit_kinds.Edit.{Edit}
+use Rattle.edit_list.specs.After.{opposite_packet_entry, opposite_route_entry}
+use Rattle.edit_list.specs.Changes.{list_prefixes, list_classes}
+use Rattle.edit_list.specs.Numbered.{of_number, placed, is_empty}
 use Rattle.line_patcher.specs.declared.additions.NewNumber.{NewNumber}
 
 -- the number of the entry at a place of its list, counted from 1, where the list has numbers that

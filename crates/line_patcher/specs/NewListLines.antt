@@ -8,16 +8,16 @@ use Rattle.net_model.specs.declared.rows.Network.{Network}
 use Rattle.net_model.specs.Routing.{session_at}
 use Rattle.ios_lines.specs.Written.{spaced}
 use Rattle.net_rows.specs.Lists.{packet_text}
-use Rattle.edit_space.specs.After.{class_entry, every_packet}
+use Rattle.edit_list.specs.After.{class_entry, every_packet}
 use Rattle.ios_words.specs.Printed.{prefix_line_words, permit_all_words, list_head_words}
 use Rattle.ios_words.specs.Printed.{entry_words, neighbor_list_words, group_words, top_line}
 use Rattle.net_build.specs.declared.built.Places.{Places}
 use Rattle.net_build.specs.declared.built.FacePlace.{FacePlace}
-use Rattle.edit_space.specs.declared.edit_kinds.Edit.{Edit}
-use Rattle.edit_space.specs.declared.list_kinds.NewList.{NewList}
-use Rattle.edit_space.specs.declared.list_kinds.NewList.TheVariants.{Route, Packet}
-use Rattle.edit_space.specs.Changes.{new_prefixes, new_classes}
-use Rattle.edit_space.specs.NewLists.{named_lists}
+use Rattle.edit_list.specs.declared.edit_kinds.Edit.{Edit}
+use Rattle.edit_list.specs.declared.list_kinds.NewList.{NewList}
+use Rattle.edit_list.specs.declared.list_kinds.NewList.TheVariants.{Route, Packet}
+use Rattle.edit_list.specs.Changes.{new_prefixes, new_classes}
+use Rattle.edit_list.specs.NewLists.{named_lists}
 
 -- the line of a new route list that denies a prefix, at a place of the list that is counted from 1
 abbrev pub deny_line : List ℕ → ℕ × Prefix → List ℕ

@@ -11,8 +11,8 @@ use Rattle.ios_lines.specs.Texts.{part}
 use Rattle.ios_lines.specs.Rewritten.{rewritten}
 use Rattle.net_build.specs.declared.built.Built.{Built}
 use Rattle.net_build.specs.declared.built.Places.{Places}
-use Rattle.edit_space.specs.declared.edit_kinds.Edit.{Edit}
-use Rattle.edit_space.specs.Numbered.{of_number, EachRow}
+use Rattle.edit_list.specs.declared.edit_kinds.Edit.{Edit}
+use Rattle.edit_list.specs.Numbered.{of_number, EachRow}
 use Rattle.line_patcher.specs.declared.additions.NewNumber.{NewNumber}
 use Rattle.line_patcher.specs.Additions.{lines_before, lines_after, numbers_at}
 

@@ -9,9 +9,9 @@ use Rattle.net_model.specs.declared.rows.Network.{Network}
 use Rattle.net_model.specs.Routing.{session_at}
 use Rattle.ios_lines.specs.Written.{spaced}
 use Rattle.ios_words.specs.Printed.{passive_words, neighbor_words}
-use Rattle.edit_space.specs.declared.edit_kinds.Edit.{Edit}
-use Rattle.edit_space.specs.Changes.{session_change}
-use Rattle.edit_space.specs.Numbered.{of_number}
+use Rattle.edit_list.specs.declared.edit_kinds.Edit.{Edit}
+use Rattle.edit_list.specs.Changes.{session_change}
+use Rattle.edit_list.specs.Numbered.{of_number}
 
 -- the line that turns the session of an interface: under OSPF it makes it passive or active, under
 -- eBGP it shuts its neighbour down or up

@@ -4,11 +4,11 @@ use Rattle.arc_base.specs.declared.place.Face.{Face}
 use Rattle.arc_base.specs.declared.span.Span.{Span}
 use Rattle.ios_lines.specs.declared.line.Line.{Line}
 use Rattle.net_build.specs.declared.built.Built.{Built}
-use Rattle.edit_space.specs.declared.list_kinds.NewList.{NewList}
-use Rattle.edit_space.specs.declared.list_kinds.NewList.TheVariants.{Route, Packet}
-use Rattle.edit_space.specs.NewLists.{new_lists, new_lists_of}
-use Rattle.edit_space.specs.Numbered.{Tells}
-use Rattle.edited_networks.specs.Working.{AreChanges, AreNewNames}
+use Rattle.edit_list.specs.declared.list_kinds.NewList.{NewList}
+use Rattle.edit_list.specs.declared.list_kinds.NewList.TheVariants.{Route, Packet}
+use Rattle.edit_list.specs.NewLists.{new_lists, new_lists_of}
+use Rattle.edit_list.specs.Numbered.{Tells}
+use Rattle.edit_space.specs.Working.{AreChanges, AreNewNames}
 use Rattle.line_patcher.specs.declared.plans.Plan.{Plan}
 use Rattle.line_patcher.specs.declared.texts.Table.{Table}
 use Rattle.line_patcher.specs.SessionLines.{turned_faces}

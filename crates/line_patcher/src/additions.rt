@@ -1,7 +1,7 @@
 //! What is put into one file, each thing with the number of a line.
 ghost use Rattle.std.specs.Prelude.{◌≡◌, ◌≤◌, ◌<◌, length, IfOk};
 ghost use Rattle.line_patcher.specs.Additions.{all_at, lines_before, lines_after, numbers_at};
-ghost use Rattle.edit_space.specs.NewLists.{named_lists};
+ghost use Rattle.edit_list.specs.NewLists.{named_lists};
 ghost use Rattle.line_patcher.specs.Working.{IsPlan};
 
 use crate::edited_lists::{new_numbers, push_packet_entries, push_route_entries};
@@ -12,7 +12,7 @@ use crate::plans::Plan;
 use crate::sessions::push_session_lines;
 use arc_base::limits::EDIT_LIMIT;
 use arc_base::{Memory, Name};
-use edit_space::things_at;
+use edit_list::things_at;
 use net_build::{Built, Places};
 use std::alloc::Global;
 

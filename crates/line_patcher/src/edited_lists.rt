@@ -1,6 +1,6 @@
 //! What is put into the lists of a file that edits put entries into.
 ghost use Rattle.std.specs.Prelude.{◌≡◌, ◌≤◌, ◌++◌, flat_map, length, IfOk, OnOk};
-ghost use Rattle.edited_networks.specs.Working.{AreChanges};
+ghost use Rattle.edit_space.specs.Working.{AreChanges};
 ghost use Rattle.line_patcher.specs.EntryLines.{packet_list_entries, route_list_entries};
 ghost use Rattle.line_patcher.specs.EntryLines.{packet_list_numbers, route_list_numbers};
 
@@ -10,8 +10,8 @@ use crate::entries::{
 };
 use arc_base::limits::EDIT_LIMIT;
 use arc_base::{Memory, Name};
-use edit_space::things_at;
-use edited_networks::Changes;
+use edit_list::things_at;
+use edit_space::Changes;
 use net_build::Places;
 use net_model::Network;
 use std::alloc::Global;

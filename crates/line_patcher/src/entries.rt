@@ -10,7 +10,7 @@ ghost use Rattle.line_patcher.specs.EntryLines.{new_numbers};
 use crate::additions::NewNumber;
 use arc_base::limits::EDIT_LIMIT;
 use arc_base::{Memory, Name, Prefix};
-use edited_networks::{opposite_packet_entry, opposite_route_entry};
+use edit_space::{opposite_packet_entry, opposite_route_entry};
 use ios_config::ListForm;
 use ios_words::PacketText;
 use ios_words::printing::{push_entry, push_list_line, push_prefix_line};

@@ -1,8 +1,8 @@
 //! The files after edits.
 ghost use Rattle.std.specs.Prelude.{◌≡◌, ◌≤◌, ◌<◌, length, All, IfOk, slice_get, Some};
 ghost use Rattle.net_build.specs.Networks.{IsBuilt};
-ghost use Rattle.edit_space.specs.EditLists.{AreEdits};
-ghost use Rattle.edit_space.specs.Prices.{chosen_of};
+ghost use Rattle.edit_list.specs.EditLists.{AreEdits};
+ghost use Rattle.edit_list.specs.Prices.{chosen_of};
 ghost use Rattle.ios_lines.specs.declared.line.Lines.{Lines};
 ghost use Rattle.ios_lines.specs.Lines.{AreLinesOf};
 ghost use Rattle.line_patcher.specs.Patches.{IsPatched, ArePatched};
@@ -13,7 +13,7 @@ use crate::plans::Plan;
 use crate::texts::patched_text;
 use arc_base::limits::{EDIT_LIMIT, EDITED_FILE_LIMIT};
 use arc_base::{List, Memory, Name};
-use edit_space::{Edit, chosen_edits};
+use edit_list::{Edit, chosen_edits};
 use net_build::Built;
 use net_model::Document;
 use std::alloc::Global;

@@ -2,14 +2,14 @@
 ghost use Rattle.std.specs.Prelude.{◌≡◌, ◌<◌, ◌-◌, ◌^◌, ◌++◌, ◌∷◌, [], flat_map, length, All, IfOk};
 ghost use Rattle.std.specs.Prelude.{OnOk};
 ghost use Rattle.ios_lines.specs.Lines.{AreLinesOf};
-ghost use Rattle.edit_space.specs.Numbered.{of_number, Tells};
+ghost use Rattle.edit_list.specs.Numbered.{of_number, Tells};
 ghost use Rattle.line_patcher.specs.Patches.{end_of, line_end, row_bytes, ended, following};
 ghost use Rattle.line_patcher.specs.Patches.{patched_text};
 ghost use Rattle.line_patcher.specs.Working.{LiesWithin, row_around};
 
 use crate::additions::{Additions, NewNumber};
 use arc_base::{Memory, Name, push_number};
-use edit_space::{Group, add, empty_groups, grouped, things_at};
+use edit_list::{Group, add, empty_groups, grouped, things_at};
 use ios_lines::{Line, Lines};
 use std::alloc::Global;
 

@@ -4,7 +4,7 @@ use Rattle.std.specs.Prelude.{Contains, IsSomeAnd, slice_get, option_map}
 use Rattle.std.proofs.lemmas.Option.{none-some, same_Some, slice_get-map}
 use Rattle.arc_base.specs.declared.place.ListId.{ListId}
 use Rattle.net_rows.specs.Lists.{IsPlaceAmong}
-use Rattle.edit_space.specs.After.{StaysBound}
+use Rattle.edit_list.specs.After.{StaysBound}
 
 -- where a list of either kind stands after the edits
 abbrev Moves : {L : Type 0} → List L → List L → (ℕ → L → L) → ListId → ListId → Type 0

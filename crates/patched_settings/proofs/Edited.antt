@@ -24,15 +24,15 @@ use Rattle.net_model.specs.declared.rows.Protocol.{Protocol}
 use Rattle.net_model.specs.declared.rows.Protocol.TheVariants.{Ospf, Bgp}
 use Rattle.net_rows.specs.Settings.{process_of}
 use Rattle.net_rows.specs.Sites.{Site, sites, sites_of, ends_of}
-use Rattle.edit_space.specs.Determined.{IsCountable}
-use Rattle.edit_space.specs.declared.edit_kinds.Edit.{Edit}
-use Rattle.edit_space.specs.declared.edit_kinds.Edit.TheVariants as edits
-use Rattle.edit_space.specs.declared.list_kinds.NewList.{NewList}
-use Rattle.edit_space.specs.Changes.{new_packet_change, new_classes, new_route_change, new_prefixes}
-use Rattle.edit_space.specs.NewLists.{names_of, IsNewList}
-use Rattle.edit_space.specs.Numbered.{is_empty, if_number}
-use Rattle.edit_space.proofs.NewListFacts.{picked_from}
-use Rattle.edit_space.proofs.RowFacts.{row_was, row_now}
+use Rattle.edit_list.specs.Determined.{IsCountable}
+use Rattle.edit_list.specs.declared.edit_kinds.Edit.{Edit}
+use Rattle.edit_list.specs.declared.edit_kinds.Edit.TheVariants as edits
+use Rattle.edit_list.specs.declared.list_kinds.NewList.{NewList}
+use Rattle.edit_list.specs.Changes.{new_packet_change, new_classes, new_route_change, new_prefixes}
+use Rattle.edit_list.specs.NewLists.{names_of, IsNewList}
+use Rattle.edit_list.specs.Numbered.{is_empty, if_number}
+use Rattle.edit_list.proofs.NewListFacts.{picked_from}
+use Rattle.edit_list.proofs.RowFacts.{row_was, row_now}
 use Rattle.arc_base.specs.declared.prefix.Prefix.{Prefix}
 use Rattle.patched_settings.specs.Premises.{AreFitting}
 use Rattle.patched_settings.specs.SettingsAfter.{face_with, AreSettingsAfter, AreAllSettingsAfter}

@@ -20,15 +20,15 @@ use Rattle.ios_config.specs.declared.settings.ListText.{ListText}
 use Rattle.net_rows.specs.Limits.{RefusesEntries}
 use Rattle.net_rows.specs.Lists.{packet_entries, route_entries}
 use Rattle.net_rows.specs.Reasons.{IsClear}
-use Rattle.edit_space.specs.declared.edit_kinds.Edit.{Edit}
-use Rattle.edit_space.specs.declared.list_kinds.NewList.{NewList}
-use Rattle.edit_space.specs.declared.list_kinds.NewList.TheVariants as lists
-use Rattle.edit_space.specs.Changes.{new_route_change, new_packet_change, new_prefixes, new_classes}
-use Rattle.edit_space.specs.Numbered.{if_number}
-use Rattle.edit_space.specs.After.{exact_entry, class_entry, opposite_route_entry, opposite_packet_entry, new_route_entries, new_packet_entries, any, every_packet}
-use Rattle.edit_space.proofs.Counts.{few_picked}
+use Rattle.edit_list.specs.declared.edit_kinds.Edit.{Edit}
+use Rattle.edit_list.specs.declared.list_kinds.NewList.{NewList}
+use Rattle.edit_list.specs.declared.list_kinds.NewList.TheVariants as lists
+use Rattle.edit_list.specs.Changes.{new_route_change, new_packet_change, new_prefixes, new_classes}
+use Rattle.edit_list.specs.Numbered.{if_number}
+use Rattle.edit_list.specs.After.{exact_entry, class_entry, opposite_route_entry, opposite_packet_entry, new_route_entries, new_packet_entries, any, every_packet}
+use Rattle.edit_list.proofs.Counts.{few_picked}
 use Rattle.patched_settings.specs.Additions.{prefix_for, class_for, route_line, packet_line, front_lines}
-use Rattle.edit_space.specs.NewLists.{named_lists}
+use Rattle.edit_list.specs.NewLists.{named_lists}
 use Rattle.patched_settings.specs.Plain.{said, plain_entry, plain_list}
 use Rattle.patched_settings.specs.Premises.{HasRoom}
 use Rattle.patched_settings.specs.SettingsAfter.{list_with, new_list_text, new_list_texts, AreSettingsAfter}

@@ -24,14 +24,14 @@ use Rattle.net_rows.specs.Sites.{Site, FullName, sites, full_name, ends_of}
 use Rattle.net_rows.specs.Lists.{IsPlaceAmong, IsListName, BindsPacketList, packet_list_key}
 use Rattle.net_rows.specs.Rows.{IsSubnet, TellsHost, IsFaceRow, host_address_of}
 use Rattle.net_rows.proofs.SiteFacts.{IsSiteOf, site_of}
-use Rattle.edit_space.specs.declared.edit_kinds.Edit.{Edit}
-use Rattle.edit_space.specs.declared.list_kinds.NewList.TheVariants as lists
-use Rattle.edit_space.specs.Changes.{new_classes}
-use Rattle.edit_space.specs.NewLists.{IsNewList}
-use Rattle.edit_space.specs.Numbered.{is_empty}
-use Rattle.edit_space.specs.After.{IsAfter, IsFaceAfter, StaysBound, PacketListMoves, IsNewPacketList, edited_packet_list}
-use Rattle.edited_networks.proofs.ListKinds.{one_router, packets}
-use Rattle.edit_space.proofs.RowFacts.{row_was}
+use Rattle.edit_list.specs.declared.edit_kinds.Edit.{Edit}
+use Rattle.edit_list.specs.declared.list_kinds.NewList.TheVariants as lists
+use Rattle.edit_list.specs.Changes.{new_classes}
+use Rattle.edit_list.specs.NewLists.{IsNewList}
+use Rattle.edit_list.specs.Numbered.{is_empty}
+use Rattle.edit_list.specs.After.{IsAfter, IsFaceAfter, StaysBound, PacketListMoves, IsNewPacketList, edited_packet_list}
+use Rattle.edit_space.proofs.ListKinds.{one_router, packets}
+use Rattle.edit_list.proofs.RowFacts.{row_was}
 use Rattle.patched_settings.specs.Additions.{new_inbound}
 use Rattle.patched_settings.specs.SettingsAfter.{AreSettingsAfter}
 use Rattle.patched_settings.proofs.Bound.{key_at, stays_placed}

@@ -30,8 +30,8 @@ use Rattle.net_rows.specs.Routers.{NamesRouter, HasNoOwnName, RefusesHostname, p
 use Rattle.net_rows.specs.Settings.{value, process_of, lines_of, last_said}
 use Rattle.net_rows.specs.Sites.{host_name}
 use Rattle.net_rows.proofs.HostNames.{hosts_differ}
-use Rattle.edit_space.specs.declared.edit_kinds.Edit.{Edit}
-use Rattle.edit_space.proofs.NewListFacts.{picked_from, picks}
+use Rattle.edit_list.specs.declared.edit_kinds.Edit.{Edit}
+use Rattle.edit_list.proofs.NewListFacts.{picked_from, picks}
 use Rattle.patched_settings.specs.SettingsAfter.{process_with, AreSettingsAfter}
 use Rattle.patched_settings.proofs.Edited.{AreEdited, FileWas, file_was, face_text_was}
 use Rattle.patched_settings.proofs.FaceRows.{any_was}

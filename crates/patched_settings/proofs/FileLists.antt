@@ -11,10 +11,10 @@ use Rattle.net_model.proofs.Readings.{item_at_place, place_of_item}
 use Rattle.ios_config.specs.declared.settings.Config.{Config}
 use Rattle.ios_config.specs.declared.settings.ListText.{ListText}
 use Rattle.net_rows.specs.Lists.{is_of_kind, is_packet_kind, list_named, has_entries}
-use Rattle.edit_space.specs.declared.edit_kinds.Edit.{Edit}
-use Rattle.edit_space.specs.declared.list_kinds.NewList.{NewList}
-use Rattle.edit_space.specs.NewLists.{IsNewList}
-use Rattle.edited_networks.proofs.ListKinds.{ListsOfKind, IsListAfter}
+use Rattle.edit_list.specs.declared.edit_kinds.Edit.{Edit}
+use Rattle.edit_list.specs.declared.list_kinds.NewList.{NewList}
+use Rattle.edit_list.specs.NewLists.{IsNewList}
+use Rattle.edit_space.proofs.ListKinds.{ListsOfKind, IsListAfter}
 use Rattle.patched_settings.specs.Additions.{new_list_kind}
 use Rattle.patched_settings.specs.Plain.{plain_list}
 use Rattle.patched_settings.specs.SettingsAfter.{list_with, new_list_text, AreSettingsAfter}

@@ -24,16 +24,16 @@ use Rattle.net_model.proofs.Readings.{item_at_place}
 use Rattle.traffic_classes.specs.AllClasses.{AreAllClasses}
 use Rattle.traffic_classes.proofs.MakingUp.{classes_make_up}
 use Rattle.traffic_classes.proofs.Unions.{tell_apart}
-use Rattle.edit_space.specs.declared.edit_kinds.Edit.{Edit}
-use Rattle.edit_space.specs.declared.edit_kinds.Edit.TheVariants as edits
-use Rattle.edit_space.specs.declared.sites.Site.{Site}
-use Rattle.edit_space.specs.declared.sites.Site.TheVariants.{Bound, New}
-use Rattle.edit_space.specs.EditLists.{has_session, edits_at, link_edits, route_edit, packet_edit, writable_classes, all_edits, AreEdits}
-use Rattle.edit_space.specs.Writable.{is_writable}
-use Rattle.edit_space.specs.Numbered.{placed, if_number, of_number, by_number}
-use Rattle.edit_space.specs.Prices.{if_chosen, chosen_of}
-use Rattle.edit_space.specs.Sites.{route_list_site, neighbor_site, packet_list_site, takes_list, face_site, route_sites, packet_sites}
-use Rattle.edit_space.proofs.NewListFacts.{picked_from, placed_is}
+use Rattle.edit_list.specs.declared.edit_kinds.Edit.{Edit}
+use Rattle.edit_list.specs.declared.edit_kinds.Edit.TheVariants as edits
+use Rattle.edit_list.specs.declared.sites.Site.{Site}
+use Rattle.edit_list.specs.declared.sites.Site.TheVariants.{Bound, New}
+use Rattle.edit_list.specs.EditLists.{has_session, edits_at, link_edits, route_edit, packet_edit, writable_classes, all_edits, AreEdits}
+use Rattle.edit_list.specs.Writable.{is_writable}
+use Rattle.edit_list.specs.Numbered.{placed, if_number, of_number, by_number}
+use Rattle.edit_list.specs.Prices.{if_chosen, chosen_of}
+use Rattle.edit_list.specs.Sites.{route_list_site, neighbor_site, packet_list_site, takes_list, face_site, route_sites, packet_sites}
+use Rattle.edit_list.proofs.NewListFacts.{picked_from, placed_is}
 use Rattle.patched_settings.specs.Premises.{IsFitting, AreFitting}
 use Rattle.patched_settings.proofs.NewNames.{numbered, zip_places}
 use Rattle.patched_settings.proofs.SessionFacts.{one_session_face}

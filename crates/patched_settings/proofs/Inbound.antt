@@ -9,15 +9,15 @@ use Rattle.arc_base.proofs.Items.{Contains-head, Contains-none}
 use Rattle.net_model.specs.declared.rows.Network.{Network}
 use Rattle.net_model.specs.declared.rows.FaceRow.{FaceRow}
 use Rattle.net_model.specs.Validity.{IsValid}
-use Rattle.edit_space.specs.Determined.{IsCountable}
-use Rattle.edit_space.specs.declared.edit_kinds.Edit.{Edit}
-use Rattle.edit_space.specs.declared.list_kinds.NewList.{NewList}
-use Rattle.edit_space.specs.declared.list_kinds.NewList.TheVariants.{Route, Packet}
-use Rattle.edit_space.specs.Changes.{new_classes}
-use Rattle.edit_space.specs.NewLists.{IsNewList, named_lists}
-use Rattle.edit_space.specs.Numbered.{is_empty}
-use Rattle.edited_networks.proofs.NamedFacts.{of_packet_face}
-use Rattle.edit_space.proofs.NewListFacts.{picked_from, picks}
+use Rattle.edit_list.specs.Determined.{IsCountable}
+use Rattle.edit_list.specs.declared.edit_kinds.Edit.{Edit}
+use Rattle.edit_list.specs.declared.list_kinds.NewList.{NewList}
+use Rattle.edit_list.specs.declared.list_kinds.NewList.TheVariants.{Route, Packet}
+use Rattle.edit_list.specs.Changes.{new_classes}
+use Rattle.edit_list.specs.NewLists.{IsNewList, named_lists}
+use Rattle.edit_list.specs.Numbered.{is_empty}
+use Rattle.edit_space.proofs.NamedFacts.{of_packet_face}
+use Rattle.edit_list.proofs.NewListFacts.{picked_from, picks}
 use Rattle.patched_settings.specs.Additions.{list_for, new_inbound}
 use Rattle.patched_settings.proofs.NewNames.{one_name, new_of_named, named_of_new, packet_list_there}
 use Rattle.patched_settings.proofs.SessionFacts.{one_face}

@@ -25,9 +25,9 @@ use Rattle.net_rows.specs.Sites.{FullName, sites, full_names, ends_of}
 use Rattle.net_rows.proofs.HostNames.{hosts_differ}
 use Rattle.net_rows.proofs.NamesDiffer.{full_names_distinct}
 use Rattle.net_build.proofs.OneAnswer.{all_well_formed}
-use Rattle.edit_space.specs.Determined.{IsCountable}
-use Rattle.edit_space.specs.declared.edit_kinds.Edit.{Edit}
-use Rattle.edit_space.specs.After.{IsAfter}
+use Rattle.edit_list.specs.Determined.{IsCountable}
+use Rattle.edit_list.specs.declared.edit_kinds.Edit.{Edit}
+use Rattle.edit_list.specs.After.{IsAfter}
 use Rattle.patched_settings.specs.Premises.{AreFitting, HasRoom}
 use Rattle.patched_settings.specs.SettingsAfter.{AreAllSettingsAfter}
 use Rattle.patched_settings.proofs.Edited.{AreEdited}

@@ -21,14 +21,14 @@ use Rattle.ios_config.specs.declared.settings.Setting.{Setting}
 use Rattle.ios_config.specs.Bare.{bare_process, bare_given, bare_setting}
 use Rattle.net_rows.specs.Settings.{process_of, lines_of, last_said}
 use Rattle.net_rows.specs.Sites.{host_name}
-use Rattle.edit_space.specs.declared.edit_kinds.Edit.{Edit}
-use Rattle.edit_space.specs.declared.edit_kinds.Edit.TheVariants as edits
-use Rattle.edit_space.specs.declared.list_kinds.NewList.{NewList}
-use Rattle.edit_space.specs.declared.list_kinds.NewList.TheVariants as lists
-use Rattle.edit_space.proofs.NewListFacts.{picked_from}
+use Rattle.edit_list.specs.declared.edit_kinds.Edit.{Edit}
+use Rattle.edit_list.specs.declared.edit_kinds.Edit.TheVariants as edits
+use Rattle.edit_list.specs.declared.list_kinds.NewList.{NewList}
+use Rattle.edit_list.specs.declared.list_kinds.NewList.TheVariants as lists
+use Rattle.edit_list.proofs.NewListFacts.{picked_from}
 use Rattle.patched_settings.specs.Plain.{said}
 use Rattle.patched_settings.specs.Additions.{own_face, session_line, turning_line, filter_line, process_lines}
-use Rattle.edit_space.specs.NewLists.{named_lists}
+use Rattle.edit_list.specs.NewLists.{named_lists}
 use Rattle.patched_settings.specs.SettingsAfter.{process_with, AreSettingsAfter}
 use Rattle.patched_settings.proofs.Pairs.{last_append, picked_of_values, picks_nothing}
 

@@ -11,9 +11,9 @@ use Rattle.ios_config.specs.declared.settings.Given.{Given}
 use Rattle.ios_config.specs.declared.settings.ListText.{ListText}
 use Rattle.ios_words.specs.declared.commands.Command.{Command}
 use Rattle.net_rows.specs.Lists.{is_packet_kind, has_entries, if_defined}
-use Rattle.edit_space.specs.declared.edit_kinds.Edit.{Edit}
-use Rattle.edit_space.specs.Numbered.{if_number, of_number}
-use Rattle.edited_networks.proofs.ListKinds.{ListsOfKind}
+use Rattle.edit_list.specs.declared.edit_kinds.Edit.{Edit}
+use Rattle.edit_list.specs.Numbered.{if_number, of_number}
+use Rattle.edit_space.proofs.ListKinds.{ListsOfKind}
 use Rattle.patched_settings.specs.Plain.{said, plain_entry, plain_list}
 use Rattle.patched_settings.specs.Additions.{if_own_list, front_lines, new_list_kind}
 use Rattle.patched_settings.specs.SettingsAfter.{list_with, new_list_text}

@@ -25,9 +25,9 @@ use Rattle.net_rows.specs.Rows.{AreRows}
 use Rattle.net_rows.specs.Settings.{is_point_to_point}
 use Rattle.net_rows.specs.Sites.{Site, FullName, sites, full_names}
 use Rattle.net_rows.proofs.SameNetwork.{same_rows}
-use Rattle.edit_space.specs.declared.edit_kinds.Edit.{Edit}
-use Rattle.edit_space.specs.After.{IsAfter, IsFaceAfter}
-use Rattle.edit_space.proofs.RowFacts.{row_was, row_now}
+use Rattle.edit_list.specs.declared.edit_kinds.Edit.{Edit}
+use Rattle.edit_list.specs.After.{IsAfter, IsFaceAfter}
+use Rattle.edit_list.proofs.RowFacts.{row_was, row_now}
 use Rattle.patched_settings.proofs.Edited.{AreEdited, file_was}
 use Rattle.patched_settings.proofs.Sites.{FaceStays, site_was, full_names_stay, faces_count}
 

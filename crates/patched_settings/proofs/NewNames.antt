@@ -11,19 +11,19 @@ use Rattle.net_model.specs.declared.rows.RouterRow.{RouterRow}
 use Rattle.net_model.specs.declared.rows.Network.{Network}
 use Rattle.net_model.specs.Validity.{IsValid}
 use Rattle.net_model.proofs.Readings.{item_at_place}
-use Rattle.edit_space.specs.Determined.{IsCountable}
-use Rattle.edit_space.specs.declared.edit_kinds.Edit.{Edit}
-use Rattle.edit_space.specs.declared.list_kinds.NewList.{NewList}
-use Rattle.edit_space.specs.NewLists.{new_route_list, new_packet_list, new_lists, new_lists_of, names_of, new_names_of, IsNewList, named_lists}
-use Rattle.edit_space.specs.Numbered.{placed, if_number, is_empty}
-use Rattle.edit_space.proofs.Counts.{few_picked, few_placed}
-use Rattle.edited_networks.proofs.FreeNames.{free_names_found, free_name_is_new, free_names_apart}
-use Rattle.edit_space.proofs.RowFacts.{one_place, one_item}
-use Rattle.edit_space.proofs.NewListFacts.{picks, pairs_picked, new_lists_apart, placed_there}
+use Rattle.edit_list.specs.Determined.{IsCountable}
+use Rattle.edit_list.specs.declared.edit_kinds.Edit.{Edit}
+use Rattle.edit_list.specs.declared.list_kinds.NewList.{NewList}
+use Rattle.edit_list.specs.NewLists.{new_route_list, new_packet_list, new_lists, new_lists_of, names_of, new_names_of, IsNewList, named_lists}
+use Rattle.edit_list.specs.Numbered.{placed, if_number, is_empty}
+use Rattle.edit_list.proofs.Counts.{few_picked, few_placed}
+use Rattle.edit_space.proofs.FreeNames.{free_names_found, free_name_is_new, free_names_apart}
+use Rattle.edit_list.proofs.RowFacts.{one_place, one_item}
+use Rattle.edit_list.proofs.NewListFacts.{picks, pairs_picked, new_lists_apart, placed_there}
 use Rattle.net_model.specs.declared.rows.FaceRow.{FaceRow}
 use Rattle.net_model.specs.declared.rows.SessionRow.{SessionRow}
-use Rattle.edit_space.specs.declared.list_kinds.NewList.TheVariants.{Route, Packet}
-use Rattle.edit_space.specs.Changes.{new_prefixes, new_classes}
+use Rattle.edit_list.specs.declared.list_kinds.NewList.TheVariants.{Route, Packet}
+use Rattle.edit_list.specs.Changes.{new_prefixes, new_classes}
 
 -- what stands in a zip stands at one place in both
 pub zip_places : {X Y : Type 0} (xs : List X) (ys : List Y) (p : X × Y) → Contains (zip xs ys) p → (k : ℕ) × (slice_get xs k ≡ Some p.0) × (slice_get ys k ≡ Some p.1)

@@ -4,7 +4,7 @@ use Rattle.std.specs.Prelude.{Contains, slice_get, ◌↔◌}
 use Rattle.std.specs.Option.{option_or}
 use Rattle.std.proofs.lemmas.Bool.{false≢true}
 use Rattle.std.proofs.lemmas.Option.{same_Some}
-use Rattle.edit_space.specs.declared.edit_kinds.Edit.TheVariants as edits
+use Rattle.edit_list.specs.declared.edit_kinds.Edit.TheVariants as edits
 use Rattle.arc_base.specs.declared.place.Face.{Face}
 use Rattle.net_model.specs.declared.lists.PacketList.{PacketList}
 use Rattle.net_model.specs.declared.policies.Document.{Document}
@@ -14,11 +14,11 @@ use Rattle.ios_config.specs.declared.settings.FaceText.{FaceText}
 use Rattle.net_rows.specs.Lists.{BindsPacketList, IsBoundPacketList, IsPacketListRow}
 use Rattle.net_rows.specs.Settings.{value}
 use Rattle.net_rows.proofs.SiteFacts.{site_of}
-use Rattle.edit_space.specs.declared.edit_kinds.Edit.{Edit}
-use Rattle.edit_space.specs.declared.list_kinds.NewList.TheVariants as lists
-use Rattle.edit_space.specs.NewLists.{IsNewList}
-use Rattle.edit_space.specs.After.{IsNewPacketList, IsPacketListAfter}
-use Rattle.edited_networks.proofs.NamedFacts.{of_packet_face}
+use Rattle.edit_list.specs.declared.edit_kinds.Edit.{Edit}
+use Rattle.edit_list.specs.declared.list_kinds.NewList.TheVariants as lists
+use Rattle.edit_list.specs.NewLists.{IsNewList}
+use Rattle.edit_list.specs.After.{IsNewPacketList, IsPacketListAfter}
+use Rattle.edit_space.proofs.NamedFacts.{of_packet_face}
 use Rattle.patched_settings.specs.Additions.{new_inbound}
 use Rattle.patched_settings.specs.SettingsAfter.{AreSettingsAfter}
 use Rattle.patched_settings.proofs.Edited.{AreEdited, face_row, face_site, own_site, face_text_now, face_text_was, packet_edit_there}

@@ -28,12 +28,12 @@ use Rattle.net_rows.specs.Rows.{IsLinkRow, IsSubnet}
 use Rattle.net_rows.specs.Settings.{lines_of}
 use Rattle.net_rows.specs.Sites.{FullName, sites, full_names, full_name, host_name, a_end, b_end, AreJoined}
 use Rattle.net_rows.proofs.SiteFacts.{site_of, name_at_site}
-use Rattle.edit_space.specs.declared.edit_kinds.Edit.{Edit}
-use Rattle.edit_space.specs.declared.edit_kinds.Edit.TheVariants as edits
-use Rattle.edit_space.specs.declared.list_kinds.NewList.{NewList}
-use Rattle.edit_space.specs.NewLists.{IsNewList, named_lists}
-use Rattle.edited_networks.proofs.NamedFacts.{of_route_face}
-use Rattle.edit_space.proofs.NewListFacts.{picked_from}
+use Rattle.edit_list.specs.declared.edit_kinds.Edit.{Edit}
+use Rattle.edit_list.specs.declared.edit_kinds.Edit.TheVariants as edits
+use Rattle.edit_list.specs.declared.list_kinds.NewList.{NewList}
+use Rattle.edit_list.specs.NewLists.{IsNewList, named_lists}
+use Rattle.edit_space.proofs.NamedFacts.{of_route_face}
+use Rattle.edit_list.proofs.NewListFacts.{picked_from}
 use Rattle.patched_settings.specs.Additions.{own_face, session_line, turning_line, filter_line}
 use Rattle.patched_settings.specs.SettingsAfter.{AreSettingsAfter}
 use Rattle.patched_settings.proofs.Edited.{AreEdited, FileWas, file_was, face_row, session_is, face_text_now}

@@ -12,9 +12,9 @@ use Rattle.ios_config.specs.declared.settings.Config.{Config}
 use Rattle.ios_config.specs.declared.settings.ListText.{ListText}
 use Rattle.net_rows.specs.Limits.{RefusesEntries, long_list}
 use Rattle.net_rows.specs.Reasons.{IsClear}
-use Rattle.edit_space.specs.declared.edit_kinds.Edit.{Edit}
-use Rattle.edit_space.specs.Prices.{if_chosen, chosen_of}
-use Rattle.edit_space.proofs.Counts.{few_picked}
+use Rattle.edit_list.specs.declared.edit_kinds.Edit.{Edit}
+use Rattle.edit_list.specs.Prices.{if_chosen, chosen_of}
+use Rattle.edit_list.proofs.Counts.{few_picked}
 use Rattle.patched_settings.specs.Premises.{HasRoom}
 
 -- what passes the test is found, or something before it

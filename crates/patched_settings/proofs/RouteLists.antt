@@ -3,7 +3,7 @@ use Rattle.std.proofs.Common.{◌≡◌, ℕ, ◌⊎◌, inl, inr, false, Option
 use Rattle.std.specs.Prelude.{Contains, slice_get, is_some, ◌↔◌}
 use Rattle.std.proofs.lemmas.Bool.{false≢true}
 use Rattle.std.proofs.lemmas.Option.{none-some, same_Some}
-use Rattle.edit_space.specs.declared.edit_kinds.Edit.TheVariants as edits
+use Rattle.edit_list.specs.declared.edit_kinds.Edit.TheVariants as edits
 use Rattle.arc_base.specs.declared.place.Face.{Face}
 use Rattle.net_model.specs.declared.lists.RouteList.{RouteList}
 use Rattle.net_model.specs.declared.policies.Document.{Document}
@@ -13,11 +13,11 @@ use Rattle.ios_config.specs.declared.settings.Config.{Config}
 use Rattle.net_rows.specs.Lists.{IsBoundRouteList, IsRouteListRow}
 use Rattle.net_rows.specs.Settings.{lines_of}
 use Rattle.net_rows.proofs.SiteFacts.{site_of}
-use Rattle.edit_space.specs.declared.edit_kinds.Edit.{Edit}
-use Rattle.edit_space.specs.declared.list_kinds.NewList.TheVariants as lists
-use Rattle.edit_space.specs.NewLists.{IsNewList}
-use Rattle.edit_space.specs.After.{IsNewRouteList, IsRouteListAfter}
-use Rattle.edited_networks.proofs.NamedFacts.{of_route_face}
+use Rattle.edit_list.specs.declared.edit_kinds.Edit.{Edit}
+use Rattle.edit_list.specs.declared.list_kinds.NewList.TheVariants as lists
+use Rattle.edit_list.specs.NewLists.{IsNewList}
+use Rattle.edit_list.specs.After.{IsNewRouteList, IsRouteListAfter}
+use Rattle.edit_space.proofs.NamedFacts.{of_route_face}
 use Rattle.patched_settings.specs.SettingsAfter.{AreSettingsAfter}
 use Rattle.patched_settings.proofs.Edited.{AreEdited, face_row, face_site, session_site, route_edit_there}
 use Rattle.patched_settings.proofs.NewNames.{one_name}
@@ -25,8 +25,8 @@ use Rattle.patched_settings.proofs.Pairs.{last_is_in}
 use Rattle.patched_settings.proofs.Said.{IsBoundNew, names_bound, bound_new, filter_after, filter_is_new}
 use Rattle.patched_settings.proofs.SessionFacts.{session_found}
 use Rattle.net_rows.specs.Neighbors.{filter_of}
-use Rattle.edit_space.specs.Changes.{new_prefixes}
-use Rattle.edit_space.specs.Numbered.{is_empty}
+use Rattle.edit_list.specs.Changes.{new_prefixes}
+use Rattle.edit_list.specs.Numbered.{is_empty}
 use Rattle.arc_base.proofs.Items.{Contains-head}
 use Rattle.std.specs.List.{last_or}
 use Rattle.patched_settings.proofs.FileLists.{same_lists}

@@ -18,11 +18,11 @@ use Rattle.ios_config.specs.declared.settings.ProcessText.{ProcessText}
 use Rattle.net_rows.specs.Lists.{IsListName}
 use Rattle.net_rows.specs.Rows.{asn_of, IsRouterRow}
 use Rattle.net_rows.specs.Settings.{process_of}
-use Rattle.edit_space.specs.declared.edit_kinds.Edit.{Edit}
-use Rattle.edit_space.specs.declared.list_kinds.NewList.{NewList}
-use Rattle.edit_space.specs.After.{IsAfter, IsRouterAfter}
-use Rattle.edit_space.specs.NewLists.{new_names_of, IsNewList, named_lists}
-use Rattle.edit_space.proofs.RowFacts.{row_was}
+use Rattle.edit_list.specs.declared.edit_kinds.Edit.{Edit}
+use Rattle.edit_list.specs.declared.list_kinds.NewList.{NewList}
+use Rattle.edit_list.specs.After.{IsAfter, IsRouterAfter}
+use Rattle.edit_list.specs.NewLists.{new_names_of, IsNewList, named_lists}
+use Rattle.edit_list.proofs.RowFacts.{row_was}
 use Rattle.patched_settings.specs.Plain.{plain_list}
 use Rattle.patched_settings.specs.SettingsAfter.{list_with, new_list_text, new_list_texts, AreSettingsAfter}
 use Rattle.patched_settings.proofs.Edited.{AreEdited, file_was, router_row}

@@ -19,17 +19,17 @@ use Rattle.ios_words.specs.declared.commands.Command.TheVariants as commands
 use Rattle.ios_config.specs.declared.settings.Config.{Config}
 use Rattle.net_rows.specs.Settings.{process_of, lines_of, last_said, says_passive, is_passive}
 use Rattle.net_rows.specs.Neighbors.{says_down, says_filter, is_down, filter_of}
-use Rattle.edit_space.specs.Determined.{IsCountable}
-use Rattle.edit_space.specs.declared.edit_kinds.Edit.{Edit}
-use Rattle.edit_space.specs.declared.edit_kinds.Edit.TheVariants as edits
-use Rattle.edit_space.specs.declared.list_kinds.NewList.{NewList}
-use Rattle.edit_space.specs.declared.list_kinds.NewList.TheVariants as lists
-use Rattle.edit_space.specs.Changes.{session_change, turns_session, new_prefixes}
-use Rattle.edit_space.specs.NewLists.{IsNewList, named_lists}
-use Rattle.edit_space.specs.Numbered.{is_empty}
-use Rattle.edit_space.specs.After.{turned_if, passive_after}
-use Rattle.edited_networks.proofs.NamedFacts.{of_route_face}
-use Rattle.edit_space.proofs.NewListFacts.{picked_from, picks}
+use Rattle.edit_list.specs.Determined.{IsCountable}
+use Rattle.edit_list.specs.declared.edit_kinds.Edit.{Edit}
+use Rattle.edit_list.specs.declared.edit_kinds.Edit.TheVariants as edits
+use Rattle.edit_list.specs.declared.list_kinds.NewList.{NewList}
+use Rattle.edit_list.specs.declared.list_kinds.NewList.TheVariants as lists
+use Rattle.edit_list.specs.Changes.{session_change, turns_session, new_prefixes}
+use Rattle.edit_list.specs.NewLists.{IsNewList, named_lists}
+use Rattle.edit_list.specs.Numbered.{is_empty}
+use Rattle.edit_list.specs.After.{turned_if, passive_after}
+use Rattle.edit_space.proofs.NamedFacts.{of_route_face}
+use Rattle.edit_list.proofs.NewListFacts.{picked_from, picks}
 use Rattle.patched_settings.specs.Additions.{own_face, session_line, turning_line, filter_line}
 use Rattle.patched_settings.specs.SettingsAfter.{AreSettingsAfter}
 use Rattle.patched_settings.proofs.Pairs.{picks_nothing, last_is_one}

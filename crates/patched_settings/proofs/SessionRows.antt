@@ -29,14 +29,14 @@ use Rattle.net_rows.specs.Sites.{Site, sites}
 use Rattle.net_rows.proofs.ListKeys.{route_keys_differ}
 use Rattle.net_rows.proofs.SameRows.{one_list_place}
 use Rattle.net_rows.proofs.SiteFacts.{IsSiteOf, site_of}
-use Rattle.edit_space.specs.declared.edit_kinds.Edit.{Edit}
-use Rattle.edit_space.specs.declared.list_kinds.NewList.TheVariants as lists
-use Rattle.edit_space.specs.Changes.{new_prefixes}
-use Rattle.edit_space.specs.NewLists.{IsNewList}
-use Rattle.edit_space.specs.Numbered.{is_empty}
-use Rattle.edit_space.specs.After.{IsAfter, IsSessionAfter, StaysBound, RouteListMoves, IsNewRouteList, edited_route_list}
-use Rattle.edited_networks.proofs.ListKinds.{one_router, routes}
-use Rattle.edit_space.proofs.RowFacts.{row_was, row_now}
+use Rattle.edit_list.specs.declared.edit_kinds.Edit.{Edit}
+use Rattle.edit_list.specs.declared.list_kinds.NewList.TheVariants as lists
+use Rattle.edit_list.specs.Changes.{new_prefixes}
+use Rattle.edit_list.specs.NewLists.{IsNewList}
+use Rattle.edit_list.specs.Numbered.{is_empty}
+use Rattle.edit_list.specs.After.{IsAfter, IsSessionAfter, StaysBound, RouteListMoves, IsNewRouteList, edited_route_list}
+use Rattle.edit_space.proofs.ListKinds.{one_router, routes}
+use Rattle.edit_list.proofs.RowFacts.{row_was, row_now}
 use Rattle.patched_settings.proofs.Bound.{key_at, stays_placed}
 use Rattle.patched_settings.proofs.Edited.{AreEdited, not_new, face_row, IsRowOf, session_is}
 use Rattle.patched_settings.proofs.Lines.{IsAdded, same_said}

@@ -11,7 +11,7 @@ use Rattle.ios_config.specs.declared.settings.FaceText.{FaceText}
 use Rattle.ios_config.specs.Bare.{bare_face, bare_option}
 use Rattle.net_rows.specs.Settings.{value, address_of}
 use Rattle.net_rows.specs.Sites.{Site, sites, sites_of, full_name, full_names, host_name}
-use Rattle.edit_space.specs.declared.edit_kinds.Edit.{Edit}
+use Rattle.edit_list.specs.declared.edit_kinds.Edit.{Edit}
 use Rattle.patched_settings.specs.Plain.{said}
 use Rattle.patched_settings.specs.Additions.{new_inbound}
 use Rattle.patched_settings.specs.SettingsAfter.{face_with, AreSettingsAfter, AreAllSettingsAfter}

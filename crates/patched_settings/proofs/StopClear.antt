@@ -41,13 +41,13 @@ use Rattle.net_rows.specs.Settings.{value, address_of}
 use Rattle.net_rows.specs.Sites.{Site}
 use Rattle.net_rows.specs.Stops.{IsAble, IsNeeded, targets, session_services, Denies, StopsPackets, RefusesListStopsSession}
 use Rattle.traffic_classes.proofs.Ranges.{range_holds, holds_range, ends_below}
-use Rattle.edit_space.specs.declared.edit_kinds.Edit.{Edit}
-use Rattle.edit_space.specs.declared.edit_kinds.Edit.TheVariants as edits
-use Rattle.edit_space.specs.Changes.{packet_list_change, list_classes, new_classes}
-use Rattle.edit_space.specs.Numbered.{is_empty, if_number}
-use Rattle.edit_space.specs.After.{IsAfter, IsFaceAfter, IsSessionAfter, IsRouterAfter, StaysBound, PacketListMoves, IsNewPacketList, edited_packet_list, with_classes, class_entry, new_packet_entries, any, every_packet}
-use Rattle.edit_space.proofs.NewListFacts.{picked_from}
-use Rattle.edit_space.proofs.RowFacts.{row_was}
+use Rattle.edit_list.specs.declared.edit_kinds.Edit.{Edit}
+use Rattle.edit_list.specs.declared.edit_kinds.Edit.TheVariants as edits
+use Rattle.edit_list.specs.Changes.{packet_list_change, list_classes, new_classes}
+use Rattle.edit_list.specs.Numbered.{is_empty, if_number}
+use Rattle.edit_list.specs.After.{IsAfter, IsFaceAfter, IsSessionAfter, IsRouterAfter, StaysBound, PacketListMoves, IsNewPacketList, edited_packet_list, with_classes, class_entry, new_packet_entries, any, every_packet}
+use Rattle.edit_list.proofs.NewListFacts.{picked_from}
+use Rattle.edit_list.proofs.RowFacts.{row_was}
 use Rattle.edit_laws.proofs.Turning.{staying_packets}
 use Rattle.ios_config.specs.declared.settings.Given.{Given}
 use Rattle.patched_settings.proofs.Edited.{AreEdited, face_site, packet_edit_of}

@@ -20,10 +20,10 @@ use Rattle.ios_config.specs.declared.settings.ListText.{ListText}
 use Rattle.ios_config.specs.declared.settings.ListForm.{ListForm}
 use Rattle.ios_config.specs.declared.settings.ListForm.TheVariants as forms
 use Rattle.net_rows.specs.Lists.{is_of_kind, is_packet_kind, list_named, packet_entry, route_entry, packet_entries, route_entries}
-use Rattle.edit_space.specs.Determined.{IsCountable}
-use Rattle.edit_space.specs.declared.edit_kinds.Edit.{Edit}
-use Rattle.edit_space.specs.declared.list_kinds.NewList.{NewList}
-use Rattle.edit_space.specs.NewLists.{IsNewList, named_lists}
+use Rattle.edit_list.specs.Determined.{IsCountable}
+use Rattle.edit_list.specs.declared.edit_kinds.Edit.{Edit}
+use Rattle.edit_list.specs.declared.list_kinds.NewList.{NewList}
+use Rattle.edit_list.specs.NewLists.{IsNewList, named_lists}
 use Rattle.patched_settings.specs.Plain.{said, without_number, plain_entry, plain_list}
 use Rattle.patched_settings.specs.Additions.{new_list_kind, route_line, packet_line}
 use Rattle.patched_settings.specs.SettingsAfter.{list_with, new_list_text, new_list_texts, AreSettingsAfter}

@@ -18,13 +18,13 @@ use Rattle.ios_config.specs.declared.settings.ListForm.TheVariants as forms
 use Rattle.ios_config.specs.declared.settings.ListText.{ListText}
 use Rattle.ios_words.specs.declared.commands.Command.{Command}
 use Rattle.net_rows.specs.Lists.{is_packet_kind, is_extended_kind, list_named, if_defined, packet_entry, packet_entries, route_entry, route_entries, IsBoundPacketList, IsBoundRouteList, IsListName, IsPacketListRow, IsRouteListRow}
-use Rattle.edit_space.specs.declared.edit_kinds.Edit.{Edit}
-use Rattle.edit_space.specs.declared.edit_kinds.Edit.TheVariants as edits
-use Rattle.edit_space.specs.Changes.{packet_list_change, route_list_change, new_classes, new_prefixes}
-use Rattle.edit_space.specs.Numbered.{of_number}
-use Rattle.edit_space.specs.NewLists.{IsNewList}
-use Rattle.edit_space.specs.After.{opposite_packet_entry, opposite_route_entry, class_entry, exact_entry, every_packet, any}
-use Rattle.edited_networks.proofs.ListKinds.{ListsOfKind, packets, routes}
+use Rattle.edit_list.specs.declared.edit_kinds.Edit.{Edit}
+use Rattle.edit_list.specs.declared.edit_kinds.Edit.TheVariants as edits
+use Rattle.edit_list.specs.Changes.{packet_list_change, route_list_change, new_classes, new_prefixes}
+use Rattle.edit_list.specs.Numbered.{of_number}
+use Rattle.edit_list.specs.NewLists.{IsNewList}
+use Rattle.edit_list.specs.After.{opposite_packet_entry, opposite_route_entry, class_entry, exact_entry, every_packet, any}
+use Rattle.edit_space.proofs.ListKinds.{ListsOfKind, packets, routes}
 use Rattle.patched_settings.specs.Plain.{without_number}
 use Rattle.patched_settings.specs.Additions.{if_own_list, class_for, prefix_for, packet_line, route_line, front_lines, new_list_lines, new_list_kind}
 use Rattle.patched_settings.proofs.Tables.{packet_without, route_without, packet_line_is, route_line_is}

@@ -15,11 +15,11 @@ use Rattle.ios_config.specs.declared.settings.ListText.{ListText}
 use Rattle.ios_config.specs.declared.settings.ProcessText.{ProcessText}
 use Rattle.ios_config.specs.Bare.{bare_face, bare_process}
 use Rattle.net_rows.specs.Lists.{packet_entries, route_entries}
-use Rattle.edit_space.specs.declared.edit_kinds.Edit.{Edit}
-use Rattle.edit_space.specs.declared.list_kinds.NewList.{NewList}
-use Rattle.edit_space.specs.After.{opposite_route_entry, opposite_packet_entry}
+use Rattle.edit_list.specs.declared.edit_kinds.Edit.{Edit}
+use Rattle.edit_list.specs.declared.list_kinds.NewList.{NewList}
+use Rattle.edit_list.specs.After.{opposite_route_entry, opposite_packet_entry}
 use Rattle.patched_settings.specs.Additions.{list_for, new_inbound, prefix_for, class_for, front_lines, route_line, packet_line}
-use Rattle.edit_space.specs.NewLists.{named_lists}
+use Rattle.edit_list.specs.NewLists.{named_lists}
 use Rattle.patched_settings.specs.Plain.{said, plain_list}
 use Rattle.patched_settings.specs.SettingsAfter.{face_with, list_with, new_list_text, new_list_texts, process_with, AreSettingsAfter}
 use Rattle.patched_settings.specs.Premises.{IsUntouched}

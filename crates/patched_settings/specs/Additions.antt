@@ -22,14 +22,14 @@ use Rattle.ios_config.specs.declared.settings.ListKind.TheVariants.{Extended, St
 use Rattle.ios_config.specs.declared.settings.ListKind.TheVariants as kinds
 use Rattle.ios_config.specs.declared.settings.ListText.{ListText}
 use Rattle.net_rows.specs.Lists.{packet_entries, packet_text, route_entries}
-use Rattle.edit_space.specs.declared.edit_kinds.Edit.{Edit}
-use Rattle.edit_space.specs.declared.edit_kinds.Edit.TheVariants as edits
-use Rattle.edit_space.specs.declared.list_kinds.NewList.{NewList}
-use Rattle.edit_space.specs.declared.list_kinds.NewList.TheVariants as lists
-use Rattle.edit_space.specs.Changes.{new_prefixes, new_classes}
-use Rattle.edit_space.specs.NewLists.{named_lists}
-use Rattle.edit_space.specs.After.{opposite_route_entry, opposite_packet_entry, new_route_entries}
-use Rattle.edit_space.specs.After.{new_packet_entries}
+use Rattle.edit_list.specs.declared.edit_kinds.Edit.{Edit}
+use Rattle.edit_list.specs.declared.edit_kinds.Edit.TheVariants as edits
+use Rattle.edit_list.specs.declared.list_kinds.NewList.{NewList}
+use Rattle.edit_list.specs.declared.list_kinds.NewList.TheVariants as lists
+use Rattle.edit_list.specs.Changes.{new_prefixes, new_classes}
+use Rattle.edit_list.specs.NewLists.{named_lists}
+use Rattle.edit_list.specs.After.{opposite_route_entry, opposite_packet_entry, new_route_entries}
+use Rattle.edit_list.specs.After.{new_packet_entries}
 
 -- the interface at the place, if it is one of the router
 abbrev pub own_face : Network → ℕ → ℕ → Option FaceRow

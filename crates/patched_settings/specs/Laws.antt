@@ -12,11 +12,11 @@ use Rattle.ios_config.specs.declared.settings.Config.{Config}
 use Rattle.net_rows.specs.Limits.{RefusesEntries}
 use Rattle.net_rows.specs.Reasons.{IsClear}
 use Rattle.net_build.specs.Networks.{Says, IsNetworkOf}
-use Rattle.edit_space.specs.declared.edit_kinds.Edit.{Edit}
-use Rattle.edit_space.specs.After.{IsAfter}
-use Rattle.edit_space.specs.Determined.{IsCountable}
-use Rattle.edit_space.specs.EditLists.{AreEdits}
-use Rattle.edit_space.specs.Prices.{chosen_of}
+use Rattle.edit_list.specs.declared.edit_kinds.Edit.{Edit}
+use Rattle.edit_list.specs.After.{IsAfter}
+use Rattle.edit_list.specs.Determined.{IsCountable}
+use Rattle.edit_list.specs.EditLists.{AreEdits}
+use Rattle.edit_list.specs.Prices.{chosen_of}
 use Rattle.patched_settings.specs.Premises.{AreFitting, HasRoom, IsUntouched, IsWritable}
 use Rattle.patched_settings.specs.SettingsAfter.{AreSettingsAfter, AreAllSettingsAfter}
 

@@ -11,10 +11,10 @@ use Rattle.net_model.specs.Forwarding.{HasHost}
 use Rattle.ios_words.specs.Names.{is_face_name}
 use Rattle.ios_config.specs.declared.settings.Config.{Config}
 use Rattle.ios_config.specs.declared.settings.ListText.{ListText}
-use Rattle.edit_space.specs.declared.edit_kinds.Edit.{Edit}
-use Rattle.edit_space.specs.declared.edit_kinds.Edit.TheVariants as edits
+use Rattle.edit_list.specs.declared.edit_kinds.Edit.{Edit}
+use Rattle.edit_list.specs.declared.edit_kinds.Edit.TheVariants as edits
 use Rattle.patched_settings.specs.Additions.{process_lines, prefix_for, class_for}
-use Rattle.edit_space.specs.NewLists.{named_lists}
+use Rattle.edit_list.specs.NewLists.{named_lists}
 
 -- The edit makes a new list only where none is bound, and an entry of a packet list is for a class
 -- whose sources lie in a host network.

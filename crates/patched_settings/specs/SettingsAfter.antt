@@ -7,13 +7,13 @@ use Rattle.ios_config.specs.declared.settings.FaceText.{FaceText}
 use Rattle.ios_config.specs.declared.settings.ListText.{ListText}
 use Rattle.ios_config.specs.declared.settings.ProcessText.{ProcessText}
 use Rattle.ios_config.specs.Bare.{bare_face, bare_process, bare_setting}
-use Rattle.edit_space.specs.declared.edit_kinds.Edit.{Edit}
-use Rattle.edit_space.specs.declared.list_kinds.NewList.{NewList}
-use Rattle.edit_space.specs.Numbered.{EachRow}
+use Rattle.edit_list.specs.declared.edit_kinds.Edit.{Edit}
+use Rattle.edit_list.specs.declared.list_kinds.NewList.{NewList}
+use Rattle.edit_list.specs.Numbered.{EachRow}
 use Rattle.patched_settings.specs.Plain.{said, plain_list}
 use Rattle.patched_settings.specs.Additions.{process_lines, new_inbound, front_lines}
 use Rattle.patched_settings.specs.Additions.{new_list_lines, new_list_kind, new_list_form}
-use Rattle.edit_space.specs.NewLists.{named_lists}
+use Rattle.edit_list.specs.NewLists.{named_lists}
 
 -- an interface of the router after the edits: its new packet list is bound inbound, where it has
 -- one

@@ -26,14 +26,14 @@ use Rattle.ios_config.specs.declared.settings.ListForm.TheVariants.{Block, Lines
 use Rattle.net_build.specs.declared.built.ListPlace.{ListPlace}
 use Rattle.net_build.specs.declared.built.FacePlace.{FacePlace}
 use Rattle.net_build.specs.declared.built.Places.{Places}
-use Rattle.edit_space.specs.declared.edit_kinds.Edit.{Edit}
-use Rattle.edit_space.specs.declared.list_kinds.NewList.{NewList}
-use Rattle.edit_space.specs.declared.list_kinds.NewList.TheVariants.{Route, Packet}
-use Rattle.edit_space.specs.After.{class_entry, every_packet, opposite_packet_entry, opposite_route_entry}
-use Rattle.edit_space.specs.Changes.{list_classes, list_prefixes, new_classes, new_prefixes, new_route_change, packet_list_change, route_list_change}
-use Rattle.edit_space.specs.NewLists.{named_lists, new_lists_of, new_names_of}
-use Rattle.edit_space.specs.Numbered.{if_number}
-use Rattle.edit_space.proofs.Counts.{few_picked}
+use Rattle.edit_list.specs.declared.edit_kinds.Edit.{Edit}
+use Rattle.edit_list.specs.declared.list_kinds.NewList.{NewList}
+use Rattle.edit_list.specs.declared.list_kinds.NewList.TheVariants.{Route, Packet}
+use Rattle.edit_list.specs.After.{class_entry, every_packet, opposite_packet_entry, opposite_route_entry}
+use Rattle.edit_list.specs.Changes.{list_classes, list_prefixes, new_classes, new_prefixes, new_route_change, packet_list_change, route_list_change}
+use Rattle.edit_list.specs.NewLists.{named_lists, new_lists_of, new_names_of}
+use Rattle.edit_list.specs.Numbered.{if_number}
+use Rattle.edit_list.proofs.Counts.{few_picked}
 use Rattle.line_patcher.specs.declared.additions.NewNumber.{NewNumber}
 use Rattle.line_patcher.specs.Additions.{lines_after, lines_before, numbers_at}
 use Rattle.line_patcher.specs.EntryLines.{first_line, class_line, edited_packet_lists, edited_route_lists, new_number, new_numbers, order_at, packet_line, packet_list_entries, packet_list_numbers, packet_place, prefix_line, route_list_entries, route_list_numbers, route_place, is_packet_form, at_front, class_lines, prefix_lines}

@@ -18,9 +18,9 @@ use Rattle.net_build.specs.Networks.{IsBuilt, Says}
 use Rattle.net_build.specs.Places.{list_place, places_of}
 use Rattle.net_model.specs.declared.rows.Network.{Network}
 use Rattle.net_rows.specs.Rows.{IsRouterRow}
-use Rattle.edit_space.specs.declared.edit_kinds.Edit.{Edit}
-use Rattle.edit_space.specs.Prices.{chosen_of, if_chosen}
-use Rattle.edit_space.proofs.Counts.{few_picked}
+use Rattle.edit_list.specs.declared.edit_kinds.Edit.{Edit}
+use Rattle.edit_list.specs.Prices.{chosen_of, if_chosen}
+use Rattle.edit_list.proofs.Counts.{few_picked}
 use Rattle.line_patcher.specs.Patches.{patched_file, patched_text}
 use Rattle.line_patcher.specs.Additions.{lines_after, lines_before, numbers_at}
 use Rattle.patched_settings.specs.Premises.{HasRoom}

@@ -4,7 +4,7 @@ use Rattle.std.specs.Prelude.{Option, Some, None}
 use Rattle.std.specs.List.{filter_map, flat_map, range_with_len, cons_option, zip, sum_by, AllByRecursion}
 use Rattle.std.proofs.lemmas.Bool.{eqb-true}
 use Rattle.std.proofs.lemmas.List.Recursion.{is_sum_by}
-use Rattle.edit_space.specs.Numbered.{of_number}
+use Rattle.edit_list.specs.Numbered.{of_number}
 
 -- the sum over a list
 abbrev pub total : {X : Type 0} → (X → ℕ) → List X → ℕ

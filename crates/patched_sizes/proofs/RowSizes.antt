@@ -11,7 +11,7 @@ use Rattle.ios_lines.specs.Lines.{AreLinesOf}
 use Rattle.ios_lines.specs.Rewritten.{rewritten}
 use Rattle.ios_lines.specs.Texts.{IsEnd, Join, part}
 use Rattle.ios_lines.specs.Words.{AreWords}
-use Rattle.edit_space.specs.Numbered.{of_number}
+use Rattle.edit_list.specs.Numbered.{of_number}
 use Rattle.line_patcher.specs.declared.additions.NewNumber.{NewNumber}
 use Rattle.line_patcher.specs.Patches.{end_of, line_end, row_bytes, ended, following, patched_row, patched_text}
 use Rattle.line_patcher.proofs.RowsWithin.{rows-few}

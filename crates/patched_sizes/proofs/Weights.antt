@@ -10,13 +10,13 @@ use Rattle.net_model.specs.declared.rows.SessionRow.{SessionRow}
 use Rattle.net_model.specs.declared.lists.PacketList.{PacketList}
 use Rattle.net_model.specs.declared.lists.RouteList.{RouteList}
 use Rattle.net_model.specs.Validity.{IsValid, AreSessionsApart}
-use Rattle.edit_space.specs.declared.edit_kinds.Edit.{Edit}
-use Rattle.edit_space.specs.declared.edit_kinds.Edit.TheVariants as edits
-use Rattle.edit_space.specs.declared.list_kinds.NewList.{NewList}
-use Rattle.edit_space.specs.declared.list_kinds.NewList.TheVariants.{Route, Packet}
-use Rattle.edit_space.specs.Changes.{list_classes, list_prefixes, new_classes, new_prefixes, new_packet_change, new_route_change, packet_list_change, route_list_change}
-use Rattle.edit_space.specs.NewLists.{new_lists, new_lists_of, new_packet_list, new_route_list}
-use Rattle.edit_space.specs.Numbered.{is_empty, of_number, placed}
+use Rattle.edit_list.specs.declared.edit_kinds.Edit.{Edit}
+use Rattle.edit_list.specs.declared.edit_kinds.Edit.TheVariants as edits
+use Rattle.edit_list.specs.declared.list_kinds.NewList.{NewList}
+use Rattle.edit_list.specs.declared.list_kinds.NewList.TheVariants.{Route, Packet}
+use Rattle.edit_list.specs.Changes.{list_classes, list_prefixes, new_classes, new_prefixes, new_packet_change, new_route_change, packet_list_change, route_list_change}
+use Rattle.edit_list.specs.NewLists.{new_lists, new_lists_of, new_packet_list, new_route_list}
+use Rattle.edit_list.specs.Numbered.{is_empty, of_number, placed}
 use Rattle.line_patcher.specs.EntryLines.{edited_packet_list, edited_route_list, edited_packet_lists, edited_route_lists}
 use Rattle.line_patcher.specs.SessionLines.{turned_face, turned_faces}
 use Rattle.patched_sizes.proofs.Keyed.{total, total-append, total-le, total-map, total-ones, picked-few, zip-few, Apart, Other, apart-range, keyed-few, picked-all, both-all, numbered-all}

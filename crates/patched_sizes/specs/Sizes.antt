@@ -6,9 +6,9 @@ use Rattle.arc_base.specs.declared.limits.TheConstants.{ALL_ROUTER_FILES_LIMIT, 
 use Rattle.arc_base.specs.declared.limits.TheConstants.{ROUTER_FILE_LIMIT}
 use Rattle.net_model.specs.declared.policies.Document.{Document}
 use Rattle.net_build.specs.declared.built.Built.{Built}
-use Rattle.edit_space.specs.declared.edit_kinds.Edit.{Edit}
-use Rattle.edit_space.specs.EditLists.{AreEdits}
-use Rattle.edit_space.specs.Prices.{chosen_of}
+use Rattle.edit_list.specs.declared.edit_kinds.Edit.{Edit}
+use Rattle.edit_list.specs.EditLists.{AreEdits}
+use Rattle.edit_list.specs.Prices.{chosen_of}
 use Rattle.line_patcher.specs.Patches.{ArePatched}
 use Rattle.changed_files.specs.Changes.{IsEditable}
 

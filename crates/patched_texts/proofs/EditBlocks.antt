@@ -23,16 +23,16 @@ use Rattle.ios_config.proofs.LinesBefore.{Rising}
 use Rattle.ios_config.proofs.PartLists.{is_same-Decides, others}
 use Rattle.ios_config.proofs.ProcessBlocks.{rising-filter}
 use Rattle.net_build.specs.declared.built.Places.{Places}
-use Rattle.edit_space.specs.declared.edit_kinds.Edit.{Edit}
-use Rattle.edit_space.specs.declared.list_kinds.NewList.{NewList}
-use Rattle.edit_space.specs.Numbered.{of_number}
-use Rattle.edit_space.proofs.NewListFacts.{picked_from}
+use Rattle.edit_list.specs.declared.edit_kinds.Edit.{Edit}
+use Rattle.edit_list.specs.declared.list_kinds.NewList.{NewList}
+use Rattle.edit_list.specs.Numbered.{of_number}
+use Rattle.edit_list.proofs.NewListFacts.{picked_from}
 use Rattle.line_patcher.specs.declared.additions.NewNumber.{NewNumber}
 use Rattle.line_patcher.specs.Additions.{numbers_at}
 use Rattle.line_patcher.specs.NewListLines.{face_places, filter_lines}
 use Rattle.line_patcher.specs.SessionLines.{session_lines}
 use Rattle.patched_settings.specs.Additions.{process_lines}
-use Rattle.edit_space.specs.NewLists.{named_lists}
+use Rattle.edit_list.specs.NewLists.{named_lists}
 use Rattle.patched_settings.specs.SettingsAfter.{process_with}
 use Rattle.edited_lines.specs.Sites.{Written, in_block, says_other}
 use Rattle.patched_texts.specs.EditFiles.{IsEditedFile}

@@ -21,17 +21,17 @@ use Rattle.ios_config.proofs.ProcessBlocks.{process-blocks}
 use Rattle.net_build.specs.declared.built.ListPlace.{ListPlace}
 use Rattle.net_build.specs.declared.built.Places.{Places}
 use Rattle.net_build.specs.Places.{list_place}
-use Rattle.edit_space.specs.declared.edit_kinds.Edit.{Edit}
-use Rattle.edit_space.specs.declared.list_kinds.NewList.{NewList}
-use Rattle.edit_space.specs.declared.list_kinds.NewList.TheVariants.{Route, Packet}
-use Rattle.edit_space.specs.Changes.{list_prefixes, list_classes}
-use Rattle.edit_space.proofs.NewListFacts.{picked_from}
+use Rattle.edit_list.specs.declared.edit_kinds.Edit.{Edit}
+use Rattle.edit_list.specs.declared.list_kinds.NewList.{NewList}
+use Rattle.edit_list.specs.declared.list_kinds.NewList.TheVariants.{Route, Packet}
+use Rattle.edit_list.specs.Changes.{list_prefixes, list_classes}
+use Rattle.edit_list.proofs.NewListFacts.{picked_from}
 use Rattle.line_patcher.specs.declared.additions.NewNumber.{NewNumber}
 use Rattle.line_patcher.specs.Additions.{all_at, lines_before, lines_after, numbers_at}
 use Rattle.line_patcher.specs.EntryLines.{first_line, new_number, new_numbers, at_front, class_lines, prefix_lines, edited_packet_lists, edited_route_lists, packet_list_entries, route_list_entries, packet_list_numbers, route_list_numbers}
 use Rattle.line_patcher.specs.NewListLines.{face_places, group_line_among, group_lines, lines_of_new_lists, filter_lines}
 use Rattle.line_patcher.specs.SessionLines.{session_lines}
-use Rattle.edit_space.specs.NewLists.{named_lists}
+use Rattle.edit_list.specs.NewLists.{named_lists}
 use Rattle.patched_texts.specs.EditFiles.{HasFace, HasPacketList, HasRouteList, IsEditedFile}
 use Rattle.patched_texts.specs.EditSiteLaws.{own_places}
 use Rattle.patched_texts.specs.FaceBlocks.{HasFaceBlock}

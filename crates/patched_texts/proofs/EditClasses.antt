@@ -5,12 +5,12 @@ use Rattle.arc_base.proofs.Items.{Contains-none}
 use Rattle.net_model.specs.declared.policies.Class.{Class}
 use Rattle.net_model.specs.declared.policies.Document.{Document}
 use Rattle.net_model.specs.declared.rows.Network.{Network}
-use Rattle.edit_space.specs.declared.edit_kinds.Edit.{Edit}
-use Rattle.edit_space.specs.Changes.{list_classes, new_classes, new_packet_change, packet_list_change}
-use Rattle.edit_space.specs.EditLists.{AreEdits}
-use Rattle.edit_space.specs.Numbered.{of_number}
-use Rattle.edit_space.specs.Prices.{chosen_of}
-use Rattle.edit_space.specs.Writable.{is_writable}
+use Rattle.edit_list.specs.declared.edit_kinds.Edit.{Edit}
+use Rattle.edit_list.specs.Changes.{list_classes, new_classes, new_packet_change, packet_list_change}
+use Rattle.edit_list.specs.EditLists.{AreEdits}
+use Rattle.edit_list.specs.Numbered.{of_number}
+use Rattle.edit_list.specs.Prices.{chosen_of}
+use Rattle.edit_list.specs.Writable.{is_writable}
 use Rattle.edit_laws.proofs.Listed.{chosen_classes_are_writable}
 use Rattle.patched_settings.proofs.Pairs.{picks_nothing}
 use Rattle.patched_texts.specs.Sessions.{AreSessions}

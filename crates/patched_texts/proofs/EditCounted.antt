@@ -19,8 +19,8 @@ use Rattle.ios_config.specs.Rising.{FallsAt, rises}
 use Rattle.ios_config.specs.Texts.{entries, entry_number, given, is_entry}
 use Rattle.ios_config.proofs.LinesBefore.{Rising, rising-low}
 use Rattle.net_build.specs.declared.built.ListPlace.{ListPlace}
-use Rattle.edit_space.specs.After.{opposite_packet_entry}
-use Rattle.edit_space.specs.Numbered.{of_number}
+use Rattle.edit_list.specs.After.{opposite_packet_entry}
+use Rattle.edit_list.specs.Numbered.{of_number}
 use Rattle.line_patcher.specs.declared.additions.NewNumber.{NewNumber}
 use Rattle.line_patcher.specs.EntryLines.{new_number}
 use Rattle.edited_lines.specs.Sites.{Written, in_block}

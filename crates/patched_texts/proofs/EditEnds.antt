@@ -22,15 +22,15 @@ use Rattle.ios_config.specs.ProcessLines.{AreLinesIn, HasProcess, IsQuiet}
 use Rattle.net_build.specs.declared.built.FacePlace.{FacePlace}
 use Rattle.net_build.specs.declared.built.Places.{Places}
 use Rattle.net_rows.specs.Routers.{protocol_of_kind}
-use Rattle.edit_space.specs.declared.edit_kinds.Edit.{Edit}
-use Rattle.edit_space.specs.declared.list_kinds.NewList.{NewList}
-use Rattle.edit_space.specs.declared.list_kinds.NewList.TheVariants.{Route, Packet}
-use Rattle.edit_space.specs.Numbered.{of_number}
-use Rattle.edit_space.proofs.NewListFacts.{picked_from}
+use Rattle.edit_list.specs.declared.edit_kinds.Edit.{Edit}
+use Rattle.edit_list.specs.declared.list_kinds.NewList.{NewList}
+use Rattle.edit_list.specs.declared.list_kinds.NewList.TheVariants.{Route, Packet}
+use Rattle.edit_list.specs.Numbered.{of_number}
+use Rattle.edit_list.proofs.NewListFacts.{picked_from}
 use Rattle.line_patcher.specs.NewListLines.{face_places, filter_lines}
 use Rattle.line_patcher.specs.SessionLines.{session_lines}
 use Rattle.patched_settings.specs.Additions.{process_lines}
-use Rattle.edit_space.specs.NewLists.{named_lists}
+use Rattle.edit_list.specs.NewLists.{named_lists}
 use Rattle.edited_lines.specs.Sites.{IsInnerOf, Written}
 use Rattle.patched_texts.specs.EditFiles.{HasFace, IsEditedFile}
 use Rattle.patched_texts.specs.EditSiteLaws.{own_places}

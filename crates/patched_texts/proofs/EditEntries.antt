@@ -30,12 +30,12 @@ use Rattle.net_build.specs.declared.built.ListPlace.{ListPlace}
 use Rattle.net_build.specs.declared.built.Places.{Places}
 use Rattle.net_rows.specs.Lists.{packet_text}
 use Rattle.net_build.specs.Places.{list_place}
-use Rattle.edit_space.specs.declared.edit_kinds.Edit.{Edit}
-use Rattle.edit_space.specs.declared.list_kinds.NewList.{NewList}
-use Rattle.edit_space.specs.declared.list_kinds.NewList.TheVariants.{Route, Packet}
-use Rattle.edit_space.specs.After.{class_entry, every_packet, opposite_packet_entry}
-use Rattle.edit_space.specs.Writable.{is_writable}
-use Rattle.edit_space.specs.Changes.{list_prefixes, list_classes, new_prefixes, new_classes}
+use Rattle.edit_list.specs.declared.edit_kinds.Edit.{Edit}
+use Rattle.edit_list.specs.declared.list_kinds.NewList.{NewList}
+use Rattle.edit_list.specs.declared.list_kinds.NewList.TheVariants.{Route, Packet}
+use Rattle.edit_list.specs.After.{class_entry, every_packet, opposite_packet_entry}
+use Rattle.edit_list.specs.Writable.{is_writable}
+use Rattle.edit_list.specs.Changes.{list_prefixes, list_classes, new_prefixes, new_classes}
 use Rattle.line_patcher.specs.EntryLines.{first_line, order_at, packet_line, edited_packet_lists, edited_route_lists}
 use Rattle.line_patcher.specs.NewListLines.{deny_line, deny_class_line, new_list_lines}
 use Rattle.edited_lines.specs.Sites.{Written, IsBlockLine, IsSingleLine}

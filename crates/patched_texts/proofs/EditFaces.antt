@@ -33,12 +33,12 @@ use Rattle.ios_config.proofs.LinesBefore.{Rising}
 use Rattle.ios_config.proofs.ProcessBlocks.{rising-filter}
 use Rattle.net_build.specs.declared.built.FacePlace.{FacePlace}
 use Rattle.net_build.specs.declared.built.Places.{Places}
-use Rattle.edit_space.specs.declared.edit_kinds.Edit.{Edit}
-use Rattle.edit_space.specs.declared.list_kinds.NewList.{NewList}
-use Rattle.edit_space.specs.declared.list_kinds.NewList.TheVariants.{Route, Packet}
-use Rattle.edit_space.specs.NewLists.{new_lists, new_lists_of, new_names_of, named_lists}
-use Rattle.edit_space.specs.Numbered.{if_number, of_number}
-use Rattle.edit_space.proofs.NewListFacts.{new_lists_apart, pairs_picked}
+use Rattle.edit_list.specs.declared.edit_kinds.Edit.{Edit}
+use Rattle.edit_list.specs.declared.list_kinds.NewList.{NewList}
+use Rattle.edit_list.specs.declared.list_kinds.NewList.TheVariants.{Route, Packet}
+use Rattle.edit_list.specs.NewLists.{new_lists, new_lists_of, new_names_of, named_lists}
+use Rattle.edit_list.specs.Numbered.{if_number, of_number}
+use Rattle.edit_list.proofs.NewListFacts.{new_lists_apart, pairs_picked}
 use Rattle.line_patcher.specs.declared.additions.NewNumber.{NewNumber}
 use Rattle.line_patcher.specs.Additions.{numbers_at}
 use Rattle.line_patcher.specs.NewListLines.{face_places}

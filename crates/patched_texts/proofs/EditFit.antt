@@ -28,18 +28,18 @@ use Rattle.ios_words.specs.Language.{rows}
 use Rattle.ios_config.specs.declared.commands.FileCommand.{FileCommand}
 use Rattle.net_build.specs.declared.built.FacePlace.{FacePlace}
 use Rattle.net_build.specs.declared.built.Places.{Places}
-use Rattle.edit_space.specs.declared.edit_kinds.Edit.{Edit}
-use Rattle.edit_space.specs.declared.list_kinds.NewList.{NewList}
-use Rattle.edit_space.specs.declared.list_kinds.NewList.TheVariants.{Route, Packet}
-use Rattle.edit_space.specs.Numbered.{of_number}
-use Rattle.edit_space.proofs.NewListFacts.{picked_from}
+use Rattle.edit_list.specs.declared.edit_kinds.Edit.{Edit}
+use Rattle.edit_list.specs.declared.list_kinds.NewList.{NewList}
+use Rattle.edit_list.specs.declared.list_kinds.NewList.TheVariants.{Route, Packet}
+use Rattle.edit_list.specs.Numbered.{of_number}
+use Rattle.edit_list.proofs.NewListFacts.{picked_from}
 use Rattle.line_patcher.specs.declared.additions.NewNumber.{NewNumber}
 use Rattle.line_patcher.specs.Additions.{all_at, lines_before, lines_after, numbers_at}
 use Rattle.line_patcher.specs.EntryLines.{edited_packet_lists, edited_route_lists, packet_list_entries, route_list_entries}
 use Rattle.line_patcher.specs.NewListLines.{face_places, filter_lines, group_line_among, group_lines, lines_of_new_lists, new_list_lines}
 use Rattle.line_patcher.specs.Patches.{end_of, line_end, row_bytes}
 use Rattle.line_patcher.specs.SessionLines.{session_lines}
-use Rattle.edit_space.specs.NewLists.{named_lists}
+use Rattle.edit_list.specs.NewLists.{named_lists}
 use Rattle.edited_lines.specs.Sites.{Site, Written}
 use Rattle.patched_texts.specs.EditFiles.{IsEditedFile}
 use Rattle.patched_texts.specs.EditSiteLaws.{own_places}

@@ -16,13 +16,13 @@ use Rattle.ios_config.specs.Groups.{part_in, part_of}
 use Rattle.ios_config.specs.Groups as groups
 use Rattle.ios_config.specs.Twice.{Stand, stand_of, excluded, Clash}
 use Rattle.ios_config.specs.Twice as stands
-use Rattle.edit_space.specs.Numbered.{of_number}
+use Rattle.edit_list.specs.Numbered.{of_number}
 use Rattle.net_model.specs.declared.lists.PacketEntry.{PacketEntry}
 use Rattle.net_model.specs.declared.lists.PacketList.{PacketList}
 use Rattle.net_model.specs.declared.lists.RouteList.{RouteList}
 use Rattle.net_model.specs.declared.policies.Class.{Class}
 use Rattle.net_build.specs.declared.built.ListPlace.{ListPlace}
-use Rattle.edit_space.specs.After.{opposite_packet_entry, opposite_route_entry}
+use Rattle.edit_list.specs.After.{opposite_packet_entry, opposite_route_entry}
 use Rattle.patched_settings.specs.Additions.{packet_line, route_line}
 use Rattle.patched_settings.specs.Plain.{said}
 use Rattle.patched_settings.proofs.Pairs.{any_of}

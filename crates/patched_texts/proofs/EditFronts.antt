@@ -17,7 +17,7 @@ use Rattle.ios_config.specs.Texts.{entries, given, is_entry}
 use Rattle.ios_config.proofs.LinesBefore.{Rising, rising-low}
 use Rattle.ios_config.proofs.ProcessBlocks.{rising-filter}
 use Rattle.net_build.specs.declared.built.Places.{Places}
-use Rattle.edit_space.specs.declared.edit_kinds.Edit.{Edit}
+use Rattle.edit_list.specs.declared.edit_kinds.Edit.{Edit}
 use Rattle.edited_lines.specs.Sites.{Written}
 use Rattle.patched_texts.specs.EditFiles.{IsEditedFile}
 use Rattle.patched_texts.specs.EditSites.{entries_at}

@@ -29,12 +29,12 @@ use Rattle.ios_config.specs.Texts.{is_entry}
 use Rattle.ios_config.proofs.HeadsFirst.{block-low}
 use Rattle.ios_config.proofs.LinesBefore.{Rising, rising-from, rising-low}
 use Rattle.net_build.specs.declared.built.Places.{Places}
-use Rattle.edit_space.specs.declared.edit_kinds.Edit.{Edit}
-use Rattle.edit_space.specs.Numbered.{of_number}
+use Rattle.edit_list.specs.declared.edit_kinds.Edit.{Edit}
+use Rattle.edit_list.specs.Numbered.{of_number}
 use Rattle.line_patcher.specs.declared.additions.NewNumber.{NewNumber}
 use Rattle.line_patcher.specs.Additions.{lines_after, numbers_at}
 use Rattle.line_patcher.specs.Patches.{line_end, row_bytes}
-use Rattle.edit_space.specs.NewLists.{named_lists}
+use Rattle.edit_list.specs.NewLists.{named_lists}
 use Rattle.edited_lines.specs.Sites.{AreChunks, AreGood, Chunk, IsEntryOf, IsGood, IsInnerOf, IsOfBlock, IsRewrittenFor, IsSingleLine, Single, Site, Written, chunk_commands, in_block, new_commands, own_commands, says_other, site_commands}
 use Rattle.patched_texts.specs.EditFiles.{IsEditedFile}
 use Rattle.patched_texts.specs.EditSiteLaws.{own_places}

@@ -23,13 +23,13 @@ use Rattle.ios_config.proofs.LinesBefore.{Rising, rising-low}
 use Rattle.ios_config.proofs.PartLists.{is_same-Decides}
 use Rattle.net_build.specs.declared.built.Places.{Places}
 use Rattle.net_build.specs.Places.{places_of}
-use Rattle.edit_space.specs.declared.edit_kinds.Edit.{Edit}
-use Rattle.edit_space.specs.declared.list_kinds.NewList.{NewList}
-use Rattle.edit_space.specs.declared.list_kinds.NewList.TheVariants.{Route, Packet}
-use Rattle.edit_space.specs.Numbered.{of_number}
+use Rattle.edit_list.specs.declared.edit_kinds.Edit.{Edit}
+use Rattle.edit_list.specs.declared.list_kinds.NewList.{NewList}
+use Rattle.edit_list.specs.declared.list_kinds.NewList.TheVariants.{Route, Packet}
+use Rattle.edit_list.specs.Numbered.{of_number}
 use Rattle.line_patcher.specs.declared.additions.NewNumber.{NewNumber}
 use Rattle.line_patcher.specs.Additions.{numbers_at}
-use Rattle.edit_space.specs.NewLists.{named_lists}
+use Rattle.edit_list.specs.NewLists.{named_lists}
 use Rattle.edited_lines.specs.Grown.{IsGrown, AreFreshParts}
 use Rattle.edited_lines.specs.Sites.{Site, Written, Single, chunk_commands, in_block, says_other, own_commands, site_commands, new_commands}
 use Rattle.patched_texts.specs.EditFiles.{IsEditedFile}

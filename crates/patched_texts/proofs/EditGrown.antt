@@ -11,9 +11,9 @@ use Rattle.ios_config.specs.Groups.{Part, part_of, distinct, members}
 use Rattle.ios_config.specs.Rising.{NumbersRise}
 use Rattle.ios_config.specs.Texts.{config_of, face_of, list_of, process_of}
 use Rattle.net_build.specs.declared.built.Places.{Places}
-use Rattle.edit_space.specs.declared.edit_kinds.Edit.{Edit}
+use Rattle.edit_list.specs.declared.edit_kinds.Edit.{Edit}
 use Rattle.patched_settings.specs.Additions.{front_lines}
-use Rattle.edit_space.specs.NewLists.{named_lists}
+use Rattle.edit_list.specs.NewLists.{named_lists}
 use Rattle.patched_settings.specs.Plain.{said, plain_list}
 use Rattle.patched_settings.specs.SettingsAfter.{face_with, list_with, process_with}
 use Rattle.edited_lines.specs.Sites.{new_commands}

@@ -15,11 +15,11 @@ use Rattle.ios_config.specs.Groups.{Part, part_of, members, distinct, groups}
 use Rattle.ios_config.specs.Rising.{NumbersRise, rises}
 use Rattle.ios_config.specs.Texts.{config_of, entries, entry_number, list_of, list_text}
 use Rattle.net_build.specs.declared.built.Places.{Places}
-use Rattle.edit_space.specs.declared.edit_kinds.Edit.{Edit}
+use Rattle.edit_list.specs.declared.edit_kinds.Edit.{Edit}
 use Rattle.edited_lines.specs.Grown.{HasGrownGroups}
 use Rattle.edited_lines.specs.Sites.{new_commands}
 use Rattle.edited_lines.proofs.Grown.{has-grown}
-use Rattle.edit_space.specs.NewLists.{named_lists}
+use Rattle.edit_list.specs.NewLists.{named_lists}
 use Rattle.patched_settings.specs.Plain.{plain_list}
 use Rattle.patched_settings.specs.SettingsAfter.{list_with}
 use Rattle.patched_texts.specs.EditFiles.{IsEditedFile}

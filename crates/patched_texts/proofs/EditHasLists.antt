@@ -34,16 +34,16 @@ use Rattle.ios_config.specs.Texts.{config_of, is_standard}
 use Rattle.net_build.specs.declared.built.ListPlace.{ListPlace}
 use Rattle.net_rows.specs.Lists.{IsPacketListRow, IsRouteListRow, has_entries, if_defined, is_extended_kind, is_of_kind, is_packet_kind, list_named, packet_row, packet_row_at, route_row, route_row_at}
 use Rattle.net_build.specs.Places.{list_place}
-use Rattle.edit_space.specs.declared.edit_kinds.Edit.{Edit}
-use Rattle.edit_space.specs.declared.edit_kinds.Edit.TheVariants as edits
-use Rattle.edit_space.specs.declared.sites.Site.{Site}
-use Rattle.edit_space.specs.declared.sites.Site.TheVariants.{Bound, New}
-use Rattle.edit_space.specs.Changes.{list_classes, packet_list_change}
-use Rattle.edit_space.specs.EditLists.{AreEdits, all_edits, edits_at, link_edits, packet_edit, route_edit, has_session, writable_classes}
-use Rattle.edit_space.specs.Numbered.{by_number, if_number, of_number, placed}
-use Rattle.edit_space.specs.Prices.{chosen_of, if_chosen}
-use Rattle.edit_space.specs.Sites.{face_site, packet_list_site, packet_sites, route_sites, takes_list}
-use Rattle.edit_space.proofs.NewListFacts.{picked_from, placed_is}
+use Rattle.edit_list.specs.declared.edit_kinds.Edit.{Edit}
+use Rattle.edit_list.specs.declared.edit_kinds.Edit.TheVariants as edits
+use Rattle.edit_list.specs.declared.sites.Site.{Site}
+use Rattle.edit_list.specs.declared.sites.Site.TheVariants.{Bound, New}
+use Rattle.edit_list.specs.Changes.{list_classes, packet_list_change}
+use Rattle.edit_list.specs.EditLists.{AreEdits, all_edits, edits_at, link_edits, packet_edit, route_edit, has_session, writable_classes}
+use Rattle.edit_list.specs.Numbered.{by_number, if_number, of_number, placed}
+use Rattle.edit_list.specs.Prices.{chosen_of, if_chosen}
+use Rattle.edit_list.specs.Sites.{face_site, packet_list_site, packet_sites, route_sites, takes_list}
+use Rattle.edit_list.proofs.NewListFacts.{picked_from, placed_is}
 use Rattle.line_patcher.specs.EntryLines.{is_packet_form}
 use Rattle.patched_settings.proofs.NewNames.{numbered, zip_places}
 use Rattle.patched_settings.proofs.SessionFacts.{find_in}

@@ -28,12 +28,12 @@ use Rattle.net_rows.specs.Routers.{HasNoOwnProcess, MixesProcesses, RunsOther, p
 use Rattle.net_rows.specs.Rows.{IsFaceRow}
 use Rattle.net_rows.specs.Settings.{process_of}
 use Rattle.net_rows.specs.Sites.{Site, sites, sites_of}
-use Rattle.edit_space.specs.declared.edit_kinds.Edit.{Edit}
-use Rattle.edit_space.specs.declared.list_kinds.NewList.TheVariants.{Packet}
-use Rattle.edit_space.specs.Determined.{IsCountable}
-use Rattle.edited_networks.proofs.NamedFacts.{of_packet_face}
+use Rattle.edit_list.specs.declared.edit_kinds.Edit.{Edit}
+use Rattle.edit_list.specs.declared.list_kinds.NewList.TheVariants.{Packet}
+use Rattle.edit_list.specs.Determined.{IsCountable}
+use Rattle.edit_space.proofs.NamedFacts.{of_packet_face}
 use Rattle.line_patcher.specs.NewListLines.{face_places}
-use Rattle.edit_space.specs.NewLists.{named_lists}
+use Rattle.edit_list.specs.NewLists.{named_lists}
 use Rattle.patched_settings.proofs.FileClear.{offends_not}
 use Rattle.patched_settings.proofs.NewNames.{new_of_named}
 use Rattle.patched_settings.proofs.Pairs.{any_of}

@@ -25,8 +25,8 @@ use Rattle.ios_config.specs.Texts.{entries, given, is_entry, list_of, list_text}
 use Rattle.ios_config.proofs.HeadsFirst.{head-first}
 use Rattle.ios_config.proofs.LinesBefore.{Rising, rising-low}
 use Rattle.net_build.specs.declared.built.Places.{Places}
-use Rattle.edit_space.specs.declared.edit_kinds.Edit.{Edit}
-use Rattle.edit_space.specs.Numbered.{of_number}
+use Rattle.edit_list.specs.declared.edit_kinds.Edit.{Edit}
+use Rattle.edit_list.specs.Numbered.{of_number}
 use Rattle.line_patcher.specs.declared.additions.NewNumber.{NewNumber}
 use Rattle.line_patcher.specs.Additions.{numbers_at}
 use Rattle.patched_settings.specs.Additions.{front_lines}

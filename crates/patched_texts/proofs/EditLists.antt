@@ -22,10 +22,10 @@ use Rattle.ios_config.specs.Texts.{config_of, entries, given, is_entry, is_numbe
 use Rattle.ios_config.proofs.PartLists.{is_same-Decides}
 use Rattle.net_build.specs.declared.built.ListPlace.{ListPlace}
 use Rattle.net_build.specs.Places.{list_place, places_of}
-use Rattle.edit_space.specs.declared.edit_kinds.Edit.{Edit}
-use Rattle.edit_space.specs.Changes.{list_prefixes, list_classes}
-use Rattle.edit_space.specs.Numbered.{of_number, if_number, is_empty, placed}
-use Rattle.edit_space.proofs.NewListFacts.{picked_from, placed_is}
+use Rattle.edit_list.specs.declared.edit_kinds.Edit.{Edit}
+use Rattle.edit_list.specs.Changes.{list_prefixes, list_classes}
+use Rattle.edit_list.specs.Numbered.{of_number, if_number, is_empty, placed}
+use Rattle.edit_list.proofs.NewListFacts.{picked_from, placed_is}
 use Rattle.line_patcher.specs.EntryLines.{first_line, for_packet_list, for_route_list, edited_packet_list, edited_route_list, edited_packet_lists, edited_route_lists, packet_place, route_place}
 use Rattle.patched_texts.specs.EditFiles.{HasPacketList, HasRouteList}
 use Rattle.patched_texts.specs.ListsGrow.{list_begun}

@@ -28,12 +28,12 @@ use Rattle.net_build.specs.declared.built.ListPlace.{ListPlace}
 use Rattle.net_build.specs.declared.built.Places.{Places}
 use Rattle.net_rows.specs.Lists.{packet_entries, packet_entry, route_entries, route_entry}
 use Rattle.net_build.specs.Places.{list_place}
-use Rattle.edit_space.specs.declared.edit_kinds.Edit.{Edit}
-use Rattle.edit_space.specs.declared.edit_kinds.Edit.TheVariants as edits
-use Rattle.edit_space.specs.After.{opposite_packet_entry, opposite_route_entry}
-use Rattle.edit_space.specs.Changes.{list_prefixes, list_classes}
-use Rattle.edit_space.specs.Numbered.{if_number, is_empty, of_number, placed}
-use Rattle.edit_space.proofs.NewListFacts.{pairs_picked, picked_from, picks, placed_apart, placed_there}
+use Rattle.edit_list.specs.declared.edit_kinds.Edit.{Edit}
+use Rattle.edit_list.specs.declared.edit_kinds.Edit.TheVariants as edits
+use Rattle.edit_list.specs.After.{opposite_packet_entry, opposite_route_entry}
+use Rattle.edit_list.specs.Changes.{list_prefixes, list_classes}
+use Rattle.edit_list.specs.Numbered.{if_number, is_empty, of_number, placed}
+use Rattle.edit_list.proofs.NewListFacts.{pairs_picked, picked_from, picks, placed_apart, placed_there}
 use Rattle.line_patcher.specs.EntryLines.{first_line, edited_packet_list, edited_route_list, edited_packet_lists, edited_route_lists}
 use Rattle.patched_settings.specs.Additions.{class_for, front_lines, if_own_list, packet_line, prefix_for, route_line}
 use Rattle.patched_settings.specs.Plain.{said, plain_entry}

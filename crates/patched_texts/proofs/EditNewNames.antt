@@ -18,15 +18,15 @@ use Rattle.ios_config.specs.declared.settings.ListText.{ListText}
 use Rattle.net_model.specs.declared.policies.Class.{Class}
 use Rattle.net_rows.specs.Lists.{IsListName}
 use Rattle.net_rows.specs.Rows.{IsRouterRow}
-use Rattle.edit_space.specs.declared.edit_kinds.Edit.{Edit}
-use Rattle.edit_space.specs.declared.list_kinds.NewList.{NewList}
-use Rattle.edit_space.specs.Changes.{new_classes, new_route_change}
-use Rattle.edit_space.specs.Determined.{IsCountable}
-use Rattle.edit_space.specs.NewLists.{free_names, is_among, names_of, new_lists, new_lists_of, new_name, new_names_of, new_packet_list, new_route_list, named_lists}
-use Rattle.edit_space.specs.Numbered.{if_number, placed}
-use Rattle.edit_space.specs.Writable.{is_writable}
-use Rattle.edit_space.proofs.Counts.{few_picked, few_placed}
-use Rattle.edited_networks.proofs.FreeNames.{free_name_is_new, free_names_apart}
+use Rattle.edit_list.specs.declared.edit_kinds.Edit.{Edit}
+use Rattle.edit_list.specs.declared.list_kinds.NewList.{NewList}
+use Rattle.edit_list.specs.Changes.{new_classes, new_route_change}
+use Rattle.edit_list.specs.Determined.{IsCountable}
+use Rattle.edit_list.specs.NewLists.{free_names, is_among, names_of, new_lists, new_lists_of, new_name, new_names_of, new_packet_list, new_route_list, named_lists}
+use Rattle.edit_list.specs.Numbered.{if_number, placed}
+use Rattle.edit_list.specs.Writable.{is_writable}
+use Rattle.edit_list.proofs.Counts.{few_picked, few_placed}
+use Rattle.edit_space.proofs.FreeNames.{free_name_is_new, free_names_apart}
 use Rattle.patched_settings.proofs.NewNames.{name_is_new, new_of_named, zip_places}
 use Rattle.patched_settings.proofs.Pairs.{any_of}
 use Rattle.patched_texts.specs.NewListSites.{IsNewName, AreDifferent}

@@ -24,14 +24,14 @@ use Rattle.ios_config.specs.Texts.{is_entry, kind_of_number}
 use Rattle.ios_config.specs.Twice.{Stand, stand_of, excluded, Clash, StandOnce}
 use Rattle.ios_config.specs.Twice as stands
 use Rattle.net_build.specs.declared.built.Places.{Places}
-use Rattle.edit_space.specs.declared.edit_kinds.Edit.{Edit}
-use Rattle.edit_space.specs.declared.list_kinds.NewList.{NewList}
-use Rattle.edit_space.specs.declared.list_kinds.NewList.TheVariants.{Route, Packet}
-use Rattle.edit_space.specs.Changes.{new_prefixes, new_classes}
-use Rattle.edit_space.specs.Numbered.{of_number}
+use Rattle.edit_list.specs.declared.edit_kinds.Edit.{Edit}
+use Rattle.edit_list.specs.declared.list_kinds.NewList.{NewList}
+use Rattle.edit_list.specs.declared.list_kinds.NewList.TheVariants.{Route, Packet}
+use Rattle.edit_list.specs.Changes.{new_prefixes, new_classes}
+use Rattle.edit_list.specs.Numbered.{of_number}
 use Rattle.line_patcher.specs.declared.additions.NewNumber.{NewNumber}
 use Rattle.line_patcher.specs.Additions.{numbers_at}
-use Rattle.edit_space.specs.NewLists.{named_lists}
+use Rattle.edit_list.specs.NewLists.{named_lists}
 use Rattle.patched_settings.proofs.Pairs.{any_of, of_any}
 use Rattle.edited_lines.specs.Sites.{Written, chunk_commands, in_block, says_other, new_commands}
 use Rattle.patched_texts.specs.EditFiles.{IsEditedFile}

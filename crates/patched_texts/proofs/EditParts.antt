@@ -34,19 +34,19 @@ use Rattle.net_build.specs.declared.built.FacePlace.{FacePlace}
 use Rattle.net_build.specs.declared.built.ListPlace.{ListPlace}
 use Rattle.net_build.specs.declared.built.Places.{Places}
 use Rattle.net_build.specs.Places.{list_place, places_of}
-use Rattle.edit_space.specs.declared.edit_kinds.Edit.{Edit}
-use Rattle.edit_space.specs.declared.list_kinds.NewList.{NewList}
-use Rattle.edit_space.specs.declared.list_kinds.NewList.TheVariants.{Route, Packet}
-use Rattle.edit_space.specs.Changes.{list_prefixes, list_classes}
-use Rattle.edit_space.specs.Numbered.{of_number}
-use Rattle.edit_space.proofs.NewListFacts.{picked_from}
+use Rattle.edit_list.specs.declared.edit_kinds.Edit.{Edit}
+use Rattle.edit_list.specs.declared.list_kinds.NewList.{NewList}
+use Rattle.edit_list.specs.declared.list_kinds.NewList.TheVariants.{Route, Packet}
+use Rattle.edit_list.specs.Changes.{list_prefixes, list_classes}
+use Rattle.edit_list.specs.Numbered.{of_number}
+use Rattle.edit_list.proofs.NewListFacts.{picked_from}
 use Rattle.line_patcher.specs.declared.additions.NewNumber.{NewNumber}
 use Rattle.line_patcher.specs.Additions.{numbers_at}
 use Rattle.line_patcher.specs.EntryLines.{first_line, new_number, new_numbers, edited_packet_lists, edited_route_lists, packet_list_numbers, route_list_numbers}
 use Rattle.line_patcher.specs.NewListLines.{face_places, filter_lines}
 use Rattle.line_patcher.specs.SessionLines.{session_lines}
 use Rattle.patched_settings.specs.Additions.{process_lines}
-use Rattle.edit_space.specs.NewLists.{named_lists}
+use Rattle.edit_list.specs.NewLists.{named_lists}
 use Rattle.patched_settings.proofs.NewNames.{zip_places}
 use Rattle.arc_base.proofs.Zips.{AllZip-left}
 use Rattle.edited_lines.specs.Sites.{Written}

@@ -20,10 +20,10 @@ use Rattle.ios_config.proofs.LineLists.{commands-of-lines}
 use Rattle.net_build.specs.declared.built.Built.{Built}
 use Rattle.net_build.specs.Networks.{Says, IsBuilt}
 use Rattle.net_rows.specs.Rows.{IsRouterRow}
-use Rattle.edit_space.specs.declared.edit_kinds.Edit.{Edit}
-use Rattle.edit_space.specs.Changes.{list_classes}
-use Rattle.edit_space.specs.Determined.{IsCountable}
-use Rattle.edit_space.specs.Prices.{chosen_of}
+use Rattle.edit_list.specs.declared.edit_kinds.Edit.{Edit}
+use Rattle.edit_list.specs.Changes.{list_classes}
+use Rattle.edit_list.specs.Determined.{IsCountable}
+use Rattle.edit_list.specs.Prices.{chosen_of}
 use Rattle.net_build.specs.Places.{places_of}
 use Rattle.line_patcher.specs.Additions.{lines_after, lines_before, numbers_at}
 use Rattle.patched_settings.specs.Premises.{HasRoom}

@@ -31,10 +31,10 @@ use Rattle.ios_config.specs.Texts.{config_of, entry_number}
 use Rattle.net_build.specs.declared.built.ListPlace.{ListPlace}
 use Rattle.net_build.specs.declared.built.Places.{Places}
 use Rattle.net_build.specs.Places.{list_place}
-use Rattle.edit_space.specs.declared.edit_kinds.Edit.{Edit}
-use Rattle.edit_space.specs.Changes.{list_prefixes, list_classes, packet_list_change, route_list_change}
-use Rattle.edit_space.specs.Numbered.{if_number, of_number}
-use Rattle.edit_space.proofs.Counts.{few_picked}
+use Rattle.edit_list.specs.declared.edit_kinds.Edit.{Edit}
+use Rattle.edit_list.specs.Changes.{list_prefixes, list_classes, packet_list_change, route_list_change}
+use Rattle.edit_list.specs.Numbered.{if_number, of_number}
+use Rattle.edit_list.proofs.Counts.{few_picked}
 use Rattle.line_patcher.specs.declared.additions.NewNumber.{NewNumber}
 use Rattle.line_patcher.specs.Additions.{numbers_at}
 use Rattle.line_patcher.specs.EntryLines.{new_number, new_numbers, edited_packet_lists, edited_route_lists, packet_list_numbers, route_list_numbers}

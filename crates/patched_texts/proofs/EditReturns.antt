@@ -25,14 +25,14 @@ use Rattle.ios_config.specs.Groups.{part_in}
 use Rattle.ios_config.specs.LineLists.{AreCommandsIn}
 use Rattle.ios_config.specs.ProcessLines.{HasProcess}
 use Rattle.net_build.specs.declared.built.Places.{Places}
-use Rattle.edit_space.specs.declared.edit_kinds.Edit.{Edit}
-use Rattle.edit_space.specs.declared.list_kinds.NewList.{NewList}
-use Rattle.edit_space.specs.Numbered.{of_number}
-use Rattle.edit_space.proofs.NewListFacts.{picked_from}
+use Rattle.edit_list.specs.declared.edit_kinds.Edit.{Edit}
+use Rattle.edit_list.specs.declared.list_kinds.NewList.{NewList}
+use Rattle.edit_list.specs.Numbered.{of_number}
+use Rattle.edit_list.proofs.NewListFacts.{picked_from}
 use Rattle.line_patcher.specs.Additions.{all_at, lines_after}
 use Rattle.line_patcher.specs.NewListLines.{face_places, filter_lines, group_line_among, group_lines}
 use Rattle.line_patcher.specs.SessionLines.{session_lines}
-use Rattle.edit_space.specs.NewLists.{named_lists}
+use Rattle.edit_list.specs.NewLists.{named_lists}
 use Rattle.edited_lines.specs.Sites.{IsOfBlock, IsRewrittenFor, Site}
 use Rattle.patched_texts.specs.EditFiles.{IsEditedFile}
 use Rattle.patched_texts.specs.EditSiteLaws.{own_places}

@@ -24,11 +24,11 @@ use Rattle.ios_config.proofs.LinesBefore.{Rising, rising-from, rising-low}
 use Rattle.net_build.specs.declared.built.FacePlace.{FacePlace}
 use Rattle.net_build.specs.declared.built.ListPlace.{ListPlace}
 use Rattle.net_build.specs.declared.built.Places.{Places}
-use Rattle.edit_space.specs.declared.edit_kinds.Edit.{Edit}
-use Rattle.edit_space.specs.declared.list_kinds.NewList.{NewList}
-use Rattle.edit_space.specs.declared.list_kinds.NewList.TheVariants.{Route, Packet}
-use Rattle.edit_space.specs.Changes.{list_prefixes, list_classes}
-use Rattle.edit_space.specs.Numbered.{of_number}
+use Rattle.edit_list.specs.declared.edit_kinds.Edit.{Edit}
+use Rattle.edit_list.specs.declared.list_kinds.NewList.{NewList}
+use Rattle.edit_list.specs.declared.list_kinds.NewList.TheVariants.{Route, Packet}
+use Rattle.edit_list.specs.Changes.{list_prefixes, list_classes}
+use Rattle.edit_list.specs.Numbered.{of_number}
 use Rattle.line_patcher.specs.declared.additions.NewNumber.{NewNumber}
 use Rattle.line_patcher.specs.Additions.{all_at, lines_before, lines_after, numbers_at}
 use Rattle.line_patcher.specs.EntryLines.{at_front, first_line, class_lines, prefix_lines, packet_list_entries, route_list_entries, packet_place, route_place, edited_packet_lists, edited_route_lists}
@@ -36,7 +36,7 @@ use Rattle.line_patcher.specs.NewListLines.{face_places, group_line_among, lines
 use Rattle.line_patcher.specs.Patches.{line_end, row_bytes}
 use Rattle.line_patcher.specs.SessionLines.{session_lines}
 use Rattle.patched_settings.specs.Additions.{process_lines}
-use Rattle.edit_space.specs.NewLists.{named_lists}
+use Rattle.edit_list.specs.NewLists.{named_lists}
 use Rattle.edited_lines.specs.Sites.{Written, Single, Site, bytes_of, chunk_lines}
 use Rattle.patched_texts.specs.EditFiles.{IsEditedFile}
 use Rattle.patched_texts.specs.EditSiteLaws.{EditSitesAreThere, own_places}

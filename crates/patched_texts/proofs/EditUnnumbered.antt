@@ -20,9 +20,9 @@ use Rattle.ios_config.specs.Rising.{FallsAt, rises}
 use Rattle.ios_config.specs.Texts.{config_of, entries, entry_number, given, is_entry, is_numbered}
 use Rattle.ios_config.proofs.PartLists.{is_same-Decides}
 use Rattle.net_build.specs.declared.built.Places.{Places}
-use Rattle.edit_space.specs.declared.edit_kinds.Edit.{Edit}
-use Rattle.edit_space.specs.Numbered.{of_number}
-use Rattle.edit_space.proofs.NewListFacts.{picked_from, picks}
+use Rattle.edit_list.specs.declared.edit_kinds.Edit.{Edit}
+use Rattle.edit_list.specs.Numbered.{of_number}
+use Rattle.edit_list.proofs.NewListFacts.{picked_from, picks}
 use Rattle.line_patcher.specs.declared.additions.NewNumber.{NewNumber}
 use Rattle.line_patcher.specs.Additions.{numbers_at}
 use Rattle.edited_lines.specs.Sites.{Single, Written, chunk_commands, in_block, own_commands, says_other}

@@ -32,13 +32,13 @@ use Rattle.ios_config.specs.ProcessLines.{IsQuiet, AreLinesIn}
 use Rattle.ios_config.specs.Texts.{given, last_line, face_of, face_text, process_of, process_by, process_text}
 use Rattle.ios_config.specs.Texts as faces
 use Rattle.ios_config.proofs.EffectsOnGroups.{last-binding}
-use Rattle.edit_space.specs.declared.edit_kinds.Edit.{Edit}
-use Rattle.edit_space.specs.declared.list_kinds.NewList.{NewList}
-use Rattle.edit_space.specs.declared.list_kinds.NewList.TheVariants as lists
+use Rattle.edit_list.specs.declared.edit_kinds.Edit.{Edit}
+use Rattle.edit_list.specs.declared.list_kinds.NewList.{NewList}
+use Rattle.edit_list.specs.declared.list_kinds.NewList.TheVariants as lists
 use Rattle.line_patcher.specs.NewListLines as patched
 use Rattle.line_patcher.specs.SessionLines.{session_lines}
 use Rattle.patched_settings.specs.Additions.{filter_line, process_lines, turning_line, new_inbound}
-use Rattle.edit_space.specs.NewLists.{named_lists}
+use Rattle.edit_list.specs.NewLists.{named_lists}
 use Rattle.patched_settings.specs.Plain.{said}
 use Rattle.patched_settings.specs.Premises.{IsWritable}
 use Rattle.patched_settings.specs.SettingsAfter.{face_with, process_with}

@@ -35,7 +35,7 @@ use Rattle.ios_words.proofs.RenumberedLines as renumbering
 use Rattle.ios_config.specs.Groups.{Block}
 use Rattle.net_build.specs.declared.built.ListPlace.{ListPlace}
 use Rattle.net_rows.specs.Lists.{packet_text}
-use Rattle.edit_space.specs.After.{opposite_route_entry}
+use Rattle.edit_list.specs.After.{opposite_route_entry}
 use Rattle.line_patcher.specs.EntryLines.{order_at, class_line, prefix_line}
 use Rattle.edited_lines.specs.Sites.{bytes_of}
 use Rattle.patched_texts.specs.EntrySites.{class_written, prefix_written, EntriesHaveTheirLines, BlockEntriesAreRead, ListEntriesAreRead, PrefixEntriesAreRead, EntriesAreRenumbered}

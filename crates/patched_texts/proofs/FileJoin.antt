@@ -17,8 +17,8 @@ use Rattle.ios_config.specs.LineLists.{marks_in, AreCommandsIn}
 use Rattle.ios_config.specs.Texts.{config_of}
 use Rattle.ios_config.proofs.LineLists.{commands-of-lines}
 use Rattle.net_build.specs.Networks.{Says}
-use Rattle.edit_space.specs.declared.edit_kinds.Edit.{Edit}
-use Rattle.edited_networks.proofs.SomeNames.{after_is_valid}
+use Rattle.edit_list.specs.declared.edit_kinds.Edit.{Edit}
+use Rattle.edit_space.proofs.SomeNames.{after_is_valid}
 use Rattle.patched_settings.specs.SettingsAfter.{AreSettingsAfter}
 use Rattle.patched_settings.proofs.Joined.{network_is_after}
 use Rattle.patched_settings.proofs.Pairs.{zip_length}

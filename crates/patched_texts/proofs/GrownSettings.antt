@@ -16,7 +16,7 @@ use Rattle.ios_config.specs.Bare.{bare, bare_config, bare_given, bare_groups, ba
 use Rattle.ios_config.specs.Groups.{Part, part_of, distinct, members}
 use Rattle.ios_config.specs.Texts.{config_of, face_of, list_of, process_of}
 use Rattle.ios_config.proofs.BareSettings.{bare-groups-set}
-use Rattle.edit_space.specs.declared.edit_kinds.Edit.{Edit}
+use Rattle.edit_list.specs.declared.edit_kinds.Edit.{Edit}
 use Rattle.patched_settings.specs.Plain.{plain_entry, plain_list}
 use Rattle.patched_settings.specs.SettingsAfter.{AreSettingsAfter, face_with, list_with, process_with}
 use Rattle.edited_lines.specs.Grown.{HasGrownGroups}

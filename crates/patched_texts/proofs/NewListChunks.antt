@@ -20,12 +20,12 @@ use Rattle.ios_words.proofs.PrintedLines.{entry-line, list_head-line, prefix_lin
 use Rattle.ios_config.specs.declared.commands.FileCommand.{FileCommand}
 use Rattle.ios_config.specs.Groups.{Block, is_same, part_in, part_of}
 use Rattle.net_rows.specs.Lists.{packet_text}
-use Rattle.edit_space.specs.After.{class_entry, every_packet}
-use Rattle.edit_space.specs.Changes.{new_prefixes, new_classes}
-use Rattle.edit_space.specs.Writable.{is_writable}
-use Rattle.edit_space.specs.declared.edit_kinds.Edit.{Edit}
-use Rattle.edit_space.specs.declared.list_kinds.NewList.{NewList}
-use Rattle.edit_space.specs.declared.list_kinds.NewList.TheVariants.{Route, Packet}
+use Rattle.edit_list.specs.After.{class_entry, every_packet}
+use Rattle.edit_list.specs.Changes.{new_prefixes, new_classes}
+use Rattle.edit_list.specs.Writable.{is_writable}
+use Rattle.edit_list.specs.declared.edit_kinds.Edit.{Edit}
+use Rattle.edit_list.specs.declared.list_kinds.NewList.{NewList}
+use Rattle.edit_list.specs.declared.list_kinds.NewList.TheVariants.{Route, Packet}
 use Rattle.line_patcher.specs.NewListLines.{deny_line, deny_class_line, new_list_lines}
 use Rattle.edited_lines.specs.Sites as edits
 use Rattle.edited_lines.specs.Sites.{Written, Chunk, Single, NewBlock, bytes_of, chunk_lines, chunk_commands, in_block, AreChunks, IsSingleLine, IsBlockLine, IsNewBlock}

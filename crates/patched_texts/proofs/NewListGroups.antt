@@ -22,11 +22,11 @@ use Rattle.ios_config.specs.Groups.{Part, Block, PrefixLines, is_same, part_of, 
 use Rattle.ios_config.specs.Texts.{face_of, list_of, process_of, entries}
 use Rattle.ios_config.proofs.JoinedParts.{is-self, other-way}
 use Rattle.ios_config.proofs.PartLists.{others, is_same-Decides}
-use Rattle.edit_space.specs.After.{any, exact_entry, class_entry, new_route_entries, new_packet_entries}
-use Rattle.edit_space.specs.Changes.{new_prefixes, new_classes}
-use Rattle.edit_space.specs.declared.edit_kinds.Edit.{Edit}
-use Rattle.edit_space.specs.declared.list_kinds.NewList.{NewList}
-use Rattle.edit_space.specs.declared.list_kinds.NewList.TheVariants.{Route, Packet}
+use Rattle.edit_list.specs.After.{any, exact_entry, class_entry, new_route_entries, new_packet_entries}
+use Rattle.edit_list.specs.Changes.{new_prefixes, new_classes}
+use Rattle.edit_list.specs.declared.edit_kinds.Edit.{Edit}
+use Rattle.edit_list.specs.declared.list_kinds.NewList.{NewList}
+use Rattle.edit_list.specs.declared.list_kinds.NewList.TheVariants.{Route, Packet}
 use Rattle.patched_settings.specs.Additions.{route_line, packet_line}
 use Rattle.patched_settings.specs.Plain.{said, plain_entry, plain_list}
 use Rattle.patched_settings.specs.SettingsAfter.{new_list_text}

@@ -8,7 +8,7 @@ use Rattle.std.proofs.lemmas.List.Concat.{flat_map-append}
 use Rattle.ios_lines.specs.Ended.{Ended, IsEnded, IsFree, HasNoReturn, AreEnded, text_of}
 use Rattle.ios_lines.specs.declared.line.Line.{Line}
 use Rattle.ios_lines.proofs.EndedLines.{ended-append, front-at}
-use Rattle.edit_space.specs.Numbered.{of_number}
+use Rattle.edit_list.specs.Numbered.{of_number}
 use Rattle.line_patcher.specs.declared.additions.NewNumber.{NewNumber}
 use Rattle.patched_texts.specs.Fits.{IsFit, IsLineEnd, ends_with_return, without_last, parted, hanging, hung_line, row_line, Fits}
 use Rattle.line_patcher.specs.Patches.{end_of, row_bytes, ended, following, patched_row}

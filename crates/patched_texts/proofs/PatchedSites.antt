@@ -5,7 +5,7 @@ use Rattle.ios_lines.specs.declared.line.Line.{Line}
 use Rattle.ios_lines.specs.Texts.{part, text_lines}
 use Rattle.ios_lines.proofs.EndedLines.{lines-of-text}
 use Rattle.ios_config.specs.declared.commands.FileCommand.{FileCommand}
-use Rattle.edit_space.specs.Numbered.{of_number}
+use Rattle.edit_list.specs.Numbered.{of_number}
 use Rattle.line_patcher.specs.declared.additions.NewNumber.{NewNumber}
 use Rattle.line_patcher.specs.Patches.{row_bytes, line_end}
 use Rattle.edited_lines.specs.Sites.{Site, chunk_lines, bytes_of, site_lines, new_lines}

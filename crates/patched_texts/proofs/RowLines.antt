@@ -7,7 +7,7 @@ use Rattle.ios_lines.specs.declared.line.Line.{Line}
 use Rattle.ios_lines.specs.Ended.{IsEnded, IsUnended, AreEnded, ended_row}
 use Rattle.ios_lines.specs.Texts.{Join, IsEnd}
 use Rattle.ios_lines.proofs.Slices.{length-slice_range}
-use Rattle.edit_space.specs.Numbered.{of_number}
+use Rattle.edit_list.specs.Numbered.{of_number}
 use Rattle.line_patcher.specs.Additions.{all_at}
 use Rattle.line_patcher.specs.Patches.{end_of, line_end}
 use Rattle.patched_texts.proofs.PatchedLines.{OnlyLastHangs}

@@ -12,7 +12,7 @@ use Rattle.net_build.specs.declared.built.Built.{Built}
 use Rattle.net_build.specs.declared.built.Places.{Places}
 use Rattle.net_build.specs.Networks.{IsBuilt}
 use Rattle.net_build.specs.Places.{places_of}
-use Rattle.edit_space.specs.declared.edit_kinds.Edit.{Edit}
+use Rattle.edit_list.specs.declared.edit_kinds.Edit.{Edit}
 use Rattle.arc_base.proofs.Zips.{AllZip-right}
 use Rattle.line_patcher.specs.SessionLines.{session_lines}
 use Rattle.line_patcher.specs.Patches.{ArePatched, patched_file}

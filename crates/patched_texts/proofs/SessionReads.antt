@@ -27,9 +27,9 @@ use Rattle.ios_config.specs.Groups.{Block, part_in}
 use Rattle.ios_config.specs.ProcessLines.{IsQuiet, AreLinesIn}
 use Rattle.ios_config.specs.Rising.{FallsAt, NumbersRise, rises}
 use Rattle.ios_config.specs.Texts.{entry_number}
-use Rattle.edit_space.specs.declared.edit_kinds.Edit.{Edit}
-use Rattle.edit_space.specs.declared.edit_kinds.Edit.TheVariants as edits
-use Rattle.edit_space.specs.Numbered.{if_number}
+use Rattle.edit_list.specs.declared.edit_kinds.Edit.{Edit}
+use Rattle.edit_list.specs.declared.edit_kinds.Edit.TheVariants as edits
+use Rattle.edit_list.specs.Numbered.{if_number}
 use Rattle.net_model.proofs.Readings.{item_at_place, place_of_item}
 use Rattle.patched_settings.proofs.Pairs.{maps_agree}
 use Rattle.arc_base.proofs.Zips.{AllZip-left}

@@ -33,14 +33,14 @@ use Rattle.net_build.specs.declared.built.Places.{Places}
 use Rattle.net_rows.specs.Lists.{packet_entries, route_entries}
 use Rattle.net_build.specs.Places.{face_place, list_place, places_of}
 use Rattle.net_rows.specs.Routers.{protocol_of_kind}
-use Rattle.edit_space.specs.declared.edit_kinds.Edit.{Edit}
-use Rattle.edit_space.specs.declared.list_kinds.NewList.{NewList}
-use Rattle.edit_space.specs.declared.list_kinds.NewList.TheVariants.{Packet}
-use Rattle.edit_space.specs.Changes.{list_prefixes, list_classes}
-use Rattle.edit_space.specs.Writable.{is_writable}
+use Rattle.edit_list.specs.declared.edit_kinds.Edit.{Edit}
+use Rattle.edit_list.specs.declared.list_kinds.NewList.{NewList}
+use Rattle.edit_list.specs.declared.list_kinds.NewList.TheVariants.{Packet}
+use Rattle.edit_list.specs.Changes.{list_prefixes, list_classes}
+use Rattle.edit_list.specs.Writable.{is_writable}
 use Rattle.line_patcher.specs.EntryLines.{packet_place, route_place}
 use Rattle.line_patcher.specs.NewListLines.{face_places}
-use Rattle.edit_space.specs.NewLists.{named_lists}
+use Rattle.edit_list.specs.NewLists.{named_lists}
 use Rattle.patched_settings.specs.Premises.{IsWritable}
 use Rattle.patched_texts.specs.NewListSites.{IsNewName, AreDifferent}
 

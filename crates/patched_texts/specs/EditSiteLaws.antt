@@ -20,11 +20,11 @@ use Rattle.net_build.specs.declared.built.Built.{Built}
 use Rattle.net_build.specs.declared.built.Places.{Places}
 use Rattle.net_build.specs.Networks.{Says, IsBuilt, IsNetworkOf}
 use Rattle.net_build.specs.Places.{places_of}
-use Rattle.edit_space.specs.declared.edit_kinds.Edit.{Edit}
-use Rattle.edit_space.specs.After.{IsAfter}
-use Rattle.edit_space.specs.Determined.{IsCountable}
-use Rattle.edit_space.specs.EditLists.{AreEdits}
-use Rattle.edit_space.specs.Prices.{chosen_of}
+use Rattle.edit_list.specs.declared.edit_kinds.Edit.{Edit}
+use Rattle.edit_list.specs.After.{IsAfter}
+use Rattle.edit_list.specs.Determined.{IsCountable}
+use Rattle.edit_list.specs.EditLists.{AreEdits}
+use Rattle.edit_list.specs.Prices.{chosen_of}
 use Rattle.patched_settings.specs.Premises.{HasRoom}
 use Rattle.line_patcher.specs.Additions.{lines_before, lines_after, numbers_at}
 use Rattle.line_patcher.specs.Patches.{ArePatched, line_end}

@@ -17,12 +17,12 @@ use Rattle.ios_config.specs.Appended.{IsLineOf}
 use Rattle.ios_config.specs.Bare.{bare}
 use Rattle.ios_config.specs.ProcessLines.{AreLinesIn, IsQuiet}
 use Rattle.ios_config.specs.Texts.{face_of, process_of}
-use Rattle.edit_space.specs.declared.edit_kinds.Edit.{Edit}
-use Rattle.edit_space.specs.declared.list_kinds.NewList.{NewList}
+use Rattle.edit_list.specs.declared.edit_kinds.Edit.{Edit}
+use Rattle.edit_list.specs.declared.list_kinds.NewList.{NewList}
 use Rattle.line_patcher.specs.NewListLines.{filter_lines}
 use Rattle.line_patcher.specs.SessionLines.{session_lines}
 use Rattle.patched_settings.specs.Additions.{process_lines, new_inbound}
-use Rattle.edit_space.specs.NewLists.{named_lists}
+use Rattle.edit_list.specs.NewLists.{named_lists}
 use Rattle.patched_settings.specs.Premises.{IsWritable}
 use Rattle.patched_settings.specs.SettingsAfter.{face_with, process_with}
 use Rattle.patched_texts.specs.Fits.{IsFit}

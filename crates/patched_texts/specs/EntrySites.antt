@@ -33,8 +33,8 @@ use Rattle.ios_config.specs.declared.settings.ListForm.{ListForm}
 use Rattle.ios_config.specs.declared.settings.ListForm.TheVariants as forms
 use Rattle.net_build.specs.declared.built.ListPlace.{ListPlace}
 use Rattle.net_rows.specs.Lists.{packet_text}
-use Rattle.edit_space.specs.After.{opposite_packet_entry, opposite_route_entry}
-use Rattle.edit_space.specs.Writable.{is_writable}
+use Rattle.edit_list.specs.After.{opposite_packet_entry, opposite_route_entry}
+use Rattle.edit_list.specs.Writable.{is_writable}
 use Rattle.line_patcher.specs.EntryLines.{order_at, packet_line, prefix_line, class_lines}
 use Rattle.line_patcher.specs.EntryLines.{prefix_lines}
 use Rattle.edited_lines.specs.Sites.{Written, Site, bytes_of, IsSingleLine, IsBlockLine, IsOfBlock}

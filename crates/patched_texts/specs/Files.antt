@@ -15,9 +15,9 @@ use Rattle.ios_config.specs.Twice.{StandOnce}
 use Rattle.net_build.specs.declared.built.Built.{Built}
 use Rattle.net_build.specs.Networks.{Says, IsBuilt, IsNetworkOf}
 use Rattle.net_build.specs.Places.{places_of}
-use Rattle.edit_space.specs.declared.edit_kinds.Edit.{Edit}
-use Rattle.edit_space.specs.After.{IsAfter}
-use Rattle.edit_space.specs.Determined.{IsCountable}
+use Rattle.edit_list.specs.declared.edit_kinds.Edit.{Edit}
+use Rattle.edit_list.specs.After.{IsAfter}
+use Rattle.edit_list.specs.Determined.{IsCountable}
 use Rattle.patched_settings.specs.Premises.{AreFitting, HasRoom}
 use Rattle.patched_settings.specs.SettingsAfter.{AreSettingsAfter}
 use Rattle.line_patcher.specs.declared.additions.NewNumber.{NewNumber}

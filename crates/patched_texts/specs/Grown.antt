@@ -7,7 +7,7 @@ use Rattle.ios_config.specs.declared.commands.FileCommand.{FileCommand}
 use Rattle.ios_config.specs.Bare.{bare, bare_setting}
 use Rattle.ios_config.specs.Groups.{Part, part_of, distinct, members}
 use Rattle.ios_config.specs.Texts.{face_of, list_of, process_of, router_name}
-use Rattle.edit_space.specs.declared.edit_kinds.Edit.{Edit}
+use Rattle.edit_list.specs.declared.edit_kinds.Edit.{Edit}
 use Rattle.patched_settings.specs.Plain.{plain_list}
 use Rattle.patched_settings.specs.SettingsAfter.{face_with, list_with, process_with, new_list_texts}
 

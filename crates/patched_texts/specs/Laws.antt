@@ -12,16 +12,16 @@ use Rattle.ios_config.specs.Bare.{bare_config}
 use Rattle.ios_config.specs.Texts.{config_of}
 use Rattle.net_build.specs.declared.built.Built.{Built}
 use Rattle.net_build.specs.Networks.{IsBuilt, IsNetworkOf}
-use Rattle.edit_space.specs.declared.edit_kinds.Edit.{Edit}
-use Rattle.edit_space.specs.After.{IsAfter}
-use Rattle.edit_space.specs.Determined.{IsCountable}
+use Rattle.edit_list.specs.declared.edit_kinds.Edit.{Edit}
+use Rattle.edit_list.specs.After.{IsAfter}
+use Rattle.edit_list.specs.Determined.{IsCountable}
 use Rattle.patched_settings.specs.Premises.{AreFitting, HasRoom}
 use Rattle.patched_settings.specs.SettingsAfter.{AreSettingsAfter}
 use Rattle.line_patcher.specs.declared.additions.NewNumber.{NewNumber}
 use Rattle.line_patcher.specs.Patches.{ArePatched, patched_text, line_end}
 use Rattle.edited_lines.specs.Grown.{HasGrownGroups}
 use Rattle.edited_lines.specs.Sites.{Site, new_lines, AreChunks, chunk_lines}
-use Rattle.edit_space.specs.declared.list_kinds.NewList.{NewList}
+use Rattle.edit_list.specs.declared.list_kinds.NewList.{NewList}
 use Rattle.line_patcher.specs.NewListLines.{new_list_lines}
 use Rattle.patched_texts.specs.NewListSites.{IsNewName, AreClear, AreDifferent, list_chunks}
 use Rattle.patched_texts.specs.NewListSites.{SetNewLists}

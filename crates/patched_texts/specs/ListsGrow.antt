@@ -10,7 +10,7 @@ use Rattle.ios_config.specs.declared.settings.ListKind.{ListKind}
 use Rattle.ios_config.specs.declared.settings.ListKind.TheVariants.{Extended, Standard, Prefix}
 use Rattle.ios_config.specs.declared.settings.ListText.{ListText}
 use Rattle.ios_config.specs.Texts.{kind_of_number, list_of, entries}
-use Rattle.edit_space.specs.declared.edit_kinds.Edit.{Edit}
+use Rattle.edit_list.specs.declared.edit_kinds.Edit.{Edit}
 use Rattle.patched_settings.specs.Additions.{front_lines}
 use Rattle.patched_settings.specs.Plain.{said, plain_entry, plain_list}
 use Rattle.patched_settings.specs.SettingsAfter.{list_with}

@@ -11,12 +11,12 @@ use Rattle.arc_base.specs.NameForms.{is_name}
 use Rattle.ios_words.specs.Printed.{permit_all_words, list_head_words, entry_words, top_line}
 use Rattle.ios_words.specs.Printed.{route_text, all_routes}
 use Rattle.net_rows.specs.Lists.{packet_text}
-use Rattle.edit_space.specs.After.{class_entry, every_packet}
-use Rattle.edit_space.specs.Changes.{new_prefixes, new_classes}
-use Rattle.edit_space.specs.declared.edit_kinds.Edit.{Edit}
-use Rattle.edit_space.specs.declared.list_kinds.NewList.{NewList}
-use Rattle.edit_space.specs.declared.list_kinds.NewList.TheVariants.{Route, Packet}
-use Rattle.edit_space.specs.Writable.{is_writable}
+use Rattle.edit_list.specs.After.{class_entry, every_packet}
+use Rattle.edit_list.specs.Changes.{new_prefixes, new_classes}
+use Rattle.edit_list.specs.declared.edit_kinds.Edit.{Edit}
+use Rattle.edit_list.specs.declared.list_kinds.NewList.{NewList}
+use Rattle.edit_list.specs.declared.list_kinds.NewList.TheVariants.{Route, Packet}
+use Rattle.edit_list.specs.Writable.{is_writable}
 use Rattle.line_patcher.specs.NewListLines.{deny_line, deny_class_line}
 use Rattle.patched_settings.specs.Plain.{plain_list}
 use Rattle.patched_settings.specs.SettingsAfter.{new_list_text}

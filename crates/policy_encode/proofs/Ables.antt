@@ -16,10 +16,10 @@ use Rattle.net_model.specs.declared.rows.Network.{Network}
 use Rattle.net_model.specs.Routing.{session_at, Names, TakesPart, IsAbleEnd, Tells}
 use Rattle.net_model.proofs.Readings.{place_of_item, item_at_place}
 use Rattle.condition_formula.proofs.Parts.{any_from, any_to}
-use Rattle.edit_space.specs.declared.edit_kinds.Edit.{Edit}
-use Rattle.edit_space.specs.After.{IsRouterAfter, IsFaceAfter, IsAfter}
-use Rattle.edit_space.specs.EditLists.{is_same}
-use Rattle.edit_space.proofs.RowFacts.{row_was, row_now}
+use Rattle.edit_list.specs.declared.edit_kinds.Edit.{Edit}
+use Rattle.edit_list.specs.After.{IsRouterAfter, IsFaceAfter, IsAfter}
+use Rattle.edit_list.specs.EditLists.{is_same}
+use Rattle.edit_list.proofs.RowFacts.{row_was, row_now}
 use Rattle.policy_encode.specs.Ables.{names, takes_part, is_able_end, tells, is_told}
 use Rattle.policy_encode.proofs.Sessions.{sessions_match}
 

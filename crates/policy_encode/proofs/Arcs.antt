@@ -23,11 +23,11 @@ use Rattle.condition_formula.specs.declared.condition.ArcLists.{ArcLists}
 use Rattle.condition_formula.specs.declared.network.ConditionArc.{ConditionArc}
 use Rattle.condition_formula.specs.Conditions.{holds, lists_of, is_routed, IsClear}
 use Rattle.condition_formula.specs.Laws.{chosen_in}
-use Rattle.edit_space.specs.declared.edit_kinds.Edit.{Edit}
-use Rattle.edit_space.specs.After.{IsFaceAfter}
-use Rattle.edit_space.specs.Numbered.{placed}
-use Rattle.edit_space.specs.Prices.{chosen_of}
-use Rattle.edit_space.proofs.RowFacts.{row_was, row_now}
+use Rattle.edit_list.specs.declared.edit_kinds.Edit.{Edit}
+use Rattle.edit_list.specs.After.{IsFaceAfter}
+use Rattle.edit_list.specs.Numbered.{placed}
+use Rattle.edit_list.specs.Prices.{chosen_of}
+use Rattle.edit_list.proofs.RowFacts.{row_was, row_now}
 use Rattle.policy_encode.specs.Ables.{is_able_end, is_able, takes_part, is_told}
 use Rattle.policy_encode.specs.Answers.{session_condition, route_condition, arc_lists}
 use Rattle.policy_encode.specs.Laws.{IsEdited}

@@ -35,10 +35,10 @@ use Rattle.condition_formula.specs.declared.network.ConditionArc.{ConditionArc}
 use Rattle.condition_formula.specs.declared.network.Question.{Question}
 use Rattle.condition_formula.specs.Conditions.{holds, ends_of, bare, IsMet, MeetsDemand, IsSound, HasEdits}
 use Rattle.condition_formula.specs.Laws.{chosen_in}
-use Rattle.edit_space.specs.declared.edit_kinds.Edit.{Edit}
-use Rattle.edit_space.specs.After.{IsFaceAfter}
-use Rattle.edit_space.specs.Prices.{chosen_of}
-use Rattle.edit_space.proofs.RowFacts.{item_of, row_now}
+use Rattle.edit_list.specs.declared.edit_kinds.Edit.{Edit}
+use Rattle.edit_list.specs.After.{IsFaceAfter}
+use Rattle.edit_list.specs.Prices.{chosen_of}
+use Rattle.edit_list.proofs.RowFacts.{item_of, row_now}
 use Rattle.policy_encode.specs.Answers.{inbound_condition, outbound_condition, class_ends}
 use Rattle.policy_encode.specs.Laws.{IsEdited}
 use Rattle.policy_encode.specs.Questions.{arcs_to, demand_of, question_of, IsQuestion}

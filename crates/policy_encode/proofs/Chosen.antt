@@ -8,8 +8,8 @@ use Rattle.std.proofs.lemmas.List.Sums.{fails_before_first}
 use Rattle.arc_base.proofs.Items.{Contains-head, Contains-tail, Contains-cases, Contains-none}
 use Rattle.condition_formula.specs.Conditions.{holds}
 use Rattle.condition_formula.specs.Laws.{chosen_in}
-use Rattle.edit_space.specs.declared.edit_kinds.Edit.{Edit}
-use Rattle.edit_space.specs.Prices.{chosen_of}
+use Rattle.edit_list.specs.declared.edit_kinds.Edit.{Edit}
+use Rattle.edit_list.specs.Prices.{chosen_of}
 use Rattle.policy_encode.specs.Turning.{is_same, place_of, condition_at, turned}
 use Rattle.policy_encode.proofs.Same.{is_same_itself, is_same_true}
 

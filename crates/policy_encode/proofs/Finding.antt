@@ -13,8 +13,8 @@ use Rattle.traffic_classes.specs.Classes.{HasClasses}
 use Rattle.traffic_classes.proofs.EachPolicy.{no_more}
 use Rattle.traffic_classes.proofs.Unions.{have_one_list}
 use Rattle.condition_formula.proofs.Parts.{any_to}
-use Rattle.edit_space.specs.declared.edit_kinds.Edit.{Edit}
-use Rattle.edit_space.specs.EditLists.{HasFewClasses}
+use Rattle.edit_list.specs.declared.edit_kinds.Edit.{Edit}
+use Rattle.edit_list.specs.EditLists.{HasFewClasses}
 use Rattle.policy_encode.specs.Turning.{Key, key_of, same_key, is_same, place_of}
 use Rattle.policy_encode.proofs.Same.{is_same_true}
 

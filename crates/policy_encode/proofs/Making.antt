@@ -22,9 +22,9 @@ use Rattle.condition_formula.specs.declared.network.Question.{Question}
 use Rattle.condition_formula.specs.declared.network.Demand.{Demand}
 use Rattle.condition_formula.specs.declared.condition.ClassEnds.{ClassEnds}
 use Rattle.condition_formula.specs.Limits.{IsSmallNet}
-use Rattle.edit_space.specs.declared.edit_kinds.Edit.{Edit}
-use Rattle.edit_space.specs.Numbered.{placed}
-use Rattle.edit_space.proofs.Placing.{placed_length, placed_at}
+use Rattle.edit_list.specs.declared.edit_kinds.Edit.{Edit}
+use Rattle.edit_list.specs.Numbered.{placed}
+use Rattle.edit_list.proofs.Placing.{placed_length, placed_at}
 use Rattle.policy_encode.specs.Ables.{is_able, is_told}
 use Rattle.policy_encode.specs.Questions.{is_never, arc_over, able_arcs, link_arcs, arcs_to, IsQuestion, AreConditions}
 

@@ -21,8 +21,8 @@ use Rattle.traffic_classes.proofs.MakingUp.{has_one_list}
 use Rattle.condition_formula.specs.declared.network.ConditionNet.{ConditionNet}
 use Rattle.condition_formula.specs.declared.network.Question.{Question}
 use Rattle.condition_formula.specs.Formulas.{repair_formula, tops_of}
-use Rattle.edit_space.specs.declared.edit_kinds.Edit.{Edit}
-use Rattle.edit_space.specs.Prices.{weight}
+use Rattle.edit_list.specs.declared.edit_kinds.Edit.{Edit}
+use Rattle.edit_list.specs.Prices.{weight}
 use Rattle.policy_encode.specs.Laws.{FormulasAreThere, HaveOneFormula}
 use Rattle.policy_encode.specs.Questions.{question_of, IsQuestion, AreConditions}
 

@@ -26,12 +26,12 @@ use Rattle.traffic_classes.proofs.Unions.{tell_apart}
 use Rattle.traffic_classes.specs.AllClasses.{is_same}
 use Rattle.condition_formula.specs.Conditions.{holds}
 use Rattle.condition_formula.specs.Laws.{chosen_in}
-use Rattle.edit_space.specs.declared.edit_kinds.Edit.{Edit}
-use Rattle.edit_space.specs.declared.edit_kinds.Edit.TheVariants as edits
-use Rattle.edit_space.specs.After.{with_classes, edited_packet_list, new_packet_entries, IsNewPacketList, PacketListMoves, StaysBound, IsInboundAfter}
-use Rattle.edit_space.specs.Changes.{list_classes, new_classes}
-use Rattle.edit_space.specs.Numbered.{is_empty}
-use Rattle.edit_space.specs.Prices.{chosen_of}
+use Rattle.edit_list.specs.declared.edit_kinds.Edit.{Edit}
+use Rattle.edit_list.specs.declared.edit_kinds.Edit.TheVariants as edits
+use Rattle.edit_list.specs.After.{with_classes, edited_packet_list, new_packet_entries, IsNewPacketList, PacketListMoves, StaysBound, IsInboundAfter}
+use Rattle.edit_list.specs.Changes.{list_classes, new_classes}
+use Rattle.edit_list.specs.Numbered.{is_empty}
+use Rattle.edit_list.specs.Prices.{chosen_of}
 use Rattle.edit_laws.proofs.Listed.{chosen_listed, class_put, class_listed}
 use Rattle.edit_laws.proofs.Turning.{turning_classes, staying_packets}
 use Rattle.policy_encode.specs.Answers.{packet_answer, list_condition, inbound_condition, outbound_condition}

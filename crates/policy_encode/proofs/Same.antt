@@ -5,8 +5,8 @@ use Rattle.arc_base.specs.declared.prefix.Prefix.{Prefix}
 use Rattle.arc_base.proofs.SamePrefix.{same_prefix}
 use Rattle.traffic_classes.specs.AllClasses.{Key as EntryKey, same_key as same_entry}
 use Rattle.traffic_classes.proofs.Sameness.{is_same-Decides}
-use Rattle.edit_space.specs.declared.edit_kinds.Edit.{Edit}
-use Rattle.edit_space.specs.declared.edit_kinds.Edit.TheVariants.{Session, RouteList, RouteNew, PacketList, PacketNew}
+use Rattle.edit_list.specs.declared.edit_kinds.Edit.{Edit}
+use Rattle.edit_list.specs.declared.edit_kinds.Edit.TheVariants.{Session, RouteList, RouteNew, PacketList, PacketNew}
 use Rattle.policy_encode.specs.Turning.{Key, key_of, same_key, is_same}
 
 -- the numbers of an edit's entry, as those of a class stand

@@ -25,14 +25,14 @@ use Rattle.net_model.specs.Validity.{IsPlace, IsValidSession, AreSessionsApart, 
 use Rattle.net_model.proofs.Readings.{item_at_place}
 use Rattle.condition_formula.specs.Conditions.{holds}
 use Rattle.condition_formula.specs.Laws.{chosen_in}
-use Rattle.edit_space.specs.declared.edit_kinds.Edit.{Edit}
-use Rattle.edit_space.specs.declared.edit_kinds.Edit.TheVariants as edits
-use Rattle.edit_space.specs.After.{with_prefixes, edited_route_list, new_route_entries, turned_if, passive_after, IsNewRouteList, RouteListMoves, StaysBound, IsFilterAfter, IsFaceAfter, IsSessionAfter, IsAfter}
-use Rattle.edit_space.specs.Changes.{list_prefixes, new_prefixes, turns_session}
-use Rattle.edit_space.specs.Numbered.{is_empty}
-use Rattle.edit_space.specs.Prices.{chosen_of}
+use Rattle.edit_list.specs.declared.edit_kinds.Edit.{Edit}
+use Rattle.edit_list.specs.declared.edit_kinds.Edit.TheVariants as edits
+use Rattle.edit_list.specs.After.{with_prefixes, edited_route_list, new_route_entries, turned_if, passive_after, IsNewRouteList, RouteListMoves, StaysBound, IsFilterAfter, IsFaceAfter, IsSessionAfter, IsAfter}
+use Rattle.edit_list.specs.Changes.{list_prefixes, new_prefixes, turns_session}
+use Rattle.edit_list.specs.Numbered.{is_empty}
+use Rattle.edit_list.specs.Prices.{chosen_of}
 use Rattle.edit_laws.proofs.Listed.{chosen_listed}
-use Rattle.edit_space.proofs.RowFacts.{item_of, row_now}
+use Rattle.edit_list.proofs.RowFacts.{item_of, row_now}
 use Rattle.edit_laws.proofs.Turning.{turning_prefixes, staying_prefixes}
 use Rattle.policy_encode.specs.Answers.{is_open, session_condition, route_answer, filter_condition, route_condition}
 use Rattle.policy_encode.specs.Laws.{IsEdited}

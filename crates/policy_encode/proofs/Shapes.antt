@@ -28,9 +28,9 @@ use Rattle.condition_formula.specs.declared.condition.ArcLists.{ArcLists}
 use Rattle.condition_formula.specs.declared.condition.ClassEnds.{ClassEnds}
 use Rattle.condition_formula.specs.declared.network.ConditionArc.{ConditionArc}
 use Rattle.condition_formula.specs.Conditions.{IsOf, HasEdits, bare}
-use Rattle.edit_space.specs.declared.edit_kinds.Edit.{Edit}
-use Rattle.edit_space.specs.declared.edit_kinds.Edit.TheVariants as edits
-use Rattle.edit_space.specs.Numbered.{placed}
+use Rattle.edit_list.specs.declared.edit_kinds.Edit.{Edit}
+use Rattle.edit_list.specs.declared.edit_kinds.Edit.TheVariants as edits
+use Rattle.edit_list.specs.Numbered.{placed}
 use Rattle.policy_encode.specs.Ables.{is_able, is_told}
 use Rattle.policy_encode.specs.Answers.{session_condition, filter_condition, route_answer, route_condition, list_condition, packet_answer, inbound_condition, outbound_condition, arc_lists, class_ends, is_open}
 use Rattle.policy_encode.specs.Questions.{is_never, tail_row, head_row, arc_over, able_arcs, link_arcs, arcs_to}

@@ -10,7 +10,7 @@ use Rattle.net_model.specs.declared.rows.SessionRow.{SessionRow}
 use Rattle.net_model.specs.declared.rows.LinkRow.{LinkRow}
 use Rattle.net_model.specs.declared.rows.Network.{Network}
 use Rattle.net_model.specs.Routing.{session_at}
-use Rattle.edit_space.specs.EditLists.{is_same}
+use Rattle.edit_list.specs.EditLists.{is_same}
 
 -- whether the session names the far interface: its address, and the AS of its router
 abbrev pub names : Network → SessionRow → FaceRow → Bool

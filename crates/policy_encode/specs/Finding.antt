@@ -1,6 +1,6 @@
 -- The index by which an edit's place is found.
 use Rattle.std.specs.Prelude.{◌≡◌, List, map}
-use Rattle.edit_space.specs.declared.edit_kinds.Edit.{Edit}
+use Rattle.edit_list.specs.declared.edit_kinds.Edit.{Edit}
 use Rattle.policy_encode.specs.declared.edit_index.EditIndex.{EditIndex}
 use Rattle.policy_encode.specs.Turning.{key_of}
 

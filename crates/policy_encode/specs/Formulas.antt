@@ -8,9 +8,9 @@ use Rattle.cnf_types.specs.declared.clauses.Formula.{Formula}
 use Rattle.condition_formula.specs.declared.network.ConditionNet.{ConditionNet}
 use Rattle.condition_formula.specs.Formulas.{repair_formula, tops_of}
 use Rattle.condition_formula.specs.Limits.{IsWithinLimits, HasTooManyVariables, HasTooManyLiterals}
-use Rattle.edit_space.specs.declared.edit_kinds.Edit.{Edit}
-use Rattle.edit_space.specs.declared.edit_kinds.EditFault.{EditFault}
-use Rattle.edit_space.specs.declared.edit_kinds.EditFault.TheVariants.{Limit, Memory}
+use Rattle.edit_list.specs.declared.edit_kinds.Edit.{Edit}
+use Rattle.edit_list.specs.declared.edit_kinds.EditFault.{EditFault}
+use Rattle.edit_list.specs.declared.edit_kinds.EditFault.TheVariants.{Limit, Memory}
 use Rattle.policy_encode.specs.Questions.{AreConditions}
 
 -- the formula and its tops are those of the network's conditions, for prices up to the bound

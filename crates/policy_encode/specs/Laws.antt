@@ -15,10 +15,10 @@ use Rattle.cnf_types.specs.declared.clauses.Formula.{Formula}
 use Rattle.condition_formula.specs.declared.network.Question.{Question}
 use Rattle.condition_formula.specs.Conditions.{IsMet}
 use Rattle.condition_formula.specs.Laws.{BeginsWith, KeepsBound, IsVariableOf, chosen_in}
-use Rattle.edit_space.specs.declared.edit_kinds.Edit.{Edit}
-use Rattle.edit_space.specs.After.{IsAfter}
-use Rattle.edit_space.specs.EditLists.{AreEdits}
-use Rattle.edit_space.specs.Prices.{chosen_of, price_of}
+use Rattle.edit_list.specs.declared.edit_kinds.Edit.{Edit}
+use Rattle.edit_list.specs.After.{IsAfter}
+use Rattle.edit_list.specs.EditLists.{AreEdits}
+use Rattle.edit_list.specs.Prices.{chosen_of, price_of}
 use Rattle.traffic_classes.specs.Classes.{AreClasses}
 use Rattle.policy_encode.specs.Mirrors.{Mirrors}
 use Rattle.policy_encode.specs.Questions.{IsQuestion}

@@ -25,9 +25,9 @@ use Rattle.condition_formula.specs.declared.network.ConditionNet.{ConditionNet}
 use Rattle.condition_formula.specs.declared.network.Question.{Question}
 use Rattle.condition_formula.specs.declared.network.Demand.{Demand}
 use Rattle.condition_formula.specs.declared.network.Demand.TheVariants.{Blocked, Through, Reach}
-use Rattle.edit_space.specs.declared.edit_kinds.Edit.{Edit}
-use Rattle.edit_space.specs.Numbered.{placed}
-use Rattle.edit_space.specs.Prices.{weight}
+use Rattle.edit_list.specs.declared.edit_kinds.Edit.{Edit}
+use Rattle.edit_list.specs.Numbered.{placed}
+use Rattle.edit_list.specs.Prices.{weight}
 use Rattle.policy_encode.specs.Answers.{session_condition, route_condition, arc_lists, class_ends}
 use Rattle.policy_encode.specs.Ables.{is_able, is_told}
 

@@ -5,8 +5,8 @@ use Rattle.condition_formula.specs.declared.condition.Condition.{Condition}
 use Rattle.condition_formula.specs.declared.condition.Condition.TheVariants.{Always, Never, If}
 use Rattle.condition_formula.specs.declared.condition.Condition.TheVariants.{Unless}
 use Rattle.net_model.specs.declared.policies.Class.{Class}
-use Rattle.edit_space.specs.declared.edit_kinds.Edit.{Edit}
-use Rattle.edit_space.specs.declared.edit_kinds.Edit.TheVariants as edits
+use Rattle.edit_list.specs.declared.edit_kinds.Edit.{Edit}
+use Rattle.edit_list.specs.declared.edit_kinds.Edit.TheVariants as edits
 
 -- the numbers that make an edit: its kind, the place where it acts, and of its entry the prefix, or
 -- the two prefixes and the range of services

@@ -1,7 +1,7 @@
 //! Which links are able, and which host networks are told.
 ghost use Rattle.std.specs.Prelude.{◌≡◌};
 ghost use Rattle.std.specs.Option.{option_copied};
-ghost use Rattle.edit_space.specs.EditLists.{is_same};
+ghost use Rattle.edit_list.specs.EditLists.{is_same};
 ghost use Rattle.policy_encode.specs.Ables.{names, takes_part, is_able_end, is_able, tells};
 ghost use Rattle.policy_encode.specs.Ables.{is_told};
 

@@ -1,7 +1,7 @@
 //! The conditions for sessions, routes and packets.
 ghost use Rattle.std.specs.Prelude.{◌≡◌, ◌<◌, ◌^◌, List, length};
 ghost use Rattle.std.specs.Option.{option_copied};
-ghost use Rattle.edit_space.specs.declared.edit_kinds.Edit.{Edit as AnyEdit};
+ghost use Rattle.edit_list.specs.declared.edit_kinds.Edit.{Edit as AnyEdit};
 ghost use Rattle.policy_encode.specs.Answers.{is_open, session_condition, route_answer};
 ghost use Rattle.policy_encode.specs.Answers.{filter_condition, route_condition, packet_answer};
 ghost use Rattle.policy_encode.specs.Answers.{list_condition, inbound_condition};
@@ -11,7 +11,7 @@ ghost use Rattle.policy_encode.specs.Finding.{IsIndexOf};
 use crate::edit_index::EditIndex;
 use arc_base::{Face, ListId, Prefix};
 use condition_formula::{ArcLists, ClassEnds, Condition};
-use edit_space::Edit;
+use edit_list::Edit;
 use net_model::{Class, FaceRow, Network, SessionRow};
 
 /// Whether the interface is not passive, and no session of it is shut down.

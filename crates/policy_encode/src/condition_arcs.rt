@@ -3,7 +3,7 @@ ghost use Rattle.std.specs.Prelude.{◌≡◌, ◌<◌, ◌^◌, ◌++◌, ◌�
 ghost use Rattle.std.specs.Prelude.{slice_get, Some, IfOk, OnOk};
 ghost use Rattle.std.specs.List.{list_any};
 ghost use Rattle.std.specs.Option.{option_copied};
-ghost use Rattle.edit_space.specs.declared.edit_kinds.Edit.{Edit as AnyEdit};
+ghost use Rattle.edit_list.specs.declared.edit_kinds.Edit.{Edit as AnyEdit};
 ghost use Rattle.policy_encode.specs.Answers.{arc_lists};
 ghost use Rattle.policy_encode.specs.Questions.{is_never, routing_of, tail_row, head_row, arc_over};
 ghost use Rattle.policy_encode.specs.Questions.{able_arcs, link_arcs, arcs_to};

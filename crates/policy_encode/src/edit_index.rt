@@ -1,12 +1,12 @@
 //! The places of edits in their list.
 ghost use Rattle.std.specs.Prelude.{◌≡◌, ◌≢◌, ◌<◌, ◌^◌, List, length, map, AllPairs, IfOk};
-ghost use Rattle.edit_space.specs.declared.edit_kinds.Edit.{Edit as AnyEdit};
+ghost use Rattle.edit_list.specs.declared.edit_kinds.Edit.{Edit as AnyEdit};
 ghost use Rattle.policy_encode.specs.Turning.{key_of, packet_key, place_of, condition_at, turned};
 ghost use Rattle.policy_encode.specs.Finding.{IsIndexOf};
 
 use arc_base::Memory;
 use condition_formula::Condition;
-use edit_space::Edit;
+use edit_list::Edit;
 use indexmap::IndexSet;
 use net_model::Class;
 use std::alloc::Global;

@@ -2,8 +2,8 @@
 ghost use Rattle.std.specs.Prelude.{◌≡◌, ◌<◌, ◌≤◌, ◌^◌, map, List, length, All, Contains};
 ghost use Rattle.std.specs.Prelude.{IfOk, IfErr, IfSome};
 ghost use Rattle.std.specs.List.{AllZip};
-ghost use Rattle.edit_space.specs.declared.edit_kinds.Edit.{Edit as AnyEdit};
-ghost use Rattle.edit_space.specs.EditLists.{HasFewClasses};
+ghost use Rattle.edit_list.specs.declared.edit_kinds.Edit.{Edit as AnyEdit};
+ghost use Rattle.edit_list.specs.EditLists.{HasFewClasses};
 ghost use Rattle.net_model.specs.Forwarding.{HasHost, HasEnds, IsHostOf};
 ghost use Rattle.net_model.specs.Packets.{subject};
 ghost use Rattle.traffic_classes.specs.Classes.{AreClasses, AreMarks};

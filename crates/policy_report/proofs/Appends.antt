@@ -7,8 +7,8 @@ use Rattle.net_model.specs.declared.policies.Policy.{Policy}
 use Rattle.net_model.specs.declared.rows.RouterRow.{RouterRow}
 use Rattle.net_model.specs.declared.rows.Network.{Network}
 use Rattle.net_model.specs.declared.verdicts.Verdict.{Verdict}
-use Rattle.edit_space.specs.declared.edit_kinds.Edit.{Edit}
-use Rattle.edit_space.specs.Prices.{chosen_of}
+use Rattle.edit_list.specs.declared.edit_kinds.Edit.{Edit}
+use Rattle.edit_list.specs.Prices.{chosen_of}
 use Rattle.policy_report.specs.Edits.{edit_words, edit_lines}
 use Rattle.policy_report.specs.Lines.{after_spaces, line}
 use Rattle.policy_report.specs.Reports.{link_words, side_words, block_text, blocks_text}

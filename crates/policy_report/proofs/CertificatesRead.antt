@@ -12,11 +12,11 @@ use Rattle.net_model.specs.declared.policies.Policy.{Policy}
 use Rattle.net_model.specs.declared.rows.Network.{Network}
 use Rattle.net_model.specs.declared.verdicts.Verdict as verdicts
 use Rattle.net_model.specs.Validity.{IsValid}
-use Rattle.edit_space.specs.declared.claims.Claim.{Claim}
-use Rattle.edit_space.specs.declared.claims.Claim.TheVariants as claims
-use Rattle.edit_space.specs.declared.edit_kinds.Edit.{Edit}
-use Rattle.edit_space.specs.declared.edit_kinds.Edit.TheVariants as kinds
-use Rattle.edit_space.specs.Prices.{chosen_of}
+use Rattle.edit_list.specs.declared.claims.Claim.{Claim}
+use Rattle.edit_list.specs.declared.claims.Claim.TheVariants as claims
+use Rattle.edit_list.specs.declared.edit_kinds.Edit.{Edit}
+use Rattle.edit_list.specs.declared.edit_kinds.Edit.TheVariants as kinds
+use Rattle.edit_list.specs.Prices.{chosen_of}
 use Rattle.proof_log.specs.Reading.{reading}
 use Rattle.proof_log.specs.Texts.{log_text}
 use Rattle.policy_report.specs.declared.answers.Answer.TheVariants as replies

@@ -12,10 +12,10 @@ use Rattle.arc_base.specs.Words.{words}
 use Rattle.net_model.specs.declared.policies.Document.{Document}
 use Rattle.net_model.specs.declared.rows.Network.{Network}
 use Rattle.net_model.specs.Validity.{IsValid}
-use Rattle.edit_space.specs.declared.claims.Claim.{Claim}
-use Rattle.edit_space.specs.declared.claims.Claim.TheVariants as claims
-use Rattle.edit_space.specs.declared.edit_kinds.Edit.{Edit}
-use Rattle.edit_space.specs.Prices.{chosen_of}
+use Rattle.edit_list.specs.declared.claims.Claim.{Claim}
+use Rattle.edit_list.specs.declared.claims.Claim.TheVariants as claims
+use Rattle.edit_list.specs.declared.edit_kinds.Edit.{Edit}
+use Rattle.edit_list.specs.Prices.{chosen_of}
 use Rattle.proof_log.specs.declared.reading.LineKind.{LineKind}
 use Rattle.proof_log.specs.Reading.{reading}
 use Rattle.policy_report.specs.declared.answers.Answer.{Answer}

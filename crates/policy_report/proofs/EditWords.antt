@@ -20,8 +20,8 @@ use Rattle.net_model.specs.declared.rows.Network.{Network}
 use Rattle.net_model.specs.Routing.{session_at}
 use Rattle.net_model.specs.Validity.{IsValid, IsValidPacketList, IsValidRouteList}
 use Rattle.arc_base.specs.NameForms.{IsName, IsFaceName, IsUnit, face_kinds}
-use Rattle.edit_space.specs.declared.edit_kinds.Edit.{Edit}
-use Rattle.edit_space.specs.declared.edit_kinds.Edit.TheVariants as edits
+use Rattle.edit_list.specs.declared.edit_kinds.Edit.{Edit}
+use Rattle.edit_list.specs.declared.edit_kinds.Edit.TheVariants as edits
 use Rattle.policy_report.specs.Edits.{router_name, owner_name, face_name, neighbor_text, route_list_words, packet_list_words, edit_words, HasAddresses}
 use Rattle.policy_report.specs.Reports.{class_words}
 use Rattle.policy_report.proofs.ServiceParts.{are_class_words}

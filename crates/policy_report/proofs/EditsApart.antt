@@ -20,15 +20,15 @@ use Rattle.net_model.specs.declared.rows.SessionRow.{SessionRow}
 use Rattle.net_model.specs.Routing.{session_at}
 use Rattle.net_model.specs.Validity.{IsValid, AreLinksApart, AreSessionsApart}
 use Rattle.traffic_classes.specs.AllClasses as classes
-use Rattle.edit_space.specs.declared.edit_kinds.Edit.{Edit}
-use Rattle.edit_space.specs.declared.edit_kinds.Edit.TheVariants as edits
-use Rattle.edit_space.specs.declared.sites.Site.{Site}
-use Rattle.edit_space.specs.declared.sites.Site.TheVariants.{Bound, New}
-use Rattle.edit_space.specs.EditLists.{has_session, edits_at, link_edits, route_edit, packet_edit, writable_classes, all_edits, is_same, AreEdits}
-use Rattle.edit_space.specs.Numbered.{placed, if_number, of_number, by_number}
-use Rattle.edit_space.specs.Writable.{is_writable}
-use Rattle.edit_space.specs.Sites.{route_list_site, neighbor_site, packet_list_site, takes_list, face_site, route_sites, packet_sites}
-use Rattle.edit_space.proofs.NewListFacts.{picked_from, pairs_picked, placed_apart, placed_is}
+use Rattle.edit_list.specs.declared.edit_kinds.Edit.{Edit}
+use Rattle.edit_list.specs.declared.edit_kinds.Edit.TheVariants as edits
+use Rattle.edit_list.specs.declared.sites.Site.{Site}
+use Rattle.edit_list.specs.declared.sites.Site.TheVariants.{Bound, New}
+use Rattle.edit_list.specs.EditLists.{has_session, edits_at, link_edits, route_edit, packet_edit, writable_classes, all_edits, is_same, AreEdits}
+use Rattle.edit_list.specs.Numbered.{placed, if_number, of_number, by_number}
+use Rattle.edit_list.specs.Writable.{is_writable}
+use Rattle.edit_list.specs.Sites.{route_list_site, neighbor_site, packet_list_site, takes_list, face_site, route_sites, packet_sites}
+use Rattle.edit_list.proofs.NewListFacts.{picked_from, pairs_picked, placed_apart, placed_is}
 use Rattle.policy_report.proofs.Apart.{only_item, number_told, pieces_apart, map_apart, numbers_apart, once_apart}
 use Rattle.arc_base.specs.Lists.{AreDistinct}
 

@@ -21,8 +21,8 @@ use Rattle.net_model.specs.declared.rows.SessionRow.{SessionRow}
 use Rattle.net_model.specs.declared.rows.Network.{Network}
 use Rattle.net_model.specs.Routing.{session_at}
 use Rattle.net_model.specs.Validity.{IsValid, AreSessionsApart, IsValidPacketList, IsValidRouteList}
-use Rattle.edit_space.specs.declared.edit_kinds.Edit.{Edit}
-use Rattle.edit_space.specs.declared.edit_kinds.Edit.TheVariants as edits
+use Rattle.edit_list.specs.declared.edit_kinds.Edit.{Edit}
+use Rattle.edit_list.specs.declared.edit_kinds.Edit.TheVariants as edits
 use Rattle.policy_report.specs.Edits.{router_name, owner_name, face_name, neighbor_text, route_list_words, packet_list_words, edit_words, edit_text, HasAddresses, EditsAreToldApart}
 use Rattle.policy_report.specs.Readings.{line_words, class_at}
 use Rattle.policy_report.specs.Reports.{class_words}

@@ -4,7 +4,7 @@ use Rattle.std.specs.Prelude.{bytes_eq, codes}
 use Rattle.arc_base.specs.declared.certificate.CertKind.TheVariants.{Form}
 use Rattle.net_model.specs.declared.policies.Document.{Document}
 use Rattle.net_model.specs.declared.rows.Network.{Network}
-use Rattle.edit_space.specs.declared.edit_kinds.Edit.{Edit}
+use Rattle.edit_list.specs.declared.edit_kinds.Edit.{Edit}
 use Rattle.policy_report.specs.declared.answers.Answer.{Answer}
 use Rattle.policy_report.specs.declared.answers.Answer.TheVariants as replies
 use Rattle.policy_report.specs.declared.got.Got.{Got}

@@ -14,10 +14,10 @@ use Rattle.net_model.specs.declared.policies.Document.{Document}
 use Rattle.net_model.specs.declared.rows.Network.{Network}
 use Rattle.net_model.specs.Routing.{session_at}
 use Rattle.net_model.specs.Validity.{IsValid}
-use Rattle.edit_space.specs.declared.edit_kinds.Edit.{Edit}
-use Rattle.edit_space.specs.declared.edit_kinds.Edit.TheVariants.{Session, RouteList, RouteNew}
-use Rattle.edit_space.specs.declared.edit_kinds.Edit.TheVariants.{PacketList, PacketNew}
-use Rattle.edit_space.specs.EditLists.{AreEdits}
+use Rattle.edit_list.specs.declared.edit_kinds.Edit.{Edit}
+use Rattle.edit_list.specs.declared.edit_kinds.Edit.TheVariants.{Session, RouteList, RouteNew}
+use Rattle.edit_list.specs.declared.edit_kinds.Edit.TheVariants.{PacketList, PacketNew}
+use Rattle.edit_list.specs.EditLists.{AreEdits}
 use Rattle.policy_report.specs.Lines.{after_spaces, line}
 use Rattle.policy_report.specs.Reports.{class_words}
 

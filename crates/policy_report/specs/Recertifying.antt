@@ -12,9 +12,9 @@ use Rattle.net_model.specs.declared.rows.Network.{Network}
 use Rattle.net_model.specs.declared.verdicts.Verdict as verdicts
 use Rattle.net_model.specs.declared.verdicts.Verdict.TheVariants.{Closed, Paths}
 use Rattle.net_model.specs.Validity.{IsValid}
-use Rattle.edit_space.specs.declared.claims.Claim.{Claim}
-use Rattle.edit_space.specs.declared.claims.Claim.TheVariants as claims
-use Rattle.edit_space.specs.declared.edit_kinds.Edit as edits
+use Rattle.edit_list.specs.declared.claims.Claim.{Claim}
+use Rattle.edit_list.specs.declared.claims.Claim.TheVariants as claims
+use Rattle.edit_list.specs.declared.edit_kinds.Edit as edits
 use Rattle.proof_log.specs.declared.steps.Step as steps
 use Rattle.proof_log.specs.declared.steps.Log.{Log}
 use Rattle.proof_log.specs.Reading.{reading}

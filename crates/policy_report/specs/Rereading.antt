@@ -15,7 +15,7 @@ use Rattle.net_model.specs.declared.verdicts.Verdict as verdicts
 use Rattle.net_model.specs.declared.verdicts.Verdict.TheVariants.{Closed, Paths, Walk, Denied, Cut}
 use Rattle.net_model.specs.declared.verdicts.Verdict.TheVariants.{Refused}
 use Rattle.net_model.specs.Validity.{IsValid}
-use Rattle.edit_space.specs.declared.edit_kinds.Edit as edits
+use Rattle.edit_list.specs.declared.edit_kinds.Edit as edits
 use Rattle.policy_report.specs.declared.got.Got.{Got}
 use Rattle.policy_report.specs.declared.got.Got.TheVariants.{More, Head, Verdict, End}
 use Rattle.policy_report.specs.declared.got.CertForm.TheVariants.{Report}

@@ -15,7 +15,7 @@ use Rattle.arc_base.specs.declared.certificate.CertKind.TheVariants.{Form, NoCla
 use Rattle.arc_base.specs.declared.certificate.CertKind.TheVariants.{NotYes, NoEnd, Memory}
 use Rattle.arc_base.specs.Options.{◌>>=◌}
 use Rattle.arc_base.specs.Words.{words}
-use Rattle.edit_space.specs.declared.edit_kinds.Edit as edits
+use Rattle.edit_list.specs.declared.edit_kinds.Edit as edits
 use Rattle.net_model.specs.declared.policies.Document.{Document}
 use Rattle.net_model.specs.declared.policies.Policy as policies
 use Rattle.net_model.specs.declared.rows.Network.{Network}

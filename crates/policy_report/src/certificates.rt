@@ -1,6 +1,6 @@
 //! The texts of certificates.
 ghost use Rattle.std.specs.Prelude.{◌≡◌, ◌++◌, ◌∷◌, [], codes, decimal, length, IfOk, OnOk};
-ghost use Rattle.edit_space.specs.Prices.{chosen_of};
+ghost use Rattle.edit_list.specs.Prices.{chosen_of};
 ghost use Rattle.policy_report.specs.Lines.{line};
 ghost use Rattle.policy_report.specs.Edits.{edit_lines};
 ghost use Rattle.policy_report.specs.Certificates.{claim_line, shown_lines, log_lines, budget_line};
@@ -10,7 +10,7 @@ use crate::edits::push_edit;
 use crate::reports::push_blocks;
 use crate::words::push_count;
 use arc_base::{List, Memory};
-use edit_space::{Claim, Edit};
+use edit_list::{Claim, Edit};
 use net_model::{Document, Network};
 use proof_log::Log;
 use std::alloc::Global;

@@ -9,7 +9,7 @@ ghost use Rattle.policy_report.specs.Edits.{edit_text, edit_of, edit_from, IsTex
 
 use crate::words::{push_address_word, push_class, push_prefix_word, push_word};
 use arc_base::{Face, List, ListId, Memory, Prefix, Router};
-use edit_space::Edit;
+use edit_list::Edit;
 use net_model::{Class, Network};
 use std::alloc::Global;
 

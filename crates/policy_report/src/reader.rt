@@ -17,7 +17,7 @@ use crate::reading::line_words;
 use crate::stages::{Stage, Text};
 use arc_base::{CertKind, List, Memory};
 use cnf_types::next_word;
-use edit_space::Edit;
+use edit_list::Edit;
 use net_model::{Document, Network, Policy, Verdict};
 use proof_log::LineKind;
 use std::alloc::Global;

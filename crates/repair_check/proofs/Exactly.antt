@@ -13,11 +13,11 @@ use Rattle.net_model.specs.declared.rows.Network.{Network}
 use Rattle.net_model.specs.declared.verdicts.Verdict as verdicts
 use Rattle.net_model.specs.Validity.{IsValid}
 use Rattle.net_model.specs.Witnesses.{IsRight}
-use Rattle.edit_space.specs.declared.claims.Claim.{Claim}
-use Rattle.edit_space.specs.declared.claims.Claim.TheVariants as claims
-use Rattle.edit_space.specs.declared.edit_kinds.Edit as edits
-use Rattle.edit_space.specs.Determined.{AfterIsOne, IsCountable}
-use Rattle.edit_space.specs.Prices.{chosen_of}
+use Rattle.edit_list.specs.declared.claims.Claim.{Claim}
+use Rattle.edit_list.specs.declared.claims.Claim.TheVariants as claims
+use Rattle.edit_list.specs.declared.edit_kinds.Edit as edits
+use Rattle.edit_list.specs.Determined.{AfterIsOne, IsCountable}
+use Rattle.edit_list.specs.Prices.{chosen_of}
 use Rattle.policy_encode.specs.Laws.{HaveOneFormula}
 use Rattle.price_descent.specs.Outcomes.{least_below}
 use Rattle.proof_check.specs.Knowledge.{Knowledge, start}

@@ -5,7 +5,7 @@ use Rattle.arc_base.specs.declared.certificate.CertKind.TheVariants as kinds
 use Rattle.net_model.specs.declared.policies.Document.{Document}
 use Rattle.net_model.specs.declared.rows.Network.{Network}
 use Rattle.net_model.specs.declared.verdicts.Verdict as verdicts
-use Rattle.edit_space.specs.declared.edit_kinds.Edit as edits
+use Rattle.edit_list.specs.declared.edit_kinds.Edit as edits
 use Rattle.price_descent.specs.Outcomes.{least_below}
 use Rattle.proof_check.specs.Knowledge.{Knowledge, start}
 use Rattle.proof_check.specs.View.{known}

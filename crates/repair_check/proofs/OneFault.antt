@@ -10,8 +10,8 @@ use Rattle.condition_formula.specs.Limits.{HasTooManyLiterals, HasTooManyVariabl
 use Rattle.net_model.specs.declared.policies.Document.{Document}
 use Rattle.net_model.specs.declared.rows.Network.{Network}
 use Rattle.net_model.specs.Validity.{IsValid}
-use Rattle.edit_space.specs.declared.edit_kinds.Edit.{Edit}
-use Rattle.edit_space.specs.declared.edit_kinds.EditFault.TheVariants.{Limit}
+use Rattle.edit_list.specs.declared.edit_kinds.Edit.{Edit}
+use Rattle.edit_list.specs.declared.edit_kinds.EditFault.TheVariants.{Limit}
 use Rattle.policy_encode.specs.Formulas.{IsFaultOf}
 use Rattle.policy_encode.proofs.One.{one_net}
 use Rattle.repair_check.specs.Certifies.{IsCountFault}

@@ -19,9 +19,9 @@ use Rattle.net_model.specs.Forwarding.{Ends}
 use Rattle.net_model.specs.Packets.{subject}
 use Rattle.net_model.specs.Routing.{Arc, head_router}
 use Rattle.net_model.specs.Witnesses.{is_yes, IsPath, IsRightFor, IsRightSide, Path, links_of}
-use Rattle.edit_space.specs.declared.claims.Claim.{Claim}
-use Rattle.edit_space.specs.declared.claims.Claim.TheVariants.{Repaired, NoRepair}
-use Rattle.edit_space.specs.declared.edit_kinds.Edit as edits
+use Rattle.edit_list.specs.declared.claims.Claim.{Claim}
+use Rattle.edit_list.specs.declared.claims.Claim.TheVariants.{Repaired, NoRepair}
+use Rattle.edit_list.specs.declared.edit_kinds.Edit as edits
 use Rattle.proof_log.specs.declared.steps.Step.{Step}
 use Rattle.policy_report.specs.Recertifying.{CertificatesAreWritten, IsToldClaim, IsYes}
 use Rattle.policy_report.specs.Rereading.{AreLinks, IsAnswer, IsReadable, IsTold}

@@ -7,8 +7,8 @@ use Rattle.net_model.specs.Forwarding.{HasEnds}
 use Rattle.net_model.specs.Packets.{subject}
 use Rattle.net_model.specs.Policies.{HasFewFailures}
 use Rattle.net_model.specs.Validity.{IsValid}
-use Rattle.edit_space.specs.declared.edit_kinds.Edit.{Edit}
-use Rattle.edit_space.specs.EditLists.{AreEdits, HasFewClasses}
+use Rattle.edit_list.specs.declared.edit_kinds.Edit.{Edit}
+use Rattle.edit_list.specs.EditLists.{AreEdits, HasFewClasses}
 
 -- verdicts on the policies can be judged in the network: it is valid, and has the ends of each
 pub record IsJudgeable (doc : Document) (net : Network) : Type 0 where

@@ -15,10 +15,10 @@ use Rattle.net_model.specs.declared.policies.Document.{Document}
 use Rattle.net_model.specs.declared.policies.Policy.{Policy}
 use Rattle.net_model.specs.declared.rows.Network.{Network}
 use Rattle.net_model.specs.Validity.{IsValid}
-use Rattle.edit_space.specs.declared.edit_kinds.Edit as edits
-use Rattle.edit_space.specs.After.{IsAfter}
-use Rattle.edit_space.specs.Determined.{IsCountable}
-use Rattle.edit_space.specs.Prices.{chosen_of}
+use Rattle.edit_list.specs.declared.edit_kinds.Edit as edits
+use Rattle.edit_list.specs.After.{IsAfter}
+use Rattle.edit_list.specs.Determined.{IsCountable}
+use Rattle.edit_list.specs.Prices.{chosen_of}
 use Rattle.policy_encode.specs.Formulas.{IsRepairFormula}
 use Rattle.price_descent.specs.Outcomes.{least_below}
 use Rattle.proof_check.specs.Knowledge.{Knowledge, after, start, step_fault}

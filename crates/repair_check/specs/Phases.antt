@@ -6,10 +6,10 @@ use Rattle.cnf_types.specs.declared.clauses.Formula.{Formula}
 use Rattle.cnf_types.specs.declared.literal.Lit.{Lit}
 use Rattle.net_model.specs.declared.policies.Document.{Document}
 use Rattle.net_model.specs.declared.rows.Network.{Network}
-use Rattle.edit_space.specs.declared.edit_kinds.Edit.{Edit}
-use Rattle.edit_space.specs.declared.edit_kinds.EditFault.{EditFault}
-use Rattle.edit_space.specs.After.{IsAfter}
-use Rattle.edit_space.specs.Prices.{chosen_of}
+use Rattle.edit_list.specs.declared.edit_kinds.Edit.{Edit}
+use Rattle.edit_list.specs.declared.edit_kinds.EditFault.{EditFault}
+use Rattle.edit_list.specs.After.{IsAfter}
+use Rattle.edit_list.specs.Prices.{chosen_of}
 use Rattle.policy_encode.specs.Formulas.{IsRepairFormula}
 use Rattle.price_descent.specs.Outcomes.{least_below}
 use Rattle.proof_check.specs.declared.checker.Checker.{Checker}

@@ -13,7 +13,7 @@ use crate::beginning::{end_edits, judge_answer, judge_head};
 use crate::judging::{judge_block, judge_edits, judge_log, judge_ready};
 use crate::phases::{Next, Phase};
 use arc_base::{CertKind, List, Memory};
-use edit_space::{Edit, EditFault};
+use edit_list::{Edit, EditFault};
 use net_model::{Document, Network};
 use policy_report::{CertFault, Got, Reader};
 use report_check::Outcome;

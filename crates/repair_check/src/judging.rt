@@ -7,7 +7,7 @@ ghost use Rattle.repair_check.specs.Phases.{EndsEdits, IsClaimed, LeadsTo};
 use crate::beginning::{end_edits, rejected};
 use crate::phases::{Blocks, Next, Phase, RepairClaim};
 use arc_base::{CertKind, List, Memory};
-use edit_space::Edit;
+use edit_list::Edit;
 use net_model::{Document, Network, Verdict};
 use policy_report::{CertFault, Got};
 use proof_check::{Checker, fault_kind};

@@ -4,7 +4,7 @@ ghost use Rattle.repair_check.specs.Certifies.{CertifiedClaimsAreTrue, WrittenCl
 ghost use Rattle.repair_check.specs.Outcomes.{HasOneOutcome};
 
 use arc_repair::laws::certificates_are_true;
-use edited_networks::laws::networks_after_edits_are_valid;
+use edit_space::laws::networks_after_edits_are_valid;
 use policy_encode::laws::one_formula;
 use policy_report::laws::{
     certificates_are_read_again, edits_are_told_apart, only_certificates_are_taken,

@@ -13,10 +13,10 @@ use Rattle.net_model.specs.Policies.{MeetsDocument}
 use Rattle.net_model.specs.Validity.{IsValid}
 use Rattle.net_build.specs.Networks.{IsNetworkWithin}
 use Rattle.net_rows.specs.Rows.{IsRouterRow}
-use Rattle.edit_space.specs.declared.edit_kinds.Edit.{Edit}
-use Rattle.edit_space.specs.After.{IsAfter}
+use Rattle.edit_list.specs.declared.edit_kinds.Edit.{Edit}
+use Rattle.edit_list.specs.After.{IsAfter}
 use Rattle.arc_base.specs.NameForms.{IsNameBefore}
-use Rattle.edit_space.specs.Prices.{chosen_of}
+use Rattle.edit_list.specs.Prices.{chosen_of}
 use Rattle.edit_laws.proofs.NoEdits.{none_change}
 use Rattle.arc_repair.specs.Repairs.{Mends, none_of}
 

@@ -7,10 +7,10 @@ use Rattle.condition_formula.specs.Limits.{IsWithinLimits, HasTooManyLiterals, H
 use Rattle.net_model.specs.declared.policies.Document.{Document}
 use Rattle.net_model.specs.declared.rows.Network.{Network}
 use Rattle.net_model.specs.Validity.{IsValid}
-use Rattle.edit_space.specs.declared.edit_kinds.Edit.{Edit}
-use Rattle.edit_space.specs.declared.edit_kinds.EditFault.TheVariants.{Limit}
-use Rattle.edit_space.specs.EditLists.{AreEdits}
-use Rattle.edit_space.proofs.OneEditList.{edit_lists_are_one}
+use Rattle.edit_list.specs.declared.edit_kinds.Edit.{Edit}
+use Rattle.edit_list.specs.declared.edit_kinds.EditFault.TheVariants.{Limit}
+use Rattle.edit_list.specs.EditLists.{AreEdits}
+use Rattle.edit_list.proofs.OneEditList.{edit_lists_are_one}
 use Rattle.policy_encode.specs.Formulas.{IsFaultOf, IsWithin, PassesLiterals, PassesVariables}
 use Rattle.policy_encode.proofs.One.{one_net}
 use Rattle.arc_repair.specs.Answers.{IsRepairFault, KeepsLimits}

@@ -5,8 +5,8 @@ use Rattle.arc_outside.specs.Files.{Files}
 use Rattle.net_model.specs.declared.policies.Document.{Document}
 use Rattle.net_model.specs.declared.rows.Network.{Network}
 use Rattle.net_model.specs.Validity.{IsValid}
-use Rattle.edit_space.specs.declared.edit_kinds.Edit.{Edit}
-use Rattle.edit_space.specs.declared.edit_kinds.EditFault.TheVariants.{Limit}
+use Rattle.edit_list.specs.declared.edit_kinds.Edit.{Edit}
+use Rattle.edit_list.specs.declared.edit_kinds.EditFault.TheVariants.{Limit}
 use Rattle.arc_repair.specs.Answers.{IsRepairFault}
 use Rattle.changed_files.proofs.OneRefusal.{as_input, held_or_refused, limit_refusal}
 use Rattle.command_words.specs.declared.commands.RepairWords.{RepairWords}

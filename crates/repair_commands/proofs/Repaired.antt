@@ -7,10 +7,10 @@ use Rattle.arc_outside.specs.Files.{Files}
 use Rattle.net_model.specs.declared.policies.Document.{Document}
 use Rattle.net_doc.specs.Documents.{IsWellFormed}
 use Rattle.net_build.specs.Networks.{IsBuiltWithin}
-use Rattle.edit_space.specs.declared.claims.Claim.TheVariants.{Repaired, NoRepair}
-use Rattle.edit_space.specs.declared.edit_kinds.Edit.{Edit}
-use Rattle.edit_space.specs.declared.edit_kinds.EditFault.{EditFault}
-use Rattle.edit_space.specs.declared.edit_kinds.EditFault.TheVariants as faults
+use Rattle.edit_list.specs.declared.claims.Claim.TheVariants.{Repaired, NoRepair}
+use Rattle.edit_list.specs.declared.edit_kinds.Edit.{Edit}
+use Rattle.edit_list.specs.declared.edit_kinds.EditFault.{EditFault}
+use Rattle.edit_list.specs.declared.edit_kinds.EditFault.TheVariants as faults
 use Rattle.policy_report.specs.Certificates.{budget_text, certificate_text}
 use Rattle.arc_repair.specs.declared.answer.Answer.{Answer}
 use Rattle.arc_repair.specs.declared.answer.Answer.TheVariants.{Done as Claimed, Budget}

@@ -2,7 +2,7 @@
 ghost use Rattle.std.specs.Prelude.{◌≡◌, ◌<◌, ◌≤◌, ◌-◌, ◌^◌, ◌++◌, [], length, All, IfOk, codes};
 ghost use Rattle.std.specs.Prelude.{decimal};
 ghost use Rattle.net_build.specs.Networks.{IsBuiltWithin};
-ghost use Rattle.edit_space.specs.EditLists.{AreEdits};
+ghost use Rattle.edit_list.specs.EditLists.{AreEdits};
 ghost use Rattle.policy_report.specs.Certificates.{budget_text, IsWholeClaim};
 ghost use Rattle.repair_commands.specs.Repairs.{repair_lines, Writes, WritesAnswer, WritesClaim};
 ghost use Rattle.repair_commands.specs.Repairs.{WritesRepair};
@@ -15,7 +15,7 @@ use arc_base::{List, Memory, Name};
 use arc_repair::Answer;
 use changed_files::changes;
 use command_words::RepairWords;
-use edit_space::{Claim, Edit};
+use edit_list::{Claim, Edit};
 use net_model::{Document, Network};
 use output_files::push_wrote;
 use policy_report::{budget, certificate, edit_lines};

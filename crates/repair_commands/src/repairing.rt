@@ -1,6 +1,6 @@
 //! The command `repair DOC --out SUFFIX --proof NAME [--max-price N] [--conflicts N]`.
 ghost use Rattle.std.specs.Prelude.{◌≡◌, ◌≤◌, ◌⊎◌, length, IfOk, IfErr};
-ghost use Rattle.edit_space.specs.declared.edit_kinds.EditFault.TheVariants as faults;
+ghost use Rattle.edit_list.specs.declared.edit_kinds.EditFault.TheVariants as faults;
 ghost use Rattle.arc_repair.specs.Answers.{IsRepairFault};
 ghost use Rattle.run_files.specs.Answers.{Answers, OnlyReads};
 ghost use Rattle.run_files.specs.Limits.{least_limit};
@@ -15,7 +15,7 @@ use arc_base::{Kind, List, Memory, Name};
 use arc_outside::Store;
 use arc_repair::Answer;
 use command_words::RepairWords;
-use edit_space::{Edit, EditFault, edits};
+use edit_list::{Edit, EditFault, edits};
 use net_model::{Document, Network};
 use output_files::{clashes, copy_names};
 use run_files::{Done, Limits, Stop, refused};

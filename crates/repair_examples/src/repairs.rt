@@ -9,7 +9,7 @@ ghost use Rattle.arc_repair.specs.Checks.{HasFlags};
 use crate::pairs::{BLOCKED, Pair, REACH, ospf};
 use arc_base::List;
 use arc_repair::{Answer, Check, Made, repair};
-use edit_space::{Claim, EditFault};
+use edit_list::{Claim, EditFault};
 use proof_log::Log;
 use std::alloc::Global;
 use std::test::Fail;

@@ -6,7 +6,7 @@ ghost use Rattle.net_model.specs.Validity.{IsValid};
 
 use crate::pairs::{BLOCKED, Pair, REACH, THROUGH, bgp, ospf};
 use cnf_types::Clause;
-use edit_space::{EditFault, edits};
+use edit_list::{EditFault, edits};
 use policy_encode::{Encoded, encode};
 use policy_report::edit_text;
 use std::alloc::Global;

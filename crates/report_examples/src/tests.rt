@@ -2,7 +2,7 @@
 
 use arc_base::{Face, List, ListId, Memory, Name, Prefix, Router};
 use cnf_types::Lit;
-use edit_space::{Claim, Edit};
+use edit_list::{Claim, Edit};
 use net_model::{
     Class, Document, FaceRow, Network, PacketList, Protocol, RouterRow, Service, Weights,
 };

@@ -1,6 +1,6 @@
 use Rattle.std.proofs.Common.{◌≤◌, sym, subst}
 use Rattle.std.specs.Prelude.{IfOk, MatchOption}
-use Rattle.edit_space.specs.declared.claims.Claim.{Claim}
+use Rattle.edit_list.specs.declared.claims.Claim.{Claim}
 use Rattle.arc_repair.specs.Checks.{HasFlagsOf, IsDefect}
 use Rattle.arc_repair.specs.Claims.{IsRightClaim, claim_bound}
 use Rattle.arc_repair.proofs.defects.defect.Goals as goal

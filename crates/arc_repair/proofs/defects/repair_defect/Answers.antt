@@ -5,8 +5,8 @@ use Rattle.net_model.specs.declared.policies.Policy.{Policy}
 use Rattle.net_model.specs.declared.verdicts.Verdict.{Verdict}
 use Rattle.net_model.specs.Forwarding.{HasEnds}
 use Rattle.net_model.specs.Packets.{subject}
-use Rattle.edit_space.specs.After.{IsAfter}
-use Rattle.edit_space.specs.Prices.{chosen_of}
+use Rattle.edit_list.specs.After.{IsAfter}
+use Rattle.edit_list.specs.Prices.{chosen_of}
 use Rattle.edit_laws.proofs.SameHosts.{ends_stay}
 use Rattle.arc_repair.specs.Checks.{IsVerdictDefect}
 use Rattle.arc_repair.specs.Claims.{IsRightYes}

@@ -4,7 +4,7 @@ use Rattle.std.proofs.lemmas.List.Elements.{All-nil}
 use Rattle.std.proofs.lemmas.Result.{err_from_is_err_and}
 use Rattle.clean_logs.specs.CleanLogs.{additions}
 use Rattle.net_model.specs.declared.verdicts.Verdict.{Verdict}
-use Rattle.edit_space.specs.declared.claims.Claim.TheVariants.{Repaired}
+use Rattle.edit_list.specs.declared.claims.Claim.TheVariants.{Repaired}
 use Rattle.proof_log.specs.declared.steps.Step.{Step}
 use Rattle.proof_log.specs.Texts.{HasLine}
 use Rattle.arc_repair.specs.declared.answer.Answer.{Answer}

@@ -3,8 +3,8 @@ use Rattle.std.specs.List.{filter_map}
 use Rattle.net_model.specs.declared.rows.Network.{Network}
 use Rattle.net_build.specs.declared.built.FacePlace.{FacePlace}
 use Rattle.net_build.specs.declared.built.Places.{Places}
-use Rattle.edit_space.specs.declared.edit_kinds.Edit.{Edit}
-use Rattle.edit_space.specs.declared.list_kinds.NewList.{NewList}
+use Rattle.edit_list.specs.declared.edit_kinds.Edit.{Edit}
+use Rattle.edit_list.specs.declared.list_kinds.NewList.{NewList}
 use Rattle.line_patcher.specs.Additions.{all_at}
 use Rattle.line_patcher.specs.SessionLines.{session_line, turned_faces}
 use Rattle.line_patcher.specs.NewListLines.{filter_line, group_line_among, face_places}

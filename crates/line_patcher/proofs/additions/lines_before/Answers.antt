@@ -2,8 +2,8 @@ use Rattle.std.proofs.Common.{◌≡◌, ◌∙◌, ℕ, ◌++◌, List, length,
 use Rattle.std.specs.List.{flat_map}
 use Rattle.net_model.specs.declared.rows.Network.{Network}
 use Rattle.net_build.specs.declared.built.Places.{Places}
-use Rattle.edit_space.specs.declared.edit_kinds.Edit.{Edit}
-use Rattle.edit_space.specs.declared.list_kinds.NewList.{NewList}
+use Rattle.edit_list.specs.declared.edit_kinds.Edit.{Edit}
+use Rattle.edit_list.specs.declared.list_kinds.NewList.{NewList}
 use Rattle.line_patcher.specs.Additions.{all_at}
 use Rattle.line_patcher.specs.NewListLines.{new_list_lines, lines_of_new_lists}
 use Rattle.line_patcher.specs.EntryLines.{edited_packet_lists, edited_route_lists, packet_list_entries, route_list_entries}

@@ -1,4 +1,4 @@
-use Rattle.edit_space.specs.Changes.{packet_list_change}
+use Rattle.edit_list.specs.Changes.{packet_list_change}
 use Rattle.line_patcher.specs.EntryLines.{at_front, class_lines, packet_place}
 use Rattle.line_patcher.proofs.Tables.{few_things, added_for}
 use Rattle.line_patcher.proofs.edited_lists.push_packet_list.Goals as goal

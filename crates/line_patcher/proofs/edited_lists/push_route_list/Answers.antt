@@ -1,4 +1,4 @@
-use Rattle.edit_space.specs.Changes.{route_list_change}
+use Rattle.edit_list.specs.Changes.{route_list_change}
 use Rattle.line_patcher.specs.EntryLines.{at_front, prefix_lines, route_place}
 use Rattle.line_patcher.proofs.Tables.{few_things, added_for}
 use Rattle.line_patcher.proofs.edited_lists.push_route_list.Goals as goal

@@ -1,5 +1,5 @@
 use Rattle.std.proofs.Common.{length}
-use Rattle.edit_space.specs.Changes.{route_list_change}
+use Rattle.edit_list.specs.Changes.{route_list_change}
 use Rattle.line_patcher.specs.EntryLines.{new_numbers, route_place}
 use Rattle.line_patcher.proofs.Tables.{few_things, added_for}
 use Rattle.line_patcher.proofs.edited_lists.push_route_numbers.Goals as goal

@@ -1,6 +1,6 @@
 use Rattle.std.proofs.Common.{◌≡◌, take, ℕ, List}
 use Rattle.std.specs.List.{flat_map}
-use Rattle.edit_space.specs.declared.list_kinds.NewList.{NewList}
+use Rattle.edit_list.specs.declared.list_kinds.NewList.{NewList}
 use Rattle.line_patcher.specs.NewListLines.{new_list_lines}
 use Rattle.line_patcher.proofs.new_lists.lines_of_new_lists.Given as goal
 

@@ -1,7 +1,7 @@
 use Rattle.std.proofs.Common.{◌∙◌, ℕ, List, get_or}
 use Rattle.std.proofs.lemmas.List.{get_or_default}
-use Rattle.edit_space.specs.declared.list_kinds.NewList.{NewList}
-use Rattle.edit_space.specs.declared.list_kinds.NewList.TheVariants.{Route}
+use Rattle.edit_list.specs.declared.list_kinds.NewList.{NewList}
+use Rattle.edit_list.specs.declared.list_kinds.NewList.TheVariants.{Route}
 use Rattle.line_patcher.proofs.Growing.{zip_more, zip_all}
 use Rattle.line_patcher.proofs.new_lists.named_lists.Goals as goal
 

@@ -1,6 +1,6 @@
 use Rattle.std.proofs.Common.{◌∙◌, ℕ, List, ap, sym}
 use Rattle.std.specs.Prelude.{Option}
-use Rattle.edit_space.specs.declared.list_kinds.NewList.{NewList}
+use Rattle.edit_list.specs.declared.list_kinds.NewList.{NewList}
 use Rattle.line_patcher.specs.NewListLines.{filter_line}
 use Rattle.line_patcher.proofs.Growing.{picked_grown, picked_none}
 use Rattle.line_patcher.proofs.new_lists.push_filter_lines.Goals as goal

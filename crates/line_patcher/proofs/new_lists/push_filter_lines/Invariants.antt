@@ -1,6 +1,6 @@
 use Rattle.std.proofs.Common.{◌≡◌, ◌++◌, take, ℕ, List}
 use Rattle.std.specs.List.{filter_map}
-use Rattle.edit_space.specs.declared.list_kinds.NewList.{NewList}
+use Rattle.edit_list.specs.declared.list_kinds.NewList.{NewList}
 use Rattle.line_patcher.specs.NewListLines.{filter_line}
 use Rattle.line_patcher.proofs.new_lists.push_filter_lines.Given as goal
 

@@ -1,9 +1,9 @@
 use Rattle.std.proofs.Common.{◌≡◌, ◌∙◌, ◌<◌, ◌≤◌, List, length, ap, sym, subst, arith}
 use Rattle.arc_base.specs.declared.place.Face.{Face}
 use Rattle.net_model.specs.declared.rows.Network.{Network}
-use Rattle.edit_space.specs.declared.edit_kinds.Edit.{Edit}
-use Rattle.edit_space.specs.declared.list_kinds.NewList.{NewList}
-use Rattle.edit_space.specs.Changes.{new_prefixes, new_classes, new_route_change}
+use Rattle.edit_list.specs.declared.edit_kinds.Edit.{Edit}
+use Rattle.edit_list.specs.declared.list_kinds.NewList.{NewList}
+use Rattle.edit_list.specs.Changes.{new_prefixes, new_classes, new_route_change}
 use Rattle.line_patcher.specs.NewListLines.{new_route_lines, new_packet_lines, new_list_lines}
 use Rattle.line_patcher.specs.Working.{face_of}
 use Rattle.line_patcher.proofs.Growing.{put_same}

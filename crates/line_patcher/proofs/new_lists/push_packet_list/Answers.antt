@@ -4,7 +4,7 @@ use Rattle.ios_lines.specs.Written.{spaced}
 use Rattle.ios_words.specs.Printed.{top_line, list_head_words, entry_words}
 use Rattle.net_model.specs.declared.lists.PacketEntry.{PacketEntry}
 use Rattle.net_rows.specs.Lists.{packet_text}
-use Rattle.edit_space.specs.After.{every_packet}
+use Rattle.edit_list.specs.After.{every_packet}
 use Rattle.line_patcher.specs.NewListLines.{deny_class_line}
 use Rattle.line_patcher.proofs.Growing.{framed}
 use Rattle.line_patcher.proofs.new_lists.push_packet_list.Goals as goal

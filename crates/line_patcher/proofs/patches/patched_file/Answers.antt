@@ -5,7 +5,7 @@ use Rattle.std.proofs.lemmas.Result.{IfOk-weaker}
 use Rattle.ios_lines.specs.declared.line.Lines.{Lines}
 use Rattle.net_build.specs.declared.built.Built.{Built}
 use Rattle.net_build.specs.declared.built.Places.{Places}
-use Rattle.edit_space.specs.declared.edit_kinds.Edit.{Edit}
+use Rattle.edit_list.specs.declared.edit_kinds.Edit.{Edit}
 use Rattle.line_patcher.specs.declared.additions.Additions.{Additions}
 use Rattle.line_patcher.specs.Patches.{IsPatched, patched_text}
 use Rattle.line_patcher.proofs.Patched.{is-patched}

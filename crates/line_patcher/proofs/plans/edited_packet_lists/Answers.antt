@@ -1,10 +1,10 @@
 use Rattle.std.proofs.Common.{◌∙◌, List, ap}
 use Rattle.std.specs.List.{filter_map}
 use Rattle.net_model.specs.declared.lists.PacketList.{PacketList}
-use Rattle.edit_space.specs.Numbered.{placed}
-use Rattle.edit_space.specs.Changes.{list_classes}
-use Rattle.edit_space.specs.declared.edit_kinds.Edit.{Edit}
-use Rattle.edit_space.proofs.Placing.{placed_all}
+use Rattle.edit_list.specs.Numbered.{placed}
+use Rattle.edit_list.specs.Changes.{list_classes}
+use Rattle.edit_list.specs.declared.edit_kinds.Edit.{Edit}
+use Rattle.edit_list.proofs.Placing.{placed_all}
 use Rattle.line_patcher.specs.EntryLines.{edited_packet_list}
 use Rattle.line_patcher.proofs.Tables.{edited_more, not_edited_more}
 use Rattle.line_patcher.proofs.plans.edited_packet_lists.Goals as goal

@@ -1,4 +1,4 @@
-use Rattle.edited_networks.proofs.SomeNames.{after_is_valid}
+use Rattle.edit_space.proofs.SomeNames.{after_is_valid}
 use Rattle.patched_settings.proofs.Joined.{network_is_after}
 use Rattle.patched_settings.proofs.laws.settings_have_the_network.Goals as goal
 

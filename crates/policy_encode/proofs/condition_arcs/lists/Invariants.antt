@@ -1,5 +1,5 @@
 use Rattle.std.proofs.Common.{◌≡◌, List, take, map}
-use Rattle.edit_space.specs.declared.edit_kinds.Edit.{Edit}
+use Rattle.edit_list.specs.declared.edit_kinds.Edit.{Edit}
 use Rattle.policy_encode.specs.Answers.{arc_lists}
 use Rattle.policy_encode.specs.Finding.{IsIndexOf}
 use Rattle.policy_encode.proofs.condition_arcs.lists.Given as goal

@@ -1,5 +1,5 @@
 use Rattle.std.proofs.Common.{◌≡◌, take, map}
-use Rattle.edit_space.specs.Prices.{weight}
+use Rattle.edit_list.specs.Prices.{weight}
 use Rattle.policy_encode.proofs.encoding.all_weights.Given as goal
 
 abbrev pub invariant-loop-edit : goal.invariant-loop-edit

@@ -1,6 +1,6 @@
 use Rattle.std.proofs.Common.{◌≢◌, List, sym, subst}
 use Rattle.std.specs.Prelude.{AllPairs}
-use Rattle.edit_space.specs.declared.edit_kinds.Edit.{Edit}
+use Rattle.edit_list.specs.declared.edit_kinds.Edit.{Edit}
 use Rattle.policy_encode.proofs.Distinct.{edits_differ}
 use Rattle.policy_encode.proofs.encoding.conditions.Goals as goal
 

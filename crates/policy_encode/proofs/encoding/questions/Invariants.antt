@@ -1,6 +1,6 @@
 use Rattle.std.proofs.Common.{List, take}
 use Rattle.std.specs.List.{AllZip}
-use Rattle.edit_space.specs.declared.edit_kinds.Edit.{Edit}
+use Rattle.edit_list.specs.declared.edit_kinds.Edit.{Edit}
 use Rattle.policy_encode.specs.Questions.{IsQuestion}
 use Rattle.policy_encode.specs.Finding.{IsIndexOf}
 use Rattle.policy_encode.proofs.encoding.questions.Given as goal

@@ -1,5 +1,5 @@
 use Rattle.std.proofs.Common.{◌≡◌, ◌++◌, drop}
-use Rattle.edit_space.specs.Prices.{chosen_of}
+use Rattle.edit_list.specs.Prices.{chosen_of}
 use Rattle.policy_report.specs.Edits.{edit_lines}
 use Rattle.policy_report.proofs.certificates.push_chosen.Given as goal
 

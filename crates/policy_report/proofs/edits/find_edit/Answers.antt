@@ -1,7 +1,7 @@
 use Rattle.std.proofs.Common.{◌≡◌, ℕ, ◌<◌, false, get_or, length, sym, ap, ◌∙◌, arith, below_more}
 use Rattle.std.specs.Prelude.{bytes_eq}
 use Rattle.std.proofs.lemmas.List.{get_or_default}
-use Rattle.edit_space.specs.declared.edit_kinds.Edit.{Edit}
+use Rattle.edit_list.specs.declared.edit_kinds.Edit.{Edit}
 use Rattle.policy_report.specs.Edits.{edit_text}
 use Rattle.policy_report.proofs.EditsFound.{has_text, position_is, position_none}
 use Rattle.policy_report.proofs.edits.find_edit.Goals as goal

@@ -1,7 +1,7 @@
 use Rattle.std.proofs.Common.{◌≡◌, ℕ, zero, suc, Option, inl, inr, refl, sym, ◌∙◌, subst, nat_lt, arith}
 use Rattle.std.proofs.lemmas.Bool.{lt-ltb}
-use Rattle.edit_space.specs.After.{IsAfter}
-use Rattle.edit_space.specs.Prices.{chosen_of}
+use Rattle.edit_list.specs.After.{IsAfter}
+use Rattle.edit_list.specs.Prices.{chosen_of}
 use Rattle.price_descent.specs.Outcomes.{least_below}
 use Rattle.proof_check.specs.declared.checker.Checker.{Checker}
 use Rattle.arc_repair.specs.Claims.{is_above_zero}

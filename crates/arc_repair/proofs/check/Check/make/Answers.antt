@@ -1,6 +1,6 @@
 use Rattle.std.proofs.Common.{◌≡◌, ◌∙◌, ℕ, Option, inl, List, ap, subst, arith}
 use Rattle.std.proofs.lemmas.Result.{err_from_is_err_and}
-use Rattle.edit_space.specs.declared.edit_kinds.Edit.{Edit}
+use Rattle.edit_list.specs.declared.edit_kinds.Edit.{Edit}
 use Rattle.policy_encode.specs.Formulas.{IsFaultOf, IsRepairFormula, IsWithin}
 use Rattle.proof_check.specs.Knowledge.{start}
 use Rattle.arc_repair.specs.Answers.{IsRepairFault}

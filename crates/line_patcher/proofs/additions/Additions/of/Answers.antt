@@ -1,8 +1,8 @@
 use Rattle.std.proofs.Common.{◌≡◌, ◌∙◌, ℕ, ◌++◌, List, length, ap, sym, arith}
 use Rattle.std.specs.List.{flat_map, zip}
 use Rattle.net_model.specs.declared.rows.Network.{Network}
-use Rattle.edit_space.specs.declared.edit_kinds.Edit.{Edit}
-use Rattle.edit_space.specs.NewLists.{new_lists_of, new_names_of}
+use Rattle.edit_list.specs.declared.edit_kinds.Edit.{Edit}
+use Rattle.edit_list.specs.NewLists.{new_lists_of, new_names_of}
 use Rattle.line_patcher.specs.EntryLines.{edited_packet_lists, edited_route_lists, packet_list_numbers, route_list_numbers}
 use Rattle.line_patcher.proofs.Tables.{at_number, told_length, names_are, names_counted}
 use Rattle.line_patcher.proofs.additions.Additions.of.Goals as goal

@@ -1,11 +1,11 @@
 use Rattle.std.proofs.Common.{◌∙◌, ℕ, List, length, ap, subst}
 use Rattle.std.specs.List.{filter_map}
 use Rattle.net_model.specs.declared.rows.Network.{Network}
-use Rattle.edit_space.specs.declared.edit_kinds.Edit.{Edit}
-use Rattle.edit_space.specs.declared.list_kinds.NewList.{NewList}
-use Rattle.edit_space.specs.NewLists.{new_lists}
-use Rattle.edit_space.specs.Numbered.{placed}
-use Rattle.edited_networks.specs.Working.{AreNewNames}
+use Rattle.edit_list.specs.declared.edit_kinds.Edit.{Edit}
+use Rattle.edit_list.specs.declared.list_kinds.NewList.{NewList}
+use Rattle.edit_list.specs.NewLists.{new_lists}
+use Rattle.edit_list.specs.Numbered.{placed}
+use Rattle.edit_space.specs.Working.{AreNewNames}
 use Rattle.line_patcher.specs.SessionLines.{turned_face}
 use Rattle.line_patcher.specs.NewListLines.{face_places}
 use Rattle.line_patcher.specs.EntryLines.{edited_packet_list, edited_route_list}

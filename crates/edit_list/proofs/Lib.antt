@@ -1,0 +1,8 @@
+pub mod Numbers
+mod HostNetworks
+pub mod Counts
+pub mod PriceSteps
+pub mod Placing
+pub mod NewListFacts
+pub mod RowFacts
+pub mod OneEditList

@@ -1,0 +1,5 @@
+use Rattle.edit_list.proofs.OneEditList.{edit_lists_are_there}
+use Rattle.edit_list.proofs.laws.edit_lists_are_there.Goals as goal
+
+pub returns : goal.returns
+returns c = edit_lists_are_there

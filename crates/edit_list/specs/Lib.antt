@@ -1,0 +1,11 @@
+pub mod Numbered
+pub mod Sites
+pub mod Writable
+pub mod EditLists
+pub mod Listing
+pub mod Changes
+pub mod NewLists
+pub mod Ordered
+pub mod After
+pub mod Prices
+pub mod Determined

@@ -1,5 +1,0 @@
-use Rattle.edit_space.proofs.OneEditList.{edit_lists_are_one}
-use Rattle.edit_space.proofs.laws.edit_lists_are_one.Goals as goal
-
-pub returns : goal.returns
-returns c = edit_lists_are_one

@@ -1,7 +1,0 @@
-use Rattle.std.proofs.Common.{◌≡◌, take}
-use Rattle.std.specs.List.{flat_map}
-use Rattle.edit_space.specs.EditLists.{link_edits}
-use Rattle.edit_space.proofs.listing.session_edits.Given as goal
-
-abbrev pub invariant-loop-link : goal.invariant-loop-link
-invariant-loop-link l = l.list.items ≡ flat_map (link_edits l.net) (take l.link-index l.link-items)

@@ -1,0 +1,28 @@
+use Rattle.std.proofs.Common.{◌≡◌, ℕ, List, length, refl, sym, subst}
+use Rattle.std.proofs.lemmas.Result.{IfOk-weaker}
+use Rattle.net_model.specs.declared.lists.RouteList.{RouteList}
+use Rattle.edit_list.specs.Numbered.{EachRow}
+use Rattle.edit_space.specs.Working.{IsRouteListFor}
+use Rattle.edit_space.proofs.Naming.{rows_more, no_rows, all_rows}
+use Rattle.edit_space.proofs.PlacesFound.{within_at}
+use Rattle.edit_space.proofs.route_lists.route_lists_after.Goals as goal
+
+pub route_list_after-requires : goal.route_list_after-requires
+route_list_after-requires c = record {
+  changes = c.requires.changes;
+  within = within_at (length c.args.net.now.route_lists) (length c.args.net.now.faces) c.args.keyed.now c.loop-key.key-index c.key-item.result c.requires.within c.loop-key-test.true c.key-item.is;
+}
+
+pub loop-key-init : goal.loop-key-init
+loop-key-init c = no_rows (λ (place : ℕ). IsRouteListFor c.args.net.now c.args.changes.now.edits.items) c.new-lists.result.items c.new-lists.ensures.items
+
+pub loop-key-preserved : goal.loop-key-preserved
+loop-key-preserved c =
+    rows_more (λ (place : ℕ). IsRouteListFor c.args.net.now c.args.changes.now.edits.items) c.args.keyed.now c.loop-key.key-index c.key-item.result c.loop-key.lists.items c.push.new.self.items c.in_ok-route_list_after.field-0
+    c.loop-key-test.true c.key-item.is c.in_ok-route_list_after.ensures c.in_ok-push.ensures.items c.loop-key.invariant
+
+pub returns : goal.returns
+returns c =
+    let R = λ (place : ℕ). IsRouteListFor c.args.net.now c.args.changes.now.edits.items in
+    let all : EachRow R c.args.keyed.now c.loop-key.lists.items = all_rows R c.args.keyed.now c.args.keyed.now c.loop-key.key-index c.loop-key.lists.items c.loop-key-test.false refl c.loop-key.invariant in
+    IfOk-weaker c.of.result (λ (l : List RouteList). l ≡ c.loop-key.lists.items) (EachRow R c.args.keyed.now) (λ l e. subst (EachRow R c.args.keyed.now) (sym e) all) c.of.ensures.ok

@@ -1,0 +1,8 @@
+use Rattle.std.proofs.Common.{length, ◌∙◌}
+use Rattle.edit_list.specs.Changes.{new_classes}
+use Rattle.edit_list.proofs.Numbers.{filled_told}
+use Rattle.edit_space.proofs.rows.has_new_packet_list.Goals as goal
+
+pub returns : goal.returns
+returns c =
+    filled_told c.deref.result.now (new_classes c.args.changes.now.edits.items) (length c.args.net.now.faces) c.args.face.0 c.is_filled.result (c.deref.ensures.value ∙ c.requires.changes.new_packets) c.requires.within c.is_filled.ensures

@@ -1,7 +1,0 @@
-use Rattle.std.proofs.Common.{◌≡◌, take, map}
-use Rattle.edit_space.specs.Numbered.{placed}
-use Rattle.edited_networks.specs.Working.{face_after}
-use Rattle.edited_networks.proofs.rows.faces_after.Given as goal
-
-abbrev pub invariant-loop-place : goal.invariant-loop-place
-invariant-loop-place l = l.faces.items ≡ map (face_after l.net.protocol l.changes.edits.items l.places) (take l.place (placed l.face-items))
