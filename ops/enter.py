@@ -127,8 +127,8 @@ def _route_entries(router: Router, listed: ListText, texts: Sequence[str]) -> No
     """New entries at the front of a prefix list that is there; where they find no room, a new list in its place."""
     first = listed.entries[0]
     numbers = _numbers(first.number, len(texts)) if first.number is not None else []
-    known = {entry.words[1:] for entry in listed.entries}
-    twice = any(tuple(text.split()[1:]) in known for text in texts)
+    mine = {tuple(text.split()[1:]) for text in texts}
+    twice = any(entry.words[1:] in mine for entry in listed.entries)
     neighbors = router.bound_at(listed.name)
     behind = [_soft(neighbor) for neighbor, _ in neighbors]
     if numbers and not twice:
@@ -139,7 +139,7 @@ def _route_entries(router: Router, listed: ListText, texts: Sequence[str]) -> No
         return
     name = next(name for number in range(1, 1000) if (name := f"ARC-{number}") not in router.taken())
     why = "the list has an entry for the same prefix" if twice else "no number is free below its first"
-    fresh = NewList(True, name, tuple([*texts, *(entry.text for entry in listed.entries)]))
+    fresh = NewList(True, name, (*texts, *(entry.text for entry in listed.entries if entry.words[1:] not in mine)))
     _new_list(router, fresh, f"Prefix list {listed.name}: {why}, so it is entered whole as {name}, and that is bound")
     for neighbor, head in neighbors:
         lead = [head, *router.family(head, neighbor)]

@@ -30,7 +30,10 @@ def checksum(path: str) -> str:
     """The SHA-256 of a file."""
     try:
         with open(path, "rb") as file:
-            return hashlib.file_digest(file, "sha256").hexdigest()
+            found = hashlib.sha256()
+            while piece := file.read(1 << 20):
+                found.update(piece)
+            return found.hexdigest()
     except OSError as error:
         raise Wrong(f"{path} cannot be read: {error.strerror}") from error
 
