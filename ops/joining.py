@@ -6,7 +6,7 @@ classes of the whole one; which these are arcv itself tells, asked of the same f
 from collections.abc import Iterable, Sequence
 from dataclasses import replace
 
-from ops.asking import Asked, Texts
+from ops.trial import Trial, Texts
 from ops.changes import split
 from ops.commands import Wrong
 from ops.documents import Document, Policy, network
@@ -29,7 +29,7 @@ def shut(text: str) -> str:
     return "".join(out)
 
 
-def classes_of(asked: Asked) -> set[Class]:
+def classes_of(asked: Trial) -> set[Class]:
     """The traffic classes of a document: sources, destinations, and the word of their services, empty for all."""
     policies = [Policy("blocked", policy.source, policy.target, None, policy.proto, policy.port) for policy in asked.document.policies]
     document = Document(asked.document.routers, asked.document.links, policies, asked.document.weights)
@@ -75,7 +75,7 @@ def _makers(first: Texts, now: Texts) -> dict[tuple[str, str, str], tuple[str, s
     return found
 
 
-def joined(rounds: Iterable[tuple[Sequence[Edit], Texts]], first: Asked) -> list[Edit]:
+def joined(rounds: Iterable[tuple[Sequence[Edit], Texts]], first: Trial) -> list[Edit]:
     """The edits of all rounds, each with the texts before it, as edits of the whole document over the first texts."""
     classes: set[Class] | None = None
     found: dict[Edit, None] = {}

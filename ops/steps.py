@@ -7,7 +7,7 @@ from collections.abc import Callable, Sequence
 from dataclasses import dataclass, field
 
 from ops import commands
-from ops.asking import Asked, Repair, Texts, asked, not_yes
+from ops.trial import Repair, Texts, Trial, not_yes, trial_of
 from ops.commands import Wrong, counted, tell
 from ops.documents import Document, document_text, folder_of, network, read_document, with_files, with_policies
 from ops.joining import joined, price
@@ -44,7 +44,7 @@ class Known:
     rounds: list[tuple[list[Edit], Texts]] = field(default_factory=list)
 
 
-def ladder(question: Asked, limits: Limits, known: Callable[[int, str], None], what: str = "") -> Outcome:
+def ladder(question: Trial, limits: Limits, known: Callable[[int, str], None], what: str = "") -> Outcome:
     """Asks at prices 1, 2, 4, .., each with more and more conflicts, until the answer is a repair or no step is left."""
     proved, at = -1, 0
     prices = [number for number in PRICES if number < limits.price] + [limits.price]
@@ -98,7 +98,7 @@ def on_the_way(document: Document, blocks: Sequence[Block], broken: Sequence[int
 class Parts:
     """A repair by parts: groups of broken policies, each over the files that the ones before left."""
 
-    whole: Asked
+    whole: Trial
     limits: Limits
     known: Known
     texts: Texts = field(default_factory=dict)
@@ -170,7 +170,7 @@ class Result:
     say: list[str]
 
 
-def by_parts(whole: Asked, limits: Limits, known: Known) -> Result:
+def by_parts(whole: Trial, limits: Limits, known: Known) -> Result:
     """A repair by parts, its edits joined and written by `apply` over the first files, every policy verified over the result."""
     parts = Parts(whole, limits, known)
     parts.run()
@@ -202,7 +202,7 @@ def open_copy(doc: str) -> bool:
     return isinstance(value, dict) and value.get("kind") == "open"
 
 
-def sentences(result: Result, known: Known, whole: Asked, options: argparse.Namespace) -> list[str]:
+def sentences(result: Result, known: Known, whole: Trial, options: argparse.Namespace) -> list[str]:
     """What can be said of the repair, and no more."""
     many = counted(len(whole.document.policies), "policy", "policies")
     if result.open_policies:
@@ -220,7 +220,7 @@ def sentences(result: Result, known: Known, whole: Asked, options: argparse.Name
     return found + result.say
 
 
-def search(whole: Asked, options: argparse.Namespace, known: Known) -> Result:
+def search(whole: Trial, options: argparse.Namespace, known: Known) -> Result:
     """The whole document first, by rising prices; then by parts where that is too much."""
     limits = Limits(options.max_price, options.conflicts)
 
@@ -242,7 +242,7 @@ def search(whole: Asked, options: argparse.Namespace, known: Known) -> Result:
     return by_parts(whole, limits, known)
 
 
-def write(result: Result, whole: Asked, options: argparse.Namespace) -> list[str]:
+def write(result: Result, whole: Trial, options: argparse.Namespace) -> list[str]:
     """Writes the changed files, the edits, and the document that names the changed files."""
     folder = folder_of(options.doc)
     changed = {name: text for name, text in result.texts.items() if text != whole.texts[name]}
@@ -316,7 +316,7 @@ def main(words: list[str]) -> int:
         options.max_price = min(options.max_price, SESSION - 1)
         tell(f"no adjacency is turned: such an edit costs {SESSION}, and prices end at {SESSION - 1}")
     _checked(options, document)
-    whole, known = asked(commands.program(options), document, options.doc), Known()
+    whole, known = trial_of(commands.program(options), document, options.doc), Known()
     try:
         result = search(whole, options, known)
     except KeyboardInterrupt:

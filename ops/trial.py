@@ -14,16 +14,16 @@ SUFFIX = ".new"
 
 
 @dataclass
-class Asked:
+class Trial:
     """A document over texts of its router files, and the program to ask."""
 
     program: str
     document: Document
     texts: Texts
 
-    def over(self, document: Document | None = None, texts: Texts | None = None) -> "Asked":
+    def over(self, document: Document | None = None, texts: Texts | None = None) -> "Trial":
         """The same with another document of the same files, or with other texts."""
-        return Asked(self.program, document or self.document, texts or self.texts)
+        return Trial(self.program, document or self.document, texts or self.texts)
 
     def names(self) -> dict[str, str]:
         """From the user's names of files to those in the folder."""
@@ -84,9 +84,9 @@ class Repair:
     certificate: str
 
 
-def asked(program: str, document: Document, doc: str) -> Asked:
+def trial_of(program: str, document: Document, doc: str) -> Trial:
     """A document over its files."""
-    return Asked(program, document, {name: load(os.path.join(folder_of(doc), name)) for name in document.routers})
+    return Trial(program, document, {name: load(os.path.join(folder_of(doc), name)) for name in document.routers})
 
 
 def not_yes(blocks: Sequence[Block]) -> list[int]:
@@ -94,4 +94,4 @@ def not_yes(blocks: Sequence[Block]) -> list[int]:
     return [block.number for block in blocks if block.answer != "yes"]
 
 
-__all__ = ["Asked", "Repair", "Text", "Texts", "asked", "not_yes"]
+__all__ = ["Trial", "Repair", "Text", "Texts", "trial_of", "not_yes"]
