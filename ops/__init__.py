@@ -1,1 +1,3 @@
-"""From a folder of running-configs to a verdict, and from a repair back onto the routers. Nothing of it is proved."""
+"""Tools around arcv, for network engineers: one module an idea, with thin commands in bin/. Python 3 alone.
+
+Nothing of this package is proved. What it finds out it asks of the program."""

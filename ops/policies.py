@@ -1,0 +1,148 @@
+"""policies: a small text of policies, with names and groups, made a document."""
+import argparse
+import os
+from collections.abc import Sequence
+from dataclasses import replace
+from itertools import product
+
+from ops import commands
+from ops.commands import Wrong, counted, wrapped
+from ops.documents import MOST_POLICIES, Document, Link, Policy, document_text, folder_of, network, read_document, service_words
+from ops.faces import Routers
+from ops.statements import Named, first_policies, read_policies
+from ops.wording import names_file, names_text, read_networks
+
+__all__ = ["Named", "first_policies", "main", "read_policies"]
+
+
+def waypoints_of(document: Document, points: Sequence[str]) -> list[Link]:
+    """The links of a document, those marked that a text names as waypoints: ROUTER, or ROUTER:INTERFACE."""
+    links = []
+    for link in document.links:
+        ends = {link.a, link.b} | {router for router, _ in link.ends()}
+        links.append(replace(link, waypoint=bool(ends & set(points))))
+    known = {point for link in document.links for point in (link.a, link.b, *(router for router, _ in link.ends()))}
+    wrong = [point for point in points if point not in known]
+    if wrong:
+        raise Wrong(f"no link ends at {wrong[0]}: a waypoint is a router, or ROUTER:INTERFACE at the end of a link")
+    return links
+
+
+def silent_pairs(networks: dict[str, str], policies: Sequence[Policy]) -> list[tuple[str, str, str]]:
+    """The pairs of networks that no policy speaks of wholly, and of which services some does."""
+    found = []
+    for (name, source), (other, target) in product(networks.items(), networks.items()):
+        if name == other or network(source).overlaps(network(target)):
+            continue
+        of_them = [
+            policy for policy in policies
+            if network(source).overlaps(network(policy.source)) and network(target).overlaps(network(policy.target))
+        ]
+        if not any(_covers(policy, source, target) for policy in of_them):
+            found.append((name, other, ", ".join(dict.fromkeys(_part(policy, source, target) for policy in of_them))))
+    return found
+
+
+def _covers(policy: Policy, source: str, target: str) -> bool:
+    wide = network(source).subnet_of(network(policy.source)) and network(target).subnet_of(network(policy.target))
+    return wide and policy.proto is None
+
+
+def _part(policy: Policy, source: str, target: str) -> str:
+    """What part of a pair's packets a policy speaks of."""
+    ends = "" if (policy.source, policy.target) == (source, target) else f"{policy.source} to {policy.target}"
+    return " ".join(part for part in (service_words(policy), ends) if part)
+
+
+def networks_of(options: argparse.Namespace, document: Document) -> dict[str, str]:
+    """The networks of hosts of a document by their names; one without a name is named by its prefix."""
+    given = options.names or next((path for path in (names_file(options.doc), os.path.join(os.path.dirname(options.doc), "names.json")) if os.path.exists(path)), "")
+    names = {network(prefix): name for prefix, name in (read_networks(given) if given else {}).items()}
+    found: dict[str, str] = {}
+    for host in Routers(document, folder_of(options.doc)).hosts():
+        if not host.loopback:
+            found.setdefault(names.get(network(host.prefix), host.prefix), host.prefix)
+    return found
+
+
+def arguments() -> argparse.ArgumentParser:
+    words = commands.parser(
+        "policies",
+        "Makes a text of policies a document: the routers and links are those of DOC, and each line of TEXT says what has to hold. "
+        "Prints the pairs of networks of which no policy speaks.\n\n"
+        "group NAME = WORD ..   WORD is a prefix, or a name of a network or group\n\n"
+        "[NAME:] FROM never reaches TO [SERVICE] [both ways]\n\n"
+        "[NAME:] FROM reaches TO [SERVICE] [survives N] [both ways]\n\n"
+        "[NAME:] FROM reaches TO only through W.. [SERVICE] [both ways]\n\n"
+        "all pairs survive N [except A to B, C and D, E]\n\n"
+        "FROM and TO are such words, or `everyone`; SERVICE is tcp, tcp PORT, udp, udp PORT, icmp or protocol N; W is a router, ROUTER:INTERFACE, or "
+        "`waypoints` for the links that DOC marks. `#` begins a comment. Names of networks come from the file of names beside DOC.",
+        "with --out the document, and a file of names beside it (FILE.names.json); without it nothing.",
+        """
+        cat > policies.txt
+        group guests = 10.1.99.0/24 10.2.99.0/24
+        pci-3: guests never reach 10.1.0.0/24 tcp
+        all pairs survive 1 except guests
+        bin/policies policies.txt net.json --out tonight.json
+        """,
+    )
+    words.add_argument("text", metavar="TEXT", help="the text of policies, or `-` for standard input")
+    words.add_argument("doc", metavar="DOC", help="a document with the routers and links")
+    words.add_argument("--out", metavar="FILE", help="the document to write")
+    words.add_argument("--names", metavar="FILE", default="", help="names of networks: {PREFIX: NAME, ..}")
+    commands.with_json(words)
+    commands.with_force(words)
+    return words
+
+
+def _document(found: Sequence[Named], document: Document) -> Document:
+    """The document of these policies; a set of waypoints is one of links, so all have to name the same."""
+    other = next((named for named in found if named.packets != "all"), None)
+    if other:
+        raise Wrong(f"line {other.line}: a document cannot speak of `{other.packets}` packets alone; bin/start asks of them")
+    sets = {named.waypoints for named in found if named.policy.kind == "through"}
+    if len(sets) > 1:
+        raise Wrong("its lines name different waypoints, and a document has one set: write a text for each")
+    if len(found) > MOST_POLICIES:
+        raise Wrong(f"it comes to {len(found)} policies, and a document has at most {MOST_POLICIES}: write several texts")
+    points = next(iter(sets), ())
+    links = waypoints_of(document, points) if points else document.links
+    return Document(document.routers, links, [named.policy for named in found], document.weights)
+
+
+def _said(found: Sequence[Named], silent: Sequence[tuple[str, str, str]], out: str) -> list[str]:
+    lines = [counted(len(found), "policy", "policies") + (f" in {out}, their names in {names_file(out)}" if out else "")]
+    if not silent:
+        return [*lines, "some policy speaks of each pair of networks, of every service"]
+    lines.append(f"no policy speaks of {counted(len(silent), 'pair')} of networks, or of parts alone:")
+    groups: dict[tuple[str, str], list[str]] = {}
+    for source, target, part in silent:
+        groups.setdefault((source, part), []).append(target)
+    for (source, part), targets in groups.items():
+        lines += wrapped(f"{source} to {', '.join(targets)}" + (f": of {part} alone" if part else ""), "  ", "      ")
+    return lines
+
+
+def main(words: list[str]) -> int:
+    options = arguments().parse_args(words)
+    document = read_document(options.doc)
+    networks = networks_of(options, document)
+    try:
+        found = read_policies(commands.load(options.text), networks)
+    except ValueError as error:
+        raise Wrong(f"{options.text}: {error}") from error
+    made = _document(found, document)
+    silent = silent_pairs(networks, made.policies)
+    if options.out:
+        if folder_of(options.out) != folder_of(options.doc):
+            raise Wrong(f"{options.out} has to lie in the folder of {options.doc}, in which the names of router files are looked up")
+        commands.check_free([options.out, names_file(options.out)], options.force)
+        prefixes = {prefix: name for name, prefix in networks.items() if name != prefix}
+        commands.save(names_file(options.out), names_text(prefixes, [named.name for named in found]), True)
+        commands.save(options.out, document_text(made), True)
+    if options.json:
+        rows = [{"from": source, "to": target, "spoken of": part} for source, target, part in silent]
+        commands.put(commands.as_json({"policies": [{"name": one.name, "line": one.line, **one.policy.members()} for one in found], "silent": rows}))
+    else:
+        commands.put("\n".join(_said(found, silent, options.out or "")) + "\n")
+    return commands.FINE
