@@ -1,8 +1,12 @@
 """A network that is made to be written as files of arcv: its routers, their interfaces and lists, and links."""
+import ipaddress
+from collections.abc import Iterable
 from dataclasses import dataclass, field
 
 from ops.names import Free
 from ops.routers import Interface
+
+POOLS = ("100.64.0.0/12", "100.80.0.0/12", "100.96.0.0/12", "198.18.0.0/16", "240.0.0.0/12", "241.0.0.0/12", "242.0.0.0/12")
 
 
 @dataclass
@@ -52,3 +56,19 @@ class Join:
     b_port: Port
     text: str
     is_waypoint: bool = False
+
+
+class Pool:
+    """Addresses for links that only a copy has: none of them is in the network or in a policy."""
+
+    def __init__(self, taken: Iterable[ipaddress.IPv4Network]) -> None:
+        nets = list(taken)
+        free = [pool for pool in map(ipaddress.IPv4Network, POOLS) if not any(pool.overlaps(net) for net in nets)]
+        if not free:
+            raise ValueError("no range of addresses is free for the links of a copy")
+        self.place = int(free[0].network_address)
+
+    def pair(self) -> tuple[Interface, Interface]:
+        """The two addresses of a new link."""
+        self.place += 4
+        return Interface((self.place + 1, 30)), Interface((self.place + 2, 30))

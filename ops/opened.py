@@ -10,7 +10,6 @@ from ops.links import Net, Segment, merged
 from ops.routers import Face, Interface, Router
 from ops.written import Change
 
-POOLS = ("100.64.0.0/12", "100.80.0.0/12", "100.96.0.0/12", "198.18.0.0/16", "240.0.0.0/12", "241.0.0.0/12", "242.0.0.0/12")
 POINT = " ip ospf network point-to-point"
 OPEN_LIST = "arcv-permits-all"
 
@@ -46,22 +45,8 @@ class Opener:
         self.of = {router.name: router for router in routers}
         self.ends: dict[tuple[str, str], list[tuple[building.Port, Interface]]] = {}
         self.own_names: dict[tuple[str, str], str] = {}
-        self.pool = self.pool_of()
+        self.pool = building.Pool([net for segment in segments for net in segment.nets] + list(asked))
         self.hubs = 0
-
-    def pool_of(self) -> Net:
-        taken = [net for segment in self.segments for net in segment.nets] + list(self.asked)
-        for text in POOLS:
-            pool = Net(text)
-            if not any(pool.overlaps(net) for net in taken):
-                self.place = int(pool.network_address)
-                return pool
-        raise ValueError("no range of addresses is free for the links of a copy")
-
-    def pair(self) -> tuple[Interface, Interface]:
-        """The two addresses of a new link."""
-        self.place += 4
-        return tuple(Interface((self.place + side, 30)) for side in (1, 2))  # type: ignore[return-value]
 
     def node(self, wanted: str, text: str, real: str | None) -> building.Node:
         """The router of the copy that stands for this, under that name or a free one."""
@@ -183,7 +168,7 @@ class Opener:
         hub = self.node(f"segment-{self.hubs}", f"the segment {segment.text()}", None)
         for face in segment.faces:
             node = self.node_of(face)
-            mine, far = self.pair()
+            mine, far = self.pool.pair()
             port = self.port(node, face, mine, True)
             other = hub.port(f"Ethernet1/{len(hub.ports)}", far, True)
             other.lines.append(POINT)
@@ -193,7 +178,7 @@ class Opener:
             self.join(node, port, hub, other, f"{face.key()} - the segment {segment.text()}", self.is_marked(face))
         if segment.outside:
             node = self.outside()
-            mine, far = self.pair()
+            mine, far = self.pool.pair()
             ends = []
             for owner, address in ((node, mine), (hub, far)):
                 port = owner.port(f"Ethernet1/{len(owner.ports)}", address, True)
