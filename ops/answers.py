@@ -1,0 +1,187 @@
+"""Each policy is asked of the copy that decides it; what was said is joined to one answer a policy."""
+import ipaddress
+from collections.abc import Iterable, Sequence
+from dataclasses import dataclass, field, replace
+
+from ops import asking, hosts, opened, rules
+from ops.asking import Asker, Reply
+from ops.documents import Policy
+from ops.exact import Builder, Exact, Want, structural
+from ops.hosts import Part
+from ops.links import Net, Segment
+from ops.routers import Face, Router
+from ops.statements import Named
+
+ORDER = ("no", "none", "yours", "yes")
+
+
+@dataclass
+class Joined:
+    """A policy with the answers of its parts, and why a part has none."""
+    named: Named
+    replies: list[Reply] = field(default_factory=list)
+    reasons: list[rules.Note] = field(default_factory=list)
+
+    def answer(self) -> str:
+        """The worst of its parts: `no`, `none` where one is not answered, `yours`, or `yes`."""
+        found = [reply.answer() for reply in self.replies] + (["none"] if self.reasons or not self.replies else [])
+        return min(found, key=ORDER.index)
+
+
+def net(prefix: str) -> Net:
+    return ipaddress.IPv4Network(prefix)
+
+
+def part_policy(named: Named, part: Part) -> Policy:
+    return replace(named.policy, source=str(part.source), target=str(part.target))
+
+
+class Answers:
+    """All policies over one network."""
+
+    def __init__(self, routers: Sequence[Router], segments: Sequence[Segment], named: Sequence[Named], asker: Asker, table: rules.Table,
+                 networks: dict[str, str]) -> None:
+        self.routers, self.segments, self.asker = routers, segments, asker
+        self.networks = networks
+        self.joined = [Joined(one) for one in named]
+        self.parts: dict[int, list[Part]] = {}
+        self.changes: dict[str, list[opened.Change]] = {}
+        self.exact = Exact(routers, segments, table)
+        for place, one in enumerate(named):
+            found, why = hosts.parts(place, net(one.policy.source), net(one.policy.target), segments)
+            self.parts[place] = found
+            if why:
+                self.joined[place].reasons.append(structural(why))
+
+    def ask(self) -> None:
+        groups: dict[tuple[str, tuple[str, ...]], list[int]] = {}
+        for place, joined in enumerate(self.joined):
+            named = joined.named
+            if named.policy.kind != "reach":
+                marks = named.waypoints if named.policy.kind == "through" else ()
+                groups.setdefault((named.packets, marks), []).append(place)
+        for (packets, marks), places in groups.items():
+            found = [part for place in places for part in self.parts[place]]
+            for numbers in asking.halves(range(len(found))):
+                self.ask_open([found[number] for number in numbers], packets, marks)
+        self.ask_exact()
+
+    def policy(self, part: Part) -> Policy:
+        return part_policy(self.joined[part.place].named, part)
+
+    def ask_open(self, found: Sequence[Part], packets: str, marks: tuple[str, ...]) -> None:
+        """Asks an open copy about parts of policies; where they have too many classes together, about half of them."""
+        if not found:
+            return
+        policies = [self.policy(part) for part in found]
+        copy = opened.open_copy(self.routers, self.segments, policies, packets, marks)
+        name = self.asker.name("open" if packets == "all" else f"open-{packets}")
+        copy.map.policies = [self.joined[part.place].named.name for part in found]
+        copy.map.networks = self.networks
+        path = self.asker.lay(name, copy.files, copy.document, copy.map)
+        blocks, why = self.asker.report(path)
+        if asking.is_too_much(why) and len(found) > 1:
+            middle = len(found) // 2
+            self.ask_open(found[:middle], packets, marks)
+            self.ask_open(found[middle:], packets, marks)
+            return
+        for file, changes in copy.changes.items():
+            self.changes.setdefault(file, []).extend(changes)
+        for place, part in enumerate(found):
+            reply = Reply(part.place, name, "open", blocks[place] if blocks else None, copy.map, copy.document, path, why)
+            self.joined[part.place].replies.append(reply)
+            if reply.block is not None and reply.block.answer == "yes":
+                reply.yours = self.acting(reply, asking.owners(copy.files, str(part.source)))
+
+    def acting(self, reply: Reply, source: set[str]) -> list[rules.Note]:
+        """Lines by which packets of a policy may pass lists, or that no row knows, at the routers to which they get."""
+        assert reply.block is not None
+        near = asking.beside(asking.closed_routers(reply.block) | source, reply.document)
+        real = {reply.map.real.get(name) for name in near}
+        kind = self.joined[reply.place].named.policy.kind
+        return [note for router in self.routers if router.name in real for note in lines_of(router) if kind in note.loses()]
+
+    def ask_exact(self) -> None:
+        wants: list[tuple[str, Want, list[rules.Note]]] = []
+        places = [place for place, joined in enumerate(self.joined) if joined.named.policy.kind == "reach"]
+        nets = {end for place in places for part in self.parts[place] for end in (part.source, part.target)}
+        self.exact.meet([segment for segment in self.segments if any(prefix.subnet_of(own) for prefix in nets for own in segment.nets)])
+        cannot = [note for note in self.exact.notes if note.cost in ("routes", "passes")]
+        lines = self.exact.face_notes([face for meeting in self.exact.meetings for face in meeting.faces])
+        for place in places:
+            joined = self.joined[place]
+            for part in self.parts[place]:
+                found, why = self.wants(part)
+                notes = [*cannot, *why, *self.exact.against(self.network_of(part.target)),
+                         *(note for note in [*lines, *self.exact.face_notes(ends_of(found))] if note.cost in ("routes", "passes"))]
+                joined.reasons += notes
+                if not notes:
+                    yours = [note for note in [*self.exact.notes, *lines, *self.exact.face_notes(ends_of(found))] if note not in notes]
+                    wants += [(joined.named.packets, want, yours) for want in found]
+        for packets, group in grouped(wants):
+            for numbers in asking.halves(range(len(group))):
+                self.ask_wants([group[number] for number in numbers], packets)
+
+    def network_of(self, prefix: Net) -> Net:
+        """The network of the files in which a prefix lies."""
+        return next((own for segment in self.segments for own in segment.nets if prefix.subnet_of(own)), prefix)
+
+    def wants(self, part: Part) -> tuple[list[Want], list[rules.Note]]:
+        """What has to hold for a part of a policy: each gateway of its source by itself, to each of its target."""
+        ends = [self.exact.gateways(self.network_of(prefix)) for prefix in (part.source, part.target)]
+        for prefix, found in zip((part.source, part.target), ends):
+            if not found:
+                return [], [structural(f"{prefix} is at no router whose routes are modelled")]
+        policy = self.policy(part)
+        made = []
+        for source in ends[0]:
+            near = [face for face in ends[1] if face.router == source.router]
+            made += [Want(part.place, policy, source, target) for target in near or ends[1]]
+        return made, []
+
+    def ask_wants(self, found: Sequence[tuple[Want, list[rules.Note]]], packets: str) -> None:
+        """Asks an exact copy; where there are too many classes together, about half of them."""
+        copy = Builder(self.exact, [want for want, _ in found], packets).write()
+        name = self.asker.name("exact" if packets == "all" else f"exact-{packets}")
+        copy.map.policies = [self.joined[want.place].named.name for want, _ in found]
+        copy.map.networks = self.networks
+        path = self.asker.lay(name, copy.files, copy.document, copy.map)
+        blocks, why = self.asker.report(path)
+        if asking.is_too_much(why) and len(found) > 1:
+            middle = len(found) // 2
+            self.ask_wants(found[:middle], packets)
+            self.ask_wants(found[middle:], packets)
+            return
+        for file, changes in copy.changes.items():
+            self.changes.setdefault(file, []).extend(changes)
+        for place, (want, yours) in enumerate(found):
+            reply = Reply(want.place, name, "exact", blocks[place] if blocks else None, copy.map, copy.document, path, why, yours)
+            self.joined[want.place].replies.append(reply)
+
+
+def lines_of(router: Router) -> list[rules.Note]:
+    """What the lines of a router cost, but for those of interfaces that are shut down."""
+    return router.notes + [note for face in router.faces if not face.is_shut for note in face.notes]
+
+
+def ends_of(wants: Iterable[Want]) -> list[Face]:
+    return list({id(face): face for want in wants for face in (want.source, want.target)}.values())
+
+
+Asked = list[tuple[Want, list[rules.Note]]]
+
+
+def grouped(wants: Sequence[tuple[str, Want, list[rules.Note]]]) -> list[tuple[str, Asked]]:
+    """The wants in groups that one copy can have: of the same packets, each network at one interface."""
+    groups: list[tuple[str, dict[Net, Face], Asked]] = []
+    for packets, want, yours in wants:
+        places = {face.addresses[0].network: face for face in (want.source, want.target)}
+        for kind, taken, group in groups:
+            if kind == packets and all(taken.get(own, face) is face for own, face in places.items()):
+                break
+        else:
+            taken, group = {}, []
+            groups.append((packets, taken, group))
+        taken.update(places)
+        group.append((want, yours))
+    return [(packets, group) for packets, _, group in groups]
