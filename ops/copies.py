@@ -1,17 +1,16 @@
 """The router files of a document before and after a repair, and the files as the routers printed them."""
 import argparse
-import json
 import os
-import shutil
-import tempfile
 from collections.abc import Sequence
 from dataclasses import dataclass
 from typing import Protocol
 
 from ops import commands
-from ops.commands import Wrong, load, run_arcv
-from ops.documents import Document, document_text, folder_of, read_document, with_files
+from ops.commands import Wrong, load
+from ops.documents import Document, folder_of, read_document
 from ops.reports import Edit, read_edits
+from ops.trial import trial_of
+from ops.wording import map_beside
 
 
 class Mapping(Protocol):
@@ -55,38 +54,13 @@ def add_arguments(words: argparse.ArgumentParser) -> None:
     commands.with_program(words)
 
 
-def applied(program: str, document: Document, folder: str, edits: Sequence[Edit]) -> dict[str, tuple[str, str]]:
-    """The router files that edits change, before and after, as `arcv apply` writes them. It works in a folder of its own."""
-    with tempfile.TemporaryDirectory(prefix="arcv-ops-") as place:
-        names = {name: f"{number}.cfg" for number, name in enumerate(document.routers, 1)}
-        for name, copy in names.items():
-            _copy(os.path.join(folder, name), os.path.join(place, copy))
-        commands.save(os.path.join(place, "net.json"), document_text(with_files(document, names)))
-        commands.save(os.path.join(place, "edits"), "".join(edit.line() + "\n" for edit in edits))
-        answer = run_arcv(program, ["apply", "net.json", "edits", "--out", ".new"], place)
-        if answer.status != 0:
-            raise Wrong(f"the edits cannot be made: {_reason(answer.reason(), names, edits)}")
-        found = {}
-        for name, copy in names.items():
-            if f"wrote {copy}.new" in answer.out.split("\n"):
-                found[name] = (load(os.path.join(place, copy)), load(os.path.join(place, copy + ".new")))
-        return found
-
-
-def _copy(path: str, to: str) -> None:
-    try:
-        shutil.copyfile(path, to)
-    except OSError as error:
-        raise Wrong(f"{path} cannot be read: {error.strerror}") from error
-
-
-def _reason(text: str, names: dict[str, str], edits: Sequence[Edit]) -> str:
-    """A refusal with the names of the user's files, and with the edit that it speaks of."""
-    words = text.split("\n")[0].split()
-    back = {copy: name for name, copy in names.items()}
-    if len(words) == 4 and words[:2] == ["refused", "edits"] and words[2].isdigit() and 0 < int(words[2]) <= len(edits):
-        return f"`{edits[int(words[2]) - 1].line()}` is no edit of the files as they are now"
-    return " ".join(back.get(word, word) for word in words)
+def applied(program: str, document: Document, doc: str, edits: Sequence[Edit]) -> dict[str, tuple[str, str]]:
+    """The router files that edits change, before and after, as `arcv apply` writes them."""
+    trial = trial_of(program, document, doc)
+    written, refused = trial.apply(edits)
+    if refused:
+        raise Wrong(f"the edits cannot be made: {refused}")
+    return {name: (trial.texts[name], text) for name, text in written.items()}
 
 
 def _written(document: Document, folder: str, suffix: str) -> dict[str, tuple[str, str]]:
@@ -100,29 +74,12 @@ def _written(document: Document, folder: str, suffix: str) -> dict[str, tuple[st
     return found
 
 
-def _map_beside(doc: str) -> dict[str, object] | None:
-    path = os.path.join(os.path.dirname(doc), "map.json")
-    if not os.path.exists(path):
-        return None
-    try:
-        value = json.loads(load(path))
-    except ValueError as error:
-        raise Wrong(f"{path} is no JSON: {error}") from error
-    if not isinstance(value, dict) or not isinstance(value.get("files", {}), dict):
-        raise Wrong(f"{path} is no map of copies")
-    return value
-
-
 def _originals(doc: str, folder: str | None) -> tuple[dict[str, str], str, Mapping]:
     """From names of copies to names of originals, where the originals lie, and what things are called there."""
-    beside = _map_beside(doc)
-    if beside is None:
+    found = map_beside(doc)
+    if found is None:
         return {}, folder if folder is not None else folder_of(doc), Same()
-    from ops.names import load_map
-
-    files = beside.get("files")
-    names = {str(router): str(file) for router, file in files.items()} if isinstance(files, dict) else {}
-    return names, folder if folder is not None else os.path.join(folder_of(doc), "..", ".."), load_map(os.path.join(os.path.dirname(doc), "map.json"))
+    return found.files, folder if folder is not None else os.path.join(folder_of(doc), "..", ".."), found
 
 
 def repaired(options: argparse.Namespace) -> list[Repaired]:
@@ -137,7 +94,7 @@ def repaired(options: argparse.Namespace) -> list[Repaired]:
             edits = read_edits(load(options.edits)).edits
         except ValueError as error:
             raise Wrong(f"{options.edits}: {error}") from error
-        changed = applied(commands.program(options), document, folder, edits)
+        changed = applied(commands.program(options), document, options.doc, edits)
     files, place, mapping = _originals(options.doc, options.originals)
     found = []
     for name, (before, after) in changed.items():

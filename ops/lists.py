@@ -2,25 +2,8 @@
 from collections.abc import Iterator, Sequence
 from dataclasses import dataclass, field
 
-from ops.documents import PROTOCOLS
+from ops import ports
 from ops.ios import Block, Line, blocks
-
-PORTS = {
-    "6": {
-        "bgp": 179, "chargen": 19, "cmd": 514, "daytime": 13, "discard": 9, "domain": 53, "echo": 7, "exec": 512, "finger": 79, "ftp": 21,
-        "ftp-data": 20, "gopher": 70, "hostname": 101, "ident": 113, "irc": 194, "klogin": 543, "kshell": 544, "login": 513, "lpd": 515,
-        "msrpc": 135, "nntp": 119, "pim-auto-rp": 496, "pop2": 109, "pop3": 110, "smtp": 25, "sunrpc": 111, "syslog": 514, "tacacs": 49,
-        "talk": 517, "telnet": 23, "time": 37, "uucp": 540, "whois": 43, "www": 80,
-    },
-    "17": {
-        "biff": 512, "bootpc": 68, "bootps": 67, "discard": 9, "dnsix": 195, "domain": 53, "echo": 7, "isakmp": 500, "mobile-ip": 434,
-        "nameserver": 42, "netbios-dgm": 138, "netbios-ns": 137, "netbios-ss": 139, "non500-isakmp": 4500, "ntp": 123, "pim-auto-rp": 496,
-        "rip": 520, "snmp": 161, "snmptrap": 162, "sunrpc": 111, "syslog": 514, "tacacs": 49, "talk": 517, "tftp": 69, "time": 37,
-        "who": 513, "xdmcp": 177,
-    },
-}
-PROTOCOL_NUMBERS = {**PROTOCOLS, "ahp": 51, "eigrp": 88, "ipinip": 4, "nos": 94, "pcp": 108, "pim": 103, "sctp": 132}
-
 
 @dataclass(frozen=True)
 class Entry:
@@ -125,7 +108,7 @@ def normal(kind: str, words: Sequence[str]) -> tuple[str, ...]:
     kept = [word for word in words if word not in ("log", "log-input")]
     if kind == "standard" or len(kept) < 4:
         return tuple(kept)
-    proto = str(PROTOCOL_NUMBERS.get(kept[1], kept[1]))
-    names = PORTS.get(proto, {})
+    number = ports.protocol(kept[1])
+    names = ports.PORTS.get(number or 0, {})
     rest = [str(names.get(word, word)) for word in kept[2:]]
-    return (kept[0], proto, *_ends(rest), *rest)
+    return (kept[0], kept[1] if number is None else str(number), *_ends(rest), *rest)

@@ -1,6 +1,5 @@
 """repair-steps: a repair by rising prices and conflicts, by parts where the whole is too much."""
 import argparse
-import json
 import os
 import time
 from collections.abc import Callable, Sequence
@@ -8,6 +7,7 @@ from dataclasses import dataclass, field
 
 from ops import commands
 from ops.trial import Repair, Texts, Trial, not_yes, trial_of
+from ops.wording import map_beside
 from ops.commands import Wrong, counted, tell
 from ops.documents import Document, document_text, folder_of, network, read_document, with_files, with_policies
 from ops.joining import joined, price
@@ -192,14 +192,8 @@ def by_parts(whole: Trial, limits: Limits, known: Known) -> Result:
 
 def open_copy(doc: str) -> bool:
     """Whether the files are open copies, over which an adjacency that goes down stops nothing."""
-    path = os.path.join(os.path.dirname(doc), "map.json")
-    if not os.path.exists(path):
-        return False
-    try:
-        value = json.loads(commands.load(path))
-    except ValueError as error:
-        raise Wrong(f"{path} is no JSON: {error}") from error
-    return isinstance(value, dict) and value.get("kind") == "open"
+    found = map_beside(doc)
+    return found is not None and found.kind == "open"
 
 
 def sentences(result: Result, known: Known, whole: Trial, options: argparse.Namespace) -> list[str]:

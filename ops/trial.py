@@ -67,9 +67,12 @@ class Trial:
     def apply(self, edits: Sequence[Edit]) -> tuple[Texts, str]:
         """The router files after the edits and what arcv writes, or why it refuses them."""
         answer, written, _ = self.run(["apply", "net.json", "edits", "--out", SUFFIX], {"edits": "".join(edit.line() + "\n" for edit in edits)})
-        if answer.status != 0:
-            return {}, self.reason(answer)
-        return written, ""
+        if answer.status == 0:
+            return written, ""
+        words = answer.first.split()
+        if len(words) == 4 and words[:2] == ["refused", "edits"] and words[2].isdigit() and 0 < int(words[2]) <= len(edits):
+            return {}, f"`{edits[int(words[2]) - 1].line()}` is no edit of the files as they are now"
+        return {}, self.reason(answer)
 
 
 @dataclass
@@ -93,5 +96,3 @@ def not_yes(blocks: Sequence[Block]) -> list[int]:
     """The policies that do not hold, or are not answered."""
     return [block.number for block in blocks if block.answer != "yes"]
 
-
-__all__ = ["Trial", "Repair", "Text", "Texts", "trial_of", "not_yes"]

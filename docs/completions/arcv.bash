@@ -39,10 +39,11 @@ _arcv_tool() {
         refusals) options='--help --arcv' ;;
         repair-steps) options='--help --out --proof --after --max-price --conflicts --no-sessions --arcv --json --force' ;;
         seal) options='--help --check --out --arcv --json --force' ;;
+        start) options='--help --again --to --policies --names --rows --alone --json --arcv' ;;
     esac
     case $word in
         -*) COMPREPLY=($(compgen -W "$options" -- "$word")) ;;
         *) COMPREPLY=($(compgen -f -- "$word")) ;;
     esac
 }
-complete -o filenames -F _arcv_tool bin/back bin/draw bin/enter bin/explain bin/pages bin/plan bin/policies bin/refusals bin/repair-steps bin/seal
+complete -o filenames -F _arcv_tool bin/back bin/draw bin/enter bin/explain bin/pages bin/plan bin/policies bin/refusals bin/repair-steps bin/seal bin/start

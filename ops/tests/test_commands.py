@@ -138,7 +138,7 @@ class Wrong(WithFolder):
             with open(fake, "w", encoding="ascii") as file:
                 file.write("#!/bin/sh\necho 'refused net.json 0 document-form'\nexit 5\n")
             os.chmod(fake, stat.S_IRWXU)
-            for seed in range(120):
+            for seed in range(60):
                 self._one(random.Random(seed), fake)
 
     def _one(self, dice: random.Random, fake: str) -> None:

@@ -118,7 +118,7 @@ class Rejections(WithFolder):
         self.assertIn("It is of policy 3.", done.stdout)
         self.assertIn("It is line 1 of the 1 lines of its witness.", done.stdout)
         done = tool("explain", "net.json", "report.txt", "--rejected", "2", "witness", folder=self.folder)
-        self.assertIn("which is answered yes in line 2.\n    path 1\n    path 2\n", done.stdout)
+        self.assertIn("is answered yes in line 2.\n    path 1\n    path 2\n", done.stdout)
 
     def test_step_of_a_log(self) -> None:
         case = os.path.join(CASES, "check-repair-accepted", "store")
