@@ -5,10 +5,10 @@ from collections.abc import Callable, Sequence
 from dataclasses import dataclass, field, replace
 
 from ops import commands, copies, places
-from ops.changes import Binding, Changes, NewEntry, NewList, Session, bare, changes_of, hostname, split
+from ops.changes import Binding, Changes, NewEntry, NewList, Session, bare, changes_of, hostname
 from ops.commands import Wrong, counted, wrapped
 from ops.ios import Block, Line
-from ops.lists import ListText, blocks_of, lists_of, normal
+from ops.lists import ListText, blocks_of, lists_of, normal, split
 
 LAST = 1 << 30
 

@@ -5,7 +5,7 @@ from dataclasses import dataclass, field
 
 from ops.commands import Wrong
 from ops.ios import Block
-from ops.lists import blocks_of, lists_of
+from ops.lists import blocks_of, lists_of, split
 
 NUMBER = re.compile(r"^(\s*)([0-9]+)(?=[ \t]+(?:permit|deny)\b)|^(ip prefix-list [^ ]+ seq )([0-9]+)(?= )")
 
@@ -66,11 +66,6 @@ class Changes:
     def same(self) -> tuple[object, ...]:
         """What is changed, whatever the file is called."""
         return self.entries, self.lists, self.bindings, self.sessions
-
-
-def split(text: str) -> list[str]:
-    """The lines of a text with their ends; a line ends at a line feed."""
-    return re.findall(r"[^\n]*\n|[^\n]+$", text)
 
 
 def bare(line: str) -> str:

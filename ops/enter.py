@@ -5,10 +5,10 @@ from collections.abc import Sequence
 from dataclasses import dataclass, field
 
 from ops import commands, copies
-from ops.changes import Binding, Changes, NewList, Session, split
+from ops.changes import Binding, Changes, NewList, Session
 from ops.commands import Wrong, counted
 from ops.ios import Block, families
-from ops.lists import Entry, ListText, blocks_of, lists_of, normal
+from ops.lists import Entry, ListText, blocks_of, lists_of, normal, split
 from ops.plan import Planned, planned, session_words
 
 MINUTES = 10

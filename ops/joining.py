@@ -7,10 +7,9 @@ from collections.abc import Iterable, Sequence
 from dataclasses import replace
 
 from ops.trial import Trial, Texts
-from ops.changes import split
 from ops.commands import Wrong
 from ops.documents import Document, Policy, network
-from ops.lists import blocks_of, lists_of
+from ops.lists import blocks_of, lists_of, split
 from ops.reports import Edit
 
 ALL_SERVICES = (0, (1 << 24) - 1)

@@ -1,4 +1,5 @@
 """The lists of a router file with the places of their entries: ACLs and prefix lists."""
+import re
 from collections.abc import Iterator, Sequence
 from dataclasses import dataclass, field
 
@@ -70,6 +71,11 @@ def lists_of(found: Sequence[Block]) -> dict[tuple[bool, str], ListText]:
             if entry:
                 listed.entries.append(entry)
     return lists
+
+
+def split(text: str) -> list[str]:
+    """The lines of a text with their ends; a line ends at a line feed."""
+    return re.findall(r"[^\n]*\n|[^\n]+$", text)
 
 
 def numbered(lines: Sequence[str]) -> list[tuple[int, str]]:

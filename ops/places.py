@@ -2,9 +2,9 @@
 from collections.abc import Iterator, Sequence
 from dataclasses import dataclass
 
-from ops.changes import Changes, aligned, bare, heads, split
+from ops.changes import Changes, aligned, bare, heads
 from ops.commands import Wrong
-from ops.lists import blocks_of
+from ops.lists import blocks_of, split
 
 SPELT = dict[str, str]
 

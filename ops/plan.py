@@ -5,11 +5,11 @@ from dataclasses import dataclass
 
 from ops import commands, copies
 from ops.back import put_back
-from ops.changes import Changes, Session, split
+from ops.changes import Changes, Session
 from ops.commands import counted, wrapped
 from ops.documents import read_document
 from ops.ios import Block
-from ops.lists import blocks_of
+from ops.lists import blocks_of, split
 from ops.wording import Names, names_of
 
 

@@ -128,7 +128,8 @@ class Parts:
         while True:
             numbers = sorted({*group, *kept})
             left = [number for number in holding if number not in kept]
-            tell(f"policies {listed(group)}, keeping {len(kept)} that hold" + (f", and leaving out {listed(left)}" if left else ""))
+            said = f"{'policy' if len(group) == 1 else 'policies'} {listed(group)}, keeping {len(kept)} that hold" + (f", and leaving out {listed(left)}" if left else "")
+            tell("\n".join(commands.wrapped(said, "", "    ")))
             outcome = ladder(now.over(with_policies(now.document, numbers)), self.limits, lambda _bound, _text: None, "  ")
             if outcome.repair.answer == "refused" and "limit" in outcome.repair.reason and not self.small:
                 self.small, kept = True, on_the_way(now.document, self.blocks, group)
@@ -185,7 +186,7 @@ def by_parts(whole: Trial, limits: Limits, known: Known) -> Result:
             raise Wrong("joined they do not do what they do one after another")
         texts, edits, cost = after, together, price(together, whole.document.weights)
     except Wrong as error:
-        say.append(f"The edits were put in one after another: as one list they are not to be had ({error}).")
+        say.append(f"The edits were put in part by part, and no list of them is one of the whole document ({error}): take the files, by `bin/plan DOC --copies SUFFIX`.")
     still = not_yes(whole.over(texts=texts).verify())
     return Result(texts, edits, cost, False, still, say)
 

@@ -1,9 +1,8 @@
 """A router that takes IOS commands, as far as repairs need it, and is stricter than a router: it ends at what would go wrong."""
 import re
 
-from ops.changes import split
 from ops.ios import Block
-from ops.lists import blocks_of, lists_of, normal
+from ops.lists import blocks_of, lists_of, normal, split
 
 
 class Refused(Exception):

@@ -1,7 +1,6 @@
 """What a router file says of lists that are bound and of adjacencies, whatever lists and numbers are called."""
-from ops.changes import split
 from ops.ios import Block
-from ops.lists import blocks_of, lists_of, normal
+from ops.lists import blocks_of, lists_of, normal, split
 
 
 def _passive(block: Block, faces: list[str]) -> dict[tuple[str, ...], object]:

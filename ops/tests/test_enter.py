@@ -6,6 +6,7 @@ from ops.back import process_of, put_back, transfer
 from ops.changes import Binding, Changes, NewEntry, NewList, Session, changes_of
 from ops.copies import Same
 from ops.enter import entered, goes_down, ordered, steps_of, taken_back
+from ops.lists import blocks_of, lists_of, split
 from ops.plan import Planned, uses
 from ops.tests.given import WithFolder, pairs, tool
 from ops.tests.ios_router import Refused, Router
@@ -214,9 +215,6 @@ def random_changes(dice: random.Random, before: str) -> Changes:
 
 def meaning_of(before: str, name: str) -> str:
     """The first entry of a list: a repair never puts the same one before it."""
-    from ops.changes import split
-    from ops.lists import blocks_of, lists_of
-
     listed = lists_of(blocks_of(split(before))).get((False, name))
     return listed.entries[0].text if listed and listed.entries else ""
 
