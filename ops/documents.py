@@ -6,10 +6,10 @@ import re
 from dataclasses import dataclass, field
 from typing import Any
 
+from ops import ports
 from ops.commands import Wrong, load, save
 
 KINDS = ("blocked", "through", "reach")
-PROTOCOLS = {"icmp": 1, "igmp": 2, "tcp": 6, "udp": 17, "gre": 47, "esp": 50, "ospf": 89}
 WITH_PORTS = (6, 17)
 EDIT_KINDS = ("list", "filter", "session")
 MOST_POLICIES = 256
@@ -44,7 +44,7 @@ class Policy:
         """The first and the last service that it speaks of: protocol times 65,536 plus port."""
         if self.proto is None:
             return 0, (1 << 24) - 1
-        number = PROTOCOLS[self.proto] if isinstance(self.proto, str) else self.proto
+        number = ports.PROTOCOLS[self.proto] if isinstance(self.proto, str) else self.proto
         if self.port is None:
             return number << 16, (number << 16) + 65535
         return (number << 16) + self.port, (number << 16) + self.port

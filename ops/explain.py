@@ -289,7 +289,7 @@ def tell_repair(text: Text, names: Names, routers: Routers) -> Told:
         return Told(f"no edits that cost at most {text.numbers[0]} are enough", "none")
     if text.answer == "budget":
         return Told(f"the search was given up after {counted(text.numbers[0], 'conflict')}: nothing is claimed", "budget")
-    head = f"{counted(len(edits), 'edit')} that cost {text.numbers[0]} are enough, and no cheaper ones are"
+    head = f"{counted(len(edits), 'edit')} at the price of {text.numbers[0]} {'is' if len(edits) == 1 else 'are'} enough, and nothing cheaper is"
     return Told(head if edits else "nothing has to be changed: every policy holds", "repaired", edits)
 
 

@@ -3,8 +3,9 @@ import ipaddress
 import os
 from dataclasses import dataclass, field
 
-from ops.commands import Wrong
+from ops.commands import Wrong, load
 from ops.documents import Document, network
+from ops.lists import blocks_of, split
 
 
 @dataclass
@@ -37,43 +38,32 @@ def _subnet(address: str, mask: str) -> str:
         return ""
 
 
-def _set(face: Face, words: list[str]) -> None:
+def _set(face: Face, words: tuple[str, ...]) -> None:
     """What a line of an interface's block sets."""
-    if words[:2] == ["ip", "address"] and len(words) == 4:
+    if words[:2] == ("ip", "address") and len(words) == 4:
         face.address, face.prefix = words[2], _subnet(words[2], words[3])
-    elif words == ["no", "ip", "address"]:
+    elif words == ("no", "ip", "address"):
         face.prefix = ""
-    elif words in (["shutdown"], ["no", "shutdown"]):
+    elif words in (("shutdown",), ("no", "shutdown")):
         face.up = words[0] == "no"
-    elif words[:2] == ["ip", "access-group"] and len(words) == 4:
+    elif words[:2] == ("ip", "access-group") and len(words) == 4:
         face.lists[words[3]] = words[2]
-    elif words[:3] == ["ip", "ospf", "network"] and len(words) == 4:
+    elif words[:3] == ("ip", "ospf", "network") and len(words) == 4:
         face.point_to_point = words[3] == "point-to-point"
 
 
 def read_faces(path: str) -> RouterFile:
     """What is read of one router file."""
     file = RouterFile(path, os.path.basename(path))
-    face = None
-    try:
-        with open(path, encoding="utf-8", errors="surrogateescape") as lines:
-            for line in lines:
-                words = line.split()
-                if not words or words[0].startswith("!"):
-                    face = face if line[:1].isspace() else None
-                elif line[:1] in " \t":
-                    if face:
-                        _set(face, words)
-                else:
-                    face = None
-                    if words[0] == "hostname" and len(words) > 1:
-                        file.name = words[1]
-                    elif words[0] == "interface" and len(words) > 1:
-                        face = Face("", words[1])
-                        file.faces.append(face)
-                    file.is_ospf = file.is_ospf or words[:2] == ["router", "ospf"]
-    except OSError as error:
-        raise Wrong(f"{path} cannot be read: {error.strerror}") from error
+    for block in blocks_of(split(load(path))):
+        if block.begins("hostname") and len(block.head.words) > 1:
+            file.name = block.head.words[1]
+        file.is_ospf = file.is_ospf or block.begins("router", "ospf")
+        if block.begins("interface") and len(block.head.words) > 1:
+            face = Face("", block.head.words[1])
+            file.faces.append(face)
+            for line in block.lines:
+                _set(face, line.words)
     for found in file.faces:
         found.router = file.name
     return file

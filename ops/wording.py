@@ -5,6 +5,7 @@ from typing import Any, Protocol
 
 from ops.commands import Wrong, load
 from ops.documents import Document, Policy, is_prefix, network, service_words
+from ops.names import CopyMap
 
 
 class Names(Protocol):
@@ -87,16 +88,27 @@ def read_networks(path: str) -> dict[str, str]:
     return {prefix: name for prefix, name in value.items() if prefix != "version"}
 
 
+def map_beside(doc: str) -> CopyMap | None:
+    """The map of the copies beside a document, where there is one; `Wrong` where it has not that form."""
+    path = os.path.join(os.path.dirname(doc), "map.json")
+    if not os.path.exists(path):
+        return None
+    value = _members(path)
+    plain = CopyMap()
+    for name, default in vars(plain).items():
+        given = value.get(name, default)
+        parts = given.values() if isinstance(given, dict) else given if isinstance(given, list) else ()
+        if type(given) is not type(default) or not all(isinstance(part, str) or name == "real" and part is None for part in parts):
+            raise Wrong(f"{path} is no map of copies: `{name}`")
+        setattr(plain, name, given)
+    return plain
+
+
 def names_of(path: str, document: Document, given: str = "") -> Names:
     """The names for a document: of the file that is given, else of the one beside it, else of the map of its copies."""
     beside = given or names_file(path)
-    copies = os.path.join(os.path.dirname(path), "map.json")
-    if not given and not os.path.exists(beside) and os.path.exists(copies):
-        from ops.names import load_map
-
-        return load_map(copies)
     if not given and not os.path.exists(beside):
-        return PlainNames(document)
+        return map_beside(path) or PlainNames(document)
     value = _members(beside)
     policies = value.get("policies", [])
     if not isinstance(policies, list) or not all(isinstance(name, str) for name in policies):
