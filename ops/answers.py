@@ -12,6 +12,7 @@ from ops.links import Net, Segment
 from ops.routers import Face, Router
 from ops.statements import Named
 
+LONGEST = 27  # no prefix of a policy is halved beyond this length
 ORDER = ("no", "none", "yours", "yes")
 
 
@@ -80,10 +81,10 @@ class Answers:
         copy.map.networks = self.networks
         path = self.asker.lay(name, copy.files, copy.document, copy.map)
         blocks, why = self.asker.report(path)
-        if asking.is_too_much(why) and len(found) > 1:
-            middle = len(found) // 2
-            self.ask_open(found[:middle], packets, marks)
-            self.ask_open(found[middle:], packets, marks)
+        smaller = smaller_parts(found) if asking.is_too_much(why) else []
+        for some in smaller:
+            self.ask_open(some, packets, marks)
+        if smaller:
             return
         for file, changes in copy.changes.items():
             self.changes.setdefault(file, []).extend(changes)
@@ -147,16 +148,41 @@ class Answers:
         copy.map.networks = self.networks
         path = self.asker.lay(name, copy.files, copy.document, copy.map)
         blocks, why = self.asker.report(path)
-        if asking.is_too_much(why) and len(found) > 1:
-            middle = len(found) // 2
-            self.ask_wants(found[:middle], packets)
-            self.ask_wants(found[middle:], packets)
+        smaller = smaller_wants(found) if asking.is_too_much(why) else []
+        for some in smaller:
+            self.ask_wants(some, packets)
+        if smaller:
             return
         for file, changes in copy.changes.items():
             self.changes.setdefault(file, []).extend(changes)
         for place, (want, yours) in enumerate(found):
             reply = Reply(want.place, name, "exact", blocks[place] if blocks else None, copy.map, copy.document, path, why, yours)
             self.joined[want.place].replies.append(reply)
+
+
+def smaller_ends(source: Net, target: Net) -> list[tuple[Net, Net]]:
+    """Two halves of the packets between two prefixes, or none where halves have been taken often enough."""
+    wide = source if source.prefixlen <= target.prefixlen else target
+    if wide.prefixlen >= LONGEST:
+        return []
+    halves = list(wide.subnets())
+    return [(half, target) for half in halves] if wide is source else [(source, half) for half in halves]
+
+
+def smaller_parts(found: Sequence[Part]) -> list[list[Part]]:
+    """What to ask in two copies in place of one."""
+    if len(found) > 1:
+        return [list(found[: len(found) // 2]), list(found[len(found) // 2 :])]
+    return [[Part(found[0].place, *ends)] for ends in smaller_ends(found[0].source, found[0].target)]
+
+
+def smaller_wants(found: Sequence[tuple[Want, list[rules.Note]]]) -> list[list[tuple[Want, list[rules.Note]]]]:
+    """What to ask in two copies in place of one."""
+    if len(found) > 1:
+        return [list(found[: len(found) // 2]), list(found[len(found) // 2 :])]
+    want, yours = found[0]
+    ends = smaller_ends(net(want.policy.source), net(want.policy.target))
+    return [[(replace(want, policy=replace(want.policy, source=str(source), target=str(target))), yours)] for source, target in ends]
 
 
 def lines_of(router: Router) -> list[rules.Note]:

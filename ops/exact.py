@@ -145,6 +145,8 @@ class Exact:
         most = sessions.most_routes(list(processes.values()))
         for session in found:
             judged = sessions.judged(session)
+            if session.lost():
+                self.notes.append(structural(session.lost()))
             segment = next(segment for segment in self.segments if session.faces[0] in segment.faces)
             if any(segment is host for host in hosts):
                 self.notes.append(structural(f"a session of BGP goes over {segment.text()}, which a policy names"))
@@ -213,8 +215,7 @@ class Exact:
             taken = sessions.rules_of(process.router.prefix_lists.get(name, ())) if name else []
             if taken is None or sessions.may_take(taken, target):
                 found.append(structural(f"the neighbour {peer.address} of {process.router.name} has no file, and may tell routes to {target}"))
-        lost = [meeting.session.lost(target) for meeting in self.meetings if meeting.session]
-        return found + [structural(text) for text in lost if text]
+        return found
 
     def face_notes(self, faces: Sequence[Face]) -> list[rules.Note]:
         """What stands in the way at interfaces that a copy has, but for what is compared at both ends."""
@@ -328,17 +329,15 @@ class Builder:
 
     def session(self, session: sessions.Session) -> None:
         """The lines of a session at both ends; a list for routes out stands at the far end, for routes in."""
+        targets = sorted({want.target.addresses[0].network for want in self.wants})
         for end, far in ((0, 1), (1, 0)):
             node, address = self.node(session.faces[end].router), session.faces[far].addresses[0].ip
             node.process.append(f" neighbor {address} remote-as {session.processes[far].number}")
-            name, rules_in = session.peers[end].lists.get("in"), session.list_rules(end, "in")
-            own = names.clean(name or "")
-            if not rules_in:
-                name, rules_in = session.peers[far].lists.get("out"), session.list_rules(far, "out")
-                own = names.clean(f"{session.faces[far].router}-{name}")
-            if rules_in:
-                node.prefix_lists[own] = [f"seq {5 * place} {rule.text}" for place, rule in enumerate(rules_in, 1)]
-                self.copy.map.lists[f"{node.name}:{own}"] = name or ""
+            name, entries = session.taken(end, targets)
+            if entries:
+                own = names.clean(f"{name}-{address}")
+                node.prefix_lists[own] = [f"seq {5 * place} {entry}" for place, entry in enumerate(entries, 1)]
+                self.copy.map.lists[f"{node.name}:{own}"] = name
                 node.process.append(f" neighbor {address} prefix-list {own} in")
 
     def host(self, face: Face) -> None:

@@ -8,7 +8,7 @@ from ops import ios
 PATH = os.path.join(os.path.dirname(os.path.abspath(__file__)), "rules.rows")
 PLACES = ("top", "block", "interface", "process", "ospf", "bgp")
 LOSES: dict[str, tuple[str, ...]] = {
-    "inert": (), "nothing": (), "time": (), "adjacency": ("reach",), "drops": ("reach",), "routes": ("reach",),
+    "inert": (), "nothing": (), "gateway": (), "time": (), "adjacency": ("reach",), "drops": ("reach",), "routes": ("reach",),
     "passes": ("reach", "blocked", "through"), "unknown": ("reach", "blocked", "through"),
 }
 

@@ -71,15 +71,19 @@ class Session:
         name = self.peers[end].lists.get(way)
         return rules_of(self.processes[end].router.prefix_lists.get(name, ())) if name else []
 
-    def lost(self, net: Net) -> str:
-        """Why it is not known which way the route to a network goes over the session, or nothing."""
-        for end, far in ((0, 1), (1, 0)):
-            out, inside = self.list_rules(far, "out"), self.list_rules(end, "in")
-            if out is None or inside is None:
-                return f"a prefix list between {self.faces[0].key()} and {self.faces[1].key()} is not read"
-            if out and inside and not permits(out, net):
-                return f"{self.faces[far].router} does not tell {net} to {self.faces[end].router}, which has a list of its own"
+    def lost(self) -> str:
+        """Why it is not known which routes go over the session, or nothing."""
+        if any(self.list_rules(end, way) is None for end in (0, 1) for way in ("in", "out")):
+            return f"a prefix list between {self.faces[0].key()} and {self.faces[1].key()} is not read"
         return ""
+
+    def taken(self, end: int, targets: Sequence[Net]) -> tuple[str, list[str]]:
+        """The list for routes in at an end that takes of these networks what both ends let pass: its name, and its entries."""
+        out, inside = self.list_rules(1 - end, "out") or [], self.list_rules(end, "in") or []
+        if not inside:
+            return f"{self.faces[1 - end].router}-{self.peers[1 - end].lists.get('out')}", [rule.text for rule in out]
+        denied = [f"deny {net}" for net in targets if out and not permits(out, net)]
+        return self.peers[end].lists["in"], denied + [rule.text for rule in inside]
 
 
 def kept(peer: Peer, *words: str) -> set[tuple[str, ...]]:
