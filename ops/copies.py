@@ -41,9 +41,6 @@ class Repaired:
     original: str
     mapping: Mapping
 
-    def original_text(self) -> str:
-        return load(self.original)
-
 
 def add_arguments(words: argparse.ArgumentParser) -> None:
     """DOC, and EDITS or --copies; --originals; --arcv."""
@@ -80,6 +77,12 @@ def _originals(doc: str, folder: str | None) -> tuple[dict[str, str], str, Mappi
     if found is None:
         return {}, folder if folder is not None else folder_of(doc), Same()
     return found.files, folder if folder is not None else os.path.join(folder_of(doc), "..", ".."), found
+
+
+def total(doc: str, document: Document) -> int:
+    """How many routers' files a document is of."""
+    found = map_beside(doc)
+    return len(set(found.files.values())) if found and found.files else len(document.routers)
 
 
 def repaired(options: argparse.Namespace) -> list[Repaired]:
