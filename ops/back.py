@@ -6,7 +6,7 @@ from dataclasses import dataclass, field, replace
 
 from ops import commands, copies, places
 from ops.changes import Binding, Changes, NewEntry, NewList, Session, bare, changes_of, hostname
-from ops.commands import Wrong, counted, load, wrapped
+from ops.commands import Wrong, counted, wrapped
 from ops.ios import Block, Line
 from ops.lists import ListText, blocks_of, lists_of, normal, split
 
@@ -250,7 +250,7 @@ def returned(options: argparse.Namespace) -> list[Returned]:
     """The originals with the repair that the words of the command line name."""
     found: dict[str, Returned] = {}
     for one in copies.repaired(options):
-        text = load(one.original) if one.original not in found else found[one.original].before
+        text = copies.original_text(one.original) if one.original not in found else found[one.original].before
         row = found.setdefault(one.original, Returned(one.original, text, text))
         row.after, _, notes = put_back(one.before, one.after, row.after, one.original, one.mapping)
         row.notes += notes

@@ -5,9 +5,10 @@ from collections.abc import Sequence
 from dataclasses import dataclass
 from typing import Protocol
 
-from ops import commands
+from ops import captures, commands
 from ops.commands import Wrong, load
 from ops.documents import Document, folder_of, read_document
+from ops.lists import numbered, split
 from ops.reports import Edit, read_edits
 from ops.trial import trial_of
 from ops.wording import map_beside
@@ -77,6 +78,17 @@ def _originals(doc: str, folder: str | None) -> tuple[dict[str, str], str, Mappi
     if found is None:
         return {}, folder if folder is not None else folder_of(doc), Same()
     return found.files, folder if folder is not None else os.path.join(folder_of(doc), "..", ".."), found
+
+
+def original_text(path: str) -> str:
+    """A file as the router printed it. Of what a terminal recorded it is the configuration alone, as the copies are of that."""
+    text, capture = load(path), captures.read(path, path)
+    raw = dict(numbered(split(text)))
+    added = [line for line in capture.dropped if line.text.strip() and not line.text.startswith(captures.FRONT)]
+    clean = [line.text.encode("latin-1", "replace").decode("utf-8", "surrogateescape") for line in capture.lines]
+    if not added and clean == [raw.get(line.number) for line in capture.lines]:
+        return text
+    return "".join(line + "\n" for line in clean)
 
 
 def total(doc: str, document: Document) -> int:
