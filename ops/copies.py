@@ -119,5 +119,5 @@ def repaired(options: argparse.Namespace) -> list[Repaired]:
             original = os.path.normpath(os.path.join(folder, name))
         if files and router not in files:
             raise Wrong(f"{name} stands for no router's file, so what the repair changes there cannot be entered anywhere")
-        found.append(Repaired(name, before, after, original, mapping))
+        found.append(Repaired(name, before, after, min(original, os.path.relpath(original), key=len), mapping))
     return found

@@ -7,9 +7,10 @@ from dataclasses import dataclass, field, replace
 
 from ops import commands
 from ops.trial import Repair, Texts, Trial, not_yes, trial_of
-from ops.wording import map_beside
+from ops.wording import map_beside, names_of
 from ops.commands import Wrong, counted, tell
 from ops.documents import Document, Policy, document_text, folder_of, network, read_document, with_files, with_policies
+from ops.explain import Teller
 from ops.joining import joined, price
 from ops.reports import Block, Edit
 
@@ -17,6 +18,7 @@ PRICES = (1, 2, 4, 8, 16, 32, 64, 128, 256, 512)
 CONFLICTS = (2_000, 10_000, 50_000, 200_000)
 SESSION = 16
 GROUP = 4
+MOST_TOLD = 20
 PIECES = 64
 
 
@@ -256,7 +258,7 @@ def search(whole: Trial, options: argparse.Namespace, known: Known) -> Result:
         return Result(whole.texts, [], None, False, not_yes(whole.verify()), [f"No edits that cost at most {repair.number} are enough; {options.proof} is the proof."])
     if repair.answer == "refused" and "limit" not in repair.reason.split():
         raise Wrong(f"nothing is judged: {repair.reason}")
-    tell("the whole is too much at once, so it is repaired by parts")
+    tell("that is not had at once, so it is repaired by parts" if repair.answer == "none" else "the whole is too much at once, so it is repaired by parts")
     return by_parts(whole, limits, known)
 
 
@@ -352,6 +354,10 @@ def main(words: list[str]) -> int:
         }
         commands.put(commands.as_json(value))
     else:
-        lines = [edit.line() for edit in result.edits] + [f"wrote {path}" for path in wrote]
-        commands.put("\n".join([row for text in say for row in commands.wrapped(text)] + lines) + "\n")
+        teller = Teller(names_of(options.doc, document), None)
+        told = [teller.edit(edit) for edit in result.edits[:MOST_TOLD]]
+        if len(result.edits) > MOST_TOLD:
+            told.append(f"and {len(result.edits) - MOST_TOLD} more")
+        lines = [row for text in told for row in commands.wrapped(text, "  ", "      ")]
+        commands.put("\n".join([row for text in say for row in commands.wrapped(text)] + lines + [f"wrote {path}" for path in wrote]) + "\n")
     return commands.NOT_SO if result.open_policies else commands.FINE
