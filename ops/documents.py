@@ -1,4 +1,5 @@
 """Documents of arcv: what they hold, read and written."""
+import functools
 import ipaddress
 import json
 import os
@@ -76,6 +77,7 @@ class Document:
     weights: dict[str, int] = field(default_factory=dict)
 
 
+@functools.lru_cache(maxsize=65536)
 def network(prefix: str) -> ipaddress.IPv4Network:
     return ipaddress.IPv4Network(prefix)
 

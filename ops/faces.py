@@ -1,6 +1,7 @@
 """The interfaces of router files, as much as names and words need: addresses, what is shut down, which lists are bound."""
 import ipaddress
 import os
+from collections.abc import Iterator
 from dataclasses import dataclass, field
 
 from ops.commands import Wrong, load
@@ -93,6 +94,8 @@ class Routers:
                     raise
                 self.missing = self.missing or str(error)
         self.ends = {end for link in document.links for end in link.ends()}
+        self._hosts: list[HostNetwork] | None = None
+        self._owners: dict[str, HostNetwork | None] = {}
 
     def names(self) -> list[str]:
         found = [file.name for file in self.files]
@@ -100,7 +103,11 @@ class Routers:
 
     def hosts(self) -> list[HostNetwork]:
         """Every network of hosts: the subnet of an interface that is no link's end, of a loopback under OSPF its address."""
-        found = []
+        if self._hosts is None:
+            self._hosts = list(self._read_hosts())
+        return self._hosts
+
+    def _read_hosts(self) -> Iterator[HostNetwork]:
         for file in self.files:
             for face in file.faces:
                 if not face.prefix or (file.name, face.name) in self.ends:
@@ -109,16 +116,14 @@ class Routers:
                 prefix = face.prefix
                 if loopback and file.is_ospf and not face.point_to_point:
                     prefix = face.address + "/32"
-                found.append(HostNetwork(file.name, face.name, prefix, loopback))
-        return found
+                yield HostNetwork(file.name, face.name, prefix, loopback)
 
     def owner(self, prefix: str) -> HostNetwork | None:
         """Where a prefix lies."""
-        inner = network(prefix)
-        for host in self.hosts():
-            if inner.subnet_of(network(host.prefix)):
-                return host
-        return None
+        if prefix not in self._owners:
+            inner = network(prefix)
+            self._owners[prefix] = next((host for host in self.hosts() if inner.subnet_of(network(host.prefix))), None)
+        return self._owners[prefix]
 
     def bound(self, router: str, interface: str, way: str) -> str:
         """The list that is bound at an interface, or nothing."""

@@ -31,6 +31,9 @@ def planned(options: argparse.Namespace) -> list[Planned]:
     return found
 
 
+USERS = ("access-group", "access-list", "list", "community", "match", "distribute-list", "traffic-filter", "peer", "serve")
+
+
 def _is_use(words: Sequence[str], name: str) -> bool:
     """Whether a line names a list somewhere else than where it stands or is bound to packets or routes."""
     if name not in words[1:] or words[0] in ("description", "remark", "hostname", "access-list", "interface", "router"):
@@ -38,7 +41,7 @@ def _is_use(words: Sequence[str], name: str) -> bool:
     if tuple(words[:2]) in (("ip", "access-list"), ("ip", "prefix-list"), ("ip", "access-group")):
         return False
     if name.isdigit():
-        return tuple(words[:1]) in (("access-class",),) or any(word in words for word in ("access-group", "access-list", "list", "community"))
+        return tuple(words[:1]) in (("access-class",),) or any(word in words for word in USERS)
     return not (words[0] == "neighbor" and "prefix-list" in words)
 
 

@@ -30,14 +30,15 @@ def waypoints_of(document: Document, points: Sequence[str]) -> list[Link]:
 
 def silent_pairs(networks: dict[str, str], policies: Sequence[Policy]) -> list[tuple[str, str, str]]:
     """The pairs of networks that no policy speaks of wholly, and of which services some does."""
+    near = [
+        {prefix: {place for place, policy in enumerate(policies) if network(prefix).overlaps(network(getattr(policy, end)))} for prefix in networks.values()}
+        for end in ("source", "target")
+    ]
     found = []
     for (name, source), (other, target) in product(networks.items(), networks.items()):
         if name == other or network(source).overlaps(network(target)):
             continue
-        of_them = [
-            policy for policy in policies
-            if network(source).overlaps(network(policy.source)) and network(target).overlaps(network(policy.target))
-        ]
+        of_them = [policies[place] for place in sorted(near[0][source] & near[1][target])]
         if not any(_covers(policy, source, target) for policy in of_them):
             found.append((name, other, ", ".join(dict.fromkeys(_part(policy, source, target) for policy in of_them))))
     return found
@@ -77,7 +78,8 @@ def arguments() -> argparse.ArgumentParser:
         "all pairs survive N [except A to B, C and D, E]\n\n"
         "FROM and TO are such words, or `everyone`; SERVICE is tcp, tcp PORT, udp, udp PORT, icmp or protocol N; W is a router, ROUTER:INTERFACE, or "
         "`waypoints` for the links that DOC marks. `#` begins a comment. Names of networks come from the file of names beside DOC.",
-        "with --out the document, and a file of names beside it (FILE.names.json); without it nothing.",
+        "with --out the document, and a file of names beside it (FILE.names.json); where the policies are more than 256, or name different waypoints, several "
+        "documents: FILE.json, FILE-2.json and so on. Without it nothing.",
         """
         cat > policies.txt
         group guests = 10.1.99.0/24 10.2.99.0/24
@@ -95,23 +97,30 @@ def arguments() -> argparse.ArgumentParser:
     return words
 
 
-def _document(found: Sequence[Named], document: Document) -> Document:
-    """The document of these policies; a set of waypoints is one of links, so all have to name the same."""
+def documents_of(found: Sequence[Named], document: Document) -> list[tuple[list[Named], Document]]:
+    """The documents of these policies: one for each set of waypoints, since that is one of links, and of at most 256 policies."""
     other = next((named for named in found if named.packets != "all"), None)
     if other:
         raise Wrong(f"line {other.line}: a document cannot speak of `{other.packets}` packets alone; bin/start asks of them")
-    sets = {named.waypoints for named in found if named.policy.kind == "through"}
-    if len(sets) > 1:
-        raise Wrong("its lines name different waypoints, and a document has one set: write a text for each")
-    if len(found) > MOST_POLICIES:
-        raise Wrong(f"it comes to {len(found)} policies, and a document has at most {MOST_POLICIES}: write several texts")
-    points = next(iter(sets), ())
-    links = waypoints_of(document, points) if points else document.links
-    return Document(document.routers, links, [named.policy for named in found], document.weights)
+    sets = list(dict.fromkeys(named.waypoints for named in found if named.policy.kind == "through")) or [()]
+    made = []
+    for points in sets:
+        mine = [named for named in found if (named.waypoints if named.policy.kind == "through" else sets[0]) == points]
+        links = waypoints_of(document, points) if points else document.links
+        for at in range(0, max(len(mine), 1), MOST_POLICIES):
+            part = mine[at : at + MOST_POLICIES]
+            made.append((part, Document(document.routers, links, [named.policy for named in part], document.weights)))
+    return made
 
 
-def _said(found: Sequence[Named], silent: Sequence[tuple[str, str, str]], out: str) -> list[str]:
-    lines = [counted(len(found), "policy", "policies") + (f" in {out}, their names in {names_file(out)}" if out else "")]
+def _named(path: str, number: int) -> str:
+    """The name of one of several documents: FILE.json, FILE-2.json, .."""
+    stem = path.removesuffix(".json")
+    return path if number == 1 else f"{stem}-{number}{path[len(stem):]}"
+
+
+def _said(found: Sequence[Named], silent: Sequence[tuple[str, str, str]], wrote: Sequence[str]) -> list[str]:
+    lines = [counted(len(found), "policy", "policies")] + [f"wrote {path}" for path in wrote]
     if not silent:
         return [*lines, "some policy speaks of each pair of networks, of every service"]
     lines.append(f"no policy speaks of {counted(len(silent), 'pair')} of networks, or of parts alone:")
@@ -123,6 +132,18 @@ def _said(found: Sequence[Named], silent: Sequence[tuple[str, str, str]], out: s
     return lines
 
 
+def _write(options: argparse.Namespace, made: Sequence[tuple[list[Named], Document]], prefixes: dict[str, str]) -> list[str]:
+    """Writes the documents, and a file of names beside each."""
+    if folder_of(options.out) != folder_of(options.doc):
+        raise Wrong(f"{options.out} has to lie in the folder of {options.doc}, in which the names of router files are looked up")
+    paths = [_named(options.out, number) for number in range(1, len(made) + 1)]
+    commands.check_free([name for path in paths for name in (path, names_file(path))], options.force)
+    for path, (found, document) in zip(paths, made):
+        commands.save(names_file(path), names_text(prefixes, [named.name for named in found]), True)
+        commands.save(path, document_text(document), True)
+    return [name for path in paths for name in (path, names_file(path))]
+
+
 def main(words: list[str]) -> int:
     options = arguments().parse_args(words)
     document = read_document(options.doc)
@@ -131,18 +152,12 @@ def main(words: list[str]) -> int:
         found = read_policies(commands.load(options.text), networks)
     except ValueError as error:
         raise Wrong(f"{options.text}: {error}") from error
-    made = _document(found, document)
-    silent = silent_pairs(networks, made.policies)
-    if options.out:
-        if folder_of(options.out) != folder_of(options.doc):
-            raise Wrong(f"{options.out} has to lie in the folder of {options.doc}, in which the names of router files are looked up")
-        commands.check_free([options.out, names_file(options.out)], options.force)
-        prefixes = {prefix: name for name, prefix in networks.items() if name != prefix}
-        commands.save(names_file(options.out), names_text(prefixes, [named.name for named in found]), True)
-        commands.save(options.out, document_text(made), True)
+    made = documents_of(found, document)
+    silent = silent_pairs(networks, [named.policy for named in found])
+    wrote = _write(options, made, {prefix: name for name, prefix in networks.items() if name != prefix}) if options.out else []
     if options.json:
         rows = [{"from": source, "to": target, "spoken of": part} for source, target, part in silent]
-        commands.put(commands.as_json({"policies": [{"name": one.name, "line": one.line, **one.policy.members()} for one in found], "silent": rows}))
+        commands.put(commands.as_json({"policies": [{"name": one.name, "line": one.line, **one.policy.members()} for one in found], "silent": rows, "wrote": wrote}))
     else:
-        commands.put("\n".join(_said(found, silent, options.out or "")) + "\n")
+        commands.put("\n".join(_said(found, silent, wrote)) + "\n")
     return commands.FINE

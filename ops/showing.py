@@ -12,6 +12,7 @@ from ops.faces import Routers
 if TYPE_CHECKING:
     from ops.explain import Told
 
+ELEMENTS = 60_000  # of all drawings of a page
 HEADS = {"no": "No", "refused": "Not answered", "yes": "Yes"}
 PAGE = """<!DOCTYPE html>
 <html lang="en"><head><meta charset="utf-8"><title>{title}</title>
@@ -105,6 +106,7 @@ def html(told: Sequence["Told"], doc: str, routers: Routers) -> str:
     body.append("</tr></table>")
     if not any(one.number for one in told):
         body = []
+    drawings = ELEMENTS // (len(routers.document.links) + len(routers.document.routers) + 1)
     for answer in (*HEADS, None):
         rows = [one for one in told if one.answer == answer or answer is None and one.answer not in HEADS]
         if rows and answer:
@@ -112,8 +114,10 @@ def html(told: Sequence["Told"], doc: str, routers: Routers) -> str:
         for one in rows:
             body.append(f"<h3>{escape(one.head)}</h3>")
             body += [f'<p{" class=inner" if line.startswith("  ") else ""}>{escape(line.strip())}</p>' for line in one.lines]
-            if one.policy and one.block:
+            if one.policy and one.block and (drawings := drawings - 1) >= 0:
                 body.append(draw.of_policy(routers, one.number, one.policy, one.block))
+    if drawings < 0:
+        body.append(f"<p>{-drawings} answers are not drawn: bin/draw draws each.</p>")
     return PAGE.format(title=escape(_legal(f"{doc}: what arcv answers")), body=_legal("\n".join(body)))
 
 

@@ -1,6 +1,6 @@
 """The text of policies: groups and statements, read line by line."""
 import re
-from collections.abc import Iterable, Sequence
+from collections.abc import Iterable, Iterator, Sequence
 from dataclasses import dataclass, field, replace
 from itertools import product
 
@@ -11,6 +11,7 @@ PACKETS = ("opening", "client")
 EVERYONE = "everyone"
 WORDS = {"never", "reach", "reaches", "only", "through", "survives", "survive", "both", "ways", "all", "pairs", "except", "and", "to", EVERYONE, *PACKETS}
 MOST_FAILURES = 16
+MOST = 20_000
 
 
 @dataclass(frozen=True)
@@ -207,10 +208,25 @@ def _all_pairs(words: list[str], reading: Reading, line: int) -> list[Named]:
     return [Named("", Policy("reach", source, target, failures), line=line) for source, target in pairs]
 
 
-def _contradiction(one: Named, other: Named) -> bool:
-    """Whether no network meets both: one asks that packets arrive of which the other asks that they never do."""
-    kinds = {one.policy.kind, other.policy.kind}
-    return kinds == {"reach", "blocked"} and one.packets == other.packets and one.policy.meets(other.policy)
+def _contradictions(found: Sequence[Named]) -> Iterator[tuple[Named, Named]]:
+    """Pairs that no network meets: one asks that packets arrive of which the other asks that they never do."""
+    blocked: dict[tuple[str, str], list[Named]] = {}
+    for one in found:
+        if one.policy.kind == "blocked":
+            blocked.setdefault((one.policy.source, one.policy.target), []).append(one)
+    ends = {end: [source for source in dict.fromkeys(pair[end] for pair in blocked)] for end in (0, 1)}
+    near: dict[tuple[int, str], list[str]] = {}
+    for one in found:
+        if one.policy.kind != "reach":
+            continue
+        wanted = (one.policy.source, one.policy.target)
+        for end, prefix in enumerate(wanted):
+            if (end, prefix) not in near:
+                near[end, prefix] = [other for other in ends[end] if network(other).overlaps(network(prefix))]
+        for pair in product(near[0, wanted[0]], near[1, wanted[1]]):
+            for other in blocked.get(pair, ()):
+                if one.packets == other.packets and one.policy.meets(other.policy):
+                    yield one, other
 
 
 def _check(found: Sequence[Named]) -> None:
@@ -218,13 +234,10 @@ def _check(found: Sequence[Named]) -> None:
     for one in found:
         if one.name and seen.setdefault(one.name, one.line) != one.line:
             raise ValueError(f"line {one.line}: {one.name} is the name of line {seen[one.name]} already")
-    blocked = [one for one in found if one.policy.kind == "blocked"]
-    for one in found:
-        other = next((other for other in blocked if _contradiction(one, other)), None)
-        if other:
-            first, second = sorted((one, other), key=lambda named: named.line)
-            where = f"{one.policy.source} to {one.policy.target}"
-            raise ValueError(f"line {second.line}: it contradicts line {first.line}: packets from {where} cannot both arrive and never arrive")
+    for one, other in _contradictions(found):
+        first, second = sorted((one, other), key=lambda named: named.line)
+        where = f"{one.policy.source} to {one.policy.target}"
+        raise ValueError(f"line {second.line}: it contradicts line {first.line}: packets from {where} cannot both arrive and never arrive")
 
 
 def read_policies(text: str, networks: dict[str, str]) -> list[Named]:
@@ -241,6 +254,8 @@ def read_policies(text: str, networks: dict[str, str]) -> list[Named]:
                 reading.found += _all_pairs(words, reading, number)
             else:
                 reading.found += _policies(_statement(words, number), reading)
+            if len(reading.found) > MOST:
+                raise ValueError(f"up to here it comes to {len(reading.found):,} policies, and {MOST:,} are the most")
         except ValueError as error:
             raise ValueError(f"line {number}: {error}") from error
     kept: dict[Named, Named] = {}

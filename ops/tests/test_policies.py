@@ -71,7 +71,7 @@ class Command(WithFolder):
         self.write("text", "pci-3: 10.20.0.0/24 never reach servers\nstaff reach servers survives 1\n")
         done = tool("policies", "text", "net.json", "--out", "new.json", folder=self.folder)
         self.assertEqual((done.returncode, done.stderr), (0, ""))
-        self.assertIn("2 policies in new.json", done.stdout)
+        self.assertIn("2 policies\nwrote new.json\nwrote new.names.json\n", done.stdout)
         self.assertIn("servers to staff, 10.20.0.0/24", done.stdout)
         self.assertEqual(len(read_document(self.path("new.json")).policies), 2)
         self.assertEqual(json.loads(read(self.path("new.names.json")))["policies"], ["pci-3", ""])
@@ -89,6 +89,20 @@ class Command(WithFolder):
         self.assertEqual([link.waypoint for link in read_document(self.path("new.json")).links], [True, True, False, False])
         self.write("text", "10.1.0.0/24 reach 10.4.0.0/24 only through nowhere\n")
         self.assertIn("no link ends at nowhere", tool("policies", "text", "net.json", folder=self.folder).stderr)
+
+
+    def test_several_documents(self) -> None:
+        self.lay("square")
+        self.write("text", "10.1.0.0/24 reach 10.4.0.0/24 only through north\n10.1.0.0/24 reach 10.2.0.0/24\n10.1.0.0/24 reach 10.4.0.0/24 only through south\n")
+        done = tool("policies", "text", "net.json", "--out", "new.json", folder=self.folder)
+        self.assertIn("wrote new-2.json\n", done.stdout)
+        one, two = (read_document(self.path(name)) for name in ("new.json", "new-2.json"))
+        self.assertEqual([[link.waypoint for link in document.links] for document in (one, two)], [[True, True, False, False], [False, False, True, True]])
+        self.assertEqual([len(document.policies) for document in (one, two)], [2, 1])
+        ports = "\n".join(f"10.1.0.0/24 never reach 10.4.0.0/24 tcp {port}" for port in range(1, 301))
+        self.write("many", ports + "\n")
+        done = tool("policies", "many", "net.json", "--out", "many.json", folder=self.folder)
+        self.assertEqual([len(read_document(self.path(name)).policies) for name in ("many.json", "many-2.json")], [256, 44])
 
 
 if __name__ == "__main__":
