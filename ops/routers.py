@@ -65,6 +65,7 @@ class Router:
     statics: list[Static] = field(default_factory=list)
     hops: list[tuple[str, Address]] = field(default_factory=list)
     exits: list[str] = field(default_factory=list)
+    ranges: list[ipaddress.IPv4Network] = field(default_factory=list)
     vrfs: set[str] = field(default_factory=set)
     leaks: bool = False
     notes: list[rules.Note] = field(default_factory=list)
@@ -281,6 +282,8 @@ class Reader:
             vrf = family[family.index("vrf") + 1] if "vrf" in family[:-1] else table
             if line.words[0] == "neighbor" and len(line.words) > 1 and is_address(line.words[1]):
                 self.router.hops.append((vrf, Address(line.words[1])))
+            if line.words[:3] == ("bgp", "listen", "range") and len(line.words) > 3:
+                self.router.ranges.append(ipaddress.IPv4Network(line.words[3], strict=False))
 
     def process(self, block: ios.Block) -> None:
         if "vrf" in block.head.words:

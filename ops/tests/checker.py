@@ -13,7 +13,7 @@ from collections import Counter
 
 from ops import answers, asking, documents, links, routers, rules, statements
 from ops.captures import strip
-from ops.commands import TOP
+from ops.tests.given import program
 from ops.tests.packets import Packet, random_packet
 from ops.tests.random_networks import Face, Net, Network, network
 
@@ -138,7 +138,7 @@ def main(words: list[str]) -> int:
     parser.add_argument("--networks", type=int, default=500)
     parser.add_argument("--seed", type=int, default=1)
     parser.add_argument("--tries", type=int, default=150)
-    parser.add_argument("--arcv", default=os.environ.get("ARCV") or os.path.join(TOP, ".built", "arcv"))
+    parser.add_argument("--arcv", default=program())
     parser.add_argument("--keep", help="a folder in which the files of a network with a wrong yes are left")
     options = parser.parse_args(words)
     counts: Counter[str] = Counter()

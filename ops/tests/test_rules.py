@@ -21,7 +21,7 @@ def notes_of(row: rules.Row) -> list[rules.Note]:
         return router.faces[0].notes
     if row.where in ("top", "block"):
         return routers.read(capture(row.example, " inner line"), TABLE).notes if row.where == "block" else routers.read(capture(row.example), TABLE).notes
-    kind = "bgp" if row.where == "bgp" or row.words[0] in ("neighbor", "bgp") or row.words == ("timers", "bgp") else "ospf"
+    kind = row.where if row.where in ("ospf", "bgp") else "bgp" if row.words[0] in ("neighbor", "bgp") or row.words == ("timers", "bgp") else "ospf"
     router = routers.read(capture(f"router {kind} 1", f" {row.example}"), TABLE)
     return (processes.bgp if kind == "bgp" else processes.ospf)(router, router.processes[0], TABLE).notes
 
