@@ -6,12 +6,14 @@ from dataclasses import dataclass, field, replace
 from ops import asking, hosts, opened, rules
 from ops.asking import Asker, Reply
 from ops.documents import Policy
-from ops.exact import Builder, Exact, Want, structural
+from ops.exact import Exact, structural
+from ops.exact_copy import Builder, Want
 from ops.hosts import Part
 from ops.links import Net, Segment
 from ops.routers import Face, Router
 from ops.statements import Named
 
+MOST_FAILURES = 16
 LONGEST = 27  # no prefix of a policy is halved beyond this length
 ORDER = ("no", "none", "yours", "yes")
 
@@ -25,7 +27,7 @@ class Joined:
 
     def answer(self) -> str:
         """The worst of its parts: `no`, `none` where one is not answered, `yours`, or `yes`."""
-        found = [reply.answer() for reply in self.replies] + (["none"] if self.reasons or not self.replies else [])
+        found = [reply.answer() for reply in self.replies if not reply.is_stronger] + (["none"] if self.reasons or not self.replies else [])
         return min(found, key=ORDER.index)
 
 
@@ -48,9 +50,15 @@ class Answers:
         self.parts: dict[int, list[Part]] = {}
         self.changes: dict[str, list[opened.Change]] = {}
         self.exact = Exact(routers, segments, table)
+        self.own: dict[str, list[int]] = {}  # ports whose list outbound does not guard the router's own address there
+        places = {router.name for router in routers} | {face.key() for router in routers for face in router.faces}
         for place, one in enumerate(named):
             found, why = hosts.parts(place, net(one.policy.source), net(one.policy.target), segments)
             self.parts[place] = found
+            strange = [mark for mark in one.waypoints if mark not in places]
+            if strange:
+                why = f"no file has a router or port {', '.join(strange)}, which a policy names as waypoint"
+                self.parts[place] = []
             if why:
                 self.joined[place].reasons.append(structural(why))
 
@@ -97,10 +105,20 @@ class Answers:
     def acting(self, reply: Reply, source: set[str]) -> list[rules.Note]:
         """Lines by which packets of a policy may pass lists, or that no row knows, at the routers to which they get."""
         assert reply.block is not None
-        near = asking.beside(asking.closed_routers(reply.block) | source, reply.document)
-        real = {reply.map.real.get(name) for name in near}
+        closed = asking.closed_routers(reply.block) | source
+        there = {reply.map.real.get(name) for name in closed}
+        near = {reply.map.real.get(name) for name in asking.beside(closed, reply.document)}
         kind = self.joined[reply.place].named.policy.kind
-        return [note for router in self.routers if router.name in real for note in lines_of(router) if kind in note.loses()]
+        found = [note for router in self.routers if router.name in near for note in lines_of(router) if kind in note.loses() and note.cost != "elsewhere"]
+        found += [note for router in self.routers if router.name not in there for note in lines_of(router) if note.cost == "elsewhere"]
+        own = [face.key() for face in self.gateways(net(self.joined[reply.place].named.policy.target)) if face.router in there and "out" in face.lists]
+        if own:
+            self.own.setdefault(", ".join(own), []).append(reply.place)
+        return found
+
+    def gateways(self, prefix: Net) -> list[Face]:
+        """The interfaces that are in a network of the files, or in one of its parts."""
+        return [face for segment in self.segments if any(own.overlaps(prefix) for own in segment.nets) for face in segment.faces]
 
     def ask_exact(self) -> None:
         wants: list[tuple[str, Want, list[rules.Note]]] = []
@@ -114,14 +132,26 @@ class Answers:
             for part in self.parts[place]:
                 found, why = self.wants(part)
                 notes = [*cannot, *why, *self.exact.against(self.network_of(part.target)),
+                         *self.exact.others_in(self.network_of(part.source)), *self.exact.others_in(self.network_of(part.target)),
                          *(note for note in [*lines, *self.exact.face_notes(ends_of(found))] if note.cost in ("routes", "passes"))]
                 joined.reasons += notes
                 if not notes:
-                    yours = [note for note in [*self.exact.notes, *lines, *self.exact.face_notes(ends_of(found))] if note not in notes]
-                    wants += [(joined.named.packets, want, yours) for want in found]
+                    yours = [*self.exact.notes, *lines, *self.exact.face_notes(ends_of(found)), *(self.exact.shared() if joined.named.policy.failures else [])]
+                    wants += [(joined.named.packets, want, list(yours)) for want in [*found, *self.stronger(found)]]
         for packets, group in grouped(wants):
             for numbers in asking.halves(range(len(group))):
                 self.ask_wants([group[number] for number in numbers], packets)
+        for joined in self.joined:
+            stronger = [reply for reply in joined.replies if reply.is_stronger]
+            if stronger and all(reply.block is not None and reply.block.answer == "yes" for reply in stronger):
+                for reply in joined.replies:
+                    reply.yours = [note for note in reply.yours if note not in self.exact.shared()]
+
+    def stronger(self, found: Sequence[Want]) -> list[Want]:
+        """The same with as many failed links as a policy's number of failed ports can be."""
+        most = max(self.exact.over_ports().values(), default=1)
+        return [replace(want, policy=replace(want.policy, failures=most * want.policy.failures), is_stronger=True) for want in found
+                if want.policy.failures and 1 < most and most * want.policy.failures <= MOST_FAILURES]
 
     def network_of(self, prefix: Net) -> Net:
         """The network of the files in which a prefix lies."""
@@ -156,7 +186,7 @@ class Answers:
         for file, changes in copy.changes.items():
             self.changes.setdefault(file, []).extend(changes)
         for place, (want, yours) in enumerate(found):
-            reply = Reply(want.place, name, "exact", blocks[place] if blocks else None, copy.map, copy.document, path, why, yours)
+            reply = Reply(want.place, name, "exact", blocks[place] if blocks else None, copy.map, copy.document, path, why, yours, want.is_stronger)
             self.joined[want.place].replies.append(reply)
 
 

@@ -1,13 +1,11 @@
 """Segments: which interfaces meet, by the networks of their addresses, and where devices may be that have no file."""
 import ipaddress
-import re
 from collections.abc import Iterable, Sequence
 from dataclasses import dataclass, field
 
-from ops.routers import Address, Face, Router
+from ops.routers import POINT, Address, Face, Router
 
 Net = ipaddress.IPv4Network
-POINT = re.compile(r"(Serial|Tunnel|Dialer|Multilink|Virtual-|Cellular|Async|BRI|POS|ATM|Group-Async|pseudowire|MFR)")
 
 
 @dataclass

@@ -147,7 +147,7 @@ def told(out: str, is_json: bool, found: Sequence[Router], other: Sequence[str],
     """Writes and prints what was found; the status of the command."""
     lines = found_text(found, other, segments, networks, own)
     lines += titled("Cannot be answered:", telling.cannot_lines(answers), "nothing that was asked")
-    lines += titled("Needs your yes:", telling.yours_lines(answers) + telling.premises(segments, answers.exact.down), "")
+    lines += titled("Needs your yes:", telling.yours_lines(answers) + telling.premises(segments, answers), "")
     lines += titled("Entries of lists that a copy says otherwise:", telling.rewritten_lines(answers), "none")
     lines += titled("Left out, since it bears on nothing here:", telling.group_lines(telling.grouped(telling.left_out(found)), telling.SHOWN), "nothing")
     silent = policies.silent_pairs({networks[prefix]: prefix for prefix in own}, [joined.named.policy for joined in answers.joined])

@@ -48,7 +48,7 @@ def group_lines(rows: Sequence[tuple[str, list[rules.Note]]], most: int) -> list
 def refused(joined: Joined) -> list[str]:
     """Why copies gave no answer, where the files did not stand in the way."""
     found = []
-    for reply in joined.replies:
+    for reply in (reply for reply in joined.replies if not reply.is_stronger):
         if reply.block is None:
             found.append(f"arcv refused the copy {reply.copy}: {reply.why.splitlines()[0] if reply.why else ''}")
         elif reply.block.answer == "refused":
@@ -98,15 +98,18 @@ def rewritten_lines(answers: Answers) -> list[str]:
     return [line for text, count in found.most_common() for line in wrapped(f"{counted(count, 'entry', 'entries')}: {text}", "  ", "      ")]
 
 
-def premises(segments: Sequence[Segment], down: Sequence[str]) -> list[str]:
+def premises(segments: Sequence[Segment], answers: Answers) -> list[str]:
     """What every yes rests on beside the files."""
     lines = wrapped("No device but these routers, and those that are told here as `outside`, forwards packets from one network to another.", "  ")
-    reasons = [reason for segment in segments for reason in segment.outside]
+    for port, places in answers.own.items():
+        policies = counted(len(set(places)), "policy", "policies")
+        lines += wrapped(f"the list outbound at {port}, by which {policies} hold, does not guard the router's own address there", "  ", "      ")
+    reasons = list(dict.fromkeys(reason for segment in segments if not all(face.vrf for face in segment.faces) for reason in segment.outside))
     for reason in reasons[:SHOWN]:
         lines += wrapped(f"outside: {reason}", "  ", "      ")
     if len(reasons) > SHOWN:
         lines.append(f"  and {len(reasons) - SHOWN} more: changes.txt")
-    for reason in down:
+    for reason in answers.exact.down:
         lines += wrapped(f"counts as down: {reason}", "  ", "      ")
     return lines
 
@@ -166,7 +169,7 @@ def answer_lines(answers: Answers) -> list[str]:
                 continue
             lines += wrapped(f"{WORDS[wanted]}: {head(joined, answers)}", "  ", "      ")
             if wanted == "no":
-                first = next(reply for reply in joined.replies if reply.answer() == "no")
+                first = next(reply for reply in joined.replies if reply.answer() == "no" and not reply.is_stronger)
                 lines += witness(first)
                 lines += wrapped(f"by {COPIES[first.kind]} ({first.copy})", "      ")
     return lines

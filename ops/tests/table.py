@@ -53,6 +53,11 @@ def ask(name: str, arcv: str, out: str) -> list[dict[str, object]]:
     return found
 
 
+def count(path: str) -> int:
+    with open(path, "rb") as file:
+        return file.read().count(b"\n")
+
+
 def row(name: str, arcv: str) -> Row:
     with tempfile.TemporaryDirectory(prefix="arcv-table-") as out:
         found = ask(name, arcv, out)
@@ -68,7 +73,7 @@ def row(name: str, arcv: str) -> Row:
             left += cost in ("nothing", "time", "gateway")
     answers = {kind: Counter(str(one["answer"]) for one in found if one["kind"] == kind) for kind in KINDS}
     questions = len({text for one in found for text in one["needs"]})  # type: ignore[attr-defined]
-    lines = sum(sum(1 for _ in open(path, "rb")) for path in captures_of(name))
+    lines = sum(count(path) for path in captures_of(name))
     return Row(name, len(captures_of(name)), lines, len(acted), left, entries, questions, answers)
 
 

@@ -1,7 +1,7 @@
 """The exact copy: what it has, and what stands in the way of an answer."""
 import unittest
 
-from ops import adjacency, exact, sessions
+from ops import adjacency, exact, exact_copy, sessions
 from ops.ios import line_of
 from ops.links import Net
 from ops.tests.small import face, judged, reach, router
@@ -93,8 +93,8 @@ class Copies(unittest.TestCase):
         a = router("a", *face("Vlan7", "10.0.0.1/30"), *face("Gi0/1", "10.1.0.1/24"), *lines, " auto-cost reference-bandwidth 10000")
         b = router("b", *face("Vlan7", "10.0.0.2/30"), *face("Gi0/1", "10.2.0.1/24"), *lines)
         made = judged(a, b)
-        want = exact.Want(0, reach("10.1.0.0/24", "10.2.0.0/24"), a.faces[1], b.faces[1])
-        copy = exact.Builder(made, [want], "all").write()
+        want = exact_copy.Want(0, reach("10.1.0.0/24", "10.2.0.0/24"), a.faces[1], b.faces[1])
+        copy = exact_copy.Builder(made, [want], "all").write()
         self.assertIn("interface Ethernet101/7\n ip address 10.0.0.1 255.255.255.252\n ip ospf cost 10\n", copy.files["a.cfg"])
         self.assertEqual(copy.map.interfaces["a:Ethernet101/7"], "Vlan7")
         self.assertEqual(len(copy.document.links), 1)
@@ -104,13 +104,13 @@ class Copies(unittest.TestCase):
         quiet = router("b", *face("Gi0/0", "10.0.0.2/30", "ip ospf 1 area 0"), *face("Gi0/1", "10.2.0.1/24"), "router ospf 1")
         made = judged(a, quiet)
         self.assertFalse(made.told(quiet.faces[1]))
-        copy = exact.Builder(made, [exact.Want(0, reach("10.1.0.0/24", "10.2.0.0/24"), a.faces[1], quiet.faces[1])], "all").write()
+        copy = exact_copy.Builder(made, [exact_copy.Want(0, reach("10.1.0.0/24", "10.2.0.0/24"), a.faces[1], quiet.faces[1])], "all").write()
         self.assertNotIn("ip ospf 1 area", copy.files["b.cfg"].split("10.2.0.1")[1])
 
     def test_three_on_one_segment_meet_at_a_router_of_the_copy(self) -> None:
         found = [router(name, *face("Gi0/0", f"10.0.0.{place}/24"), *face("Gi0/1", f"10.{place}.0.1/24"), *OSPF) for place, name in enumerate("abc", 1)]
         made = judged(*found)
-        copy = exact.Builder(made, [exact.Want(0, reach("10.1.0.0/24", "10.2.0.0/24"), found[0].faces[1], found[1].faces[1])], "all").write()
+        copy = exact_copy.Builder(made, [exact_copy.Want(0, reach("10.1.0.0/24", "10.2.0.0/24"), found[0].faces[1], found[1].faces[1])], "all").write()
         self.assertEqual(len(copy.document.links), 3)
 
 
@@ -151,7 +151,7 @@ class Bgp(unittest.TestCase):
         a, b = speakers()
         made = judged(a, b)
         self.assertEqual((reasons(made), made.down, len(made.meetings)), ([], [], 1))
-        copy = exact.Builder(made, [exact.Want(0, reach("10.1.0.0/24", "10.2.0.0/24"), a.faces[1], b.faces[1])], "all").write()
+        copy = exact_copy.Builder(made, [exact_copy.Want(0, reach("10.1.0.0/24", "10.2.0.0/24"), a.faces[1], b.faces[1])], "all").write()
         self.assertIn("router bgp 2\n neighbor 10.0.0.1 remote-as 1\n network 10.2.0.0 mask 255.255.255.0\n", copy.files["b.cfg"])
 
     def test_a_neighbour_that_is_not_active_is_none(self) -> None:
@@ -161,11 +161,11 @@ class Bgp(unittest.TestCase):
     def test_a_list_out_stands_at_the_far_end(self) -> None:
         a, b = speakers(" neighbor 10.0.0.2 prefix-list OUT out", "ip prefix-list OUT seq 5 permit 10.9.0.0/24")
         made = judged(a, b)
-        copy = exact.Builder(made, [exact.Want(0, reach("10.2.0.0/24", "10.1.0.0/24"), b.faces[1], a.faces[1])], "all").write()
+        copy = exact_copy.Builder(made, [exact_copy.Want(0, reach("10.2.0.0/24", "10.1.0.0/24"), b.faces[1], a.faces[1])], "all").write()
         self.assertIn("seq 5 permit 10.9.0.0/24", copy.files["b.cfg"])
         a, b = speakers(" neighbor 10.0.0.2 prefix-list OUT out", "ip prefix-list OUT seq 5 permit 10.9.0.0/24",
                         far=(" neighbor 10.0.0.1 prefix-list IN in", "ip prefix-list IN seq 5 permit 0.0.0.0/0 le 32"))
-        copy = exact.Builder(judged(a, b), [exact.Want(0, reach("10.2.0.0/24", "10.1.0.0/24"), b.faces[1], a.faces[1])], "all").write()
+        copy = exact_copy.Builder(judged(a, b), [exact_copy.Want(0, reach("10.2.0.0/24", "10.1.0.0/24"), b.faces[1], a.faces[1])], "all").write()
         self.assertIn("seq 5 deny 10.1.0.0/24\n", copy.files["b.cfg"])
 
     def test_neighbours_without_a_file(self) -> None:
