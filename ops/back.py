@@ -233,6 +233,30 @@ def put_back(before: str, after: str, original: str, file: str, names: copies.Ma
     return result, mine, place.notes
 
 
+@dataclass
+class Returned:
+    """A file as a router printed it, with a repair, and what to know of it. Several copies may be of one file."""
+
+    file: str
+    before: str
+    after: str
+    notes: list[str] = field(default_factory=list)
+
+    def changes(self) -> Changes:
+        return changes_of(self.before, self.after, self.file)
+
+
+def returned(options: argparse.Namespace) -> list[Returned]:
+    """The originals with the repair that the words of the command line name."""
+    found: dict[str, Returned] = {}
+    for one in copies.repaired(options):
+        text = copies.original_text(one.original) if one.original not in found else found[one.original].before
+        row = found.setdefault(one.original, Returned(one.original, text, text))
+        row.after, _, notes = put_back(one.before, one.after, row.after, one.original, one.mapping)
+        row.notes += notes
+    return list(found.values())
+
+
 def arguments() -> argparse.ArgumentParser:
     words = commands.parser(
         "back",
@@ -258,12 +282,12 @@ def main(words: list[str]) -> int:
     if not options.out or "/" in options.out:
         raise Wrong("--out is what follows the names of files, as .new")
     made, rows, notes = {}, [], []
-    for one in copies.repaired(options):
-        text, mine, said = put_back(one.before, one.after, one.original_text(), one.original, one.mapping)
-        made[one.original + options.out] = text
+    for one in returned(options):
+        mine = one.changes()
+        made[one.file + options.out] = one.after
         many = len(mine.entries) + sum(len(listed.entries) for listed in mine.lists) + len(mine.bindings) + len(mine.sessions)
-        rows.append({"router": mine.router, "file": one.original, "written": one.original + options.out, "lines": many})
-        notes += said
+        rows.append({"router": mine.router, "file": one.file, "written": one.file + options.out, "lines": many})
+        notes += one.notes
     commands.check_free(list(made), options.force)
     for path, text in made.items():
         commands.save(path, text, True)

@@ -5,9 +5,10 @@ from collections.abc import Sequence
 from dataclasses import dataclass
 from typing import Protocol
 
-from ops import commands
+from ops import captures, commands
 from ops.commands import Wrong, load
 from ops.documents import Document, folder_of, read_document
+from ops.lists import numbered, split
 from ops.reports import Edit, read_edits
 from ops.trial import trial_of
 from ops.wording import map_beside
@@ -40,9 +41,6 @@ class Repaired:
     after: str
     original: str
     mapping: Mapping
-
-    def original_text(self) -> str:
-        return load(self.original)
 
 
 def add_arguments(words: argparse.ArgumentParser) -> None:
@@ -82,6 +80,23 @@ def _originals(doc: str, folder: str | None) -> tuple[dict[str, str], str, Mappi
     return found.files, folder if folder is not None else os.path.join(folder_of(doc), "..", ".."), found
 
 
+def original_text(path: str) -> str:
+    """A file as the router printed it. Of what a terminal recorded it is the configuration alone, as the copies are of that."""
+    text, capture = load(path), captures.read(path, path)
+    raw = dict(numbered(split(text)))
+    added = [line for line in capture.dropped if line.text.strip() and not line.text.startswith(captures.FRONT)]
+    clean = [line.text.encode("latin-1", "replace").decode("utf-8", "surrogateescape") for line in capture.lines]
+    if not added and clean == [raw.get(line.number) for line in capture.lines]:
+        return text
+    return "".join(line + "\n" for line in clean)
+
+
+def total(doc: str, document: Document) -> int:
+    """How many routers' files a document is of."""
+    found = map_beside(doc)
+    return len(set(found.files.values())) if found and found.files else len(document.routers)
+
+
 def repaired(options: argparse.Namespace) -> list[Repaired]:
     """The router files that a repair changes, by the words of the command line."""
     if (options.edits is None) == (options.copies is None):
@@ -104,5 +119,5 @@ def repaired(options: argparse.Namespace) -> list[Repaired]:
             original = os.path.normpath(os.path.join(folder, name))
         if files and router not in files:
             raise Wrong(f"{name} stands for no router's file, so what the repair changes there cannot be entered anywhere")
-        found.append(Repaired(name, before, after, original, mapping))
+        found.append(Repaired(name, before, after, min(original, os.path.relpath(original), key=len), mapping))
     return found

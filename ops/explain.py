@@ -329,10 +329,12 @@ def tell(text: Text, ends: Sequence[str], document: Document, names: Names, rout
     found = [tell_repair(text, names, routers)] if text.form in ("certificate", "repair", "edits") else []
     if text.form in ("report", "recheck", "certificate"):
         return found + tell_blocks(text, document, names, routers)
+    if text.form == "rejected":
+        raise Wrong(f"REPORT has to be the text that was checked, with `--rejected {text.numbers[0]} {text.answer}` behind it")
     if text.form == "accepted":
         return [Told("accepted: every answer of that text is true of these files", "accepted")]
     if text.form == "refused":
-        return [Told(f"nothing was judged: {text.answer}", "refused", ["docs/manual.md has each kind under Refusals; `bin/refusals DOC` lists every line."])]
+        return [Told(f"nothing was judged: {text.answer}", "nothing", ["docs/manual.md has each kind under Refusals; `bin/refusals DOC` lists every line."])]
     return found
 
 
@@ -384,4 +386,4 @@ def main(words: list[str]) -> int:
         commands.save(options.out, text, options.force)
     else:
         commands.put(text)
-    return commands.FINE if all(one.answer not in ("no", "refused", "rejected", "none", "budget") for one in told) else commands.NOT_SO
+    return commands.FINE if all(one.answer not in ("no", "refused", "rejected", "none", "budget", "nothing") for one in told) else commands.NOT_SO

@@ -2,9 +2,10 @@
 from collections.abc import Iterator, Sequence
 from dataclasses import dataclass
 
-from ops.changes import Changes, aligned, bare, heads
+from ops.changes import Changes, aligned, bare
 from ops.commands import Wrong
-from ops.lists import blocks_of, split
+from ops.ios import Block
+from ops.lists import blocks_of, lists_of, normal, split
 
 SPELT = dict[str, str]
 
@@ -19,7 +20,7 @@ class Pair:
 
 @dataclass(frozen=True)
 class Place:
-    """A new line with the head of its block, empty for a top line, and the old lines of that block behind it and all in all."""
+    """A new line with its block or list, empty for a top line, and the old lines there behind it and all in all."""
 
     text: str
     head: str
@@ -36,24 +37,36 @@ def _spelt(text: str, names: SPELT) -> str:
     return " ".join(names.get(word, word) for word in text.split())
 
 
+def _groups(found: Sequence[Block]) -> tuple[dict[int, str], dict[str, dict[int, str]]]:
+    """The block or list of each line, and the lines of each with their texts. Entries are in one spelling, in whatever form the file has its list."""
+    head_of: dict[int, str] = {}
+    lines: dict[str, dict[int, str]] = {"": {}}
+    for block in found:
+        head = " ".join(block.head.words)
+        lines[""][block.head.number] = head
+        head_of[block.head.number] = ""
+        for line in block.lines:
+            lines.setdefault(head, {})[line.number] = _text(line.text)
+            head_of[line.number] = head
+    for (prefix, name), listed in lists_of(found).items():
+        head = f"{'prefix list' if prefix else 'list'} {name}"
+        for entry in listed.entries:
+            lines.setdefault(head, {})[entry.line] = " ".join(normal(listed.kind, entry.words))
+            head_of[entry.line] = head
+    return head_of, lines
+
+
 def new_places(pair: Pair, file: str) -> Iterator[Place]:
     """Each new line of a file in order, with where it stands."""
     old, new = split(pair.before), split(pair.after)
-    kept = {place: line for line, place in zip(old, aligned(old, new, file))}
-    found = blocks_of(new)
-    block_of = heads(found)
-    tops = [block.head.number - 1 for block in found]
-    for place, line in enumerate(new):
-        block = block_of.get(place + 1)
-        if place in kept or block is None:
+    kept = {place + 1 for place in aligned(old, new, file)}
+    head_of, lines = _groups(blocks_of(new))
+    for number in range(1, len(new) + 1):
+        if number in kept or number not in head_of:
             continue
-        is_top = block.head.number == place + 1
-        mine: Sequence[int] = tops if is_top else [line.number - 1 for line in block.lines]
-        old_ones = [at for at in mine if at in kept]
-        yield Place(
-            _text(line), "" if is_top else " ".join(block.head.words),
-            tuple(_text(kept[at]) for at in old_ones if at > place), tuple(_text(kept[at]) for at in old_ones),
-        )
+        head = head_of[number]
+        group = {at: text for at, text in lines[head].items() if at in kept}
+        yield Place(lines[head][number], head, tuple(text for at, text in group.items() if at > number), tuple(group.values()))
 
 
 def _names(changes: Changes, mine: Changes) -> SPELT:

@@ -4,13 +4,12 @@ from collections.abc import Sequence
 from dataclasses import dataclass
 
 from ops import commands, copies
-from ops.back import put_back
+from ops.back import returned
 from ops.changes import Changes, Session
 from ops.commands import counted, wrapped
 from ops.documents import read_document
 from ops.ios import Block
 from ops.lists import blocks_of, split
-from ops.wording import Names, names_of
 
 
 @dataclass
@@ -26,10 +25,9 @@ class Planned:
 def planned(options: argparse.Namespace) -> list[Planned]:
     """The changes at each router, in the names of the routers."""
     found = []
-    for one in copies.repaired(options):
-        text = one.original_text()
-        after, mine, notes = put_back(one.before, one.after, text, one.original, one.mapping)
-        found.append(Planned(mine, text, after, notes + uses(mine, text)))
+    for one in returned(options):
+        mine = one.changes()
+        found.append(Planned(mine, one.before, one.after, one.notes + uses(mine, one.before)))
     return found
 
 
@@ -106,7 +104,7 @@ def _row(name: str, width: int, mine: Sequence[int]) -> str:
     return f"{name[:width]:<{width}}" + "".join(f"{count:>11}" for count in mine[:3]) + f"{sessions:>11}"
 
 
-def said(rows: Sequence[Planned], total: int, names: Names) -> list[str]:
+def said(rows: Sequence[Planned], total: int) -> list[str]:
     """The table, and below it what changes."""
     if not rows:
         return ["nothing has to be changed"]
@@ -115,7 +113,7 @@ def said(rows: Sequence[Planned], total: int, names: Names) -> list[str]:
     others = {0: ".", 1: ", and the other file is as before."}.get(rest, f", and the {rest} other files are as before.")
     lines += wrapped(f"Nothing else changes: every line of {'this file' if len(rows) == 1 else 'these files'} stays{others}")
     for row in rows:
-        lines += ["", f"{names.router(row.changes.router)} ({row.changes.file})"]
+        lines += ["", f"{row.changes.router} ({row.changes.file})"]
         for line in details(row.changes):
             lines += wrapped(line.strip(), "    " if line.startswith("  ") else "  ", "        ")
         for note in row.notes:
@@ -157,9 +155,9 @@ def arguments() -> argparse.ArgumentParser:
 def main(words: list[str]) -> int:
     options = arguments().parse_args(words)
     document = read_document(options.doc)
-    rows = planned(options)
+    rows, total = planned(options), copies.total(options.doc, document)
     if options.json:
-        commands.put(commands.as_json({"routers": as_rows(rows), "of": len(document.routers)}))
+        commands.put(commands.as_json({"routers": as_rows(rows), "of": total}))
     else:
-        commands.put("\n".join(said(rows, len(document.routers), names_of(options.doc, document))) + "\n")
+        commands.put("\n".join(said(rows, total)) + "\n")
     return commands.FINE

@@ -6,7 +6,7 @@ from typing import TYPE_CHECKING
 from xml.sax.saxutils import quoteattr
 
 from ops import draw
-from ops.commands import counted
+from ops.commands import counted, wrapped
 from ops.faces import Routers
 
 if TYPE_CHECKING:
@@ -43,9 +43,7 @@ def text(told: Sequence["Told"], _doc: str, _routers: Routers) -> str:
 
     lines: list[str] = []
     for one in told:
-        if not one.number and one.answer in ("trace", "edits", "rejected", "accepted", "repaired", "none", "budget"):
-            from ops.commands import wrapped
-
+        if one.answer not in HEADS:
             lines += wrapped(one.head + (":" if one.lines else ""), "", "  ")
             for line in one.lines:
                 front = "    " if line.startswith("  ") else "  "
@@ -77,12 +75,12 @@ def as_json(told: Sequence["Told"], doc: str, _routers: Routers) -> str:
 def junit(told: Sequence["Told"], doc: str, _routers: Routers) -> str:
     judged = [one for one in told if one.number or one.block] or list(told)
     failed = sum(one.answer in ("no", "rejected", "none") for one in judged)
-    errors = sum(one.answer in ("refused", "budget") for one in judged)
+    errors = sum(one.answer in ("refused", "budget", "nothing") for one in judged)
     head = f"tests=\"{len(judged)}\" failures=\"{failed}\" errors=\"{errors}\""
     lines = ['<?xml version="1.0" encoding="UTF-8"?>', f"<testsuites {head}>", f" <testsuite name={_attribute(doc)} {head}>"]
     for one in judged:
         start = f"  <testcase classname={_attribute(doc)} name={_attribute(one.head)}"
-        kind = {"no": "failure", "rejected": "failure", "none": "failure", "refused": "error", "budget": "error"}.get(one.answer)
+        kind = {"no": "failure", "rejected": "failure", "none": "failure", "refused": "error", "budget": "error", "nothing": "error"}.get(one.answer)
         if kind is None:
             lines.append(start + "/>")
             continue

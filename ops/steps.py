@@ -3,13 +3,14 @@ import argparse
 import os
 import time
 from collections.abc import Callable, Sequence
-from dataclasses import dataclass, field
+from dataclasses import dataclass, field, replace
 
 from ops import commands
 from ops.trial import Repair, Texts, Trial, not_yes, trial_of
-from ops.wording import map_beside
+from ops.wording import map_beside, names_of
 from ops.commands import Wrong, counted, tell
-from ops.documents import Document, document_text, folder_of, network, read_document, with_files, with_policies
+from ops.documents import Document, Policy, document_text, folder_of, network, read_document, with_files, with_policies
+from ops.explain import Teller
 from ops.joining import joined, price
 from ops.reports import Block, Edit
 
@@ -17,6 +18,8 @@ PRICES = (1, 2, 4, 8, 16, 32, 64, 128, 256, 512)
 CONFLICTS = (2_000, 10_000, 50_000, 200_000)
 SESSION = 16
 GROUP = 4
+MOST_TOLD = 20
+PIECES = 64
 
 
 @dataclass
@@ -112,30 +115,43 @@ class Parts:
         size = GROUP
         while broken := [number for number in not_yes(self.blocks) if number not in self.failed]:
             group = broken[:size]
-            if self._group(group):
+            if self._group(group, [self.whole.document.policies[number - 1] for number in group]):
                 continue
-            if size > 1:
-                size = (min(size, len(group)) + 1) // 2 if len(group) > 1 else 1
-            else:
+            if len(group) > 1:
+                size = (len(group) + 1) // 2
+            elif not self._halves(group[0]):
                 self.failed += group
                 tell(f"policy {group[0]} is left as it is")
 
-    def _group(self, group: list[int]) -> bool:
+    def _halves(self, number: int) -> bool:
+        """Repairs one policy in pieces, half after half of its target; whether it holds then."""
+        waiting, tried = halves(self.whole.document.policies[number - 1]), 0
+        while waiting and tried < PIECES:
+            piece, tried = waiting.pop(0), tried + 1
+            tell(f"  of policy {number} the part to {piece.target}")
+            if not self._group([number], [piece]):
+                if not (smaller := halves(piece)):
+                    return False
+                waiting = smaller + waiting
+        return number not in not_yes(self.blocks)
+
+    def _group(self, group: list[int], wanted: list[Policy]) -> bool:
         """Tries one group: the policies that hold are kept, all or those on the way, and those that would break are added."""
         now = self.whole.over(texts=self.texts)
         holding = [block.number for block in self.blocks if block.answer == "yes"]
         kept = on_the_way(now.document, self.blocks, group) if self.small else holding
         while True:
-            numbers = sorted({*group, *kept})
             left = [number for number in holding if number not in kept]
             said = f"{'policy' if len(group) == 1 else 'policies'} {listed(group)}, keeping {len(kept)} that hold" + (f", and leaving out {listed(left)}" if left else "")
             tell("\n".join(commands.wrapped(said, "", "    ")))
-            outcome = ladder(now.over(with_policies(now.document, numbers)), self.limits, lambda _bound, _text: None, "  ")
-            if outcome.repair.answer == "refused" and "limit" in outcome.repair.reason and not self.small:
+            document = with_policies(now.document, kept)
+            document.policies += wanted
+            outcome = ladder(now.over(document), self.limits, lambda _bound, _text: None, "  ")
+            if outcome.repair.answer == "refused" and "limit" in outcome.repair.reason.split() and not self.small:
                 self.small, kept = True, on_the_way(now.document, self.blocks, group)
                 continue
             if outcome.repair.answer != "repaired":
-                if outcome.repair.answer == "refused" and "limit" not in outcome.repair.reason:
+                if outcome.repair.answer == "refused" and "limit" not in outcome.repair.reason.split():
                     raise Wrong(f"nothing is judged: {outcome.repair.reason}")
                 return False
             blocks = self.whole.over(texts=outcome.repair.texts).verify()
@@ -146,6 +162,15 @@ class Parts:
                 return True
             tell(f"  that breaks {listed(worse)}, so these are kept too")
             kept = sorted({*kept, *worse})
+
+
+def halves(policy: Policy) -> list[Policy]:
+    """The policy in two: to each half of its target, or from each half of its source where the target is one host."""
+    for end in ("target", "source"):
+        net = network(getattr(policy, end))
+        if net.prefixlen < 32:
+            return [replace(policy, **{end: str(half)}) for half in net.subnets()]
+    return []
 
 
 def listed(numbers: Sequence[int]) -> str:
@@ -229,11 +254,11 @@ def search(whole: Trial, options: argparse.Namespace, known: Known) -> Result:
         known.certificate = repair.certificate
         commands.save(options.proof, repair.certificate, True)
         return Result(repair.texts, repair.edits, repair.number, True, [], [])
-    if repair.answer == "none":
+    if repair.answer == "none" and not options.no_sessions:
         return Result(whole.texts, [], None, False, not_yes(whole.verify()), [f"No edits that cost at most {repair.number} are enough; {options.proof} is the proof."])
     if repair.answer == "refused" and "limit" not in repair.reason.split():
         raise Wrong(f"nothing is judged: {repair.reason}")
-    tell("the whole is too much at once, so it is repaired by parts")
+    tell("that is not had at once, so it is repaired by parts" if repair.answer == "none" else "the whole is too much at once, so it is repaired by parts")
     return by_parts(whole, limits, known)
 
 
@@ -304,7 +329,8 @@ def main(words: list[str]) -> int:
     options = arguments().parse_args(words)
     document = read_document(options.doc)
     options.weighed = None
-    if options.no_sessions or open_copy(options.doc):
+    options.no_sessions = options.no_sessions or open_copy(options.doc)
+    if options.no_sessions:
         if document.weights.get("session", 1) != SESSION:
             options.weighed = options.doc.removesuffix(".json") + ".no-sessions.json"
         document.weights = {**document.weights, "session": SESSION}
@@ -328,6 +354,10 @@ def main(words: list[str]) -> int:
         }
         commands.put(commands.as_json(value))
     else:
-        lines = [edit.line() for edit in result.edits] + [f"wrote {path}" for path in wrote]
-        commands.put("\n".join([row for text in say for row in commands.wrapped(text)] + lines) + "\n")
+        teller = Teller(names_of(options.doc, document), None)
+        told = [teller.edit(edit) for edit in result.edits[:MOST_TOLD]]
+        if len(result.edits) > MOST_TOLD:
+            told.append(f"and {len(result.edits) - MOST_TOLD} more")
+        lines = [row for text in told for row in commands.wrapped(text, "  ", "      ")]
+        commands.put("\n".join([row for text in say for row in commands.wrapped(text)] + lines + [f"wrote {path}" for path in wrote]) + "\n")
     return commands.NOT_SO if result.open_policies else commands.FINE

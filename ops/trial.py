@@ -7,7 +7,7 @@ from dataclasses import dataclass
 from ops import commands
 from ops.commands import Answer, load, run_arcv
 from ops.documents import Document, document_text, folder_of, with_files
-from ops.reports import Block, Edit, Text, read_report, read_text
+from ops.reports import Block, Edit, read_report, read_text
 
 Texts = dict[str, str]
 SUFFIX = ".new"

@@ -36,6 +36,7 @@ _arcv_tool() {
         pages) options='--help --check --force' ;;
         plan) options='--help --copies --originals --arcv --json' ;;
         policies) options='--help --out --names --json --force' ;;
+        quiet) options='--help --to --adjacencies --rows' ;;
         refusals) options='--help --arcv' ;;
         repair-steps) options='--help --out --proof --after --max-price --conflicts --no-sessions --arcv --json --force' ;;
         seal) options='--help --check --out --arcv --json --force' ;;
@@ -46,4 +47,4 @@ _arcv_tool() {
         *) COMPREPLY=($(compgen -f -- "$word")) ;;
     esac
 }
-complete -o filenames -F _arcv_tool bin/back bin/draw bin/enter bin/explain bin/pages bin/plan bin/policies bin/refusals bin/repair-steps bin/seal bin/start
+complete -o filenames -F _arcv_tool bin/back bin/draw bin/enter bin/explain bin/pages bin/plan bin/policies bin/quiet bin/refusals bin/repair-steps bin/seal bin/start

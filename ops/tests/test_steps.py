@@ -8,6 +8,7 @@ import unittest
 
 from ops.lists import split
 from ops.commands import Wrong, run_arcv
+from ops.copies import original_text
 from ops.documents import read_document
 from ops.joining import classes_of, inside, joined, shut
 from ops.reports import Block, parse_edit, read_text
@@ -17,6 +18,7 @@ from ops.tests.ios_router import Router
 from ops.tests.meaning import meaning
 from ops.trial import not_yes, trial_of
 
+NETWORKS = os.path.join(TOP, "ops", "tests", "networks")
 HAS = unittest.skipUnless(program(), "no program is built")
 
 
@@ -95,7 +97,7 @@ class Steps(Generated):
         bounds = re.search(r"It costs (\d+). The least price is at least (\d+) and at most (\d+).", " ".join(done.stdout.split()))
         assert bounds
         price, least, most = (int(number) for number in bounds.groups())
-        edits = [line for line in done.stdout.split("\n") if line.startswith("edit ")]
+        edits = read(os.path.join(self.net, "cert.edits")).strip().split("\n")
         self.assertEqual((price, most), (len(edits), price))
         self.assertLessEqual(least, most)
         self.assertEqual(self.status("verify", "after.json"), 0)
@@ -109,7 +111,7 @@ class Steps(Generated):
         self.policies("everyone never reaches 10.4.0.0/24\n10.4.0.0/24 never reaches everyone\n")
         done = self.steps("--no-sessions")
         self.assertEqual(done.returncode, 0, done.stderr)
-        self.assertNotIn("edit session", done.stdout)
+        self.assertNotIn("adjacency at", done.stdout)
         self.assertEqual((self.status("check", "asked.no-sessions.json", "cert"), self.status("verify", "after.json")), (0, 0))
 
     def test_what_cannot_be_repaired_is_said(self) -> None:
@@ -215,6 +217,53 @@ class RoundTrip(WithFolder):
 
     def test_edge(self) -> None:
         self.way("edge", "provider-a.cfg", " neighbor 10.254.2.1 prefix-list FROM-CUSTOMER in\n", "4 through")
+
+
+@HAS
+class RoundTripOfCaptures(WithFolder):
+    """From the captures of a network in which a policy does not hold, by way of its copies, onto its routers and back."""
+
+    def start(self, folder: str) -> str:
+        done = tool("start", folder, "--policies", "policies.txt", "--to", folder + "/arcv", "--arcv", program(), folder=self.folder)
+        self.assertEqual(done.stderr, "")
+        return done.stdout.strip().split("\n")[-1]
+
+    def way(self, network: str, copy: str) -> None:
+        source = os.path.join(NETWORKS, network)
+        for name in os.listdir(source):
+            self.write(name if name == "policies.txt" else "net/" + name, read(os.path.join(source, name)))
+        self.assertIn(" 1 no, 0 not answered", self.start("net"))
+        place = self.path(f"net/arcv/{copy}")
+        done = tool("repair-steps", "net.json", "--out", ".new", "--proof", "cert", "--after", "aft.json", "--arcv", program(), folder=place)
+        self.assertEqual(done.returncode, 0, done.stderr)
+        self.assertNotIn("adjacency at", done.stdout)
+        words = ("net.json", "cert", "--arcv", program())
+        rows = json.loads(tool("plan", *words, "--json", folder=place).stdout)["routers"]
+        steps = json.loads(tool("enter", *words, "--json", folder=place).stdout)
+        self.assertEqual([row["router"] for row in rows], [row["router"] for row in steps])
+        self.assertEqual(tool("back", *words, "--out", ".real", folder=place).returncode, 0)
+        for name in sorted(os.listdir(self.path("net"))):
+            if name.endswith(".real"):
+                original, real = original_text(self.path("net/" + name.removesuffix(".real"))), read(self.path("net/" + name))
+                row = next(row for row in steps if f"hostname {row['router']}\n" in original)
+                router = Router(original)
+                router.enter(row["enter"])
+                self.write("entered/" + name.removesuffix(".real"), router.config())
+                self.write("put/" + name.removesuffix(".real"), real)
+                self.assertEqual(meaning(router.config()), meaning(real))
+                router.enter(row["back"])
+                self.assertEqual(meaning(router.config()), meaning(original))
+        for folder in ("entered", "put"):
+            for name in os.listdir(source):
+                if name != "policies.txt" and not os.path.exists(self.path(f"{folder}/{name}")):
+                    self.write(f"{folder}/{name}", read(os.path.join(source, name)))
+            self.assertIn(" 0 no, 0 not answered", self.start(folder))
+
+    def test_terminal_and_open_copy(self) -> None:
+        self.way("metro-ring", "open")
+
+    def test_subinterfaces_and_exact_copy(self) -> None:
+        self.way("hub-subinterfaces", "exact")
 
 
 class WithoutProgram(WithFolder):
