@@ -173,7 +173,7 @@ class Answers:
     def ask_wants(self, found: Sequence[tuple[Want, list[rules.Note]]], packets: str) -> None:
         """Asks an exact copy; where there are too many classes together, about half of them."""
         copy = Builder(self.exact, [want for want, _ in found], packets).write()
-        name = self.asker.name("exact" if packets == "all" else f"exact-{packets}")
+        name = self.asker.name(("ports" if found[0][0].is_stronger else "exact") + ("" if packets == "all" else f"-{packets}"))
         copy.map.policies = [self.joined[want.place].named.name for want, _ in found]
         copy.map.networks = self.networks
         path = self.asker.lay(name, copy.files, copy.document, copy.map)
@@ -229,15 +229,15 @@ Asked = list[tuple[Want, list[rules.Note]]]
 
 def grouped(wants: Sequence[tuple[str, Want, list[rules.Note]]]) -> list[tuple[str, Asked]]:
     """The wants in groups that one copy can have: of the same packets, each network at one interface."""
-    groups: list[tuple[str, dict[Net, Face], Asked]] = []
+    groups: list[tuple[tuple[str, bool], dict[Net, Face], Asked]] = []
     for packets, want, yours in wants:
         places = {face.addresses[0].network: face for face in (want.source, want.target)}
         for kind, taken, group in groups:
-            if kind == packets and all(taken.get(own, face) is face for own, face in places.items()):
+            if kind == (packets, want.is_stronger) and all(taken.get(own, face) is face for own, face in places.items()):
                 break
         else:
             taken, group = {}, []
-            groups.append((packets, taken, group))
+            groups.append(((packets, want.is_stronger), taken, group))
         taken.update(places)
         group.append((want, yours))
-    return [(packets, group) for packets, _, group in groups]
+    return [(packets, group) for (packets, _), _, group in groups]

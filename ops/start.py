@@ -86,7 +86,7 @@ def prepared(out: str, again: bool) -> None:
         raise Wrong(f"{out} is there already; --again asks anew")
     os.makedirs(out, exist_ok=True)
     for name in os.listdir(out):
-        if name.startswith(("open", "exact")) and os.path.exists(os.path.join(out, name, "map.json")):
+        if name.startswith(("open", "exact", "ports")) and os.path.exists(os.path.join(out, name, "map.json")):
             shutil.rmtree(os.path.join(out, name))
 
 
