@@ -50,6 +50,7 @@ class Answers:
         self.parts: dict[int, list[Part]] = {}
         self.changes: dict[str, list[opened.Change]] = {}
         self.exact = Exact(routers, segments, table)
+        self.routed: dict[int, bool] = {}  # of a no of an open copy: whether the routing of the files alone would be a yes
         self.own: dict[str, list[int]] = {}  # ports whose list outbound does not guard the router's own address there
         places = {router.name for router in routers} | {face.key() for router in routers for face in router.faces}
         for place, one in enumerate(named):
@@ -74,6 +75,35 @@ class Answers:
             for numbers in asking.halves(range(len(found))):
                 self.ask_open([found[number] for number in numbers], packets, marks)
         self.ask_exact()
+        self.ask_routed()
+
+    def ask_routed(self) -> None:
+        """Where an open copy says no to `blocked`, asks whether the routing of the files brings packets there; only where that is
+        all that there is: no static routes, nothing without a file, and nothing in the way of an exact copy."""
+        if self.exact.notes or any(router.statics for router in self.routers) or any(segment.outside for segment in self.segments):
+            return
+        for packets in sorted({joined.named.packets for joined in self.joined}):
+            wants: list[tuple[str, Want, list[rules.Note]]] = []
+            for place, joined in enumerate(self.joined):
+                if joined.named.policy.kind == "blocked" and joined.named.packets == packets and joined.answer() == "no":
+                    for part in self.parts[place]:
+                        found, why = self.wants(part)
+                        ends = [self.network_of(prefix) for prefix in (part.source, part.target)]
+                        if why or any(self.exact.others_in(own) for own in ends) or len(self.exact.gateways(ends[1])) > 1:
+                            break
+                        wants += [(packets, want, []) for want in found]
+                    else:
+                        self.routed.setdefault(place, True)
+            for _, group in grouped(wants):
+                self.ask_group(group, packets)
+
+    def ask_group(self, group: Sequence[tuple[Want, list[rules.Note]]], packets: str) -> None:
+        """Asks a copy with the routing of the files and lists by which no fewer packets pass."""
+        copy = Builder(self.exact, [want for want, _ in group], packets, True).write()
+        copy.map.policies = [self.joined[want.place].named.name for want, _ in group]
+        blocks, _ = self.asker.report(self.asker.lay(self.asker.name("routed"), copy.files, copy.document, copy.map))
+        for place, (want, _) in enumerate(group):
+            self.routed[want.place] = self.routed[want.place] and bool(blocks) and blocks[place].answer == "yes"
 
     def policy(self, part: Part) -> Policy:
         return part_policy(self.joined[part.place].named, part)

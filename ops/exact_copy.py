@@ -43,8 +43,8 @@ def default_cost(face: Face, reference: str) -> int:
 class Builder:
     """Writes one exact copy of a network with OSPF or BGP."""
 
-    def __init__(self, exact: Exact, wants: Sequence[Want], packets: str) -> None:
-        self.exact, self.packets = exact, packets
+    def __init__(self, exact: Exact, wants: Sequence[Want], packets: str, wider: bool = False) -> None:
+        self.exact, self.packets, self.wider = exact, packets, wider
         self.wants = wants
         self.copy = ExactCopy(map=names.CopyMap("exact", packets))
         self.nodes: dict[str, building.Node] = {}
@@ -71,7 +71,7 @@ class Builder:
                 continue
             own = names.clean(name)
             if own not in node.lists:
-                texts, changes = written.list_texts(found, self.packets, False)
+                texts, changes = written.list_texts(found, self.packets, self.wider)
                 node.lists[own] = (found.is_standard, texts)
                 self.copy.changes.setdefault(router.file, []).extend(changes)
                 self.copy.map.lists[f"{node.name}:{own}"] = name

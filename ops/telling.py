@@ -14,6 +14,7 @@ from ops.routers import Router
 from ops.wording import policy_words
 
 WORDS = {"yes": "yes", "no": "NO", "yours": "yes, if you say so too (below)", "none": "NOT ANSWERED"}
+SHORT = {"yes": "yes", "no": "no", "yours": "needs your yes", "none": "not answered"}
 SHOWN = 12
 COPIES = {"open": "the open copy, which lets packets go any way that interfaces and lists leave them",
           "exact": "the exact copy, which routes as the files say"}
@@ -160,18 +161,31 @@ def had_by(joined: Joined) -> str:
     return ", ".join(COPIES[kind] for kind in kinds)
 
 
-def answer_lines(answers: Answers) -> list[str]:
+def key(joined: Joined) -> str:
+    """What a policy asks, whatever it is called."""
+    return f"{sorted(joined.named.policy.members().items())} {joined.named.packets} {joined.named.waypoints}"
+
+
+def changed(joined: Joined, before: dict[str, str]) -> str:
+    """What the answer was at the call before, where it was another."""
+    was = before.get(key(joined), joined.answer())
+    return "" if was == joined.answer() else f" (new; before: {SHORT.get(was, was)})"
+
+
+def answer_lines(answers: Answers, before: dict[str, str]) -> list[str]:
     """The noes with their ways, then what is not answered, then the yeses."""
     lines: list[str] = []
     for wanted in ("no", "none", "yours", "yes"):
-        for joined in answers.joined:
+        for place, joined in enumerate(answers.joined):
             if joined.answer() != wanted:
                 continue
-            lines += wrapped(f"{WORDS[wanted]}: {head(joined, answers)}", "  ", "      ")
+            lines += wrapped(f"{WORDS[wanted]}: {head(joined, answers)}{changed(joined, before)}", "  ", "      ")
             if wanted == "no":
                 first = next(reply for reply in joined.replies if reply.answer() == "no" and not reply.is_stronger)
                 lines += witness(first)
                 lines += wrapped(f"by {COPIES[first.kind]} ({first.copy})", "      ")
+                if answers.routed.get(place):
+                    lines += wrapped("While routers route as the files say, none is delivered, whichever links fail (routed).", "      ")
     return lines
 
 
@@ -189,7 +203,7 @@ def as_json(answers: Answers) -> list[dict[str, Any]]:
         copies = [{"copy": reply.copy, "kind": reply.kind, "number": reply.block.number if reply.block else None,
                    "answer": reply.block.answer if reply.block else "refused"} for reply in joined.replies]
         notes = [note for reply in joined.replies for note in reply.yours]
-        found.append({"name": joined.named.name, **policy.members(), "packets": joined.named.packets, "answer": joined.answer(), "copies": copies,
+        found.append({"name": joined.named.name, "key": key(joined), **policy.members(), "packets": joined.named.packets, "answer": joined.answer(), "copies": copies,
                       "needs": [text for text, _ in grouped(notes)] if joined.answer() == "yours" else [],
                       "cannot": [text for text, _ in grouped(joined.reasons)] + (refused(joined) if joined.answer() == "none" else []),
                       "rules": rules_of(answers, joined)})

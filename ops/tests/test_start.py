@@ -28,6 +28,15 @@ class Answers(WithFolder):
         self.assertEqual(self.answer(blocked("10.1.0.0/24", "10.2.0.0/24"), *self.guarded()), "yes")
         self.assertEqual(self.answer(blocked("10.2.0.0/24", "10.1.0.0/24"), *self.guarded()), "no")
 
+    def test_what_the_routing_does_is_told_beside_a_no(self) -> None:
+        a, b = pair()
+        quiet = router("b", *face("Gi0/0", "10.0.0.2/30", "ip ospf 1 area 0"), *face("Gi0/1", "10.2.0.1/24"), "router ospf 1")
+        policy = blocked("10.1.0.0/24", "10.2.0.0/24")
+        self.assertEqual(asked(ARCV, self.folder, [policy], a, quiet).routed, {0: True})
+        self.assertEqual(asked(ARCV, self.folder, [policy], a, b).routed, {0: False})
+        still = router("b", *face("Gi0/0", "10.0.0.2/30", "ip ospf 1 area 0"), *face("Gi0/1", "10.2.0.1/24"), "router ospf 1", "ip route 0.0.0.0 0.0.0.0 10.0.0.1")
+        self.assertEqual(asked(ARCV, self.folder, [policy], a, still).routed, {})
+
     def test_blocked_whatever_the_routing_does(self) -> None:
         a, b = pair()
         quiet = router("b", *face("Gi0/0", "10.0.0.2/30"), *face("Gi0/1", "10.2.0.1/24"), "ip route 10.1.0.0 255.255.255.0 10.0.0.1")
@@ -125,6 +134,10 @@ class Command(WithFolder):
         again = tool("start", folder, "--arcv", ARCV, "--again", "--json")
         self.assertEqual(again.returncode, 0)
         self.assertEqual([(one["name"], one["answer"]) for one in json.loads(again.stdout)], [("p", "yes")])
+        self.write("net/b.cfg", "hostname b\nend\n")
+        self.assertIn("b.cfg has a line `hostname ..` and no", tool("start", folder, "--arcv", ARCV, "--again").stderr)
+        os.remove(self.path("net/b.cfg"))
+        self.assertIn("(new;", tool("start", folder, "--arcv", ARCV, "--again").stdout)
 
     def test_what_is_wrong(self) -> None:
         self.assertIn("is no folder", tool("start", self.path("not-there"), "--arcv", "/bin/true").stderr)
