@@ -12,7 +12,7 @@ FINE = ("ip ospf priority", "ip ospf mtu-ignore", "bfd interval", "ip ospf bfd",
 
 @dataclass(frozen=True)
 class Judged:
-    """Whether an adjacency is `up`, `down`, or `yours` where the files do not tell; and why."""
+    """Whether an adjacency is `up`, `down`, `yours` where the files do not tell, or `unknown` where it is not modelled; and why."""
     answer: str
     reason: str = ""
 
@@ -64,10 +64,14 @@ def keys(face: Face, process: Ospf) -> tuple[str, frozenset[tuple[str, ...]]]:
     return kind, frozenset(plain(line.words)[2:] for line in face.lines if line.words[:3] == ("ip", "ospf", front))
 
 
-def size(face: Face, router: Router) -> str:
-    """The largest packet that an interface sends whole."""
-    system = [note.text.split()[-1] for note in router.notes if note.text.startswith("system mtu")]
-    return value(face, "ip", "mtu") or value(face, "mtu") or (system[-1] if system else "1500")
+def size(face: Face) -> str:
+    """The largest packet that an interface sends whole, as its own lines say."""
+    return value(face, "ip", "mtu") or value(face, "mtu") or "1500"
+
+
+def system_size(router: Router) -> list[str]:
+    """What lines say of the largest packet of all interfaces."""
+    return sorted(note.text for note in router.notes if note.text.startswith("system mtu") and note.text.split()[-1] != "1500")
 
 
 def tag(face: Face) -> str:
@@ -94,23 +98,26 @@ def watched(face: Face) -> bool:
 
 def ospf(a: Face, b: Face, pa: Ospf, pb: Ospf) -> Judged:
     """The adjacency of two interfaces over which OSPF speaks."""
-    if network_type(a) != network_type(b):
+    types = {network_type(a), network_type(b)}
+    if not types <= {"point-to-point", "broadcast"}:
+        return Judged("unknown", f"{a.key()} and {b.key()} are {' and '.join(sorted(types))}, which is not modelled")
+    if len(types) > 1:
         return Judged("down", f"{a.key()} is {network_type(a)}, {b.key()} is {network_type(b)}")
-    if network_type(a) not in ("point-to-point", "broadcast"):
-        return Judged("down", f"{network_type(a)} is not modelled")
     if timers(a) != timers(b):
         return Judged("down", f"hello and dead timers of {a.key()} and {b.key()} differ")
     (kind, mine), (other, far) = keys(a, pa), keys(b, pb)
     if kind != other:
-        return Judged("down", f"{a.key()} authenticates by {kind}, {b.key()} by {other}")
+        return Judged("yours" if "key-chain" in kind + other else "down", f"{a.key()} authenticates by {kind}, {b.key()} by {other}")
     if mine != far:
         hidden = any("6" in words[:-1] for words in mine | far) or mine & far
         return Judged("yours" if hidden else "down", f"keys of {a.key()} and {b.key()} differ")
     if value(a, "ip", "ospf", "priority") == "0" == value(b, "ip", "ospf", "priority") and network_type(a) == "broadcast":
         return Judged("down", f"{a.key()} and {b.key()} have priority 0 both")
     ignored = all(any(line.words[:3] == ("ip", "ospf", "mtu-ignore") for line in face.lines) for face in (a, b))
-    if size(a, pa.router) != size(b, pb.router) and not ignored:
-        return Judged("down", f"{a.key()} sends {size(a, pa.router)} bytes, {b.key()} {size(b, pb.router)}")
+    if size(a) != size(b) and not ignored:
+        return Judged("down", f"{a.key()} sends {size(a)} bytes, {b.key()} {size(b)}")
+    if system_size(pa.router) != system_size(pb.router) and not ignored:
+        return Judged("yours", f"`system mtu` of {a.router} and {b.router} differs")
     return line_of(a, b)
 
 

@@ -6,12 +6,14 @@ from dataclasses import dataclass, field, replace
 from ops import asking, hosts, opened, rules
 from ops.asking import Asker, Reply
 from ops.documents import Policy
-from ops.exact import Builder, Exact, Want, structural
+from ops.exact import Exact, structural
+from ops.exact_copy import Builder, Want
 from ops.hosts import Part
 from ops.links import Net, Segment
 from ops.routers import Face, Router
 from ops.statements import Named
 
+MOST_FAILURES = 16
 LONGEST = 27  # no prefix of a policy is halved beyond this length
 ORDER = ("no", "none", "yours", "yes")
 
@@ -25,7 +27,7 @@ class Joined:
 
     def answer(self) -> str:
         """The worst of its parts: `no`, `none` where one is not answered, `yours`, or `yes`."""
-        found = [reply.answer() for reply in self.replies] + (["none"] if self.reasons or not self.replies else [])
+        found = [reply.answer() for reply in self.replies if not reply.is_stronger] + (["none"] if self.reasons or not self.replies else [])
         return min(found, key=ORDER.index)
 
 
@@ -48,9 +50,16 @@ class Answers:
         self.parts: dict[int, list[Part]] = {}
         self.changes: dict[str, list[opened.Change]] = {}
         self.exact = Exact(routers, segments, table)
+        self.routed: dict[int, bool] = {}  # of a no of an open copy: whether the routing of the files alone would be a yes
+        self.own: dict[str, list[int]] = {}  # ports whose list outbound does not guard the router's own address there
+        places = {router.name for router in routers} | {face.key() for router in routers for face in router.faces}
         for place, one in enumerate(named):
             found, why = hosts.parts(place, net(one.policy.source), net(one.policy.target), segments)
             self.parts[place] = found
+            strange = [mark for mark in one.waypoints if mark not in places]
+            if strange:
+                why = f"no file has a router or port {', '.join(strange)}, which a policy names as waypoint"
+                self.parts[place] = []
             if why:
                 self.joined[place].reasons.append(structural(why))
 
@@ -66,6 +75,35 @@ class Answers:
             for numbers in asking.halves(range(len(found))):
                 self.ask_open([found[number] for number in numbers], packets, marks)
         self.ask_exact()
+        self.ask_routed()
+
+    def ask_routed(self) -> None:
+        """Where an open copy says no to `blocked`, asks whether the routing of the files brings packets there; only where that is
+        all that there is: no static routes, nothing without a file, and nothing in the way of an exact copy."""
+        if self.exact.notes or any(router.statics for router in self.routers) or any(segment.outside for segment in self.segments):
+            return
+        for packets in sorted({joined.named.packets for joined in self.joined}):
+            wants: list[tuple[str, Want, list[rules.Note]]] = []
+            for place, joined in enumerate(self.joined):
+                if joined.named.policy.kind == "blocked" and joined.named.packets == packets and joined.answer() == "no":
+                    for part in self.parts[place]:
+                        found, why = self.wants(part)
+                        ends = [self.network_of(prefix) for prefix in (part.source, part.target)]
+                        if why or any(self.exact.others_in(own) for own in ends) or len(self.exact.gateways(ends[1])) > 1:
+                            break
+                        wants += [(packets, want, []) for want in found]
+                    else:
+                        self.routed.setdefault(place, True)
+            for _, group in grouped(wants):
+                self.ask_group(group, packets)
+
+    def ask_group(self, group: Sequence[tuple[Want, list[rules.Note]]], packets: str) -> None:
+        """Asks a copy with the routing of the files and lists by which no fewer packets pass."""
+        copy = Builder(self.exact, [want for want, _ in group], packets, True).write()
+        copy.map.policies = [self.joined[want.place].named.name for want, _ in group]
+        blocks, _ = self.asker.report(self.asker.lay(self.asker.name("routed"), copy.files, copy.document, copy.map))
+        for place, (want, _) in enumerate(group):
+            self.routed[want.place] = self.routed[want.place] and bool(blocks) and blocks[place].answer == "yes"
 
     def policy(self, part: Part) -> Policy:
         return part_policy(self.joined[part.place].named, part)
@@ -97,10 +135,20 @@ class Answers:
     def acting(self, reply: Reply, source: set[str]) -> list[rules.Note]:
         """Lines by which packets of a policy may pass lists, or that no row knows, at the routers to which they get."""
         assert reply.block is not None
-        near = asking.beside(asking.closed_routers(reply.block) | source, reply.document)
-        real = {reply.map.real.get(name) for name in near}
+        closed = asking.closed_routers(reply.block) | source
+        there = {reply.map.real.get(name) for name in closed}
+        near = {reply.map.real.get(name) for name in asking.beside(closed, reply.document)}
         kind = self.joined[reply.place].named.policy.kind
-        return [note for router in self.routers if router.name in real for note in lines_of(router) if kind in note.loses()]
+        found = [note for router in self.routers if router.name in near for note in lines_of(router) if kind in note.loses() and note.cost != "elsewhere"]
+        found += [note for router in self.routers if router.name not in there for note in lines_of(router) if note.cost == "elsewhere"]
+        own = [face.key() for face in self.gateways(net(self.joined[reply.place].named.policy.target)) if face.router in there and "out" in face.lists]
+        if own:
+            self.own.setdefault(", ".join(own), []).append(reply.place)
+        return found
+
+    def gateways(self, prefix: Net) -> list[Face]:
+        """The interfaces that are in a network of the files, or in one of its parts."""
+        return [face for segment in self.segments if any(own.overlaps(prefix) for own in segment.nets) for face in segment.faces]
 
     def ask_exact(self) -> None:
         wants: list[tuple[str, Want, list[rules.Note]]] = []
@@ -114,14 +162,26 @@ class Answers:
             for part in self.parts[place]:
                 found, why = self.wants(part)
                 notes = [*cannot, *why, *self.exact.against(self.network_of(part.target)),
+                         *self.exact.others_in(self.network_of(part.source)), *self.exact.others_in(self.network_of(part.target)),
                          *(note for note in [*lines, *self.exact.face_notes(ends_of(found))] if note.cost in ("routes", "passes"))]
                 joined.reasons += notes
                 if not notes:
-                    yours = [note for note in [*self.exact.notes, *lines, *self.exact.face_notes(ends_of(found))] if note not in notes]
-                    wants += [(joined.named.packets, want, yours) for want in found]
+                    yours = [*self.exact.notes, *lines, *self.exact.face_notes(ends_of(found)), *(self.exact.shared() if joined.named.policy.failures else [])]
+                    wants += [(joined.named.packets, want, list(yours)) for want in [*found, *self.stronger(found)]]
         for packets, group in grouped(wants):
             for numbers in asking.halves(range(len(group))):
                 self.ask_wants([group[number] for number in numbers], packets)
+        for joined in self.joined:
+            stronger = [reply for reply in joined.replies if reply.is_stronger]
+            if stronger and all(reply.block is not None and reply.block.answer == "yes" for reply in stronger):
+                for reply in joined.replies:
+                    reply.yours = [note for note in reply.yours if note not in self.exact.shared()]
+
+    def stronger(self, found: Sequence[Want]) -> list[Want]:
+        """The same with as many failed links as a policy's number of failed ports can be."""
+        most = max(self.exact.over_ports().values(), default=1)
+        return [replace(want, policy=replace(want.policy, failures=most * want.policy.failures), is_stronger=True) for want in found
+                if want.policy.failures and 1 < most and most * want.policy.failures <= MOST_FAILURES]
 
     def network_of(self, prefix: Net) -> Net:
         """The network of the files in which a prefix lies."""
@@ -143,7 +203,7 @@ class Answers:
     def ask_wants(self, found: Sequence[tuple[Want, list[rules.Note]]], packets: str) -> None:
         """Asks an exact copy; where there are too many classes together, about half of them."""
         copy = Builder(self.exact, [want for want, _ in found], packets).write()
-        name = self.asker.name("exact" if packets == "all" else f"exact-{packets}")
+        name = self.asker.name(("ports" if found[0][0].is_stronger else "exact") + ("" if packets == "all" else f"-{packets}"))
         copy.map.policies = [self.joined[want.place].named.name for want, _ in found]
         copy.map.networks = self.networks
         path = self.asker.lay(name, copy.files, copy.document, copy.map)
@@ -156,7 +216,7 @@ class Answers:
         for file, changes in copy.changes.items():
             self.changes.setdefault(file, []).extend(changes)
         for place, (want, yours) in enumerate(found):
-            reply = Reply(want.place, name, "exact", blocks[place] if blocks else None, copy.map, copy.document, path, why, yours)
+            reply = Reply(want.place, name, "exact", blocks[place] if blocks else None, copy.map, copy.document, path, why, yours, want.is_stronger)
             self.joined[want.place].replies.append(reply)
 
 
@@ -199,15 +259,15 @@ Asked = list[tuple[Want, list[rules.Note]]]
 
 def grouped(wants: Sequence[tuple[str, Want, list[rules.Note]]]) -> list[tuple[str, Asked]]:
     """The wants in groups that one copy can have: of the same packets, each network at one interface."""
-    groups: list[tuple[str, dict[Net, Face], Asked]] = []
+    groups: list[tuple[tuple[str, bool], dict[Net, Face], Asked]] = []
     for packets, want, yours in wants:
         places = {face.addresses[0].network: face for face in (want.source, want.target)}
         for kind, taken, group in groups:
-            if kind == packets and all(taken.get(own, face) is face for own, face in places.items()):
+            if kind == (packets, want.is_stronger) and all(taken.get(own, face) is face for own, face in places.items()):
                 break
         else:
             taken, group = {}, []
-            groups.append((packets, taken, group))
+            groups.append(((packets, want.is_stronger), taken, group))
         taken.update(places)
         group.append((want, yours))
-    return [(packets, group) for packets, _, group in groups]
+    return [(packets, group) for (packets, _), _, group in groups]

@@ -25,11 +25,11 @@ class Reply:
     folder: str
     why: str = ""
     yours: list[rules.Note] = field(default_factory=list)
-    cannot: list[rules.Note] = field(default_factory=list)
+    is_stronger: bool = False
 
     def answer(self) -> str:
         """`yes`, `no`, `yours` for a yes that rests on what only the user knows, or `none` where there is no answer."""
-        if self.block is None or self.block.answer == "refused" or self.cannot:
+        if self.block is None or self.block.answer == "refused":
             return "none"
         return "yours" if self.block.answer == "yes" and self.yours else self.block.answer
 

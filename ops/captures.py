@@ -2,6 +2,8 @@
 import re
 from dataclasses import dataclass
 
+from ops import ios
+
 ESCAPES = re.compile(r"\x1b\[[0-9;?]*[A-Za-z]|\x1b[()][A-Z0-9]|\x07")
 MORE = re.compile(r" ?-{1,2} ?[Mm]ore ?-{1,2} ?")
 ERASED = re.compile(r"(?:\x08+ *\x08*|\r *\r?)+")
@@ -70,28 +72,31 @@ def host_of(texts: list[str]) -> str:
 
 def begin_of(texts: list[str]) -> int:
     """Where the configuration begins: behind the prompt that asked for it, or at the line that heads it."""
-    for place, text in enumerate(texts):
-        if SHOW.match(text):
+    name = next((place for place, text in enumerate(texts) if text.startswith("hostname ")), len(texts))
+    for place in range(name - 1, -1, -1):
+        if SHOW.match(texts[place]):
             return place + 1
-    for place, text in enumerate(texts):
-        if text.startswith(FRONT[:3]):
-            return place
-    return 0
+    return next((place for place in range(name) if texts[place].startswith(FRONT[:3])), 0)
 
 
 def strip(name: str, data: bytes) -> Capture:
-    """The configuration in a capture."""
+    """The configuration in a capture. No line of a banner is taken out, whatever it looks like."""
     texts = [without_pages(line) for line in decoded(data).split("\n")]
     host, begin = host_of(texts), begin_of(texts)
     kept, dropped, ended = [], [], False
+    banner: str | None = None
     for number, text in enumerate(texts, 1):
         line = Line(number, text)
-        if number <= begin or ended or is_added(text, host):
+        if number > begin and not ended and banner is not None:
+            kept.append(line)
+            banner = None if banner in text else banner
+        elif number <= begin or ended or is_added(text, host):
             if text.strip():
                 dropped.append(line)
         else:
             kept.append(line)
             ended = text.rstrip() == "end"
+            banner = ios.banner_end(text) if text.startswith("banner ") else None
     return Capture(name, tuple(kept), tuple(dropped), ended)
 
 

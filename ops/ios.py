@@ -47,9 +47,11 @@ def line_of(number: int, text: str) -> Line:
 
 
 def blocks(numbered: Iterable[tuple[int, str]]) -> tuple[list[Block], list[Line]]:
-    """The blocks of a file in order, without comments and banners; and the indented lines that stand in no block."""
+    """The blocks of a file in order, without comments and banners; and the indented lines that stand in no block, with the
+    first line of a banner that does not end."""
     found: list[Block] = []
     orphans: list[Line] = []
+    banner: list[Line] = []
     block: Block | None = None
     end: str | None = None
     for number, text in numbered:
@@ -61,13 +63,13 @@ def blocks(numbered: Iterable[tuple[int, str]]) -> tuple[list[Block], list[Line]
         elif line.depth == 0:
             block = None
             if line.words[0] == "banner":
-                end = banner_end(text)
+                end, banner = banner_end(text), [line]
             elif not text.startswith("!"):
                 block = Block(line)
                 found.append(block)
         elif not line.words[0].startswith("!"):
             (orphans if block is None else block.lines).append(line)
-    return found, orphans
+    return found, orphans + (banner if end is not None else [])
 
 
 def families(block: Block) -> list[tuple[tuple[str, ...], Line]]:

@@ -1,13 +1,11 @@
 """Segments: which interfaces meet, by the networks of their addresses, and where devices may be that have no file."""
 import ipaddress
-import re
 from collections.abc import Iterable, Sequence
 from dataclasses import dataclass, field
 
-from ops.routers import Address, Face, Router
+from ops.routers import POINT, Address, Face, Router
 
 Net = ipaddress.IPv4Network
-POINT = re.compile(r"(Serial|Tunnel|Dialer|Multilink|Virtual-|Cellular|Async|BRI|POS|ATM|Group-Async|pseudowire|MFR)")
 
 
 @dataclass
@@ -87,6 +85,8 @@ def join_outside(routers: Sequence[Router], found: Sequence[Segment], alone: Seq
         one = len({(face.router, face.vrf) for face in segment.faces}) == 1
         is_loop = all(face.name.startswith("Loopback") for face in segment.faces)
         segment.outside += [f"{hops[hop]} names {hop}" for hop in sorted(hops) if segment.holds(hop)]
+        segment.outside += [f"{router.name} listens to neighbours in {net}" for router in routers for net in router.ranges
+                            if any(net.overlaps(own) for own in segment.nets)]
         segment.outside += [f"{face.key()} has an address that is not in its file" for face in segment.faces if face.is_elsewhere]
         if not is_loop and one and is_point(segment):
             segment.outside.append("the far end has no file")

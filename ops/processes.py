@@ -101,7 +101,8 @@ def ospf(router: Router, block: ios.Block, table: rules.Table) -> Ospf:
         elif words[0] == "router-id" and len(words) == 2:
             found.router_id = words[1]
         elif words[0] == "redistribute" and words[1:2] in (("static",), ("connected",)) and "route-map" not in words:
-            found.brings.add(words[1])
+            if "subnets" in words:
+                found.brings.add(words[1])
             found.notes.append(told(router, line, f"redistribute {words[1]}", "routes less specific than every target, or of others"))
         elif words[:2] == ("default-information", "originate"):
             found.notes.append(told(router, line, "default-information originate", "a default route is less specific than every target"))

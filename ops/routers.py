@@ -1,5 +1,6 @@
 """Routers as their files say them: interfaces, lists, static routes, neighbours, and what every other line costs."""
 import ipaddress
+import re
 from collections.abc import Iterable
 from dataclasses import dataclass, field
 
@@ -8,6 +9,9 @@ from ops.entries import Entry
 
 Interface = ipaddress.IPv4Interface
 Address = ipaddress.IPv4Address
+
+
+POINT = re.compile(r"(Serial|Tunnel|Dialer|Multilink|Virtual-|Cellular|Async|BRI|POS|ATM|Group-Async|pseudowire|MFR)")
 
 
 @dataclass
@@ -65,6 +69,7 @@ class Router:
     statics: list[Static] = field(default_factory=list)
     hops: list[tuple[str, Address]] = field(default_factory=list)
     exits: list[str] = field(default_factory=list)
+    ranges: list[ipaddress.IPv4Network] = field(default_factory=list)
     vrfs: set[str] = field(default_factory=set)
     leaks: bool = False
     notes: list[rules.Note] = field(default_factory=list)
@@ -79,6 +84,9 @@ class Router:
 
 READ_TOP = (("hostname",), ("interface",), ("router", "ospf"), ("router", "bgp"), ("ip", "access-list"), ("access-list",),
             ("ip", "prefix-list"), ("ip", "route"), ("vrf", "definition"), ("ip", "vrf"), ("object-group",), ("route-map",))
+GIVEN = ("dhcp", "negotiated", "pool", "slarp", "auto", "autoconfig")
+OTHER_SYSTEMS = (("feature",), ("vdc",), ("ASA", "Version"), ("nameif",), ("router", "static"), ("set", "version"))
+VRF_LINES = ("rd", "address-family", "exit-address-family", "description", "maximum", "vnet", "snmp", "!")
 SHARED = (("standby", "*", "ip"), ("standby", "ip"), ("vrrp", "*", "ip"), ("glbp", "*", "ip"), ("vrrp", "*", "address"))
 
 
@@ -105,6 +113,7 @@ class Reader:
             self.note(line.number, line.text, "orphan", "unknown", "an indented line with no block above it")
         if not capture.is_whole:
             self.note(0, "", "capture", "unknown", "the capture does not end in `end`: lines may be missing")
+            self.note(0, "", "capture", "elsewhere", "the capture does not end in `end`: interfaces may be missing")
 
     def host(self) -> str:
         names = [block.head.words[1] for block in self.blocks if block.begins("hostname") and len(block.head.words) == 2]
@@ -123,6 +132,8 @@ class Reader:
         groups = self.groups()
         for block in self.blocks:
             words = block.head.words
+            if any(block.begins(*front) for front in OTHER_SYSTEMS):
+                self.note(block.head.number, block.head.text, "system", "elsewhere", "a file of another system than IOS: its interfaces may not be read")
             if block.begins("router"):
                 self.peers(block)
             if block.begins("ip", "default-gateway") and is_address(words[-1]):
@@ -164,10 +175,14 @@ class Reader:
 
     def interface(self, block: ios.Block) -> None:
         face = Face(self.router.name, "".join(block.head.words[1:]), block.head, block.lines)
+        if self.router.face(face.name) is not None:
+            self.note(block.head.number, block.head.text, "interface", "unknown", "the block of an interface stands twice")
         self.router.faces.append(face)
         for line in block.lines:
             if not self.face_line(face, line):
                 row = self.judge(("interface",), line, face)
+                if row.cost == "unknown" and any(is_address(word.split("/")[0]) for word in line.words):
+                    self.note(line.number, line.text, "interface", "elsewhere", "a line with an address that no row knows: it may join networks", face)
                 if row.words[:1] in (("mpls",), ("tag-switching",)):
                     face.has_labels = True
                 if any(ios.begins(line.words, front) for front in SHARED):
@@ -209,13 +224,24 @@ class Reader:
             value = Interface(f"{words[2]}/{words[3]}")
         except (ValueError, IndexError):
             face.is_elsewhere = True
-            self.note(line.number, line.text, "address", "routes", "its address is given to it by another device", face)
+            self.elsewhere(face, line)
             return
         if words[4:5] == ("secondary",):
             self.note(line.number, line.text, "secondary", "nothing", "a second network of one interface", face)
             face.addresses.append(value)
         else:
             face.addresses.insert(0, value)
+
+    def elsewhere(self, face: Face, line: ios.Line) -> None:
+        """Notes an address that the file does not tell, but for a line between two devices alone, or where a row says that it is fine."""
+        row = self.table.find(("interface",), line.words)
+        if row is not None:
+            self.judge(("interface",), line, face)
+        elif line.words[2:3] and line.words[2] not in GIVEN:
+            self.note(line.number, line.text, "address", "elsewhere", "an address that is not read", face)
+        elif not POINT.match(face.name):
+            self.note(line.number, line.text, "address", "elsewhere", "another device gives it an address: of none of these networks, if you say so", face)
+        self.note(line.number, line.text, "address", "routes", "its address is given to it by another device", face)
 
     def service_policy(self, face: Face, line: ios.Line) -> None:
         words = line.words
@@ -255,6 +281,8 @@ class Reader:
             found = self.router.lists.setdefault(words[1], PacketList(words[1], is_standard))
             self.entry(found, block.head, words[2:], groups)
         elif len(words) == 4 and words[2] in ("standard", "extended"):
+            if words[3] in self.router.lists:
+                self.note(block.head.number, block.head.text, "ip access-list", "unknown", "the block of a list stands twice")
             found = self.router.lists.setdefault(words[3], PacketList(words[3], words[2] == "standard"))
             for line in block.lines:
                 self.entry(found, line, line.words, groups)
@@ -281,6 +309,8 @@ class Reader:
             vrf = family[family.index("vrf") + 1] if "vrf" in family[:-1] else table
             if line.words[0] == "neighbor" and len(line.words) > 1 and is_address(line.words[1]):
                 self.router.hops.append((vrf, Address(line.words[1])))
+            if line.words[:3] == ("bgp", "listen", "range") and len(line.words) > 3:
+                self.router.ranges.append(ipaddress.IPv4Network(line.words[3], strict=False))
 
     def process(self, block: ios.Block) -> None:
         if "vrf" in block.head.words:
@@ -306,7 +336,8 @@ class Reader:
         ends = words[2:4]
         face = ends[0] if ends and not is_address(ends[0]) and ends[0] != "dhcp" else ""
         hop = next((Address(word) for word in (ends[1:] if face else ends[:1]) if is_address(word)), None)
-        if "global" in words or (not vrf and self.is_of_vrf(face)):
+        own = self.router.face(face) if face else None
+        if "global" in words or (own is not None and own.vrf != vrf):
             self.router.leaks = True
         self.router.statics.append(Static(line, vrf, prefix, face, hop))
         if hop is not None:
@@ -314,14 +345,10 @@ class Reader:
         elif face and not face.lower().startswith("null"):
             self.router.exits.append(face)
 
-    def is_of_vrf(self, name: str) -> bool:
-        face = self.router.face(name) if name else None
-        return face is not None and face.vrf != ""
-
     def vrf(self, block: ios.Block) -> None:
         self.router.vrfs.add(block.head.words[-1])
         for line in block.lines:
-            if line.words[0] in ("route-target", "import", "export", "route-replicate"):
+            if line.words[0] not in VRF_LINES:
                 self.router.leaks = True
 
     def route_map(self, block: ios.Block) -> None:

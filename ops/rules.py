@@ -7,9 +7,10 @@ from ops import ios
 
 PATH = os.path.join(os.path.dirname(os.path.abspath(__file__)), "rules.rows")
 PLACES = ("top", "block", "interface", "process", "ospf", "bgp")
+MADE = ("unknown", "elsewhere")  # by the tools themselves: a row may not say so
 LOSES: dict[str, tuple[str, ...]] = {
     "inert": (), "nothing": (), "gateway": (), "time": (), "adjacency": ("reach",), "drops": ("reach",), "routes": ("reach",),
-    "passes": ("reach", "blocked", "through"), "unknown": ("reach", "blocked", "through"),
+    "passes": ("reach", "blocked", "through"), "unknown": ("reach", "blocked", "through"), "elsewhere": ("blocked", "through"),
 }
 
 
@@ -49,8 +50,8 @@ def row_of(text: str, place: str) -> Row:
     where, words, cost, reason = parts[:4]
     if where not in PLACES:
         raise ValueError(f"{place}: `{where}` is no place; one of {', '.join(PLACES)}")
-    if cost not in LOSES or cost == "unknown":
-        raise ValueError(f"{place}: `{cost}` is no cost; one of {', '.join(name for name in LOSES if name != 'unknown')}")
+    if cost not in LOSES or cost in MADE:
+        raise ValueError(f"{place}: `{cost}` is no cost; one of {', '.join(name for name in LOSES if name not in MADE)}")
     if not words or not reason:
         raise ValueError(f"{place}: a row has words and a reason")
     return Row(where, tuple(words.split()), cost, reason, parts[4] if len(parts) == 5 else "")

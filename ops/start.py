@@ -54,7 +54,11 @@ def read_captures(folder: str, table: rules.Table) -> tuple[list[Router], list[s
             continue
         capture = captures.read(path, name)
         texts = [line.text for line in capture.lines]
-        if not captures.host_of(texts) or not any(text.startswith("interface ") for text in texts):
+        signs = [bool(captures.host_of(texts)), any(text.startswith("interface ") for text in texts)]
+        if any(signs) and not all(signs):
+            raise Wrong(f"{name} has {'a' if signs[0] else 'no'} line `hostname ..` and {'an' if signs[1] else 'no'} line `interface ..`: "
+                        "fetch it anew, or take it out of the folder")
+        if not any(signs):
             other.append(name)
             continue
         router = routers.read(capture, table)
@@ -86,7 +90,7 @@ def prepared(out: str, again: bool) -> None:
         raise Wrong(f"{out} is there already; --again asks anew")
     os.makedirs(out, exist_ok=True)
     for name in os.listdir(out):
-        if name.startswith(("open", "exact")) and os.path.exists(os.path.join(out, name, "map.json")):
+        if name.startswith(("open", "exact", "ports", "routed")) and os.path.exists(os.path.join(out, name, "map.json")):
             shutil.rmtree(os.path.join(out, name))
 
 
@@ -142,19 +146,28 @@ def main(words: list[str]) -> int:
     return told(out, options.json, found, other, segments, networks, own, answers)
 
 
+def earlier(path: str) -> dict[str, str]:
+    """The answers of the call before, by what each policy asks; none where there was none."""
+    try:
+        return {str(one["key"]): str(one["answer"]) for one in json.loads(commands.load(path))}
+    except (Wrong, ValueError, TypeError, KeyError):
+        return {}
+
+
 def told(out: str, is_json: bool, found: Sequence[Router], other: Sequence[str], segments: Sequence[Segment], networks: dict[str, str],
          own: Sequence[str], answers: Answers) -> int:
     """Writes and prints what was found; the status of the command."""
+    before = earlier(os.path.join(out, "answers.json"))
     lines = found_text(found, other, segments, networks, own)
     lines += titled("Cannot be answered:", telling.cannot_lines(answers), "nothing that was asked")
-    lines += titled("Needs your yes:", telling.yours_lines(answers) + telling.premises(segments, answers.exact.down), "")
+    lines += titled("Needs your yes:", telling.yours_lines(answers) + telling.premises(segments, answers), "")
     lines += titled("Entries of lists that a copy says otherwise:", telling.rewritten_lines(answers), "none")
     lines += titled("Left out, since it bears on nothing here:", telling.group_lines(telling.grouped(telling.left_out(found)), telling.SHOWN), "nothing")
     silent = policies.silent_pairs({networks[prefix]: prefix for prefix in own}, [joined.named.policy for joined in answers.joined])
     if silent:
         text = "; ".join(" ".join(part for part in pair if part) for pair in silent[:6]) + ("; .." if len(silent) > 6 else "")
         lines += titled(f"Nobody asks about {counted(len(silent), 'pair')} of networks:", wrapped(text, "  "), "")
-    lines += titled("Answers:", telling.answer_lines(answers), "no policy was asked")
+    lines += titled("Answers:", telling.answer_lines(answers, before), "no policy was asked")
     lines += ["", telling.total(answers)]
     save(os.path.join(out, "changes.txt"), telling.changes_text(found, answers, segments), force=True)
     save(os.path.join(out, "answers.json"), commands.as_json(telling.as_json(answers)), force=True)

@@ -14,6 +14,7 @@ from ops.routers import Router
 from ops.wording import policy_words
 
 WORDS = {"yes": "yes", "no": "NO", "yours": "yes, if you say so too (below)", "none": "NOT ANSWERED"}
+SHORT = {"yes": "yes", "no": "no", "yours": "needs your yes", "none": "not answered"}
 SHOWN = 12
 COPIES = {"open": "the open copy, which lets packets go any way that interfaces and lists leave them",
           "exact": "the exact copy, which routes as the files say"}
@@ -48,7 +49,7 @@ def group_lines(rows: Sequence[tuple[str, list[rules.Note]]], most: int) -> list
 def refused(joined: Joined) -> list[str]:
     """Why copies gave no answer, where the files did not stand in the way."""
     found = []
-    for reply in joined.replies:
+    for reply in (reply for reply in joined.replies if not reply.is_stronger):
         if reply.block is None:
             found.append(f"arcv refused the copy {reply.copy}: {reply.why.splitlines()[0] if reply.why else ''}")
         elif reply.block.answer == "refused":
@@ -98,15 +99,18 @@ def rewritten_lines(answers: Answers) -> list[str]:
     return [line for text, count in found.most_common() for line in wrapped(f"{counted(count, 'entry', 'entries')}: {text}", "  ", "      ")]
 
 
-def premises(segments: Sequence[Segment], down: Sequence[str]) -> list[str]:
+def premises(segments: Sequence[Segment], answers: Answers) -> list[str]:
     """What every yes rests on beside the files."""
     lines = wrapped("No device but these routers, and those that are told here as `outside`, forwards packets from one network to another.", "  ")
-    reasons = [reason for segment in segments for reason in segment.outside]
+    for port, places in answers.own.items():
+        policies = counted(len(set(places)), "policy", "policies")
+        lines += wrapped(f"the list outbound at {port}, by which {policies} hold, does not guard the router's own address there", "  ", "      ")
+    reasons = list(dict.fromkeys(reason for segment in segments if not all(face.vrf for face in segment.faces) for reason in segment.outside))
     for reason in reasons[:SHOWN]:
         lines += wrapped(f"outside: {reason}", "  ", "      ")
     if len(reasons) > SHOWN:
         lines.append(f"  and {len(reasons) - SHOWN} more: changes.txt")
-    for reason in down:
+    for reason in answers.exact.down:
         lines += wrapped(f"counts as down: {reason}", "  ", "      ")
     return lines
 
@@ -157,18 +161,31 @@ def had_by(joined: Joined) -> str:
     return ", ".join(COPIES[kind] for kind in kinds)
 
 
-def answer_lines(answers: Answers) -> list[str]:
+def key(joined: Joined) -> str:
+    """What a policy asks, whatever it is called."""
+    return f"{sorted(joined.named.policy.members().items())} {joined.named.packets} {joined.named.waypoints}"
+
+
+def changed(joined: Joined, before: dict[str, str]) -> str:
+    """What the answer was at the call before, where it was another."""
+    was = before.get(key(joined), joined.answer())
+    return "" if was == joined.answer() else f" (new; before: {SHORT.get(was, was)})"
+
+
+def answer_lines(answers: Answers, before: dict[str, str]) -> list[str]:
     """The noes with their ways, then what is not answered, then the yeses."""
     lines: list[str] = []
     for wanted in ("no", "none", "yours", "yes"):
-        for joined in answers.joined:
+        for place, joined in enumerate(answers.joined):
             if joined.answer() != wanted:
                 continue
-            lines += wrapped(f"{WORDS[wanted]}: {head(joined, answers)}", "  ", "      ")
+            lines += wrapped(f"{WORDS[wanted]}: {head(joined, answers)}{changed(joined, before)}", "  ", "      ")
             if wanted == "no":
-                first = next(reply for reply in joined.replies if reply.answer() == "no")
+                first = next(reply for reply in joined.replies if reply.answer() == "no" and not reply.is_stronger)
                 lines += witness(first)
                 lines += wrapped(f"by {COPIES[first.kind]} ({first.copy})", "      ")
+                if answers.routed.get(place):
+                    lines += wrapped("While routers route as the files say, none is delivered, whichever links fail (routed).", "      ")
     return lines
 
 
@@ -186,7 +203,7 @@ def as_json(answers: Answers) -> list[dict[str, Any]]:
         copies = [{"copy": reply.copy, "kind": reply.kind, "number": reply.block.number if reply.block else None,
                    "answer": reply.block.answer if reply.block else "refused"} for reply in joined.replies]
         notes = [note for reply in joined.replies for note in reply.yours]
-        found.append({"name": joined.named.name, **policy.members(), "packets": joined.named.packets, "answer": joined.answer(), "copies": copies,
+        found.append({"name": joined.named.name, "key": key(joined), **policy.members(), "packets": joined.named.packets, "answer": joined.answer(), "copies": copies,
                       "needs": [text for text, _ in grouped(notes)] if joined.answer() == "yours" else [],
                       "cannot": [text for text, _ in grouped(joined.reasons)] + (refused(joined) if joined.answer() == "none" else []),
                       "rules": rules_of(answers, joined)})

@@ -13,11 +13,13 @@ from collections import Counter
 
 from ops import answers, asking, documents, links, routers, rules, statements
 from ops.captures import strip
-from ops.commands import TOP
+from ops.tests.given import program
 from ops.tests.packets import Packet, random_packet
+from ops.tests.bgp_networks import BgpNetwork
 from ops.tests.random_networks import Face, Net, Network, network
 
 FAR = 10 ** 9
+World = Network | BgpNetwork
 
 
 def policies_of(made: Network, dice: random.Random, can_route: bool) -> list[statements.Named]:
@@ -86,8 +88,9 @@ def place_of(made: Network, prefix: str) -> int:
     return next(place for place, segment in enumerate(made.segments) if Net(prefix).subnet_of(segment.net))
 
 
-def wrong_packet(made: Network, named: statements.Named, dice: random.Random, tries: int) -> str:
+def wrong_packet(world: World, named: statements.Named, dice: random.Random, tries: int) -> str:
     """A packet that shows that a yes is wrong, or nothing."""
+    made = world.net if isinstance(world, BgpNetwork) else world
     policy = named.policy
     source, target = place_of(made, policy.source), place_of(made, policy.target)
     proto = policy.proto if isinstance(policy.proto, int) else None
@@ -97,19 +100,21 @@ def wrong_packet(made: Network, named: statements.Named, dice: random.Random, tr
         if policy.kind == "reach":
             failed = set(dice.sample(between, min(len(between), policy.failures or 0)))
             for gateway in made.up(source):
-                if not arrives(made, packet, gateway, target, failed):
+                there = world.arrives(packet, gateway, target, failed) if isinstance(world, BgpNetwork) else arrives(made, packet, gateway, target, failed)
+                if not there:
                     return f"{packet} is lost from {gateway.router} {gateway.name} with {failed} failed"
         elif made.delivered(packet, source, target, named.waypoints[0] if policy.kind == "through" else ""):
             return f"{packet} is delivered"
     return ""
 
 
-def check(made: Network, dice: random.Random, can_route: bool, program: str, folder: str, tries: int) -> tuple[Counter[str], list[str]]:
+def check(world: World, dice: random.Random, can_route: bool, program: str, folder: str, tries: int) -> tuple[Counter[str], list[str]]:
     """Asks about one network; what was answered, and each yes that is wrong."""
+    made = world.net if isinstance(world, BgpNetwork) else world
     table = rules.table(None)
     found = []
     for name in made.routers:
-        text = made.text(name, dice)
+        text = world.text(name, dice)
         with open(os.path.join(folder, f"{name}.cfg"), "w", encoding="utf-8") as file:
             file.write(text)
         found.append(routers.read(strip(f"{name}.cfg", text.encode()), table))
@@ -125,7 +130,7 @@ def check(made: Network, dice: random.Random, can_route: bool, program: str, fol
         counts[f"{joined.named.policy.kind} {answer}"] += 1
         if answer == "none" and any(reply.block is None and not asking.is_too_much(reply.why) for reply in joined.replies):
             wrong.append(f"{joined.named.policy}: a copy was refused: {[reply.why for reply in joined.replies if reply.why][0]}")
-        shown = wrong_packet(made, joined.named, dice, tries) if answer in ("yes", "yours", "no") else ""
+        shown = wrong_packet(world, joined.named, dice, tries) if answer in ("yes", "yours", "no") else ""
         if answer in ("yes", "yours") and shown:
             wrong.append(f"{joined.named}: {answer}, but {shown}")
         if answer == "no" and not shown:
@@ -138,15 +143,16 @@ def main(words: list[str]) -> int:
     parser.add_argument("--networks", type=int, default=500)
     parser.add_argument("--seed", type=int, default=1)
     parser.add_argument("--tries", type=int, default=150)
-    parser.add_argument("--arcv", default=os.environ.get("ARCV") or os.path.join(TOP, ".built", "arcv"))
+    parser.add_argument("--arcv", default=program())
     parser.add_argument("--keep", help="a folder in which the files of a network with a wrong yes are left")
     options = parser.parse_args(words)
     counts: Counter[str] = Counter()
     for seed in range(options.seed, options.seed + options.networks):
         dice = random.Random(seed)
         can_route = seed % 3 == 0
+        world: World = BgpNetwork(dice) if seed % 6 == 0 else network(dice, can_route)
         with tempfile.TemporaryDirectory(prefix="arcv-checker-") as folder:
-            more, wrong = check(network(dice, can_route), dice, can_route, os.path.abspath(options.arcv), folder, options.tries)
+            more, wrong = check(world, dice, can_route, os.path.abspath(options.arcv), folder, options.tries)
             counts += more
             if wrong:
                 if options.keep:
