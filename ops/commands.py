@@ -161,7 +161,8 @@ def run(main: Callable[[list[str]], int]) -> int:
     try:
         return main(sys.argv[1:])
     except Wrong as error:
-        tell(f"{name}: {error}")
+        first, *rest = str(error).split("\n")
+        tell("\n".join([*wrapped(f"{name}: {first}", "", "  "), *rest]))
     except BrokenPipeError:
         os.dup2(os.open(os.devnull, os.O_WRONLY), sys.stdout.fileno())
         return 128 + signal.SIGPIPE

@@ -52,6 +52,18 @@ def add_arguments(words: argparse.ArgumentParser) -> None:
     commands.with_program(words)
 
 
+def edits_of(options: argparse.Namespace) -> list[Edit]:
+    """The edits that EDITS names; none with --copies."""
+    if options.edits is None:
+        return []
+    if not hasattr(options, "found_edits"):
+        try:
+            options.found_edits = read_edits(load(options.edits)).edits
+        except ValueError as error:
+            raise Wrong(f"{options.edits}: {error}") from error
+    return list(options.found_edits)
+
+
 def applied(program: str, document: Document, doc: str, edits: Sequence[Edit]) -> dict[str, tuple[str, str]]:
     """The router files that edits change, before and after, as `arcv apply` writes them."""
     trial = trial_of(program, document, doc)
@@ -105,11 +117,7 @@ def repaired(options: argparse.Namespace) -> list[Repaired]:
     if options.copies:
         changed = _written(document, folder, options.copies)
     else:
-        try:
-            edits = read_edits(load(options.edits)).edits
-        except ValueError as error:
-            raise Wrong(f"{options.edits}: {error}") from error
-        changed = applied(commands.program(options), document, options.doc, edits)
+        changed = applied(commands.program(options), document, options.doc, edits_of(options))
     files, place, mapping = _originals(options.doc, options.originals)
     found = []
     for name, (before, after) in changed.items():

@@ -133,7 +133,7 @@ def _route_entries(router: Router, listed: ListText, texts: Sequence[str]) -> No
     behind = [_soft(neighbor) for neighbor, _ in neighbors]
     if numbers and not twice:
         lines = [f"ip prefix-list {listed.name} seq {number} {text}" for number, text in zip(numbers, texts)]
-        back = [f"no ip prefix-list {listed.name} seq {number}" for number in reversed(numbers)]
+        back = [f"no {line}" for line in reversed(lines)]
         remark = f"Prefix list {listed.name}: {counted(len(texts), 'entry', 'entries')} in front"
         router.steps.append(Step(remark, lines, back, behind))
         return
@@ -233,7 +233,10 @@ def entered(router: Router, down: bool) -> list[str]:
     for note in router.notes:
         lines += _remark(note)
     if down:
-        lines += _remark(f"An adjacency goes down: come in another way, or let the router start anew with its saved configuration in {MINUTES} minutes, unless all is well then")
+        lines += _remark(
+            f"An adjacency goes down: come in another way, or let the router start anew in {MINUTES} minutes, unless all is well then. It comes back with its saved "
+            "configuration, so save it as it is now (copy running-config startup-config), and then"
+        )
         lines.append(f"reload in {MINUTES}")
     for step in router.steps:
         lines += ["!", *_remark(step.remark), *_configured(step.lines, step.behind)]

@@ -9,6 +9,7 @@ from ops.changes import Changes, Session
 from ops.commands import counted, wrapped
 from ops.documents import read_document
 from ops.ios import Block
+from ops.joining import price
 from ops.lists import blocks_of, split
 
 
@@ -160,7 +161,10 @@ def main(words: list[str]) -> int:
     document = read_document(options.doc)
     rows, total = planned(options), copies.total(options.doc, document)
     if options.json:
-        commands.put(commands.as_json({"routers": as_rows(rows), "of": total}))
+        commands.put(commands.as_json({"routers": as_rows(rows), "of": total, "price": price(copies.edits_of(options), document.weights) if options.edits else None}))
     else:
-        commands.put("\n".join(said(rows, total)) + "\n")
+        lines = said(rows, total)
+        if edits := copies.edits_of(options):
+            lines += ["", f"{counted(len(edits), 'edit')} at the price of {price(edits, document.weights)}"]
+        commands.put("\n".join(lines) + "\n")
     return commands.FINE
