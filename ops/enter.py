@@ -33,9 +33,14 @@ class Router:
     lists: dict[tuple[bool, str], ListText]
     steps: list[Step] = field(default_factory=list)
     notes: list[str] = field(default_factory=list)
+    fresh: set[str] = field(default_factory=set)  # names of new lists
 
-    def taken(self) -> set[str]:
-        return {name for _, name in self.lists} | {word for block in self.blocks for line in [block.head, *block.lines] for word in line.words}
+    def free_name(self) -> str:
+        """A name for one more list, which neither the file nor a new list has."""
+        taken = self.fresh | {word for block in self.blocks for line in [block.head, *block.lines] for word in line.words}
+        name = next(name for number in range(1, len(taken) + 2) if (name := f"ARC-{number}") not in taken)
+        self.fresh.add(name)
+        return name
 
     def bound_at(self, name: str) -> list[tuple[str, str]]:
         """The neighbors at which a prefix list is bound inbound, each with the head of its process."""
@@ -137,7 +142,7 @@ def _route_entries(router: Router, listed: ListText, texts: Sequence[str]) -> No
         remark = f"Prefix list {listed.name}: {counted(len(texts), 'entry', 'entries')} in front"
         router.steps.append(Step(remark, lines, back, behind))
         return
-    name = next(name for number in range(1, 1000) if (name := f"ARC-{number}") not in router.taken())
+    name = router.free_name()
     why = "the list has an entry for the same prefix" if twice else "no number is free below its first"
     fresh = NewList(True, name, (*texts, *(entry.text for entry in listed.entries if entry.words[1:] not in mine)))
     _new_list(router, fresh, f"Prefix list {listed.name}: {why}, so it is entered whole as {name}, and that is bound")
@@ -199,7 +204,7 @@ def _entries(router: Router, changes: Changes, permits: bool) -> None:
 def steps_of(row: Planned) -> Router:
     """The steps of a router: what lets more through first, lists before what binds them, what goes down last."""
     blocks = blocks_of(split(row.original))
-    router = Router(row.changes.router, blocks, lists_of(blocks))
+    router = Router(row.changes.router, blocks, lists_of(blocks), fresh={listed.name for listed in row.changes.lists})
     for session in row.changes.sessions:
         if not session.down:
             _turn(router, session)

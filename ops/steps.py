@@ -248,8 +248,9 @@ def search(whole: Trial, options: argparse.Namespace, known: Known) -> Result:
         known.proved, known.certificate = proved, certificate
         commands.save(options.proof, certificate, True)
 
-    outcome = ladder(whole, limits, keep)
-    repair = outcome.repair
+    if options.parts:
+        return by_parts(whole, limits, known)
+    repair = ladder(whole, limits, keep).repair
     if repair.answer == "repaired":
         known.certificate = repair.certificate
         commands.save(options.proof, repair.certificate, True)
@@ -302,6 +303,7 @@ def arguments() -> argparse.ArgumentParser:
     words.add_argument("--after", metavar="FILE", help="a document over the changed files, in the folder of DOC")
     words.add_argument("--max-price", metavar="N", type=int, default=512, help="the highest price, 512 without it")
     words.add_argument("--conflicts", metavar="N", type=int, default=50_000, help="the most conflicts of a step, 50,000 without it")
+    words.add_argument("--parts", action="store_true", help="go by parts at once, without asking of the whole")
     words.add_argument("--no-sessions", action="store_true", help="no adjacency is turned: such an edit costs 16, and prices end at 15; the document with that price, which the certificate is of, is written beside DOC")
     commands.with_program(words)
     commands.with_json(words)

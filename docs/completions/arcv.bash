@@ -38,7 +38,7 @@ _arcv_tool() {
         policies) options='--help --out --names --json --force' ;;
         quiet) options='--help --to --adjacencies --rows' ;;
         refusals) options='--help --arcv' ;;
-        repair-steps) options='--help --out --proof --after --max-price --conflicts --no-sessions --arcv --json --force' ;;
+        repair-steps) options='--help --out --proof --after --max-price --conflicts --parts --no-sessions --arcv --json --force' ;;
         seal) options='--help --check --out --arcv --json --force' ;;
         start) options='--help --again --to --policies --names --rows --alone --json --arcv' ;;
     esac

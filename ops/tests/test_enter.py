@@ -177,7 +177,7 @@ def random_file(dice: random.Random) -> str:
         lines.append(f"ip prefix-list P seq {number} {dice.choice(('permit', 'deny'))} {prefix}")
     lines += ["!", "router ospf 1" if dice.random() < 0.5 else "router bgp 65001"]
     if "bgp" in lines[-1]:
-        lines += [" neighbor 10.0.1.2 remote-as 65002", *([" neighbor 10.0.1.2 prefix-list P in"] if dice.random() < 0.5 else [])]
+        lines += [" neighbor 10.0.1.2 remote-as 65002", " neighbor 10.0.2.2 remote-as 65003", *([" neighbor 10.0.1.2 prefix-list P in"] if dice.random() < 0.5 else [])]
     else:
         lines += [" passive-interface default", " no passive-interface GigabitEthernet0/1"]
     lines.append("!")
@@ -206,6 +206,10 @@ def random_changes(dice: random.Random, before: str) -> Changes:
         changes.bindings = [Binding(False, "ARC-1", f"GigabitEthernet0/{free}", f"interface GigabitEthernet0/{free}")]
     if "router bgp" in before:
         changes.sessions = [Session("10.0.1.2", "router bgp 65001", True)] if dice.random() < 0.5 else []
+        if dice.random() < 0.5:
+            name = f"ARC-{len(changes.lists) + 1}"
+            changes.lists.insert(0, NewList(True, name, ("deny 10.1.0.0/24", "permit 0.0.0.0/0 le 32")))
+            changes.bindings.append(Binding(True, name, "10.0.2.2", "router bgp 65001"))
     else:
         changes.sessions = [Session("GigabitEthernet0/1", "router ospf 1", True)] if dice.random() < 0.5 else []
     order = [name for name in ("110", "A", "C")]

@@ -202,6 +202,28 @@ class RoundTrip(WithFolder):
         self.quiet()
         self.ask("verify", "repair.json", 0)
 
+    def test_parts_of_routes(self) -> None:
+        self.lay("edge")
+        self.write("text", "203.0.113.0/24 never reaches 198.19.0.0/24\n198.18.0.0/24 never reaches 198.19.0.0/24 tcp 22 both ways\n"
+                   "203.0.114.0/24 never reaches 198.18.0.0/24 udp\n203.0.113.0/24 reaches 203.0.114.0/24 survives 1 both ways\n"
+                   "198.19.0.0/24 reaches 198.18.0.0/24 tcp 443 only through waypoints\n")
+        self.assertEqual(tool("policies", "text", "net.json", "--out", "asked.json", folder=self.folder).returncode, 0)
+        done = tool("repair-steps", "asked.json", "--out", ".new", "--proof", "cert", "--after", "aft.json", "--parts", "--arcv", program(), folder=self.folder)
+        self.assertEqual(done.returncode, 0, done.stderr)
+        self.assertIn("The least price is at least 1 and at most ", done.stdout)
+        self.ask("verify", "aft.json", 0)
+        self.assertEqual(run_arcv(program(), ["apply", "asked.json", "cert.edits", "--out", ".again"], self.folder).status, 0)
+        for name in os.listdir(self.path("quiet")):
+            if name.endswith(".new"):
+                self.assertEqual(read(self.path("quiet/" + name)), read(self.path("quiet/" + name.removesuffix(".new") + ".again")))
+        words = ("asked.json", "cert.edits", "--originals", ".", "--arcv", program())
+        for row in json.loads(tool("enter", *words, "--json", folder=self.folder).stdout):
+            router = Router(read(self.path(row["router"] + ".cfg")))
+            router.enter(row["enter"])
+            self.write(row["router"] + ".cfg", router.config())
+        self.quiet()
+        self.ask("verify", "asked.json", 0)
+
     def quiet(self) -> None:
         files = sorted(name for name in os.listdir(self.folder) if name.endswith(".cfg"))
         done = tool("quiet", *files, folder=self.folder)
