@@ -6,6 +6,7 @@ import re
 import shutil
 import subprocess
 import tempfile
+from dataclasses import asdict, dataclass
 from typing import Any
 
 from ops import commands
@@ -56,10 +57,10 @@ def asked(program: str, folder: str, document: str) -> tuple[Refusal | None, byt
     said = run.stderr.strip().split(b"\n")[-1]
     if run.returncode in (0, 1) and run.stdout.startswith(b"arc-report 1\n"):
         return None, said
-    told = re.fullmatch(rb"refused (.+) ([0-9]+) ([a-z-]+(?: [a-z]+ [0-9]+)?)\n", run.stdout, re.S)
-    if run.returncode != 5 or not told:
+    match = re.fullmatch(rb"refused (.+) ([0-9]+) ([a-z-]+(?: [a-z]+ [0-9]+)?)\n", run.stdout, re.S)
+    if run.returncode != 5 or not match:
         raise Wrong(f"{program} ended with status {run.returncode}: {shown(said)}")
-    return (os.fsdecode(told[1]), int(told[2]), told[3].decode()), said
+    return (os.fsdecode(match[1]), int(match[2]), match[3].decode()), said
 
 
 def names_of(path: str) -> tuple[dict[str, Any], list[str]] | None:
@@ -83,9 +84,21 @@ def lay(folder: str, document: dict[str, Any], names: list[str], copy: str) -> d
     return dict(zip(numbers, names))
 
 
-def list_refused(program: str, copy: str, names: dict[str, str]) -> tuple[int, Refusal | None]:
-    """Tells each refused line in the folder of the copy, and counts them; and the refusal that is left, or None."""
-    for found in range(MOST):
+@dataclass(frozen=True)
+class Line:
+    """A refused line of a router file; the word at fault where arcv names it."""
+
+    file: str
+    number: int
+    kind: str
+    text: str
+    word: str
+
+
+def list_refused(program: str, copy: str, names: dict[str, str]) -> tuple[list[Line], Refusal | None]:
+    """Each refused line in the folder of the copy; and the refusal that is left, or None."""
+    found: list[Line] = []
+    while len(found) < MOST:
         refusal, said = asked(program, copy, DOCUMENT)
         if refusal is None or refusal[0] not in names or refusal[2] not in WHAT_TO_DO:
             return found, refusal
@@ -93,34 +106,45 @@ def list_refused(program: str, copy: str, names: dict[str, str]) -> tuple[int, R
         path = os.path.join(copy, number)
         with open(path, "rb") as file:
             lines = file.read().split(b"\n")
-        word = f"; {shown(said.removeprefix(b'arcv: '))}" if said.startswith(b"arcv: ") else ""
-        print(f"{shown(names[number])}:{line}: {kind}: {shown(lines[line - 1].strip())}    ({WHAT_TO_DO[kind]}{word})")
+        word = shown(said.removeprefix(b"arcv: ")) if said.startswith(b"arcv: ") else ""
+        found.append(Line(shown(names[number]), line, kind, shown(lines[line - 1].strip()), word))
         comment_out(lines, line)
         with open(path, "wb") as file:
             file.write(b"\n".join(lines))
-    return MOST, None
+    return found, None
 
 
-def tell_last(refusal: Refusal, found: int) -> None:
-    name, number, kind = refusal
-    hint = THEN.get(kind, "docs/manual.md has each kind under Refusals")
-    more = "; it may come of the lines above, which were left out" if found else ""
-    print(f"then: refused {shown(name)} {number} {kind}    ({hint}{more})")
+def told(lines: list[Line], left: Refusal | None) -> list[str]:
+    """The lines, each kind with what to do where it comes first, and what is left."""
+    out: list[str] = []
+    kinds: set[str] = set()
+    for line in lines:
+        out.append(f"{line.file}:{line.number}: {line.kind}: {line.text}")
+        hints = [WHAT_TO_DO[line.kind]] if line.kind not in kinds else []
+        kinds.add(line.kind)
+        if hints or line.word:
+            out += commands.wrapped("; ".join([*hints, *([line.word] if line.word else [])]), "    ")
+    if left:
+        out.append(f"then: refused {shown(left[0])} {left[1]} {left[2]}")
+        more = "; it may come of the lines above, which were left out" if lines else ""
+        out += commands.wrapped(THEN.get(left[2], "docs/manual.md has each kind under Refusals") + more, "    ")
+    return [*out, counted(len(lines), "refused line")]
 
 
 def arguments() -> argparse.ArgumentParser:
     words = commands.parser(
         "refusals",
-        "Lists every line of a document's router files that arcv refuses, with its text and what to do. arcv tells the first refusal alone, so this lays "
-        "copies of the files into a temporary folder, comments the refused line out there (`!` at the start of a top line and of its block, ` !` in an "
-        "indented one, so that line numbers stay), and asks again, until no line of one file is refused by itself. The refusal that is left then, of the files "
-        "and the document together, is told last, after `then:`. The names of router files are looked up in DOC's folder.",
+        "Lists every line of a document's router files that arcv refuses, with its text, and what to do where a kind comes first. arcv tells the first "
+        "refusal alone, so this lays copies of the files into a temporary folder, comments the refused line out there (`!` at the start of a top line "
+        "and of its block, ` !` in an indented one, so that line numbers stay), and asks again, until no line of one file is refused by itself. The refusal "
+        "that is left then, of the files and the document together, is told last, after `then:`. The names of router files are looked up in DOC's folder.",
         "nothing but in the temporary folder.",
         "bin/refusals net.json",
     )
     words.add_argument("doc", metavar="DOC", help="the document")
     words.add_argument("program", metavar="ARCV", nargs="?", help="the program to ask; bin/arcv without it")
     commands.with_program(words)
+    commands.with_json(words)
     return words
 
 
@@ -129,19 +153,21 @@ def main(words: list[str]) -> int:
     options.arcv = options.arcv or options.program
     program = commands.program(options)
     folder, base = os.path.split(os.path.abspath(options.doc))
-    found, left = 0, None
-    if not options.arcv and not os.path.exists(os.path.join(TOP, ".built/arcv")):
+    lines: list[Line] = []
+    if program == os.path.join(TOP, "bin", "arcv") and not os.path.exists(os.path.join(TOP, ".built/arcv")):
         commands.tell("refusals: bin/arcv proves and builds the program first")
     left, _ = asked(program, folder, base)
     document = names_of(options.doc)
     if left and document and left[0] in document[1] and left[2] in WHAT_TO_DO:
         with tempfile.TemporaryDirectory(prefix="arcv-refusals-") as copy:
             names = lay(folder, *document, copy)
-            found, left = list_refused(program, copy, names)
+            lines, left = list_refused(program, copy, names)
             left = left and ({**names, DOCUMENT: options.doc}[left[0]], *left[1:])
     elif left and left[0] == base:
         left = (options.doc, *left[1:])
-    if left:
-        tell_last(left, found)
-    print(counted(found, "refused line"))
-    return commands.NOT_SO if found or left else commands.FINE
+    if options.json:
+        rest = {"file": shown(left[0]), "number": left[1], "kind": left[2]} if left else None
+        commands.put(commands.as_json({"lines": [asdict(line) for line in lines], "then": rest}))
+    else:
+        commands.put("\n".join(told(lines, left)) + "\n")
+    return commands.NOT_SO if lines or left else commands.FINE

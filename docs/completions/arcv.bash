@@ -37,7 +37,7 @@ _arcv_tool() {
         plan) options='--help --copies --originals --arcv --json' ;;
         policies) options='--help --out --names --json --force' ;;
         quiet) options='--help --to --adjacencies --rows' ;;
-        refusals) options='--help --arcv' ;;
+        refusals) options='--help --arcv --json' ;;
         repair-steps) options='--help --out --proof --after --max-price --conflicts --parts --no-sessions --arcv --json --force' ;;
         seal) options='--help --check --out --arcv --json --force' ;;
         start) options='--help --again --to --policies --names --rows --alone --json --arcv' ;;
