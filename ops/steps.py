@@ -9,9 +9,9 @@ from ops import commands
 from ops.trial import Repair, Texts, Trial, not_yes, trial_of
 from ops.wording import map_beside, names_of
 from ops.commands import Wrong, counted, tell
-from ops.documents import Document, Policy, document_text, folder_of, network, read_document, with_files, with_policies
+from ops.documents import Document, Policy, document_text, folder_of, network, read_document, span_words, with_files, with_policies
 from ops.explain import Teller
-from ops.joining import joined, price
+from ops.joining import joined, price, span
 from ops.reports import Block, Edit
 
 PRICES = (1, 2, 4, 8, 16, 32, 64, 128, 256, 512)
@@ -184,6 +184,20 @@ def listed(numbers: Sequence[int]) -> str:
     return ", ".join(str(part[0]) if len(part) == 1 else f"{part[0]}{' to ' if len(part) > 2 else ', '}{part[-1]}" for part in parts)
 
 
+def hints(blocks: Sequence[Block]) -> list[str]:
+    """Why policies may be beyond a repair: no entry can say the services of a class that breaks them."""
+    found = []
+    for block in blocks:
+        word = next((word for line in block.lines for word in line[3:4] if word.startswith("service:")), "")
+        first, last = (number >> 16 for number in span(word))
+        if block.answer != "yes" and word and (first != last or first == 0):
+            found.append(
+                f"Policy {block.number} is broken by packets of {span_words(word)}. No single entry can say that, so no list is edited for them: "
+                "ask for tcp, udp and icmp each by itself, or change a list by hand."
+            )
+    return found
+
+
 @dataclass
 class Result:
     """What is found: the files after, the edits, and what can be said of them."""
@@ -212,8 +226,8 @@ def by_parts(whole: Trial, limits: Limits, known: Known) -> Result:
         texts, edits, cost = after, together, price(together, whole.document.weights)
     except Wrong as error:
         say.append(f"The edits were put in part by part, and no list of them is one of the whole document ({error}): take the files, by `bin/plan DOC --copies SUFFIX`.")
-    still = not_yes(whole.over(texts=texts).verify())
-    return Result(texts, edits, cost, False, still, say)
+    blocks = whole.over(texts=texts).verify()
+    return Result(texts, edits, cost, False, not_yes(blocks), say + hints(blocks))
 
 
 def open_copy(doc: str) -> bool:
@@ -256,7 +270,9 @@ def search(whole: Trial, options: argparse.Namespace, known: Known) -> Result:
         commands.save(options.proof, repair.certificate, True)
         return Result(repair.texts, repair.edits, repair.number, True, [], [])
     if repair.answer == "none" and not options.no_sessions:
-        return Result(whole.texts, [], None, False, not_yes(whole.verify()), [f"No edits that cost at most {repair.number} are enough; {options.proof} is the proof."])
+        blocks = whole.verify()
+        said = f"No edits that cost at most {repair.number} are enough; {options.proof} is the proof."
+        return Result(whole.texts, [], None, False, not_yes(blocks), [said, *hints(blocks)])
     if repair.answer == "refused" and "limit" not in repair.reason.split():
         raise Wrong(f"nothing is judged: {repair.reason}")
     tell("that is not had at once, so it is repaired by parts" if repair.answer == "none" else "the whole is too much at once, so it is repaired by parts")

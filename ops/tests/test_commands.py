@@ -5,7 +5,9 @@ import io
 import os
 import random
 import re
+import shutil
 import stat
+import subprocess
 import sys
 import tempfile
 import unittest
@@ -65,9 +67,8 @@ class Pages(unittest.TestCase):
         for name in MODULES:
             self.assertIn(f".B {name} ", page)
 
+    @unittest.skipUnless(shutil.which("bash"), "no bash")
     def test_completion_of_bash(self) -> None:
-        import subprocess
-
         script = "source docs/completions/arcv.bash; COMP_WORDS=(arcv repair --c); COMP_CWORD=2; _arcv; echo ${COMPREPLY[@]}"
         done = subprocess.run(["bash", "-c", script], cwd=TOP, capture_output=True, text=True, check=False)
         self.assertEqual(done.stdout, "--conflicts\n")
@@ -92,8 +93,6 @@ class Files(WithFolder):
             commands.save(self.path("folder"), "x", True)
 
     def test_a_closed_output(self) -> None:
-        import subprocess
-
         words = [sys.executable, os.path.join(TOP, "bin", "explain"), "net.json", "report.txt"]
         run = subprocess.Popen(words, cwd=os.path.join(EXAMPLES, "campus"), stdout=subprocess.PIPE, stderr=subprocess.PIPE)
         assert run.stdout and run.stderr

@@ -12,7 +12,7 @@ from ops.copies import original_text
 from ops.documents import read_document
 from ops.joining import classes_of, inside, joined, shut
 from ops.reports import Block, parse_edit, read_text
-from ops.steps import listed, on_the_way
+from ops.steps import hints, listed, on_the_way
 from ops.tests.given import EXAMPLES, TOP, WithFolder, program, read, tool
 from ops.tests.ios_router import Router
 from ops.tests.meaning import meaning
@@ -35,6 +35,13 @@ class Words(unittest.TestCase):
     def test_every_interface_is_shut_down(self) -> None:
         text = shut(read(os.path.join(EXAMPLES, "office", "hq.cfg")))
         self.assertEqual(text.count("\n shutdown\n"), text.count("\ninterface ") + 1)  # one is down already
+
+    def test_services_that_no_entry_can_say(self) -> None:
+        blocks = [Block(1, "blocked", "no", (("walk", "a", "b", "service:0.0-5.65535", "1"),)), Block(2, "blocked", "no", (("walk", "a", "b", "service:6.0-6.21", "1"),)),
+                  Block(3, "blocked", "no", (("walk", "a", "b", "1"),)), Block(4, "blocked", "yes", (("closed", "a", "b", "service:0.0-5.65535"),))]
+        said = hints(blocks)
+        self.assertEqual(len(said), 1)
+        self.assertIn("Policy 1 is broken by packets of protocols 0 to 5.", said[0])
 
     def test_which_policies_lie_on_the_ways(self) -> None:
         document = read_document(os.path.join(EXAMPLES, "square", "net.json"))
