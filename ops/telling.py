@@ -110,6 +110,9 @@ def premises(segments: Sequence[Segment], answers: Answers) -> list[str]:
         lines += wrapped(f"outside: {reason}", "  ", "      ")
     if len(reasons) > SHOWN:
         lines.append(f"  and {len(reasons) - SHOWN} more: changes.txt")
+    for note in answers.exact.notes:
+        if note.reason.startswith("OSPF speaks at") and note.cost == "adjacency":
+            lines += wrapped(note.reason, "  ", "      ")
     for reason in answers.exact.down:
         lines += wrapped(f"counts as down: {reason}", "  ", "      ")
     return lines
