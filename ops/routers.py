@@ -330,7 +330,7 @@ class Reader:
     def static(self, line: ios.Line) -> None:
         words = list(line.words[2:])
         vrf = ""
-        if words[:1] == ["vrf"]:
+        if words[:1] == ["vrf"] and len(words) > 1:
             vrf, words = words[1], words[2:]
         elif words[:1] in (["profile"], ["static"]):
             self.note(line.number, line.text, "ip route", "nothing", "how static routes are watched")
