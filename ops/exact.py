@@ -100,6 +100,9 @@ class Exact:
             if not faces or all(face.name.startswith("Loopback") for face in faces):
                 continue
             where = ", ".join(face.key() for face in faces)
+            if not all(face.addresses for face in faces):
+                self.notes.append(structural(f"OSPF speaks at {where}, whose address is another's"))
+                continue
             if segment.outside:
                 self.notes.append(structural(f"OSPF speaks at {where}, and {segment.outside[0]}: routes of its router are not known"))
             if len(faces) == 1:

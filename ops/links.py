@@ -73,11 +73,19 @@ def is_point(segment: Segment) -> bool:
     return small or any(POINT.match(face.name) for face in segment.faces)
 
 
+def is_owned(vrfs: set[str], vrf: str) -> bool:
+    """Whether an address that a table of routes names may be one of interfaces in these tables: the same, or the one of a router
+    that has a table for this neighbour alone."""
+    return vrf in vrfs or "" in vrfs or (vrf == "" and bool(vrfs))
+
+
 def join_outside(routers: Sequence[Router], found: Sequence[Segment], alone: Sequence[Net]) -> None:
     """Notes at each segment why devices without a file may be there; not where it is claimed that there are none."""
-    owned = {address.ip for segment in found for face in segment.faces for address in face.addresses}
-    owned |= {address for segment in found for face in segment.faces for address in face.virtual}
-    hops = {hop: router.name for router in routers for _, hop in router.hops if hop not in owned}
+    owned: dict[Address, set[str]] = {}
+    for face in (face for segment in found for face in segment.faces):
+        for address in {*(own.ip for own in face.addresses), *face.virtual}:
+            owned.setdefault(address, set()).add(face.vrf)
+    hops = {hop: router.name for router in routers for vrf, hop in router.hops if not is_owned(owned.get(hop, set()), vrf)}
     exits = {(router.name, name) for router in routers for name in router.exits}
     for segment in found:
         if any(net.overlaps(claim) for net in segment.nets for claim in alone):
@@ -88,6 +96,7 @@ def join_outside(routers: Sequence[Router], found: Sequence[Segment], alone: Seq
         segment.outside += [f"{router.name} listens to neighbours in {net}" for router in routers for net in router.ranges
                             if any(net.overlaps(own) for own in segment.nets)]
         segment.outside += [f"{face.key()} has an address that is not in its file" for face in segment.faces if face.is_elsewhere]
+        segment.outside += [f"{face.key()} is a tunnel of many ends" for face in segment.faces if face.has_many_ends()]
         if not is_loop and one and is_point(segment):
             segment.outside.append("the far end has no file")
         if one or not is_point(segment):

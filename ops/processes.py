@@ -88,29 +88,45 @@ def ospf(router: Router, block: ios.Block, table: rules.Table) -> Ospf:
     found = Ospf(router, block.head.words[2])
     judge = noter(router, table, found.notes)
     for line in block.lines:
-        words = line.words
-        if words[0] == "network" and len(words) == 5 and words[3] == "area":
-            found.areas.append((entries.by_wildcard(words[1], words[2]), area_text(words[4])))
-        elif words[-2:-1] == ("passive-interface",) and words[0] in ("passive-interface", "no"):
-            if words[-1] == "default":
-                found.is_passive = words[0] != "no"
-            else:
-                found.passive[words[-1]] = words[0] != "no"
-        elif words[:2] == ("auto-cost", "reference-bandwidth") and len(words) == 3:
-            found.reference = words[2]
-        elif words[0] == "router-id" and len(words) == 2:
-            found.router_id = words[1]
-        elif words[0] == "redistribute" and words[1:2] in (("static",), ("connected",)) and "route-map" not in words:
-            if "subnets" in words:
-                found.brings.add(words[1])
-            found.notes.append(told(router, line, f"redistribute {words[1]}", "routes less specific than every target, or of others"))
-        elif words[:2] == ("default-information", "originate"):
-            found.notes.append(told(router, line, "default-information originate", "a default route is less specific than every target"))
-        else:
-            if words[0] == "area" and words[2:3] == ("authentication",):
-                found.authentication[area_text(words[1])] = " ".join(words[3:]) or "key"
+        if not taken(lambda line=line: ospf_line(found, line)):  # type: ignore[misc]
             judge(("process", "ospf"), line)
     return found
+
+
+def taken(take: Callable[[], bool]) -> bool:
+    """Whether a line says what stands in the model; not where a word of it is of no form that is read."""
+    try:
+        return take()
+    except (ValueError, IndexError, entries.NotRead):
+        return False
+
+
+def ospf_line(found: Ospf, line: ios.Line) -> bool:
+    """Takes a line of a process of OSPF that says what stands in the model; whether it was one."""
+    words = line.words
+    if words[0] == "network" and len(words) == 5 and words[3] == "area":
+        found.areas.append((entries.by_wildcard(words[1], words[2]), area_text(words[4])))
+    elif words[-2:-1] == ("passive-interface",) and words[0] in ("passive-interface", "no"):
+        if words[-1] == "default":
+            found.is_passive = words[0] != "no"
+            found.passive.clear()
+        else:
+            found.passive[words[-1]] = words[0] != "no"
+    elif words[:2] == ("auto-cost", "reference-bandwidth") and len(words) == 3 and words[2].isdigit():
+        found.reference = words[2]
+    elif words[0] == "router-id" and len(words) == 2 and is_address(words[1]):
+        found.router_id = words[1]
+    elif words[0] == "redistribute" and words[1:2] in (("static",), ("connected",)) and "route-map" not in words:
+        if "subnets" in words:
+            found.brings.add(words[1])
+        found.notes.append(told(found.router, line, f"redistribute {words[1]}", "routes less specific than every target, or of others"))
+    elif words[:2] == ("default-information", "originate"):
+        found.notes.append(told(found.router, line, "default-information originate", "a default route is less specific than every target"))
+    else:
+        if words[0] == "area" and words[2:3] == ("authentication",):
+            found.authentication[area_text(words[1])] = " ".join(words[3:]) or "key"
+        return False
+    return True
 
 
 def told(router: Router, line: ios.Line, rule: str, reason: str) -> rules.Note:
@@ -128,7 +144,7 @@ def bgp(router: Router, block: ios.Block, table: rules.Table) -> Bgp:
             found.has_families = True
         elif family:
             continue
-        if not bgp_line(found, line):
+        if not taken(lambda line=line: bgp_line(found, line)):  # type: ignore[misc]
             judge(("process", "bgp"), line)
     return found
 

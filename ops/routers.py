@@ -36,6 +36,10 @@ class Face:
     def key(self) -> str:
         return f"{self.router}:{self.name}"
 
+    def has_many_ends(self) -> bool:
+        """Whether it is a tunnel to ends that no line of it names."""
+        return any(line.words[:2] == ("tunnel", "mode") and "multipoint" in line.words for line in self.lines)
+
 
 @dataclass
 class PacketList:
@@ -144,7 +148,7 @@ class Reader:
                 self.packet_list(block, groups)
             elif block.begins("ip", "prefix-list") and len(words) > 4:
                 self.router.prefix_lists.setdefault(words[2], []).append(block.head)
-            elif block.begins("router", "ospf") or block.begins("router", "bgp"):
+            elif (block.begins("router", "ospf") or block.begins("router", "bgp")) and len(words) > 2:
                 self.process(block)
             elif block.begins("ip", "route"):
                 self.static(block.head)
@@ -152,7 +156,7 @@ class Reader:
                 self.vrf(block)
             elif block.begins("route-map"):
                 self.route_map(block)
-            elif not any(block.begins(*front) for front in READ_TOP):
+            elif not any(block.begins(*front) for front in READ_TOP) or len(words) < 3 and words[0] in ("router", "interface"):
                 self.judge(("top", "block"), block.head)
         for face in self.router.faces:
             face.has_labels = face.has_labels or self.labels
@@ -310,7 +314,10 @@ class Reader:
             if line.words[0] == "neighbor" and len(line.words) > 1 and is_address(line.words[1]):
                 self.router.hops.append((vrf, Address(line.words[1])))
             if line.words[:3] == ("bgp", "listen", "range") and len(line.words) > 3:
-                self.router.ranges.append(ipaddress.IPv4Network(line.words[3], strict=False))
+                try:
+                    self.router.ranges.append(ipaddress.IPv4Network(line.words[3], strict=False))
+                except ValueError:
+                    self.router.ranges.append(ipaddress.IPv4Network("0.0.0.0/0"))
 
     def process(self, block: ios.Block) -> None:
         if "vrf" in block.head.words:
@@ -323,7 +330,7 @@ class Reader:
     def static(self, line: ios.Line) -> None:
         words = list(line.words[2:])
         vrf = ""
-        if words[:1] == ["vrf"]:
+        if words[:1] == ["vrf"] and len(words) > 1:
             vrf, words = words[1], words[2:]
         elif words[:1] in (["profile"], ["static"]):
             self.note(line.number, line.text, "ip route", "nothing", "how static routes are watched")

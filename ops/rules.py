@@ -6,7 +6,7 @@ from dataclasses import dataclass
 from ops import ios
 
 PATH = os.path.join(os.path.dirname(os.path.abspath(__file__)), "rules.rows")
-PLACES = ("top", "block", "interface", "process", "ospf", "bgp")
+PLACES = ("top", "block", "interface", "process", "ospf", "bgp", "segment")
 MADE = ("unknown", "elsewhere")  # by the tools themselves: a row may not say so
 LOSES: dict[str, tuple[str, ...]] = {
     "inert": (), "nothing": (), "gateway": (), "time": (), "adjacency": ("reach",), "drops": ("reach",), "routes": ("reach",),
@@ -78,6 +78,10 @@ class Table:
             if found:
                 return max(found, key=lambda row: len(row.words))
         return None
+
+    def claims(self) -> list[str]:
+        """The networks in which no device without a file forwards, as rows of one's own say."""
+        return [row.words[0] for row in self.levels[0] if row.where == "segment" and row.cost == "nothing"]
 
     def judge(self, places: Iterable[str], words: Sequence[str]) -> Row:
         """The row for a line, or the one that says that none knows it."""

@@ -13,6 +13,7 @@ from ops.links import Net, Segment
 from ops.routers import Router
 from ops.wording import read_networks
 
+MOST_FIRST = 16
 OWN_FILES = ("policies.txt", "names.json", "rows.txt")
 
 
@@ -75,7 +76,7 @@ def claims(texts: Sequence[str]) -> list[Net]:
     try:
         return [Net(text, strict=False) for text in texts]
     except ValueError as error:
-        raise Wrong(f"--alone: {error}") from error
+        raise Wrong(f"a network in which no device forwards: {error}") from error
 
 
 def network_names(path: str, segments: Sequence[Segment], transit: Sequence[Segment]) -> dict[str, str]:
@@ -95,8 +96,12 @@ def prepared(out: str, again: bool) -> None:
 
 
 def first_text(networks: dict[str, str], own: Sequence[str]) -> str:
-    """A first text of policies: each two networks, as many networks as a document has room for."""
-    return statements.first_policies({networks[prefix]: prefix for prefix in own})
+    """A first text of policies: each two networks; where they are many, each two of the first."""
+    if len(own) <= MOST_FIRST:
+        return statements.first_policies({networks[prefix]: prefix for prefix in own})
+    names = [networks[prefix] for prefix in own[:MOST_FIRST]]
+    return (f"# What has to hold. `bin/policies --help` says what may stand here. Of {len(own)} networks these are asked about first.\n"
+            f"group asked-first = {' '.join(names)}\nasked-first reaches asked-first survives 1\n")
 
 
 def found_text(found: Sequence[Router], other: Sequence[str], segments: Sequence[Segment], networks: dict[str, str], own: Sequence[str]) -> list[str]:
@@ -120,13 +125,15 @@ def main(words: list[str]) -> int:
     out = options.to or os.path.join(folder, "arcv")
     rows = options.rows or (os.path.join(out, "rows.txt") if os.path.exists(os.path.join(out, "rows.txt")) else None)
     program = commands.program(options)
+    if program == os.path.join(commands.TOP, "bin", "arcv") and not os.path.exists(os.path.join(commands.TOP, ".built", "arcv")):
+        commands.tell("start: bin/arcv proves and builds the program first, which takes half an hour or more")
     try:
         table = rules.table(rows)
     except (OSError, ValueError) as error:
         raise Wrong(str(error)) from error
     found, other = read_captures(folder, table)
     segments = links.segments(found)
-    links.join_outside(found, segments, claims(options.alone))
+    links.join_outside(found, segments, claims([*options.alone, *table.claims()]))
     prepared(out, options.again)
     transit = [segment for segment in segments if len(segment.faces) > 1 and hosts.is_transit(segment, found)]
     names_path = options.names or os.path.join(out, "names.json")
@@ -143,7 +150,7 @@ def main(words: list[str]) -> int:
         raise Wrong(f"{text_path}: {error}") from error
     answers = Answers(found, segments, named, Asker(program, out), table, networks)
     answers.ask()
-    return told(out, options.json, found, other, segments, networks, own, answers)
+    return told(out, options.json, found, other, segments, networks, own, answers, table)
 
 
 def earlier(path: str) -> dict[str, str]:
@@ -155,18 +162,19 @@ def earlier(path: str) -> dict[str, str]:
 
 
 def told(out: str, is_json: bool, found: Sequence[Router], other: Sequence[str], segments: Sequence[Segment], networks: dict[str, str],
-         own: Sequence[str], answers: Answers) -> int:
+         own: Sequence[str], answers: Answers, table: rules.Table) -> int:
     """Writes and prints what was found; the status of the command."""
     before = earlier(os.path.join(out, "answers.json"))
     lines = found_text(found, other, segments, networks, own)
     lines += titled("Cannot be answered:", telling.cannot_lines(answers), "nothing that was asked")
-    lines += titled("Needs your yes:", telling.yours_lines(answers) + telling.premises(segments, answers), "")
+    lines += titled("Needs your yes:", telling.yours_lines(answers) + telling.premises(segments, answers, table.levels[0]), "")
     lines += titled("Entries of lists that a copy says otherwise:", telling.rewritten_lines(answers), "none")
     lines += titled("Left out, since it bears on nothing here:", telling.group_lines(telling.grouped(telling.left_out(found)), telling.SHOWN), "nothing")
     silent = policies.silent_pairs({networks[prefix]: prefix for prefix in own}, [joined.named.policy for joined in answers.joined])
     if silent:
-        text = "; ".join(" ".join(part for part in pair if part) for pair in silent[:6]) + ("; .." if len(silent) > 6 else "")
-        lines += titled(f"Nobody asks about {counted(len(silent), 'pair')} of networks:", wrapped(text, "  "), "")
+        text = "; ".join(f"{source} to {target}" + (f" (of it {part} is asked)" if part else "") for source, target, part in silent[:6])
+        text += "; .." if len(silent) > 6 else ""
+        lines += titled(f"Nobody asks about {counted(len(silent), 'pair')} of networks, or of all packets between them:", wrapped(text, "  "), "")
     lines += titled("Answers:", telling.answer_lines(answers, before), "no policy was asked")
     lines += ["", telling.total(answers)]
     save(os.path.join(out, "changes.txt"), telling.changes_text(found, answers, segments), force=True)

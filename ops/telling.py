@@ -13,7 +13,7 @@ from ops.links import Segment
 from ops.routers import Router
 from ops.wording import policy_words
 
-WORDS = {"yes": "yes", "no": "NO", "yours": "yes, if you say so too (below)", "none": "NOT ANSWERED"}
+WORDS = {"yes": "yes", "no": "NO", "yours": "yes, if you say so too", "none": "NOT ANSWERED"}
 SHORT = {"yes": "yes", "no": "no", "yours": "needs your yes", "none": "not answered"}
 SHOWN = 12
 COPIES = {"open": "the open copy, which lets packets go any way that interfaces and lists leave them",
@@ -99,7 +99,7 @@ def rewritten_lines(answers: Answers) -> list[str]:
     return [line for text, count in found.most_common() for line in wrapped(f"{counted(count, 'entry', 'entries')}: {text}", "  ", "      ")]
 
 
-def premises(segments: Sequence[Segment], answers: Answers) -> list[str]:
+def premises(segments: Sequence[Segment], answers: Answers, own: Sequence[rules.Row]) -> list[str]:
     """What every yes rests on beside the files."""
     lines = wrapped("No device but these routers, and those that are told here as `outside`, forwards packets from one network to another.", "  ")
     for port, places in answers.own.items():
@@ -110,6 +110,11 @@ def premises(segments: Sequence[Segment], answers: Answers) -> list[str]:
         lines += wrapped(f"outside: {reason}", "  ", "      ")
     if len(reasons) > SHOWN:
         lines.append(f"  and {len(reasons) - SHOWN} more: changes.txt")
+    for row in own:
+        lines += wrapped(f"you say of `{' '.join(row.words)}`: {row.cost}, since: {row.reason}", "  ", "      ")
+    for note in answers.exact.notes:
+        if note.reason.startswith("OSPF speaks at") and note.cost == "adjacency":
+            lines += wrapped(note.reason, "  ", "      ")
     for reason in answers.exact.down:
         lines += wrapped(f"counts as down: {reason}", "  ", "      ")
     return lines
@@ -172,6 +177,13 @@ def changed(joined: Joined, before: dict[str, str]) -> str:
     return "" if was == joined.answer() else f" (new; before: {SHORT.get(was, was)})"
 
 
+def why(joined: Joined) -> list[str]:
+    """What stands in the way of an answer, or what a yes needs."""
+    if joined.answer() == "none":
+        return [text for text, _ in grouped(joined.reasons)] + refused(joined)
+    return [text for text, _ in grouped(note for reply in joined.replies for note in reply.yours)] if joined.answer() == "yours" else []
+
+
 def answer_lines(answers: Answers, before: dict[str, str]) -> list[str]:
     """The noes with their ways, then what is not answered, then the yeses."""
     lines: list[str] = []
@@ -180,6 +192,8 @@ def answer_lines(answers: Answers, before: dict[str, str]) -> list[str]:
             if joined.answer() != wanted:
                 continue
             lines += wrapped(f"{WORDS[wanted]}: {head(joined, answers)}{changed(joined, before)}", "  ", "      ")
+            for text in why(joined)[:2]:
+                lines += wrapped(text, "      ")
             if wanted == "no":
                 first = next(reply for reply in joined.replies if reply.answer() == "no" and not reply.is_stronger)
                 lines += witness(first)
@@ -202,10 +216,8 @@ def as_json(answers: Answers) -> list[dict[str, Any]]:
         policy: Policy = joined.named.policy
         copies = [{"copy": reply.copy, "kind": reply.kind, "number": reply.block.number if reply.block else None,
                    "answer": reply.block.answer if reply.block else "refused"} for reply in joined.replies]
-        notes = [note for reply in joined.replies for note in reply.yours]
         found.append({"name": joined.named.name, "key": key(joined), **policy.members(), "packets": joined.named.packets, "answer": joined.answer(), "copies": copies,
-                      "needs": [text for text, _ in grouped(notes)] if joined.answer() == "yours" else [],
-                      "cannot": [text for text, _ in grouped(joined.reasons)] + (refused(joined) if joined.answer() == "none" else []),
+                      "needs": why(joined) if joined.answer() == "yours" else [], "cannot": why(joined) if joined.answer() == "none" else [],
                       "rules": rules_of(answers, joined)})
     return found
 

@@ -3,9 +3,9 @@ import json
 import os
 import unittest
 
-from ops import documents, rules
+from ops import documents, start, statements
 from ops.tests import table
-from ops.tests.given import TOP, WithFolder, program, tool
+from ops.tests.given import TOP, WithFolder, program, read, tool
 from ops.tests.small import asked, blocked, face, reach, router
 from ops.tests.test_exact import OSPF, pair
 
@@ -153,8 +153,26 @@ class Command(WithFolder):
             self.assertEqual(run.returncode, 0)
             self.assertIn("example", run.stdout)
 
-    def test_rows_lose_what_they_say(self) -> None:
-        self.assertEqual(rules.LOSES["nothing"], ())
+    @unittest.skipUnless(ARCV, "no program is built")
+    def test_what_was_decided_once(self) -> None:
+        folder = self.files()
+        self.write("net/a.cfg", read(self.path("net/a.cfg")).replace(" description", " ip nat inside\n description"))
+        self.write("net/arcv/policies.txt", "p: floor-a never reaches floor-b tcp 22\n")
+        self.assertIn("NO: p", tool("start", folder, "--arcv", ARCV).stdout)
+        lists = "ip access-list extended L\n deny ip any any\nend"
+        self.write("net/a.cfg", read(self.path("net/a.cfg")).replace(" ip nat", " ip access-group L in\n ip nat").replace("\nend", "\n" + lists))
+        asked_of = tool("start", folder, "--arcv", ARCV, "--again").stdout
+        self.assertIn("yes, if you say so too: p", asked_of)
+        self.assertIn("addresses of packets are changed (1 line: a.cfg:8)", asked_of)
+        self.write("net/arcv/rows.txt", "interface | ip nat | nothing | to the Internet alone\nsegment | 10.0.0.0/30 | nothing | a cable\n")
+        said = tool("start", folder, "--arcv", ARCV, "--again")
+        self.assertIn("  yes: p", said.stdout)
+        self.assertIn("you say of `ip nat`: nothing, since: to the Internet alone", said.stdout)
+        self.assertEqual(said.returncode, 0)
+
+    def test_a_first_text_of_many_networks(self) -> None:
+        names = {f"10.{number}.0.0/24": f"net-{number}" for number in range(40)}
+        self.assertEqual(len(statements.read_policies(start.first_text(names, list(names)), {name: prefix for prefix, name in names.items()})), 240)
 
 
 class Quiet(WithFolder):
