@@ -29,6 +29,7 @@ class Exact:
         self.processes: dict[str, Ospf | Bgp] = {}
         self.meetings: list[Meeting] = []
         self.down: list[str] = []
+        self.others: dict[Net, list[rules.Note]] = {}
         self.missing: list[tuple[Bgp, Peer]] = []
         self.area = "0"
         self.kind = self.kind_of(routers)
@@ -176,10 +177,14 @@ class Exact:
 
     def others_in(self, net: Net) -> list[rules.Note]:
         """Interfaces in a network that count as no gateways of it: of another mask or VRF, or of a router without a process."""
+        if net in self.others:
+            return self.others[net]
         gateways = self.gateways(net)
         found = [face for segment in self.segments if any(own.overlaps(net) for own in segment.nets) for face in segment.faces]
-        return [structural(f"{face.key()} is in {net} too, by another mask or VRF, as a second network, or without a process of {self.kind.upper()}")
-                for face in found if not any(face is other for other in gateways) and not self.is_host(face)]
+        why = f"is in {net} too, by another mask or VRF, as a second network, or without a process of {self.kind.upper()}"
+        self.others[net] = [structural(f"{face.key()} {why}") for face in found
+                            if not any(face is other for other in gateways) and not self.is_host(face)]
+        return self.others[net]
 
     def is_host(self, face: Face) -> bool:
         """Whether a device only has an address there, and forwards nothing."""
