@@ -1,0 +1,101 @@
+"""What is asked of the kernel inside a network namespace: sockets there, routes, and links up or down."""
+import ctypes
+import fcntl
+import os
+import socket
+import struct
+from contextlib import contextmanager
+from ipaddress import IPv4Address, IPv4Network
+from typing import Iterator
+
+CLONE_NEWNET = 0x40000000
+SIOCGIFFLAGS, SIOCSIFFLAGS, IFF_UP = 0x8913, 0x8914, 1
+RTM_NEWROUTE, RTM_GETROUTE, NLMSG_DONE, NLM_F_DUMP = 24, 26, 3, 0x301
+RTA_DST, RTA_OIF, RTA_MULTIPATH, RTA_TABLE = 1, 4, 9, 15
+MAIN_TABLE, UNICAST = 254, 1
+LIBC = ctypes.CDLL(None, use_errno=True)
+
+
+@contextmanager
+def inside(name: str) -> Iterator[None]:
+    """What is opened in this block is opened in the namespace of this name, and stays there."""
+    home = os.open("/proc/self/ns/net", os.O_RDONLY)
+    there = os.open(f"/run/netns/{name}", os.O_RDONLY)
+    try:
+        enter(there)
+        yield
+    finally:
+        enter(home)
+        os.close(home)
+        os.close(there)
+
+
+def enter(handle: int) -> None:
+    if LIBC.setns(handle, CLONE_NEWNET) != 0:
+        raise OSError(ctypes.get_errno(), "setns")
+
+
+def attributes(data: bytes) -> dict[int, bytes]:
+    """The attributes of a netlink message by their types."""
+    found, at = {}, 0
+    while at + 4 <= len(data):
+        length, kind = struct.unpack_from("=HH", data, at)
+        found[kind] = data[at + 4 : at + length]
+        at += max(4, length + 3 & ~3)
+    return found
+
+
+def interfaces_of(parts: dict[int, bytes]) -> frozenset[int]:
+    """The numbers of the interfaces over which a route leads."""
+    if RTA_OIF in parts:
+        return frozenset(struct.unpack("=I", parts[RTA_OIF]))
+    hops, data, at = set(), parts.get(RTA_MULTIPATH, b""), 0
+    while at + 8 <= len(data):
+        length, _, _, number = struct.unpack_from("=HBBi", data, at)
+        hops.add(number)
+        at += max(8, length + 3 & ~3)
+    return frozenset(hops)
+
+
+class Kernel:
+    """The kernel's side of one namespace."""
+
+    def __init__(self, name: str) -> None:
+        with inside(name):
+            self.routes_socket = socket.socket(socket.AF_NETLINK, socket.SOCK_RAW, 0)
+            self.control = socket.socket(socket.AF_INET, socket.SOCK_DGRAM)
+            self.names = {number: device for number, device in socket.if_nameindex()}
+
+    def close(self) -> None:
+        self.routes_socket.close()
+        self.control.close()
+
+    def routes(self) -> dict[IPv4Network, frozenset[str]]:
+        """The routes of the main table: the devices over which each leads."""
+        request = struct.pack("=IHHIIBBBBBBBBI", 28, RTM_GETROUTE, NLM_F_DUMP, 1, 0, socket.AF_INET, 0, 0, 0, 0, 0, 0, 0, 0)
+        self.routes_socket.send(request)
+        found: dict[IPv4Network, frozenset[str]] = {}
+        while True:
+            data, at = self.routes_socket.recv(1 << 18), 0
+            while at + 16 <= len(data):
+                length, kind = struct.unpack_from("=IH", data, at)
+                if kind == NLMSG_DONE:
+                    return found
+                if kind == RTM_NEWROUTE:
+                    self.take(data[at + 16 : at + length], found)
+                at += length + 3 & ~3
+
+    def take(self, body: bytes, found: dict[IPv4Network, frozenset[str]]) -> None:
+        """Takes one route of a dump."""
+        length, table, kind = body[1], body[4], body[7]
+        parts = attributes(body[12:])
+        if table == MAIN_TABLE and kind == UNICAST:
+            prefix = IPv4Network((IPv4Address(parts.get(RTA_DST, b"\0\0\0\0")), length))
+            found[prefix] = frozenset(self.names[number] for number in interfaces_of(parts))
+
+    def turn(self, device: str, is_up: bool) -> None:
+        """Takes a device up or down."""
+        request = struct.pack("16sH14x", device.encode(), 0)
+        flags = struct.unpack("16sH14x", fcntl.ioctl(self.control, SIOCGIFFLAGS, request))[1]
+        flags = flags | IFF_UP if is_up else flags & ~IFF_UP
+        fcntl.ioctl(self.control, SIOCSIFFLAGS, struct.pack("16sH14x", device.encode(), flags))
