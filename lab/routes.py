@@ -1,16 +1,15 @@
 """Routes of the running routers beside the rows of a trace: waiting until they stand still, and comparing."""
 import time
 from ipaddress import IPv4Network
-from typing import Iterator, Optional
+from typing import Optional
 
 from lab import frr
-from lab.network import End
 from lab.program import Row
 from lab.site import Site
 
 Rows = dict[IPv4Network, dict[str, Row]]
 Hops = dict[tuple[int, IPv4Network], frozenset[int]]
-STEP, STILL, FIRM, PATIENCE = 0.05, 0.4, 8.0, 60.0
+STEP, STILL, FIRM, PATIENCE = 0.1, 0.4, 20.0, 120.0
 
 
 def hops_now(site: Site, hosts: list[IPv4Network]) -> Hops:
@@ -70,18 +69,19 @@ def words_of(cost: Optional[int], links: frozenset[int]) -> str:
     return f"{cost} via {' '.join(map(str, sorted(links)))}" if links else "none" if cost is None else str(cost)
 
 
-def compare(site: Site, rows: Rows, hops: Hops) -> Iterator[str]:
+def compare(site: Site, rows: Rows, hops: Hops) -> list[str]:
     """A line for each row whose next hops or cost are others: the router and the host network."""
-    network = site.network
+    network, texts = site.network, []
     wrong = set(wrong_hops(site, rows, hops))
     for place, router in enumerate(network.routers):
         costs = ospf_costs(site, place) if network.protocol == "ospf" else bgp_costs(site, place)
         for host, table in rows.items():
-            end: End = network.hosts[host]
-            row = table[router.name]
+            end, row = network.hosts[host], table[router.name]
             if end.router == place:
                 continue
             cost = costs.get(host)
             found = None if cost is None else cost - frr.own_cost(network, end)
             if (place, host) in wrong or found != row.cost:
-                yield f"row {router.name} {host}: arcv says {words_of(row.cost, row.links)}, FRR {words_of(found, hops[place, host])}"
+                text = f"arcv says {words_of(row.cost, row.links)}, FRR {words_of(found, hops[place, host])}"
+                texts.append(f"row {router.name} {host}: {text}")
+    return texts

@@ -1,6 +1,7 @@
 """One document: its network is brought up, failed in turn, and compared with what arcv answers."""
 import os
 from collections import Counter
+from concurrent.futures import ThreadPoolExecutor
 from dataclasses import dataclass, field
 from ipaddress import IPv4Network
 from random import Random
@@ -13,7 +14,7 @@ from lab.packets import Chooser
 from lab.probes import Packet, Probes
 from lab.program import Program, Traffic
 from lab.routes import Rows, compare, hops_now, settle
-from lab.site import Site
+from lab.site import BESIDE, Site
 from lab.spaces import Spaces
 from lab.walks import Walk, Ways
 
@@ -78,14 +79,17 @@ class Run:
         counts["routers"], counts["links"] = len(self.network.routers), len(self.network.links)
         for policy, verdict in zip(self.network.policies, self.verdicts):
             counts[f"{policy.kind} {verdict.answer}"] += 1
-        try:
-            self.site.up()
-            probes = Probes(self.site, self.chooser.protocols())
-            for failed, origin in self.sets.items():
-                self.try_set(failed, origin, probes)
-            probes.close()
-        finally:
-            self.site.down()
+        with ThreadPoolExecutor(BESIDE) as pool:
+            try:
+                told = {failed: pool.submit(self.rows, failed) for failed in self.sets}
+                self.site.up()
+                probes = Probes(self.site, self.chooser.protocols())
+                for failed, origin in self.sets.items():
+                    self.try_set(failed, origin, told[failed].result(), probes)
+                probes.close()
+            finally:
+                pool.shutdown(wait=False, cancel_futures=True)
+                self.site.down()
         return self.tally
 
     def differs(self, failed: Failures, origin: str, text: str) -> None:
@@ -101,9 +105,8 @@ class Run:
             return {}
         return {host: self.program.trace(self.document, hosts[host == hosts[0]], host, failed) for host in hosts}
 
-    def try_set(self, failed: Failures, origin: str, probes: Probes) -> None:
-        """Compares routes and packets under one failure set."""
-        rows = self.rows(failed)
+    def try_set(self, failed: Failures, origin: str, rows: Rows, probes: Probes) -> None:
+        """Compares routes and packets under one failure set, `rows` being what arcv says of it."""
         self.site.fail(failed)
         hops = settle(self.site, rows)
         counts = self.tally.counts
@@ -113,7 +116,11 @@ class Run:
             row = rows[host][self.network.routers[place].name]
             counts["rows with several next hops"] += len(row.links) > 1
             counts["rows without a route"] += row.cost is None
-        for text in compare(self.site, rows, hops):
+        texts = compare(self.site, rows, hops)
+        if texts:
+            hops = settle(self.site, rows)
+            texts = compare(self.site, rows, hops)
+        for text in texts:
             self.differs(failed, origin, text)
         self.try_packets(failed, origin, rows, probes)
         if hops_now(self.site, list(rows)) != hops and settle(self.site, rows) != hops:

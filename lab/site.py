@@ -1,13 +1,14 @@
 """A network brought up: a namespace a router, its links, its daemons, and the hosts beside it in a namespace of their own.
 
-`lab` code never resolves an address of the link layer: every device has one and the same, and none asks for another's, so that what
-a router sends out at one end of a link is taken at the other."""
+No address of the link layer is ever asked for: every device has one and the same, so that what a router sends out at one end of a
+link is taken at the other."""
 import json
 import os
 import shutil
 import socket
 import subprocess
 import time
+from concurrent.futures import ThreadPoolExecutor
 from typing import Any, Iterable
 
 from lab import frr
@@ -24,7 +25,7 @@ SWITCHES = {
     "net/ipv4/conf/default/accept_local": 1, "net/ipv4/conf/all/send_redirects": 0, "net/ipv4/conf/default/send_redirects": 0,
     "net/ipv4/fib_multipath_hash_policy": 1, "net/ipv4/icmp_ratelimit": 0, "net/ipv4/icmp_echo_ignore_all": 1,
 }
-START_SECONDS = 30
+START_SECONDS, BESIDE = 60, 4
 
 
 class Site:
@@ -56,17 +57,20 @@ class Site:
                     with open(f"/proc/sys/{switch}", "w") as file:
                         file.write(str(value))
         self.join()
-        for place in range(len(self.parts)):
-            self.address(place)
-            self.filter(place)
-            self.begin(place, "zebra", frr.zebra_words(self.network.routers[place]))
-        for place in range(len(self.parts)):
-            self.await_socket(place, "zserv")
-            words = frr.ospf_words if self.network.protocol == "ospf" else frr.bgp_words
-            self.begin(place, "ospfd" if self.network.protocol == "ospf" else "bgpd", words(self.network, place))
-        for place in range(len(self.parts)):
-            self.await_socket(place, "ospfd.vty" if self.network.protocol == "ospf" else "bgpd.vty")
+        with ThreadPoolExecutor(BESIDE) as pool:
+            list(pool.map(self.set_up, range(len(self.parts))))
         self.kernels = [Kernel(self.space(place)) for place in range(len(self.parts))]
+
+    def set_up(self, place: int) -> None:
+        """Brings one router up."""
+        self.address(place)
+        self.filter(place)
+        self.begin(place, "zebra", frr.zebra_words(self.network.routers[place]))
+        self.await_socket(place, "zserv")
+        words = frr.ospf_words if self.network.protocol == "ospf" else frr.bgp_words
+        daemon = "ospfd" if self.network.protocol == "ospf" else "bgpd"
+        self.begin(place, daemon, words(self.network, place))
+        self.await_socket(place, f"{daemon}.vty")
 
     def down(self) -> None:
         for kernel in self.kernels:
@@ -87,7 +91,7 @@ class Site:
 
     def address(self, place: int) -> None:
         """Addresses the interfaces of a router, and takes up those that are up."""
-        router, lines = self.network.routers[place], ["addr flush dev lo", "link set lo up"]
+        router, lines = self.network.routers[place], ["link set lo up", "addr flush dev lo"]
         for face in router.interfaces.values():
             end = End(place, face.name)
             has_device = end in self.network.link_at or end in self.network.hosts.values()
@@ -98,7 +102,6 @@ class Site:
             else:
                 lines.append(f"addr add {face.address} dev {self.device(end)}")
             lines.append(f"link set {self.device(end)} up")
-        batch(["link set lo up"], self.space(place))
         batch(lines, self.space(place))
 
     def filter(self, place: int) -> None:
