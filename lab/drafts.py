@@ -8,6 +8,7 @@ from typing import Optional
 
 KINDS = ("GigabitEthernet", "GigabitEthernet", "FastEthernet", "Serial", "TenGigabitEthernet")
 SERVICES = ("tcp {} {} eq 22", "tcp {} {} eq www", "tcp {} {} range 135 139", "udp {} {} eq domain", "udp {} {}", "icmp {} {}", "47 {} {}")
+SIZES = (3, 3, 4, 4, 5, 5, 6, 7, 8, 10)
 ASKED = (("tcp", 22), ("tcp", 443), ("tcp", None), ("udp", 53), ("icmp", None), (47, None))
 
 
@@ -52,7 +53,7 @@ class Drawing:
 
     def __init__(self, kind: Kind, draw: Random) -> None:
         self.kind, self.draw = kind, draw
-        self.routers = [Draft(f"r{number}") for number in range(1, draw.randint(3, 10) + 1)]
+        self.routers = [Draft(f"r{number}") for number in range(1, draw.choice(SIZES) + 1)]
         self.links: list[tuple[int, int]] = []
         self.hosts: list[IPv4Network] = []
 

@@ -1,18 +1,19 @@
 """What is asked of the kernel inside a network namespace: sockets there, routes, and links up or down."""
 import ctypes
+import errno
 import fcntl
 import os
 import socket
 import struct
 from contextlib import contextmanager
-from ipaddress import IPv4Address, IPv4Network
 from typing import Iterator
 
 CLONE_NEWNET = 0x40000000
 SIOCGIFFLAGS, SIOCSIFFLAGS, IFF_UP = 0x8913, 0x8914, 1
 RTM_NEWROUTE, RTM_GETROUTE, NLMSG_DONE, NLM_F_DUMP = 24, 26, 3, 0x301
 RTA_DST, RTA_OIF, RTA_MULTIPATH, RTA_TABLE = 1, 4, 9, 15
-MAIN_TABLE, UNICAST = 254, 1
+MAIN_TABLE, UNICAST, ROUTE_GROUP = 254, 1, 0x40
+Prefix = tuple[bytes, int]
 LIBC = ctypes.CDLL(None, use_errno=True)
 
 
@@ -63,18 +64,33 @@ class Kernel:
     def __init__(self, name: str) -> None:
         with inside(name):
             self.routes_socket = socket.socket(socket.AF_NETLINK, socket.SOCK_RAW, 0)
+            self.changes = socket.socket(socket.AF_NETLINK, socket.SOCK_RAW | socket.SOCK_NONBLOCK, 0)
+            self.changes.bind((0, ROUTE_GROUP))
             self.control = socket.socket(socket.AF_INET, socket.SOCK_DGRAM)
             self.names = {number: device for number, device in socket.if_nameindex()}
 
     def close(self) -> None:
-        self.routes_socket.close()
-        self.control.close()
+        for line in (self.routes_socket, self.changes, self.control):
+            line.close()
 
-    def routes(self) -> dict[IPv4Network, frozenset[str]]:
-        """The routes of the main table: the devices over which each leads."""
+    def drain(self) -> bool:
+        """Takes what the kernel told of changes of routes, and tells whether it did."""
+        has_changed = False
+        while True:
+            try:
+                self.changes.recv(1 << 16)
+            except BlockingIOError:
+                return has_changed
+            except OSError as error:
+                if error.errno != errno.ENOBUFS:
+                    raise
+            has_changed = True
+
+    def routes(self) -> dict[Prefix, frozenset[str]]:
+        """The routes of the main table by address and length: the devices over which each leads."""
         request = struct.pack("=IHHIIBBBBBBBBI", 28, RTM_GETROUTE, NLM_F_DUMP, 1, 0, socket.AF_INET, 0, 0, 0, 0, 0, 0, 0, 0)
         self.routes_socket.send(request)
-        found: dict[IPv4Network, frozenset[str]] = {}
+        found: dict[Prefix, frozenset[str]] = {}
         while True:
             data, at = self.routes_socket.recv(1 << 18), 0
             while at + 16 <= len(data):
@@ -85,13 +101,12 @@ class Kernel:
                     self.take(data[at + 16 : at + length], found)
                 at += length + 3 & ~3
 
-    def take(self, body: bytes, found: dict[IPv4Network, frozenset[str]]) -> None:
+    def take(self, body: bytes, found: dict[Prefix, frozenset[str]]) -> None:
         """Takes one route of a dump."""
         length, table, kind = body[1], body[4], body[7]
         parts = attributes(body[12:])
         if table == MAIN_TABLE and kind == UNICAST:
-            prefix = IPv4Network((IPv4Address(parts.get(RTA_DST, b"\0\0\0\0")), length))
-            found[prefix] = frozenset(self.names[number] for number in interfaces_of(parts))
+            found[parts.get(RTA_DST, bytes(4)), length] = frozenset(self.names[number] for number in interfaces_of(parts))
 
     def turn(self, device: str, is_up: bool) -> None:
         """Takes a device up or down."""

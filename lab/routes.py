@@ -1,4 +1,6 @@
 """Routes of the running routers beside the rows of a trace: waiting until they stand still, and comparing."""
+import json
+import re
 import time
 from ipaddress import IPv4Network
 from typing import Optional
@@ -15,12 +17,12 @@ STEP, STILL, FIRM, PATIENCE = 0.1, 0.4, 20.0, 120.0
 def hops_now(site: Site, hosts: list[IPv4Network]) -> Hops:
     """The links over which the kernel of each router sends what goes to each host network of another router."""
     network, found = site.network, {}
+    keys = {host: (host.network_address.packed, host.prefixlen) for host in hosts}
     for place, kernel in enumerate(site.kernels):
-        links = {site.device(end): link.number for end, link in network.link_at.items() if end.router == place}
         routes = kernel.routes()
-        for host in hosts:
+        for host, key in keys.items():
             if network.hosts[host].router != place:
-                found[place, host] = frozenset(links.get(device, 0) for device in routes.get(host, ()))
+                found[place, host] = frozenset(site.links.get((place, device), 0) for device in routes.get(key, ()))
     return found
 
 
@@ -40,25 +42,29 @@ def settle(site: Site, rows: Rows) -> Hops:
     """Waits until routes stand still, longer where they are not as told: those have to stay so for long, and not for ever
     to change. Gives the routes then."""
     begun = changed = time.monotonic()
-    hops = hops_now(site, list(rows))
+    hops: Optional[Hops] = None
     while True:
         time.sleep(STEP)
-        now, fresh = time.monotonic(), hops_now(site, list(rows))
-        if fresh != hops:
-            hops, changed = fresh, now
-        wait = FIRM if wrong_hops(site, rows, hops) else STILL
-        if now - changed >= wait or now - begun >= PATIENCE:
-            return hops
+        now = time.monotonic()
+        if any([kernel.drain() for kernel in site.kernels]):
+            hops, changed = None, now
+        elif now - changed >= STILL:
+            hops = hops_now(site, list(rows)) if hops is None else hops
+            if now - changed >= FIRM or not wrong_hops(site, rows, hops):
+                return hops
+        if now - begun >= PATIENCE:
+            return hops_now(site, list(rows))
 
 
 def ospf_costs(site: Site, place: int) -> dict[IPv4Network, int]:
-    answer = site.ask(place, "zebra", "show ip route ospf json")
-    return {IPv4Network(prefix): route["metric"] for prefix, routes in answer.items() for route in routes if route.get("selected")}
+    """The costs of the routes that are in use."""
+    lines = re.findall(r"^O\S*>\S* (\S+) \[[0-9]+/([0-9]+)\]", site.ask(place, "zebra", "show ip route ospf"), re.M)
+    return {IPv4Network(prefix): int(cost) for prefix, cost in lines}
 
 
 def bgp_costs(site: Site, place: int) -> dict[IPv4Network, int]:
     """The lengths of the AS paths of the best routes."""
-    answer = site.ask(place, "bgpd", "show bgp ipv4 unicast json")
+    answer = json.loads(site.ask(place, "bgpd", "show bgp ipv4 unicast json"))
     return {
         IPv4Network(prefix): len(route["path"].split())
         for prefix, routes in answer.get("routes", {}).items() for route in routes if route.get("bestpath")

@@ -54,7 +54,16 @@ def draw_sets(network: Network, found: Claims, options: Options, draw: Random) -
     for _ in range(options.sets):
         count = draw.randint(1, max(1, min(limit, len(numbers))))
         sets.setdefault(frozenset(draw.sample(numbers, min(count, len(numbers)))), "drawn")
-    return sets
+    return in_order(sets)
+
+
+def in_order(sets: dict[Failures, str]) -> dict[Failures, str]:
+    """The failure sets in an order in which few links come up again from one to the next, since that is what takes time."""
+    left, ordered, last = dict(sets), {}, frozenset()
+    while left:
+        following = min(left, key=lambda failed: (len(last - failed), len(failed - last), sorted(failed)))
+        ordered[following], last = left.pop(following), following
+    return ordered
 
 
 class Run:

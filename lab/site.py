@@ -2,14 +2,13 @@
 
 No address of the link layer is ever asked for: every device has one and the same, so that what a router sends out at one end of a
 link is taken at the other."""
-import json
 import os
 import shutil
 import socket
 import subprocess
 import time
 from concurrent.futures import ThreadPoolExecutor
-from typing import Any, Iterable
+from typing import Iterable
 
 from lab import frr
 from lab.kernel import Kernel, inside
@@ -35,6 +34,7 @@ class Site:
         self.spaces, self.network = spaces, network
         self.parts = [f"{place}" for place in range(len(network.routers))]
         self.kernels: list[Kernel] = []
+        self.links = {(end.router, self.device(end)): link.number for end, link in network.link_at.items()}
         self.failed: frozenset[int] = frozenset()
         self.unfailing: frozenset[int] = frozenset()
 
@@ -149,8 +149,8 @@ class Site:
             if frr.is_alive(self.network.face(end)):
                 self.kernels[end.router].turn(self.device(end), is_up)
 
-    def ask(self, place: int, daemon: str, command: str) -> Any:
-        """What a daemon answers to a command, read as JSON."""
+    def ask(self, place: int, daemon: str, command: str) -> str:
+        """What a daemon answers to a command."""
         with socket.socket(socket.AF_UNIX) as line:
             line.settimeout(START_SECONDS)
             line.connect(os.path.join(self.folder(place), f"{daemon}.vty"))
@@ -161,7 +161,7 @@ class Site:
                 if not piece:
                     raise OSError(f"{daemon} broke off at `{command}`")
                 answer += piece
-        return json.loads(answer[:-4] or b"{}")
+        return answer[:-4].decode()
 
 
 def wire(one: tuple[str, str], other: tuple[str, str]) -> str:
