@@ -6,11 +6,14 @@ import os
 import socket
 import struct
 from contextlib import contextmanager
+from ipaddress import IPv4Interface
 from typing import Iterator
 
 CLONE_NEWNET = 0x40000000
 SIOCGIFFLAGS, SIOCSIFFLAGS, IFF_UP = 0x8913, 0x8914, 1
 RTM_NEWROUTE, RTM_GETROUTE, NLMSG_DONE, NLM_F_DUMP = 24, 26, 3, 0x301
+RTM_NEWADDR, RTM_DELADDR, NLMSG_ERROR, NLM_F_MAKE, NLM_F_TAKE = 20, 21, 2, 0x605, 0x5
+IFA_ADDRESS, IFA_LOCAL = 1, 2
 RTA_DST, RTA_OIF, RTA_MULTIPATH, RTA_TABLE = 1, 4, 9, 15
 MAIN_TABLE, UNICAST, ROUTE_GROUP = 254, 1, 0x40
 Prefix = tuple[bytes, int]
@@ -67,7 +70,8 @@ class Kernel:
             self.changes = socket.socket(socket.AF_NETLINK, socket.SOCK_RAW | socket.SOCK_NONBLOCK, 0)
             self.changes.bind((0, ROUTE_GROUP))
             self.control = socket.socket(socket.AF_INET, socket.SOCK_DGRAM)
-            self.names = {number: device for number, device in socket.if_nameindex()}
+            self.names = dict(socket.if_nameindex())
+        self.numbers = {device: number for number, device in self.names.items()}
 
     def close(self) -> None:
         for line in (self.routes_socket, self.changes, self.control):
@@ -107,6 +111,17 @@ class Kernel:
         parts = attributes(body[12:])
         if table == MAIN_TABLE and kind == UNICAST:
             found[parts.get(RTA_DST, bytes(4)), length] = frozenset(self.names[number] for number in interfaces_of(parts))
+
+    def address(self, device: str, address: IPv4Interface, is_there: bool = True) -> None:
+        """Gives an address to a device, or takes it away."""
+        mine = b"".join(struct.pack("=HH", 8, kind) + address.ip.packed for kind in (IFA_LOCAL, IFA_ADDRESS))
+        body = struct.pack("=BBBBI", socket.AF_INET, address.network.prefixlen, 0, 0, self.numbers[device]) + mine
+        kind, flags = (RTM_NEWADDR, NLM_F_MAKE) if is_there else (RTM_DELADDR, NLM_F_TAKE)
+        self.routes_socket.send(struct.pack("=IHHII", 16 + len(body), kind, flags, 2, 0) + body)
+        answer = self.routes_socket.recv(1 << 12)
+        error = struct.unpack_from("=i", answer, 16)[0]
+        if struct.unpack_from("=H", answer, 4)[0] == NLMSG_ERROR and error:
+            raise OSError(-error, f"{device} {address}: {os.strerror(-error)}")
 
     def turn(self, device: str, is_up: bool) -> None:
         """Takes a device up or down."""

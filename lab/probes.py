@@ -118,7 +118,10 @@ class Probes:
         keep_marked(line)
         self.lines[line] = (kind, place)
 
-    def close(self) -> None:
+    def __enter__(self) -> "Probes":
+        return self
+
+    def __exit__(self, *_: object) -> None:
         self.poll.close()
         for line in [*self.lines, self.hosts]:
             line.close()

@@ -92,10 +92,9 @@ class Run:
             try:
                 told = {failed: pool.submit(self.rows, failed) for failed in self.sets}
                 self.site.up()
-                probes = Probes(self.site, self.chooser.protocols())
-                for failed, origin in self.sets.items():
-                    self.try_set(failed, origin, told[failed].result(), probes)
-                probes.close()
+                with Probes(self.site, self.chooser.protocols()) as probes:
+                    for failed, origin in self.sets.items():
+                        self.try_set(failed, origin, told[failed].result(), probes)
             finally:
                 pool.shutdown(wait=False, cancel_futures=True)
                 self.site.down()

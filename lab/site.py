@@ -8,16 +8,18 @@ import socket
 import subprocess
 import time
 from concurrent.futures import ThreadPoolExecutor
+from ipaddress import IPv4Interface
 from typing import Iterable
 
 from lab import frr
 from lab.kernel import Kernel, inside
-from lab.network import End, Link, Network
+from lab.network import End, Link, Network, list_at
 from lab.spaces import Spaces, batch
 
 DAEMONS = "/usr/lib/frr"
 HARDWARE = "02:00:00:00:00:01"
 HOSTS = "hosts"
+LOCALHOST = IPv4Interface("127.0.0.1/8")
 SWITCHES = {
     "net/ipv6/conf/all/disable_ipv6": 1, "net/ipv6/conf/default/disable_ipv6": 1, "net/ipv4/ip_forward": 1,
     "net/ipv4/conf/all/rp_filter": 0, "net/ipv4/conf/default/rp_filter": 0, "net/ipv4/conf/all/accept_local": 1,
@@ -57,9 +59,9 @@ class Site:
                     with open(f"/proc/sys/{switch}", "w") as file:
                         file.write(str(value))
         self.join()
+        self.kernels = [Kernel(self.space(place)) for place in range(len(self.parts))]
         with ThreadPoolExecutor(BESIDE) as pool:
             list(pool.map(self.set_up, range(len(self.parts))))
-        self.kernels = [Kernel(self.space(place)) for place in range(len(self.parts))]
 
     def set_up(self, place: int) -> None:
         """Brings one router up."""
@@ -91,21 +93,23 @@ class Site:
 
     def address(self, place: int) -> None:
         """Addresses the interfaces of a router, and takes up those that are up."""
-        router, lines = self.network.routers[place], ["link set lo up", "addr flush dev lo"]
+        router, kernel = self.network.routers[place], self.kernels[place]
+        kernel.turn("lo", True)
+        kernel.address("lo", LOCALHOST, False)
         for face in router.interfaces.values():
             end = End(place, face.name)
-            has_device = end in self.network.link_at or end in self.network.hosts.values()
-            if not has_device or not frr.is_alive(face):
-                continue
-            if frr.is_on_lo(self.network, end) and face.address:
-                lines.append(f"addr add {face.address.ip}/32 dev lo")
-            else:
-                lines.append(f"addr add {face.address} dev {self.device(end)}")
-            lines.append(f"link set {self.device(end)} up")
-        batch(lines, self.space(place))
+            if face.address and frr.is_alive(face) and self.device(end) in kernel.numbers:
+                if frr.is_on_lo(self.network, end):
+                    kernel.address("lo", IPv4Interface(face.address.ip))
+                else:
+                    kernel.address(self.device(end), face.address)
+                kernel.turn(self.device(end), True)
 
     def filter(self, place: int) -> None:
-        """Hands the packet lists of a router to nftables."""
+        """Hands the packet lists of a router that are bound to nftables."""
+        router = self.network.routers[place]
+        if not any(list_at(router, face, side) for face in router.interfaces.values() for side in face.lists):
+            return
         text = "\n".join(frr.nft_words(self.network, place))
         with inside(self.space(place)):
             done = subprocess.run(["nft", "-f", "-"], input=text, text=True, capture_output=True)

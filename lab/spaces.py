@@ -51,24 +51,23 @@ def members(name: str) -> set[int]:
     return {int(word) for word in done.stdout.split()} - {os.getpid()}
 
 
-def remove_spaces(number: int) -> int:
-    """Takes down the namespaces of the run of this process, with the processes in them, and counts them."""
+def remove(mine: list[str]) -> None:
+    """Takes down namespaces in which no process is left."""
+    if mine:
+        batch([f"netns del {name}" for name in mine], force=True)
+
+
+def take_down(number: int) -> int:
+    """Takes down all that the run of this process made, and counts its namespaces."""
     mine = [name for name in names() if owner(name) == number]
     for process in set().union(*(members(name) for name in mine)):
         try:
             os.kill(process, signal.SIGKILL)
         except ProcessLookupError:
             pass
-    if mine:
-        batch([f"netns del {name}" for name in mine], force=True)
-    return len(mine)
-
-
-def take_down(number: int) -> int:
-    """Takes down all that the run of this process made, and counts its namespaces."""
-    count = remove_spaces(number)
+    remove(mine)
     shutil.rmtree(folder_of(number), ignore_errors=True)
-    return count
+    return len(mine)
 
 
 def folder_of(number: int) -> str:
@@ -143,7 +142,7 @@ class Spaces:
         for process in self.processes:
             process.wait()
         self.processes = []
-        remove_spaces(self.number)
+        remove([name for name in names() if owner(name) == self.number])
         shutil.rmtree(self.site, ignore_errors=True)
 
     def end(self) -> None:
