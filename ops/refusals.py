@@ -9,6 +9,7 @@ import tempfile
 from dataclasses import asdict, dataclass
 from typing import Any
 
+from lab.router_ids import warnings
 from ops import commands
 from ops.commands import TOP, Wrong, counted
 
@@ -137,7 +138,8 @@ def arguments() -> argparse.ArgumentParser:
         "Lists every line of a document's router files that arcv refuses, with its text, and what to do where a kind comes first. arcv tells the first "
         "refusal alone, so this lays copies of the files into a temporary folder, comments the refused line out there (`!` at the start of a top line "
         "and of its block, ` !` in an indented one, so that line numbers stay), and asks again, until no line of one file is refused by itself. The refusal "
-        "that is left then, of the files and the document together, is told last, after `then:`. The names of router files are looked up in DOC's folder.",
+        "that is left then, of the files and the document together, is told last, after `then:`. Where none is left, a line `warning:` names each router id "
+        "that another router may take by itself, which arcv does not refuse. The names of router files are looked up in DOC's folder.",
         "nothing but in the temporary folder.",
         "bin/refusals net.json",
     )
@@ -158,16 +160,21 @@ def main(words: list[str]) -> int:
         commands.tell("refusals: bin/arcv proves and builds the program first")
     left, _ = asked(program, folder, base)
     document = names_of(options.doc)
+    warned: list[str] = []
     if left and document and left[0] in document[1] and left[2] in WHAT_TO_DO:
         with tempfile.TemporaryDirectory(prefix="arcv-refusals-") as copy:
             names = lay(folder, *document, copy)
             lines, left = list_refused(program, copy, names)
+            warned = [] if left else warnings(os.path.join(copy, DOCUMENT))
             left = left and ({**names, DOCUMENT: options.doc}[left[0]], *left[1:])
     elif left and left[0] == base:
         left = (options.doc, *left[1:])
+    elif not left:
+        warned = warnings(options.doc)
     if options.json:
         rest = {"file": shown(left[0]), "number": left[1], "kind": left[2]} if left else None
-        commands.put(commands.as_json({"lines": [asdict(line) for line in lines], "then": rest}))
+        commands.put(commands.as_json({"lines": [asdict(line) for line in lines], "then": rest, "warnings": warned}))
     else:
-        commands.put("\n".join(told(lines, left)) + "\n")
+        shown_warnings = [line for text in warned for line in commands.wrapped(f"warning: {text}", "    ")]
+        commands.put("\n".join([*shown_warnings, *told(lines, left)]) + "\n")
     return commands.NOT_SO if lines or left else commands.FINE

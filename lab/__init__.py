@@ -1,0 +1,1 @@
+"""The lab: arcv's model beside FRRouting. README.md says what is compared, and how."""

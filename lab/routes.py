@@ -1,0 +1,93 @@
+"""Routes of the running routers beside the rows of a trace: waiting until they stand still, and comparing."""
+import json
+import re
+import time
+from ipaddress import IPv4Network
+from typing import Optional
+
+from lab import frr
+from lab.program import Row
+from lab.site import Site
+
+Rows = dict[IPv4Network, dict[str, Row]]
+Hops = dict[tuple[int, IPv4Network], frozenset[int]]
+STEP, STILL, FIRM, PATIENCE = 0.1, 0.4, 20.0, 120.0
+
+
+def hops_now(site: Site, hosts: list[IPv4Network]) -> Hops:
+    """The links over which the kernel of each router sends what goes to each host network of another router."""
+    network, found = site.network, {}
+    keys = {host: (host.network_address.packed, host.prefixlen) for host in hosts}
+    for place, kernel in enumerate(site.kernels):
+        routes = kernel.routes()
+        for host, key in keys.items():
+            if network.hosts[host].router != place:
+                found[place, host] = frozenset(site.links.get((place, device), 0) for device in routes.get(key, ()))
+    return found
+
+
+def is_as_told(site: Site, place: int, hops: frozenset[int], row: Row) -> bool:
+    """Whether the next hops are those of the row, or one of them where the router uses one alone."""
+    if frr.has_one_path(site.network, place):
+        return hops <= row.links and len(hops) == min(1, len(row.links))
+    return hops == row.links
+
+
+def wrong_hops(site: Site, rows: Rows, hops: Hops) -> list[tuple[int, IPv4Network]]:
+    names = [router.name for router in site.network.routers]
+    return [(place, host) for (place, host), links in hops.items() if not is_as_told(site, place, links, rows[host][names[place]])]
+
+
+def settle(site: Site, rows: Rows) -> Hops:
+    """Waits until routes stand still, longer where they are not as told: those have to stay so for long, and not for ever
+    to change. Gives the routes then."""
+    begun = changed = time.monotonic()
+    hops: Optional[Hops] = None
+    while True:
+        time.sleep(STEP)
+        now = time.monotonic()
+        if any([kernel.drain() for kernel in site.kernels]):
+            hops, changed = None, now
+        elif now - changed >= STILL:
+            hops = hops_now(site, list(rows)) if hops is None else hops
+            if now - changed >= FIRM or not wrong_hops(site, rows, hops):
+                return hops
+        if now - begun >= PATIENCE:
+            return hops_now(site, list(rows))
+
+
+def ospf_costs(site: Site, place: int) -> dict[IPv4Network, int]:
+    """The costs of the routes that are in use."""
+    lines = re.findall(r"^O\S*>\S* (\S+) \[[0-9]+/([0-9]+)\]", site.ask(place, "zebra", "show ip route ospf"), re.M)
+    return {IPv4Network(prefix): int(cost) for prefix, cost in lines}
+
+
+def bgp_costs(site: Site, place: int) -> dict[IPv4Network, int]:
+    """The lengths of the AS paths of the best routes."""
+    answer = json.loads(site.ask(place, "bgpd", "show bgp ipv4 unicast json"))
+    return {
+        IPv4Network(prefix): len(route["path"].split())
+        for prefix, routes in answer.get("routes", {}).items() for route in routes if route.get("bestpath")
+    }
+
+
+def words_of(cost: Optional[int], links: frozenset[int]) -> str:
+    return f"{cost} via {' '.join(map(str, sorted(links)))}" if links else "none" if cost is None else str(cost)
+
+
+def compare(site: Site, rows: Rows, hops: Hops) -> list[str]:
+    """A line for each row whose next hops or cost are others: the router and the host network."""
+    network, texts = site.network, []
+    wrong = set(wrong_hops(site, rows, hops))
+    for place, router in enumerate(network.routers):
+        costs = ospf_costs(site, place) if network.protocol == "ospf" else bgp_costs(site, place)
+        for host, table in rows.items():
+            end, row = network.hosts[host], table[router.name]
+            if end.router == place:
+                continue
+            cost = costs.get(host)
+            found = None if cost is None else cost - frr.own_cost(network, end)
+            if (place, host) in wrong or found != row.cost:
+                text = f"arcv says {words_of(row.cost, row.links)}, FRR {words_of(found, hops[place, host])}"
+                texts.append(f"row {router.name} {host}: {text}")
+    return texts
