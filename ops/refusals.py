@@ -175,6 +175,5 @@ def main(words: list[str]) -> int:
         rest = {"file": shown(left[0]), "number": left[1], "kind": left[2]} if left else None
         commands.put(commands.as_json({"lines": [asdict(line) for line in lines], "then": rest, "warnings": warned}))
     else:
-        shown_warnings = [line for text in warned for line in commands.wrapped(f"warning: {text}", "    ")]
-        commands.put("\n".join([*shown_warnings, *told(lines, left)]) + "\n")
+        commands.put("\n".join([*(f"warning: {text}" for text in warned), *told(lines, left)]) + "\n")
     return commands.NOT_SO if lines or left else commands.FINE
