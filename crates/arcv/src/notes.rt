@@ -87,6 +87,9 @@ fn is_barred_report(
     certificate: &Name,
     store: &mut DiskStore<HostRuntime>,
 ) -> bool {
+    if !is_plain(rt, certificate.bytes()) {
+        return false;
+    }
     let mut pieces = Pieces::make(rt.alloc(), PROOF_LIMIT);
     for number in 0..u64::MAX {
         if pieces.failed() || !matches!(pieces.next(store, certificate), Ok(true)) {
@@ -109,6 +112,9 @@ fn explain_edits(
     certificate: &Name,
     store: &mut DiskStore<HostRuntime>,
 ) -> io::Result<()> {
+    if !is_plain(rt, certificate.bytes()) {
+        return Ok(());
+    }
     let text = edit_lines(rt, certificate, store)?;
     let is_of_sessions = text
         .split(|byte| *byte == b'\n')
@@ -139,9 +145,6 @@ pub fn explain_answer(
             explain_edits(rt, &words.document, &words.proof, store)
         }
         Ok(Some(Command::Check(document, certificate))) if code == 0 => {
-            if !is_plain(rt, certificate.bytes()) {
-                return Ok(());
-            }
             if is_barred_report(rt, &certificate, store) {
                 return explain_yes(rt, &document, store);
             }
