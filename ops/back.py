@@ -67,6 +67,8 @@ def _place_entries(original: Original, mine: Changes) -> None:
         listed = original.lists.get(key)
         if listed is None or not listed.entries:
             raise Wrong(f"{original.file}: there is no list {key[1]} with entries, and there is one in the copy")
+        if listed.kind == "standard":
+            raise Wrong(f"{original.file}: list {key[1]} is a standard list, which has no entries such as the copy's: bind an extended one by hand")
         _entry_lines(original, listed, [entry.text for entry in mine.entries if (entry.prefix, entry.name) == key])
 
 
