@@ -7,7 +7,7 @@ from ops.commands import Wrong, counted
 from ops.documents import Document, Policy, folder_of, read_document, span_words
 from ops.faces import Routers
 from ops.reports import Block, Edit, Text, read_text
-from ops.told import ORDER, Told, shown
+from ops.told import ORDER, Told
 from ops.wording import Names, names_of, title
 
 WHY_REJECTED = {
@@ -173,29 +173,6 @@ class Teller:
         if edit.place == "interface":
             return f"at {router}: a new list, in at {name}, denies {packets}"
         return f"at {router}: list {name} turns about what it does with {packets}"
-
-
-def explain_policy(name: str, policy: Policy, block: Block, names: Names, routers: Routers | None = None) -> list[str]:
-    """One answer in words, in lines of at most 80 columns, of which the first says the policy and the answer."""
-    head = f"{name + ': ' if name else ''}{title(block.number, policy, _Nameless(names))}"
-    return shown(Told(head, block.answer, Teller(names, routers).witness(policy, block)))
-
-
-class _Nameless:
-    """Names without those of policies."""
-
-    def __init__(self, names: Names) -> None:
-        self.router, self.link, self.network = names.router, names.link, names.network
-        self.interface, self.list_name = names.interface, names.list_name
-
-    def policy(self, number: int) -> str:
-        return ""
-
-
-def summary(blocks: Sequence[Block]) -> str:
-    """`1 no, 0 not answered, 2 yes: 3 policies`."""
-    counts = {answer: sum(block.answer == answer for block in blocks) for answer in ORDER}
-    return f"{counts['no']} no, {counts['refused']} not answered, {counts['yes']} yes: {counted(len(blocks), 'policy', 'policies')}"
 
 
 def tell_blocks(text: Text, document: Document, names: Names, routers: Routers) -> list[Told]:
