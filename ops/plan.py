@@ -32,7 +32,9 @@ def planned(options: argparse.Namespace) -> list[Planned]:
     return found
 
 
-USERS = ("access-group", "access-list", "list", "community", "match", "distribute-list", "traffic-filter", "peer", "serve")
+USERS = (
+    "access-group", "access-list", "list", "community", "match", "distribute-list", "traffic-filter", "peer", "serve"
+)
 
 
 def _is_use(words: Sequence[str], name: str) -> bool:
@@ -54,7 +56,10 @@ def uses(changes: Changes, text: str) -> list[str]:
         for block in blocks:
             for line in [block.head, *block.lines]:
                 if _is_use(line.words, name):
-                    found.append(f"{changes.router}: `{line.text.strip()}` names list {name} too, so the new entries act there as well")
+                    found.append(
+                        f"{changes.router}: `{line.text.strip()}` names list {name} too, so the new entries act "
+                        "there as well"
+                    )
     return found
 
 
@@ -69,10 +74,15 @@ def details(changes: Changes) -> list[str]:
     lines = []
     for name in dict.fromkeys((entry.prefix, entry.name) for entry in changes.entries):
         texts = [entry.text for entry in changes.entries if (entry.prefix, entry.name) == name]
-        lines.append(f"{'prefix list' if name[0] else 'list'} {name[1]}: {counted(len(texts), 'entry', 'entries')} in front")
+        lines.append(
+            f"{'prefix list' if name[0] else 'list'} {name[1]}: {counted(len(texts), 'entry', 'entries')} in front"
+        )
         lines += [f"    {text}" for text in texts]
     for listed in changes.lists:
-        where = [("at neighbor " if bind.prefix else "in at ") + bind.place for bind in changes.bindings if (bind.prefix, bind.name) == (listed.prefix, listed.name)]
+        where = [
+            ("at neighbor " if bind.prefix else "in at ") + bind.place
+            for bind in changes.bindings if (bind.prefix, bind.name) == (listed.prefix, listed.name)
+        ]
         lines.append(f"new {'prefix list' if listed.prefix else 'list'} {listed.name}, bound {', '.join(where)}")
         lines += [f"    {text}" for text in listed.entries]
     return lines + [session_words(session) for session in changes.sessions]
@@ -115,7 +125,9 @@ def said(rows: Sequence[Planned], total: int) -> list[str]:
     lines = table(rows, total)
     rest = total - len(rows)
     others = {0: ".", 1: ", and the other file is as before."}.get(rest, f", and the {rest} other files are as before.")
-    lines += wrapped(f"Nothing else changes: every line of {'this file' if len(rows) == 1 else 'these files'} stays{others}")
+    lines += wrapped(
+        f"Nothing else changes: every line of {'this file' if len(rows) == 1 else 'these files'} stays{others}"
+    )
     for row in rows:
         lines += ["", f"{row.changes.router} ({row.changes.file})"]
         for line in details(row.changes):
@@ -143,8 +155,9 @@ def as_rows(rows: Sequence[Planned]) -> list[dict[str, object]]:
 def arguments() -> argparse.ArgumentParser:
     words = commands.parser(
         "plan",
-        "Shows what a repair changes, as a table with a sum and then line by line: lists, entries, bindings, sessions. EDITS is a certificate of repair, "
-        "what repair printed, or a list of edits; arcv puts them into copies in a folder of its own. With --copies SUFFIX the files that repair wrote are taken.",
+        "Shows what a repair changes, as a table with a sum and then line by line: lists, entries, bindings, "
+        "sessions. EDITS is a certificate of repair, what repair printed, or a list of edits; arcv puts them into "
+        "copies in a folder of its own. With --copies SUFFIX the files that repair wrote are taken.",
         "nothing.",
         """
         bin/plan net.json repair.cert
@@ -161,7 +174,14 @@ def main(words: list[str]) -> int:
     document = read_document(options.doc)
     rows, total = planned(options), copies.total(options.doc, document)
     if options.json:
-        commands.put(commands.as_json({"routers": as_rows(rows), "of": total, "price": price(copies.edits_of(options), document.weights) if options.edits else None}))
+        commands.put(
+            commands.as_json(
+                {
+                    "routers": as_rows(rows), "of": total,
+                    "price": price(copies.edits_of(options), document.weights) if options.edits else None,
+                }
+            )
+        )
     else:
         lines = said(rows, total)
         if edits := copies.edits_of(options):

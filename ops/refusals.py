@@ -134,10 +134,12 @@ def told(lines: list[Line], left: Refusal | None) -> list[str]:
 def arguments() -> argparse.ArgumentParser:
     words = commands.parser(
         "refusals",
-        "Lists every line of a document's router files that arcv refuses, with its text, and what to do where a kind comes first. arcv tells the first "
-        "refusal alone, so this lays copies of the files into a temporary folder, comments the refused line out there (`!` at the start of a top line "
-        "and of its block, ` !` in an indented one, so that line numbers stay), and asks again, until no line of one file is refused by itself. The refusal "
-        "that is left then, of the files and the document together, is told last, after `then:`. The names of router files are looked up in DOC's folder.",
+        "Lists every line of a document's router files that arcv refuses, with its text, and what to do where a kind "
+        "comes first. arcv tells the first refusal alone, so this lays copies of the files into a temporary folder, "
+        "comments the refused line out there (`!` at the start of a top line and of its block, ` !` in an indented "
+        "one, so that line numbers stay), and asks again, until no line of one file is refused by itself. The "
+        "refusal that is left then, of the files and the document together, is told last, after `then:`. The names "
+        "of router files are looked up in DOC's folder.",
         "nothing but in the temporary folder.",
         "bin/refusals net.json",
     )

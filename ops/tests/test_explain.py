@@ -45,7 +45,10 @@ class Reports(unittest.TestCase):
         self.assertEqual(example("square", "report.txt"), (1, SQUARE))
 
     def test_the_status_is_that_of_the_answers(self) -> None:
-        done = tool("explain", "net.json", "-", folder=os.path.join(EXAMPLES, "office"), given="arc-report 1\n1 reach yes 2\npath 1\npath 2\nend\n")
+        done = tool(
+            "explain", "net.json", "-", folder=os.path.join(EXAMPLES, "office"),
+            given="arc-report 1\n1 reach yes 2\npath 1\npath 2\nend\n",
+        )
         self.assertEqual(done.returncode, 0)
 
     def test_lines_fit_a_terminal(self) -> None:
@@ -60,23 +63,36 @@ class Reports(unittest.TestCase):
             value = json.loads(text)
             order = [answer["answer"] for answer in value["answers"]]
             self.assertEqual(order, sorted(order, key=["no", "refused", "yes"].index))
-            self.assertEqual(sorted(answer["number"] for answer in value["answers"]), [block.number for block in blocks])
+            self.assertEqual(
+                sorted(answer["number"] for answer in value["answers"]), [block.number for block in blocks]
+            )
             self.assertEqual(sum(value["sum"].values()), len(blocks))
 
     def test_lists_at_the_ends_are_named(self) -> None:
         folder = os.path.join(EXAMPLES, "office")
-        given = "arc-report 1\n3 blocked yes 0\nend\n".replace("3 blocked yes 0", "1 reach no 1\ndenied 10.20.0.0/24 10.1.0.0/24")
+        given = "arc-report 1\n3 blocked yes 0\nend\n".replace(
+            "3 blocked yes 0", "1 reach no 1\ndenied 10.20.0.0/24 10.1.0.0/24"
+        )
         text = tool("explain", "net.json", "-", folder=folder, given=given).stdout
         self.assertIn("list GUESTS, in at GigabitEthernet0/2 of warehouse", " ".join(text.split()))
 
     def test_other_texts(self) -> None:
-        says = {"nodes.txt": "whichever router fails: yes", "prefers.txt": "arrive by other routers", "trace.txt": "west, at distance 20", "recheck.txt": "NO (kept)"}
+        says = {
+            "nodes.txt": "whichever router fails: yes", "prefers.txt": "arrive by other routers",
+            "trace.txt": "west, at distance 20", "recheck.txt": "NO (kept)",
+        }
         for name, words in says.items():
             self.assertIn(words, example("square", name)[1])
-        self.assertIn("from 10.1.0.0/24 to 10.4.0.0/24 arrive", example("square", "nodes.txt", "--ends", "10.1.0.0/24", "10.4.0.0/24")[1])
+        self.assertIn(
+            "from 10.1.0.0/24 to 10.4.0.0/24 arrive",
+            example("square", "nodes.txt", "--ends", "10.1.0.0/24", "10.4.0.0/24")[1],
+        )
 
     def test_another_network_s_report(self) -> None:
-        done = tool("explain", "net.json", os.path.join(EXAMPLES, "campus", "report.txt"), folder=os.path.join(EXAMPLES, "square"))
+        done = tool(
+            "explain", "net.json", os.path.join(EXAMPLES, "campus", "report.txt"),
+            folder=os.path.join(EXAMPLES, "square"),
+        )
         self.assertEqual(done.returncode, 2)
         self.assertIn("is it the report of another", " ".join(done.stderr.split()))
 
