@@ -89,6 +89,9 @@ class Router:
 READ_TOP = (("hostname",), ("interface",), ("router", "ospf"), ("router", "bgp"), ("ip", "access-list"), ("access-list",),
             ("ip", "prefix-list"), ("ip", "route"), ("vrf", "definition"), ("ip", "vrf"), ("object-group",), ("route-map",))
 GIVEN = ("dhcp", "negotiated", "pool", "slarp", "auto", "autoconfig")
+QUEUES = ("class", "bandwidth", "priority", "shape", "set", "queue-limit", "random-detect", "fair-queue", "description", "trust", "compression",
+          "netflow-sampler", "queue-buffers", "estimate", "account", "exit")
+POLICERS = ("police", "drop", "conform-action", "exceed-action", "violate-action", "admit")
 OTHER_SYSTEMS = (("feature",), ("vdc",), ("ASA", "Version"), ("nameif",), ("router", "static"), ("set", "version"))
 VRF_LINES = ("rd", "address-family", "exit-address-family", "description", "maximum", "vnet", "snmp", "!")
 SHARED = (("standby", "*", "ip"), ("standby", "ip"), ("vrrp", "*", "ip"), ("glbp", "*", "ip"), ("vrrp", "*", "address"))
@@ -252,27 +255,25 @@ class Reader:
         if len(words) != 3 or words[1] not in ("input", "output"):
             self.judge(("interface",), line, face)
             return
-        row = self.table.find(("interface",), words)
-        if row is not None:
+        if self.table.find(("interface",), words) is not None:
             self.judge(("interface",), line, face)
-        elif self.may_drop(words[2], ()):
-            self.note(line.number, line.text, "service-policy", "drops", "a class of it polices or drops", face)
-        else:
-            self.note(line.number, line.text, "service-policy", "nothing", "it marks, queues and shapes", face)
+            return
+        cost = self.policy_cost(words[2], ())
+        reason = {"nothing": "it marks, queues and shapes", "drops": "a class of it polices or drops", "unknown": "a class of it does what no row knows"}[cost]
+        self.note(line.number, line.text, "service-policy", cost, reason, face)
 
-    def may_drop(self, name: str, above: tuple[str, ...]) -> bool:
-        """Whether a policy map has a class that may drop packets by itself, or one of which that is not known."""
+    def policy_cost(self, name: str, above: tuple[str, ...]) -> str:
+        """What the classes of a policy map cost: nothing, drops, or unknown; a map that is not there does nothing."""
         block = next((b for b in self.blocks if b.head.words == ("policy-map", name)), None)
-        if block is None or name in above:
-            return True
-        known = ("class", "bandwidth", "priority", "shape", "set", "queue-limit", "random-detect", "fair-queue", "description",
-                 "service-policy", "trust", "compression", "netflow-sampler", "queue-buffers", "estimate", "account")
+        if block is None:
+            return "nothing"
+        found = {"unknown"} if name in above else {"nothing"}
         for line in block.lines:
-            if line.words[0] not in known:
-                return True
-            if line.words[0] == "service-policy" and self.may_drop(line.words[-1], (*above, name)):
-                return True
-        return False
+            if line.words[0] == "service-policy" and name not in above:
+                found.add(self.policy_cost(line.words[-1], (*above, name)))
+            elif line.words[0] not in QUEUES:
+                found.add("drops" if line.words[0] in POLICERS else "unknown")
+        return next(cost for cost in ("unknown", "drops", "nothing") if cost in found)
 
     def packet_list(self, block: ios.Block, groups: entries.Groups) -> None:
         words = block.head.words

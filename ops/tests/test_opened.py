@@ -115,8 +115,10 @@ class WhatIsNoted(unittest.TestCase):
 
     def test_service_policies(self) -> None:
         shaping = ("policy-map P", " class class-default", "  shape average 1000000")
+        nested = ("policy-map Q", " class class-default", "  service-policy P", "interface Gi0/0", " service-policy output Q")
         policing = ("policy-map P", " class class-default", "  police 8000 conform-action transmit exceed-action drop")
         self.assertNotIn("drops", self.costs(*shaping, "interface Gi0/0", " service-policy output P"))
         self.assertIn("drops", self.costs(*policing, "interface Gi0/0", " service-policy output P"))
-        self.assertIn("drops", self.costs("interface Gi0/0", " service-policy output NOT-THERE"))
+        self.assertIn("unknown", self.costs("policy-map P", " class X", "  divert somewhere", "interface Gi0/0", " service-policy output P"))
+        self.assertIn("drops", self.costs(*policing, *nested))
         self.assertIn("unknown", self.costs("interface Gi0/0", " service-policy type inspect X"))
