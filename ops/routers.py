@@ -118,6 +118,7 @@ class Reader:
             self.note(line.number, line.text, "capture", "inert", "no line of the configuration")
         for line in orphans:
             self.note(line.number, line.text, "orphan", "unknown", "an indented line with no block above it")
+            self.note(line.number, line.text, "orphan", "elsewhere", "an indented line with no block above it: an interface may be missing")
         if not capture.is_whole:
             self.note(0, "", "capture", "unknown", "the capture does not end in `end`: lines may be missing")
             self.note(0, "", "capture", "elsewhere", "the capture does not end in `end`: interfaces may be missing")
@@ -139,6 +140,8 @@ class Reader:
         groups = self.groups()
         for block in self.blocks:
             words = block.head.words
+            if block.begins("ip", "address") or block.begins("shutdown"):
+                self.note(block.head.number, block.head.text, "orphan", "elsewhere", "a line of an interface that is not indented")
             if any(block.begins(*front) for front in OTHER_SYSTEMS):
                 self.note(block.head.number, block.head.text, "system", "elsewhere", "a file of another system than IOS: its interfaces may not be read")
             if block.begins("router"):

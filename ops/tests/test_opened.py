@@ -108,6 +108,8 @@ class WhatIsNoted(unittest.TestCase):
         self.assertIn("elsewhere", self.costs("interface Gi0/0", " ip address 10.0.0.1/24"))
         self.assertIn("elsewhere", self.costs("interface Gi0/0", " ipv4 address 10.0.0.1 255.255.255.0"))
         self.assertIn("elsewhere", self.costs("feature ospf"))
+        self.assertIn("elsewhere", self.costs("!", " ip address 10.0.0.1 255.255.255.0"))
+        self.assertIn("elsewhere", self.costs("interface Gi0/0", "ip address 10.0.0.1 255.255.255.0"))
 
     def test_what_stands_twice(self) -> None:
         self.assertIn("unknown", self.costs(*face("Gi0/0", "10.0.0.1/24"), *face("Gi0/0", "10.0.0.1/24")))
