@@ -132,7 +132,7 @@ def left_out(routers: Sequence[Router]) -> list[rules.Note]:
     found = []
     for router in routers:
         notes = router.notes + [note for face in router.faces for note in face.notes]
-        found += [note for note in notes if note.cost in ("nothing", "time")]
+        found += [note for note in notes if note.cost in ("nothing", "time", "inferred")]
     return found
 
 
