@@ -67,6 +67,8 @@ def _place_entries(original: Original, mine: Changes) -> None:
         listed = original.lists.get(key)
         if listed is None or not listed.entries:
             raise Wrong(f"{original.file}: there is no list {key[1]} with entries, and there is one in the copy")
+        if listed.kind == "standard":
+            raise Wrong(f"{original.file}: list {key[1]} is a standard list, which has no entries such as the copy's: bind an extended one by hand")
         _entry_lines(original, listed, [entry.text for entry in mine.entries if (entry.prefix, entry.name) == key])
 
 
@@ -117,7 +119,23 @@ def _place_binding(original: Original, binding: Binding) -> None:
         original.add_last(block, text)
 
 
+def _is_down(block: Block, session: Session) -> bool:
+    """Whether a line of the process keeps the adjacency or the session down: the last that speaks of it."""
+    down = False
+    for line in block.lines:
+        positive = line.words[1:] if line.words[0] == "no" else line.words
+        of_it = positive in (("passive-interface", session.place), ("passive-interface", "default"))
+        if positive == ("neighbor", session.place, "shutdown") if session.bgp else of_it:
+            down = line.words[0] != "no"
+    return down
+
+
 def _place_session(original: Original, session: Session) -> None:
+    if _is_down(original.block(session.head), session) == session.down:
+        said = f"{original.file}: `{session.head}` keeps the adjacency at {session.place} down already"
+        if not session.down:
+            said = f"{original.file}: `{session.head}` does not keep the adjacency at {session.place} down: on the copy it is down for another reason, which this does not mend"
+        raise Wrong(said)
     text = f"neighbor {session.place} shutdown" if session.bgp else f"passive-interface {session.place}"
     original.add_last(original.block(session.head), ("" if session.down else "no ") + text)
 

@@ -8,7 +8,7 @@ from dataclasses import dataclass, field
 from typing import Any
 
 from ops import ports
-from ops.commands import Wrong, load, save
+from ops.commands import Wrong, load
 
 KINDS = ("blocked", "through", "reach")
 WITH_PORTS = (6, 17)
@@ -171,10 +171,6 @@ def document_text(document: Document) -> str:
     if document.weights:
         parts.append(f'  "weights": {json.dumps(document.weights)}')
     return "{\n" + ",\n".join(parts) + "\n}\n"
-
-
-def write_document(path: str, document: Document, force: bool = False) -> None:
-    save(path, document_text(document), force)
 
 
 def folder_of(path: str) -> str:

@@ -1,17 +1,15 @@
 """explain: a report, or another text of arcv, in words."""
 import argparse
 from collections.abc import Iterable, Sequence
-from dataclasses import dataclass, field
 
 from ops import commands, showing
-from ops.commands import Wrong, counted, wrapped
+from ops.commands import Wrong, counted
 from ops.documents import Document, Policy, folder_of, read_document, span_words
 from ops.faces import Routers
 from ops.reports import Block, Edit, Text, read_text
+from ops.told import ORDER, Told
 from ops.wording import Names, names_of, title
 
-ANSWER_WORDS = {"yes": "yes", "no": "NO", "refused": "NOT ANSWERED"}
-ORDER = ("no", "refused", "yes")
 WHY_REJECTED = {
     "form": "the line is not of a form that may stand there",
     "policy": "a block is not that of the next policy, is missing, or is one too many",
@@ -26,20 +24,6 @@ WHY_REJECTED = {
     "not-refuted": "the log ends without a proof that nothing cheaper is enough",
 }
 LOG_STEP = "a step of the log does not follow from those before it: the files may be others than those of the proof"
-
-
-@dataclass
-class Told:
-    """One answer in words, with what a drawing of it needs."""
-
-    head: str
-    answer: str
-    lines: list[str] = field(default_factory=list)  # may be longer than a line of a terminal
-    number: int = 0
-    name: str = ""
-    policy: Policy | None = None
-    block: Block | None = None
-    mark: str = ""
 
 
 class Teller:
@@ -189,39 +173,6 @@ class Teller:
         if edit.place == "interface":
             return f"at {router}: a new list, in at {name}, denies {packets}"
         return f"at {router}: list {name} turns about what it does with {packets}"
-
-
-def explain_policy(name: str, policy: Policy, block: Block, names: Names, routers: Routers | None = None) -> list[str]:
-    """One answer in words, in lines of at most 80 columns, of which the first says the policy and the answer."""
-    head = f"{name + ': ' if name else ''}{title(block.number, policy, _Nameless(names))}"
-    return shown(Told(head, block.answer, Teller(names, routers).witness(policy, block)))
-
-
-class _Nameless:
-    """Names without those of policies."""
-
-    def __init__(self, names: Names) -> None:
-        self.router, self.link, self.network = names.router, names.link, names.network
-        self.interface, self.list_name = names.interface, names.list_name
-
-    def policy(self, number: int) -> str:
-        return ""
-
-
-def shown(told: Told) -> list[str]:
-    """The lines of an answer in 80 columns."""
-    mark = f" ({told.mark})" if told.mark else ""
-    lines = wrapped(f"{told.head}: {ANSWER_WORDS.get(told.answer, told.answer)}{mark}", "", "    ")
-    for line in told.lines:
-        front = "      " if line.startswith("  ") else "    "
-        lines += wrapped(line.strip(), front, front + ("  " if front == "      " else ""))
-    return lines
-
-
-def summary(blocks: Sequence[Block]) -> str:
-    """`1 no, 0 not answered, 2 yes: 3 policies`."""
-    counts = {answer: sum(block.answer == answer for block in blocks) for answer in ORDER}
-    return f"{counts['no']} no, {counts['refused']} not answered, {counts['yes']} yes: {counted(len(blocks), 'policy', 'policies')}"
 
 
 def tell_blocks(text: Text, document: Document, names: Names, routers: Routers) -> list[Told]:

@@ -145,8 +145,3 @@ class Routers:
             at = b if at == a else a
             way.append(at)
         return way
-
-
-def host_networks(document: Document, folder: str) -> list[HostNetwork]:
-    """Every network of hosts of a document."""
-    return Routers(document, folder).hosts()

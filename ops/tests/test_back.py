@@ -101,6 +101,8 @@ class Back(unittest.TestCase):
             "stands 0 times": (bind, ROUTER.replace("GigabitEthernet0/1", "GigabitEthernet0/2")),
             "stands 2 times": (bind, ROUTER + "interface GigabitEthernet0/1\n"),
             "no list GUESTS": (entry, ROUTER.replace("extended GUESTS", "extended STAFF")),
+            "does not keep the adjacency": (COPY.replace("area 0\n", "area 0\n no passive-interface GigabitEthernet0/1\n"), ROUTER),
+            "is a standard list": (entry, ROUTER.replace("extended GUESTS\n permit tcp any any established\n permit ip any any", "standard GUESTS\n permit any")),
             "is not in the file after": (entry.replace(" permit ip any any\n", ""), ROUTER),
             "none that a repair writes": (copy_with("!\nrouter", "!\nip route 0.0.0.0 0.0.0.0 10.0.1.2\n!\nrouter"), ROUTER),
         }
