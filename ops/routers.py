@@ -137,6 +137,7 @@ class Reader:
         return row
 
     def read(self) -> Router:
+        """The router, from all blocks of the file."""
         groups = self.groups()
         for block in self.blocks:
             words = block.head.words
@@ -172,6 +173,7 @@ class Reader:
         return self.router
 
     def groups(self) -> entries.Groups:
+        """The object groups of the file."""
         networks: dict[str, list[tuple[str, ...]]] = {}
         services: dict[str, list[tuple[str, ...]]] = {}
         for block in self.blocks:
@@ -184,6 +186,7 @@ class Reader:
         return entries.groups_of(networks, services)
 
     def interface(self, block: ios.Block) -> None:
+        """Takes the block of an interface."""
         face = Face(self.router.name, "".join(block.head.words[1:]), block.head, block.lines)
         if self.router.face(face.name) is not None:
             self.note(block.head.number, block.head.text, "interface", "unknown", "the block of an interface stands twice")
@@ -229,6 +232,7 @@ class Reader:
         return True
 
     def address(self, face: Face, line: ios.Line) -> None:
+        """Takes a line that gives an address."""
         words = line.words
         try:
             value = Interface(f"{words[2]}/{words[3]}")
@@ -254,6 +258,7 @@ class Reader:
         self.note(line.number, line.text, "address", "routes", "its address is given to it by another device", face)
 
     def service_policy(self, face: Face, line: ios.Line) -> None:
+        """Takes a line that binds a policy map."""
         words = line.words
         if len(words) != 3 or words[1] not in ("input", "output"):
             self.judge(("interface",), line, face)
@@ -279,6 +284,7 @@ class Reader:
         return next(cost for cost in ("unknown", "drops", "nothing") if cost in found)
 
     def packet_list(self, block: ios.Block, groups: entries.Groups) -> None:
+        """Takes a list, or an entry of one that stands line by line."""
         words = block.head.words
         if words[0] == "access-list":
             number = int(words[1]) if len(words) > 1 and words[1].isdigit() else 0
@@ -332,6 +338,7 @@ class Reader:
                 self.labels = True
 
     def static(self, line: ios.Line) -> None:
+        """Takes a static route: where it leads, and whether it leads from one table to another."""
         words = list(line.words[2:])
         vrf = ""
         if words[:1] == ["vrf"] and len(words) > 1:
@@ -363,6 +370,7 @@ class Reader:
                 self.router.leaks = True
 
     def route_map(self, block: ios.Block) -> None:
+        """Takes the addresses and interfaces to which a route map sends packets."""
         for line in block.lines:
             if line.words[:2] in (("set", "vrf"), ("set", "global"), ("set", "ip")) and {"vrf", "global"} & set(line.words):
                 self.router.leaks = True

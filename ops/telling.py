@@ -168,12 +168,6 @@ class _Names:
         return ""
 
 
-def had_by(joined: Joined) -> str:
-    """Of which copies an answer was had."""
-    kinds = sorted({reply.kind for reply in joined.replies})
-    return ", ".join(COPIES[kind] for kind in kinds)
-
-
 def key(joined: Joined) -> str:
     """What a policy asks, whatever it is called."""
     return f"{sorted(joined.named.policy.members().items())} {joined.named.packets} {joined.named.waypoints}"
