@@ -12,6 +12,7 @@ from ops.hosts import Part
 from ops.links import Net, Segment
 from ops.routers import Face, Router
 from ops.statements import Named
+from ops.written import Change
 
 MOST_FAILURES = 16
 LONGEST = 27  # no prefix of a policy is halved beyond this length
@@ -48,7 +49,8 @@ class Answers:
         self.networks = networks
         self.joined = [Joined(one) for one in named]
         self.parts: dict[int, list[Part]] = {}
-        self.changes: dict[str, list[opened.Change]] = {}
+        self.holders: dict[Net, Net] = {}
+        self.changes: dict[str, list[Change]] = {}
         self.exact = Exact(routers, segments, table)
         self.routed: dict[int, bool] = {}  # of a no of an open copy: whether the routing of the files alone would be a yes
         self.own: dict[str, list[int]] = {}  # ports whose list outbound does not guard the router's own address there
@@ -64,6 +66,7 @@ class Answers:
                 self.joined[place].reasons.append(structural(why))
 
     def ask(self) -> None:
+        """Asks of every policy the copy that decides it."""
         groups: dict[tuple[str, tuple[str, ...]], list[int]] = {}
         for place, joined in enumerate(self.joined):
             named = joined.named
@@ -127,7 +130,7 @@ class Answers:
         for file, changes in copy.changes.items():
             self.changes.setdefault(file, []).extend(changes)
         for place, part in enumerate(found):
-            reply = Reply(part.place, name, "open", blocks[place] if blocks else None, copy.map, copy.document, path, why)
+            reply = Reply(part.place, name, "open", blocks[place] if blocks else None, copy.map, copy.document, path, why, unlike=unlike(copy.changes))
             self.joined[part.place].replies.append(reply)
             if reply.block is not None and reply.block.answer == "yes":
                 reply.yours = self.acting(reply, asking.owners(copy.files, str(part.source)))
@@ -151,6 +154,7 @@ class Answers:
         return [face for segment in self.segments if any(own.overlaps(prefix) for own in segment.nets) for face in segment.faces]
 
     def ask_exact(self) -> None:
+        """Asks exact copies about `reach`, where nothing stands in the way of an answer."""
         wants: list[tuple[str, Want, list[rules.Note]]] = []
         places = [place for place, joined in enumerate(self.joined) if joined.named.policy.kind == "reach"]
         nets = {end for place in places for part in self.parts[place] for end in (part.source, part.target)}
@@ -185,7 +189,9 @@ class Answers:
 
     def network_of(self, prefix: Net) -> Net:
         """The network of the files in which a prefix lies."""
-        return next((own for segment in self.segments for own in segment.nets if prefix.subnet_of(own)), prefix)
+        if prefix not in self.holders:
+            self.holders[prefix] = next((own for segment in self.segments for own in segment.nets if prefix.subnet_of(own)), prefix)
+        return self.holders[prefix]
 
     def wants(self, part: Part) -> tuple[list[Want], list[rules.Note]]:
         """What has to hold for a part of a policy: each gateway of its source by itself, to each of its target."""
@@ -216,8 +222,14 @@ class Answers:
         for file, changes in copy.changes.items():
             self.changes.setdefault(file, []).extend(changes)
         for place, (want, yours) in enumerate(found):
-            reply = Reply(want.place, name, "exact", blocks[place] if blocks else None, copy.map, copy.document, path, why, yours, want.is_stronger)
+            block = blocks[place] if blocks else None
+            reply = Reply(want.place, name, "exact", block, copy.map, copy.document, path, why, yours, want.is_stronger, unlike(copy.changes))
             self.joined[want.place].replies.append(reply)
+
+
+def unlike(changes: dict[str, list[Change]]) -> int:
+    """How many entries of a copy let other packets pass than on the routers."""
+    return len({(file, change) for file, some in changes.items() for change in some if change.direction != "exact"})
 
 
 def smaller_ends(source: Net, target: Net) -> list[tuple[Net, Net]]:

@@ -29,6 +29,7 @@ class Exact:
         self.processes: dict[str, Ospf | Bgp] = {}
         self.meetings: list[Meeting] = []
         self.down: list[str] = []
+        self.others: dict[Net, list[rules.Note]] = {}
         self.missing: list[tuple[Bgp, Peer]] = []
         self.area = "0"
         self.kind = self.kind_of(routers)
@@ -39,6 +40,7 @@ class Exact:
         self.judge(routers)
 
     def kind_of(self, routers: Sequence[Router]) -> str:
+        """The protocol of the network, `ospf` or `bgp`; notes where routers have several."""
         kinds = [block.head.words[1] for router in routers for block in router.processes]
         kind = "ospf" if "ospf" in kinds else "bgp" if kinds else ""
         if not kind:
@@ -52,6 +54,7 @@ class Exact:
         return kind
 
     def judge(self, routers: Sequence[Router]) -> None:
+        """Notes what the lines of routers and their processes cost."""
         for name, process in self.processes.items():
             router = self.routers[name]
             self.notes += [note for note in router.notes if "reach" in note.loses() and not note.text.startswith("system mtu")]
@@ -65,6 +68,7 @@ class Exact:
             self.judge_ospf()
 
     def judge_ospf(self) -> None:
+        """Notes what processes of OSPF have that is not modelled, or not at all routers."""
         lines = {name: {note.text for note in process.notes if note.cost == "adjacency" and not note.text.startswith(("area", "bfd"))}
                  for name, process in self.processes.items()}
         if len({frozenset(texts) for texts in lines.values()}) > 1:
@@ -160,6 +164,7 @@ class Exact:
             self.meetings.append(Meeting(faces, segment))
 
     def adjacent(self, a: Face, b: Face) -> adjacency.Judged:
+        """Whether OSPF makes an adjacency of two interfaces."""
         pa, pb = self.process(a), self.process(b)
         assert isinstance(pa, Ospf) and isinstance(pb, Ospf)
         for router, face, far in ((pa.router, a, b), (pb.router, b, a)):
@@ -176,10 +181,14 @@ class Exact:
 
     def others_in(self, net: Net) -> list[rules.Note]:
         """Interfaces in a network that count as no gateways of it: of another mask or VRF, or of a router without a process."""
+        if net in self.others:
+            return self.others[net]
         gateways = self.gateways(net)
         found = [face for segment in self.segments if any(own.overlaps(net) for own in segment.nets) for face in segment.faces]
-        return [structural(f"{face.key()} is in {net} too, by another mask or VRF, as a second network, or without a process of {self.kind.upper()}")
-                for face in found if not any(face is other for other in gateways) and not self.is_host(face)]
+        why = f"is in {net} too, by another mask or VRF, as a second network, or without a process of {self.kind.upper()}"
+        self.others[net] = [structural(f"{face.key()} {why}") for face in found
+                            if not any(face is other for other in gateways) and not self.is_host(face)]
+        return self.others[net]
 
     def is_host(self, face: Face) -> bool:
         """Whether a device only has an address there, and forwards nothing."""

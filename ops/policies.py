@@ -3,7 +3,6 @@ import argparse
 import os
 from collections.abc import Sequence
 from dataclasses import replace
-from itertools import product
 
 from ops import commands
 from ops.commands import Wrong, counted, wrapped
@@ -34,13 +33,18 @@ def silent_pairs(networks: dict[str, str], policies: Sequence[Policy]) -> list[t
         {prefix: _near(prefix, [getattr(policy, end) for policy in policies]) for prefix in networks.values()}
         for end in ("source", "target")
     ]
+    nets = {name: network(prefix) for name, prefix in networks.items()}
+    ends = [(network(policy.source), network(policy.target), policy) for policy in policies]
     found = []
-    for (name, source), (other, target) in product(networks.items(), networks.items()):
-        if name == other or network(source).overlaps(network(target)):
-            continue
-        of_them = [policies[place] for place in sorted(near[0][source] & near[1][target])]
-        if not any(_covers(policy, source, target) for policy in of_them):
-            found.append((name, other, ", ".join(dict.fromkeys(_part(policy, source, target) for policy in of_them))))
+    for name, source in nets.items():
+        here = [(target, policy) for begin, target, policy in ends if source.overlaps(begin)]
+        for other, target in nets.items():
+            if name == other or source.overlaps(target):
+                continue
+            of_them = [policy for end, policy in here if target.overlaps(end)]
+            pair = (networks[name], networks[other])
+            if not any(_covers(policy, *pair) for policy in of_them):
+                found.append((name, other, ", ".join(dict.fromkeys(_part(policy, *pair) for policy in of_them))))
     return found
 
 

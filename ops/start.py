@@ -55,6 +55,8 @@ def read_captures(folder: str, table: rules.Table) -> tuple[list[Router], list[s
             continue
         capture = captures.read(path, name)
         texts = [line.text for line in capture.lines]
+        if not any(text.strip() for text in texts):
+            raise Wrong(f"{name} is empty: fetch it anew, or take it out of the folder")
         signs = [bool(captures.host_of(texts)), any(text.startswith("interface ") for text in texts)]
         if any(signs) and not all(signs):
             raise Wrong(f"{name} has {'a' if signs[0] else 'no'} line `hostname ..` and {'an' if signs[1] else 'no'} line `interface ..`: "
@@ -109,7 +111,7 @@ def found_text(found: Sequence[Router], other: Sequence[str], segments: Sequence
     for prefix in own:
         lines += wrapped(f"{networks[prefix]} {prefix}", "  ")
     if other:
-        lines += wrapped(f"No running-configs, and not read: {', '.join(other)}", "", "  ")
+        lines += wrapped(f"Not read, since no running-configs: {', '.join(other)}. A router whose file is missing forwards unseen.", "", "  ")
     return lines
 
 

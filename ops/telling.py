@@ -16,6 +16,7 @@ from ops.wording import policy_words
 WORDS = {"yes": "yes", "no": "NO", "yours": "yes, if you say so too", "none": "NOT ANSWERED"}
 SHORT = {"yes": "yes", "no": "no", "yours": "needs your yes", "none": "not answered"}
 SHOWN = 12
+READ: dict[str, Routers] = {}
 COPIES = {"open": "the open copy, which lets packets go any way that interfaces and lists leave them",
           "exact": "the exact copy, which routes as the files say"}
 
@@ -57,10 +58,17 @@ def refused(joined: Joined) -> list[str]:
     return found
 
 
+def routers_of(reply: Reply) -> Routers:
+    """The routers of a copy, read once."""
+    if reply.folder not in READ:
+        READ[reply.folder] = Routers(reply.document, reply.folder, wanted=False)
+    return READ[reply.folder]
+
+
 def witness(reply: Reply) -> list[str]:
     """The witness of an answer in words."""
     assert reply.block is not None
-    teller = explain.Teller(reply.map, Routers(reply.document, reply.folder, wanted=False))
+    teller = explain.Teller(reply.map, routers_of(reply))
     policy = reply.document.policies[reply.block.number - 1]
     return [part for line in teller.witness(policy, reply.block) for part in wrapped(line.strip(), "    " + line[: len(line) - len(line.lstrip())])]
 
@@ -124,7 +132,7 @@ def left_out(routers: Sequence[Router]) -> list[rules.Note]:
     found = []
     for router in routers:
         notes = router.notes + [note for face in router.faces for note in face.notes]
-        found += [note for note in notes if note.cost in ("nothing", "time")]
+        found += [note for note in notes if note.cost in ("nothing", "time", "inferred")]
     return found
 
 
@@ -160,12 +168,6 @@ class _Names:
         return ""
 
 
-def had_by(joined: Joined) -> str:
-    """Of which copies an answer was had."""
-    kinds = sorted({reply.kind for reply in joined.replies})
-    return ", ".join(COPIES[kind] for kind in kinds)
-
-
 def key(joined: Joined) -> str:
     """What a policy asks, whatever it is called."""
     return f"{sorted(joined.named.policy.members().items())} {joined.named.packets} {joined.named.waypoints}"
@@ -197,7 +199,9 @@ def answer_lines(answers: Answers, before: dict[str, str]) -> list[str]:
             if wanted == "no":
                 first = next(reply for reply in joined.replies if reply.answer() == "no" and not reply.is_stronger)
                 lines += witness(first)
-                lines += wrapped(f"by {COPIES[first.kind]} ({first.copy})", "      ")
+                side = "more" if first.kind == "open" else "fewer"
+                other = f"; {counted(first.unlike, 'entry', 'entries')} of its lists let {side} packets pass than on the routers" if first.unlike else ""
+                lines += wrapped(f"by {COPIES[first.kind]} ({first.copy}){other}", "      ")
                 if answers.routed.get(place):
                     lines += wrapped("While routers route as the files say, none is delivered, whichever links fail (routed).", "      ")
     return lines

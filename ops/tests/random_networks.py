@@ -30,6 +30,10 @@ class Segment:
     net: Net
     has_outside: bool = False
     is_hosts: bool = False
+    second: Net | None = None  # a network of secondary addresses on the same wire
+
+    def nets(self) -> list[Net]:
+        return [self.net] + ([self.second] if self.second else [])
 
 
 @dataclass
@@ -53,6 +57,9 @@ class Network:
             if face.router != router:
                 continue
             lines += [f"interface {face.name}", f" description segment {face.segment}"]
+            second = self.segments[face.segment].second
+            if second is not None:
+                lines.append(f" ip address {second.network_address + 1 + self.faces.index(face)} {second.netmask} secondary")
             lines.append(f" ip address {face.address.ip} {face.address.netmask}")
             for way, bound in (("in", face.inbound), ("out", face.outbound)):
                 if bound is not None:
@@ -146,6 +153,8 @@ def network(dice: random.Random, can_route: bool) -> Network:
                 one.name = f"GigabitEthernet3/{counts[one.router]}"
     for _ in range(dice.randint(2, 5)):
         made.segments.append(Segment(Net(f"10.0.{len(made.segments)}.0/24"), is_hosts=True))
+        if dice.random() < 0.15:
+            made.segments[-1].second = Net(f"10.50.{len(made.segments)}.0/24")
         gateways = dice.sample(made.routers, min(len(made.routers), dice.choice((1, 1, 1, 2, 3))))
         for place, router in enumerate(gateways, 1):
             found = face(router, len(made.segments) - 1, place)

@@ -147,6 +147,8 @@ class Command(WithFolder):
         self.assertIn("is no program", tool("start", folder, "--arcv", self.path("no")).stderr)
         self.write("rows.txt", "nonsense\n")
         self.assertIn("rows.txt:1", tool("start", folder, "--arcv", "/bin/true", "--rows", self.path("rows.txt")).stderr)
+        self.write("net/c.cfg", "\n")
+        self.assertIn("c.cfg is empty", tool("start", folder, "--arcv", "/bin/true").stderr)
         self.write("net/c.cfg", "hostname a\ninterface Loopback0\nend\n")
         self.assertIn("both of a", tool("start", folder, "--arcv", "/bin/true").stderr)
         for run in (tool("start", "--help"), tool("quiet", "--help")):
