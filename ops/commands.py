@@ -2,6 +2,7 @@
 import argparse
 import json
 import os
+import re
 import signal
 import subprocess
 import sys
@@ -12,6 +13,7 @@ from dataclasses import dataclass
 
 TOP = os.path.dirname(os.path.dirname(os.path.abspath(__file__)))
 WIDTH = 80
+CONTROLS = re.compile(r"[\x00-\x08\x0b-\x1f\x7f-\x9f]")
 FINE, NOT_SO, CANNOT = 0, 1, 2
 
 
@@ -125,10 +127,15 @@ def save(path: str, text: str, force: bool = False) -> None:
         raise Wrong(f"{path} cannot be written: {error.strerror}") from error
 
 
+def visible(text: str) -> str:
+    """The text with its control characters, which a terminal would act on, as question marks."""
+    return CONTROLS.sub("?", text)
+
+
 def put(text: str) -> None:
     """Prints a text; bytes of files that are no UTF-8 come as they are."""
     sys.stdout.flush()
-    sys.stdout.buffer.write(text.encode("utf-8", "surrogateescape"))
+    sys.stdout.buffer.write(visible(text).encode("utf-8", "surrogateescape"))
     sys.stdout.buffer.flush()
 
 
@@ -138,7 +145,7 @@ def as_json(value: object) -> str:
 
 def tell(text: str) -> None:
     """A line on standard error."""
-    print(text, file=sys.stderr, flush=True)
+    print(visible(text), file=sys.stderr, flush=True)
 
 
 def counted(number: int, noun: str, many: str = "") -> str:

@@ -95,6 +95,13 @@ class Files(WithFolder):
         with self.assertRaises(commands.Wrong):
             commands.save(self.path("folder"), "x", True)
 
+    def test_control_characters_are_shown_as_question_marks(self) -> None:
+        self.lay("office")
+        self.write("net.names.json", '{"networks": {"10.1.0.0/24": "ser\\u001b[31mvers"}, "policies": []}')
+        done = tool("explain", "net.json", "report.txt", folder=self.folder)
+        self.assertIn("ser?[31mvers (10.1.0.0/24)", done.stdout)
+        self.assertNotIn("\x1b", done.stdout)
+
     def test_a_closed_output(self) -> None:
         words = [sys.executable, os.path.join(TOP, "bin", "explain"), "net.json", "report.txt"]
         run = subprocess.Popen(
