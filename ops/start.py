@@ -84,6 +84,9 @@ def claims(texts: Sequence[str]) -> list[Net]:
 def network_names(path: str, segments: Sequence[Segment], transit: Sequence[Segment]) -> dict[str, str]:
     """The names of networks by prefix: those of the file, and new ones."""
     known = read_networks(path) if os.path.exists(path) else {}
+    twice = sorted({name for name in known.values() if list(known.values()).count(name) > 1})
+    if twice:
+        raise Wrong(f"{path}: {twice[0]} is the name of two networks")
     return {**known, **hosts.named(segments, transit, known)}
 
 
