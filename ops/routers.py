@@ -147,6 +147,8 @@ class Reader:
                 self.note(block.head.number, block.head.text, "system", "elsewhere", "a file of another system than IOS: its interfaces may not be read")
             if block.begins("router"):
                 self.peers(block)
+            if block.begins("crypto") and any("reverse-route" in line.words or line.words[:2] == ("route", "set") for line in block.lines):
+                self.note(block.head.number, block.head.text, "crypto", "routes", "routes are put in for the far ends of tunnels")
             if block.begins("ip", "default-gateway") and is_address(words[-1]):
                 self.router.hops.append(("", Address(words[-1])))
             if block.begins("interface") and len(words) > 1:

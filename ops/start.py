@@ -22,7 +22,7 @@ def arguments() -> argparse.ArgumentParser:
         "start",
         "Reads the running-configs in FOLDER, one file a router, as a terminal or a program of yours saved them; finds links and networks of hosts; "
         "writes copies that arcv reads; asks it about each policy of the copy that decides it; and says what cannot be answered, what needs "
-        "your yes, what was left out, and the answers. Nothing in FOLDER is changed.\n\n"
+        "your yes, what was left out, and the answers. Nothing in FOLDER is changed. The status is 0 where every answer is yes.\n\n"
         "What has to hold stands in policies.txt: the first call writes one that asks each two networks to reach each other whichever link fails. "
         "Change it, fetch the files anew when you like, and call again with --again.",
         "FOLDER/arcv (or OUT): policies.txt and names.json, if they are not there; the copies; changes.txt with each line that a copy does not have "
@@ -84,6 +84,9 @@ def claims(texts: Sequence[str]) -> list[Net]:
 def network_names(path: str, segments: Sequence[Segment], transit: Sequence[Segment]) -> dict[str, str]:
     """The names of networks by prefix: those of the file, and new ones."""
     known = read_networks(path) if os.path.exists(path) else {}
+    twice = sorted({name for name in known.values() if list(known.values()).count(name) > 1})
+    if twice:
+        raise Wrong(f"{path}: {twice[0]} is the name of two networks")
     return {**known, **hosts.named(segments, transit, known)}
 
 

@@ -160,7 +160,9 @@ class Command(WithFolder):
         folder = self.files()
         self.write("net/a.cfg", read(self.path("net/a.cfg")).replace(" description", " ip nat inside\n description"))
         self.write("net/arcv/policies.txt", "p: floor-a never reaches floor-b tcp 22\n")
-        self.assertIn("NO: p", tool("start", folder, "--arcv", ARCV).stdout)
+        first = tool("start", folder, "--arcv", ARCV).stdout
+        self.assertIn("NO: p", first)
+        self.assertIn("No list is bound on this way.", first)
         lists = "ip access-list extended L\n deny ip any any\nend"
         self.write("net/a.cfg", read(self.path("net/a.cfg")).replace(" ip nat", " ip access-group L in\n ip nat").replace("\nend", "\n" + lists))
         asked_of = tool("start", folder, "--arcv", ARCV, "--again").stdout
