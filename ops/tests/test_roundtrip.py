@@ -149,14 +149,23 @@ class RoundTripOfCaptures(WithFolder):
                 if name != "policies.txt" and not os.path.exists(self.path(f"{folder}/{name}")):
                     self.write(f"{folder}/{name}", read(os.path.join(source, name)))
             self.assertIn(" 0 no, 0 not answered", self.start(folder))
+            self.assertEqual(self.rechecked(place, self.path(f"{folder}/arcv/{copy}")), 0)
+
+    def rechecked(self, old: str, new: str) -> int:
+        """The status of `recheck` over the new copy, of the report that was made over the repaired one; each answer of that is kept."""
+        report = run_arcv(program(), ["verify", "aft.json"], old)
+        self.assertEqual(report.status, 0, report.reason())
+        self.write("old.txt", report.out)
+        answer = run_arcv(program(), ["recheck", "net.json", self.path("old.txt")], new)
+        self.assertNotIn(" new", answer.out)
+        return answer.status
 
     def enter(self, steps: list[dict[str, list[str]]]) -> None:
         """Enters the steps on routers with the captured configurations, beside the files that bin/back wrote."""
         for name in sorted(os.listdir(self.path("net"))):
             if name.endswith(".real"):
-                original, real = original_text(self.path("net/" + name.removesuffix(".real"))), read(
-                    self.path("net/" + name)
-                )
+                original = original_text(self.path("net/" + name.removesuffix(".real")))
+                real = read(self.path("net/" + name))
                 row = next(row for row in steps if f"hostname {row['router']}\n" in original)
                 router = Router(original)
                 router.enter(row["enter"])
