@@ -50,7 +50,7 @@ def with_force(words: argparse.ArgumentParser) -> None:
 
 
 def with_program(words: argparse.ArgumentParser) -> None:
-    words.add_argument("--arcv", metavar="PATH", help="the program to ask; bin/arcv without it")
+    words.add_argument("--arcv", metavar="PATH", help="the program to ask; $ARCV, or bin/arcv, without it")
 
 
 def program(options: argparse.Namespace) -> str:
@@ -58,6 +58,10 @@ def program(options: argparse.Namespace) -> str:
     path = options.arcv or os.environ.get("ARCV") or os.path.join(TOP, "bin", "arcv")
     if not os.access(path, os.X_OK) or os.path.isdir(path):
         raise Wrong(f"{path} is no program")
+    if os.path.abspath(path) == os.path.join(TOP, "bin", "arcv") and not os.path.exists(
+        os.path.join(TOP, ".built", "arcv")
+    ):
+        tell("bin/arcv proves and builds the program first, which takes half an hour or more")
     return os.path.abspath(path)
 
 

@@ -10,7 +10,7 @@ from dataclasses import asdict, dataclass
 from typing import Any
 
 from ops import commands
-from ops.commands import TOP, Wrong, counted
+from ops.commands import Wrong, counted
 
 WHAT_TO_DO = {
     "orphan-line": "an indented line with no block above it: a comment `!` at the start of a line ends a block",
@@ -156,8 +156,6 @@ def main(words: list[str]) -> int:
     program = commands.program(options)
     folder, base = os.path.split(os.path.abspath(options.doc))
     lines: list[Line] = []
-    if program == os.path.join(TOP, "bin", "arcv") and not os.path.exists(os.path.join(TOP, ".built/arcv")):
-        commands.tell("refusals: bin/arcv proves and builds the program first")
     left, _ = asked(program, folder, base)
     document = names_of(options.doc)
     if left and document and left[0] in document[1] and left[2] in WHAT_TO_DO:

@@ -40,13 +40,12 @@ def checksum(path: str) -> str:
 
 def program_of(options: argparse.Namespace) -> str:
     """The program itself: of bin/arcv what it has built."""
-    built = os.path.join(TOP, ".built", "arcv")
-    path = commands.program(options)
-    if os.path.abspath(path) == os.path.join(TOP, "bin", "arcv"):
-        if not os.path.exists(built):
-            raise Wrong("no program is built yet: call bin/arcv once, or name one by --arcv")
-        return built
-    return path
+    built, mine = os.path.join(TOP, ".built", "arcv"), os.path.join(TOP, "bin", "arcv")
+    if os.path.abspath(options.arcv or os.environ.get("ARCV") or mine) != mine:
+        return commands.program(options)
+    if not os.path.exists(built):
+        raise Wrong("no program is built yet: call bin/arcv once, or name one by --arcv")
+    return built
 
 
 def _said(words: Sequence[str]) -> str:
