@@ -7,6 +7,7 @@ from dataclasses import dataclass, field, replace
 from ops import commands, copies, places
 from ops.changes import Binding, Changes, NewEntry, NewList, Session, bare, changes_of, hostname
 from ops.commands import Wrong, counted, wrapped
+from ops.fewer import fewer
 from ops.ios import Block, Line
 from ops.lists import ListText, blocks_of, lists_of, normal, split
 
@@ -298,6 +299,9 @@ def returned(options: argparse.Namespace) -> list[Returned]:
         row = found.setdefault(one.original, Returned(one.original, text, text))
         row.after, _, notes = put_back(one.before, one.after, row.after, one.original, one.mapping)
         row.notes += notes
+    if options.join:
+        for row in found.values():
+            row.after = transfer(row.before, fewer(row.changes()), row.file, process_of(row.before))
     return list(found.values())
 
 

@@ -51,6 +51,7 @@ def add_arguments(words: argparse.ArgumentParser) -> None:
         "edits", metavar="EDITS", nargs="?", help="a certificate, what repair printed, or a list of edits"
     )
     words.add_argument("--copies", metavar="SUFFIX", help="take the files that repair or apply wrote with this suffix")
+    words.add_argument("--join", action="store_true", help="new entries that together are one are written as one")
     words.add_argument("--originals", metavar="FOLDER", help="where the files lie as the routers printed them")
     commands.with_program(words)
 

@@ -8,6 +8,7 @@ from ops.back import returned
 from ops.changes import Changes, Session
 from ops.commands import counted, wrapped
 from ops.documents import read_document
+from ops.fewer import fewer
 from ops.ios import Block
 from ops.joining import price
 from ops.lists import blocks_of, split
@@ -94,6 +95,11 @@ def counts(changes: Changes) -> tuple[int, int, int, int, int]:
     return len(changes.lists), len(changes.entries), len(changes.bindings), down, len(changes.sessions) - down
 
 
+def new_entries(changes: Changes) -> int:
+    """How many entries are new, in old lists and in new ones."""
+    return len(changes.entries) + sum(len(listed.entries) for listed in changes.lists)
+
+
 COLUMNS = ("new lists", "entries", "bindings", "down", "up")
 
 
@@ -173,18 +179,18 @@ def main(words: list[str]) -> int:
     options = arguments().parse_args(words)
     document = read_document(options.doc)
     rows, total = planned(options), copies.total(options.doc, document)
+    edits = copies.edits_of(options)
+    cost = price(edits, document.weights)
     if options.json:
-        commands.put(
-            commands.as_json(
-                {
-                    "routers": as_rows(rows), "of": total,
-                    "price": price(copies.edits_of(options), document.weights) if options.edits else None,
-                }
-            )
-        )
-    else:
-        lines = said(rows, total)
-        if edits := copies.edits_of(options):
-            lines += ["", f"{counted(len(edits), 'edit')} at the price of {price(edits, document.weights)}"]
-        commands.put("\n".join(lines) + "\n")
+        value = {"routers": as_rows(rows), "of": total, "price": cost if options.edits else None}
+        commands.put(commands.as_json(value))
+        return commands.FINE
+    lines = said(rows, total)
+    many = sum(new_entries(row.changes) for row in rows)
+    few = sum(new_entries(fewer(row.changes)) for row in rows)
+    if few < many:
+        lines += ["", f"{counted(many, 'entry', 'entries')}, which --join makes {few}"]
+    if edits:
+        lines += ["", f"{counted(len(edits), 'edit')} at the price of {cost}"]
+    commands.put("\n".join(lines) + "\n")
     return commands.FINE

@@ -126,7 +126,7 @@ class RoundTripOfCaptures(WithFolder):
         self.assertEqual(done.stderr, "")
         return done.stdout.strip().split("\n")[-1]
 
-    def way(self, network: str, copy: str) -> None:
+    def way(self, network: str, copy: str, *more: str) -> None:
         source = os.path.join(NETWORKS, network)
         for name in os.listdir(source):
             self.write(name if name == "policies.txt" else "net/" + name, read(os.path.join(source, name)))
@@ -138,7 +138,7 @@ class RoundTripOfCaptures(WithFolder):
         )
         self.assertEqual(done.returncode, 0, done.stderr)
         self.assertNotIn("adjacency at", done.stdout)
-        words = ("net.json", "cert", "--arcv", program())
+        words = ("net.json", "cert", "--arcv", program(), *more)
         rows = json.loads(tool("plan", *words, "--json", folder=place).stdout)["routers"]
         steps = json.loads(tool("enter", *words, "--json", folder=place).stdout)
         self.assertEqual([row["router"] for row in rows], [row["router"] for row in steps])
@@ -149,16 +149,18 @@ class RoundTripOfCaptures(WithFolder):
                 if name != "policies.txt" and not os.path.exists(self.path(f"{folder}/{name}")):
                     self.write(f"{folder}/{name}", read(os.path.join(source, name)))
             self.assertIn(" 0 no, 0 not answered", self.start(folder))
-            self.assertEqual(self.rechecked(place, self.path(f"{folder}/arcv/{copy}")), 0)
+            status, is_kept = self.rechecked(place, self.path(f"{folder}/arcv/{copy}"))
+            self.assertEqual(status, 0)
+            self.assertTrue(is_kept or more)
 
-    def rechecked(self, old: str, new: str) -> int:
-        """The status of `recheck` over the new copy, of the report that was made over the repaired one; each answer of that is kept."""
+    def rechecked(self, old: str, new: str) -> tuple[int, bool]:
+        """The status of `recheck` over the new copy, of the report that was made over the repaired one; whether every
+        answer is kept."""
         report = run_arcv(program(), ["verify", "aft.json"], old)
         self.assertEqual(report.status, 0, report.reason())
         self.write("old.txt", report.out)
         answer = run_arcv(program(), ["recheck", "net.json", self.path("old.txt")], new)
-        self.assertNotIn(" new", answer.out)
-        return answer.status
+        return answer.status, " new" not in answer.out
 
     def enter(self, steps: list[dict[str, list[str]]]) -> None:
         """Enters the steps on routers with the captured configurations, beside the files that bin/back wrote."""
@@ -177,6 +179,9 @@ class RoundTripOfCaptures(WithFolder):
 
     def test_terminal_and_open_copy(self) -> None:
         self.way("metro-ring", "open")
+
+    def test_entries_that_are_joined(self) -> None:
+        self.way("hub-subinterfaces", "exact", "--join")
 
     def test_subinterfaces_and_exact_copy(self) -> None:
         self.way("hub-subinterfaces", "exact")
