@@ -130,8 +130,6 @@ def main(words: list[str]) -> int:
     out = options.to or os.path.join(folder, "arcv")
     rows = options.rows or (os.path.join(out, "rows.txt") if os.path.exists(os.path.join(out, "rows.txt")) else None)
     program = commands.program(options)
-    if program == os.path.join(commands.TOP, "bin", "arcv") and not os.path.exists(os.path.join(commands.TOP, ".built", "arcv")):
-        commands.tell("start: bin/arcv proves and builds the program first, which takes half an hour or more")
     try:
         table = rules.table(rows)
     except (OSError, ValueError) as error:
