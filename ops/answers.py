@@ -66,6 +66,7 @@ class Answers:
                 self.joined[place].reasons.append(structural(why))
 
     def ask(self) -> None:
+        """Asks of every policy the copy that decides it."""
         groups: dict[tuple[str, tuple[str, ...]], list[int]] = {}
         for place, joined in enumerate(self.joined):
             named = joined.named
@@ -153,6 +154,7 @@ class Answers:
         return [face for segment in self.segments if any(own.overlaps(prefix) for own in segment.nets) for face in segment.faces]
 
     def ask_exact(self) -> None:
+        """Asks exact copies about `reach`, where nothing stands in the way of an answer."""
         wants: list[tuple[str, Want, list[rules.Note]]] = []
         places = [place for place, joined in enumerate(self.joined) if joined.named.policy.kind == "reach"]
         nets = {end for place in places for part in self.parts[place] for end in (part.source, part.target)}

@@ -65,7 +65,10 @@ class Asker:
         if said.status not in (0, 1):
             return [], said.reason()
         commands.save(os.path.join(path, "report.txt"), said.out, force=True)
-        return reports.read_report(said.out), ""
+        try:
+            return reports.read_report(said.out), ""
+        except ValueError as error:
+            raise commands.Wrong(f"{self.program} gave no report on {path}: {error}") from error
 
 
 def halves(places: Sequence[int]) -> list[list[int]]:

@@ -7,6 +7,7 @@ from dataclasses import dataclass, field, replace
 from ops import commands, copies, places
 from ops.changes import Binding, Changes, NewEntry, NewList, Session, bare, changes_of, hostname
 from ops.commands import Wrong, counted, wrapped
+from ops.fewer import fewer
 from ops.ios import Block, Line
 from ops.lists import ListText, blocks_of, lists_of, normal, split
 
@@ -56,8 +57,13 @@ class Original:
 def _entry_lines(original: Original, listed: ListText, texts: Sequence[str]) -> None:
     """New entries at the front of a list, in the form in which the file has it; their numbers come with the others'."""
     first = listed.entries[0]
-    fronts = {"prefix": f"ip prefix-list {listed.name} " + ("seq 0 " if first.number is not None else ""), "": f"access-list {listed.name} "}
-    front = " " + ("0 " if listed.is_numbered() else "") if listed.head else fronts["prefix" if listed.kind == "prefix" else ""]
+    fronts = {
+        "prefix": f"ip prefix-list {listed.name} " + ("seq 0 " if first.number is not None else ""),
+        "": f"access-list {listed.name} ",
+    }
+    front = " " + ("0 " if listed.is_numbered() else "") if listed.head else fronts[
+        "prefix" if listed.kind == "prefix" else ""
+    ]
     for text in texts:
         original.add(first.line, front + text)
 
@@ -67,11 +73,17 @@ def _place_entries(original: Original, mine: Changes) -> None:
         listed = original.lists.get(key)
         if listed is None or not listed.entries:
             raise Wrong(f"{original.file}: there is no list {key[1]} with entries, and there is one in the copy")
+        if listed.kind == "standard":
+            raise Wrong(
+                f"{original.file}: list {key[1]} is a standard list, which has no entries such as the copy's: bind "
+                "an extended one by hand"
+            )
         _entry_lines(original, listed, [entry.text for entry in mine.entries if (entry.prefix, entry.name) == key])
 
 
 def _top(original: Original, process: str) -> Line | None:
-    """The line before which new lists stand: the head of the copy's routing process, else of the first one, else what follows the interfaces."""
+    """The line before which new lists stand: the head of the copy's routing process, else of the first one, else what
+    follows the interfaces."""
     found = [block.head for block in original.blocks if block.begins("router")]
     same = [line for line in found if " ".join(line.words) == process]
     faces = [at for at, block in enumerate(original.blocks) if block.begins("interface")]
@@ -102,13 +114,19 @@ def _place_binding(original: Original, binding: Binding) -> None:
     if not binding.prefix:
         bound = [line for line in _words_in(block, ("ip", "access-group")) if line.words[-1] == "in"]
         if bound:
-            raise Wrong(f"{original.file}:{bound[-1].number}: `{binding.head}` has a list inbound already, which the copy leaves out: {bound[-1].text.strip()}")
+            raise Wrong(
+                f"{original.file}:{bound[-1].number}: `{binding.head}` has a list inbound already, which the copy "
+                f"leaves out: {bound[-1].text.strip()}"
+            )
         original.add_last(block, f"ip access-group {binding.name} in")
         return
     of_neighbor = _words_in(block, ("neighbor", binding.place))
     bound = [line for line in of_neighbor if line.words[2] == "prefix-list" and line.words[-1] == "in"]
     if bound:
-        raise Wrong(f"{original.file}:{bound[-1].number}: the neighbor has a prefix list already, which the copy leaves out: {bound[-1].text.strip()}")
+        raise Wrong(
+            f"{original.file}:{bound[-1].number}: the neighbor has a prefix list already, which the copy leaves out: "
+            f"{bound[-1].text.strip()}"
+        )
     inner = [line for line in of_neighbor if line.words[2] == "activate"]
     text = f"neighbor {binding.place} prefix-list {binding.name} in"
     if inner:
@@ -117,13 +135,31 @@ def _place_binding(original: Original, binding: Binding) -> None:
         original.add_last(block, text)
 
 
+def _is_down(block: Block, session: Session) -> bool:
+    """Whether a line of the process keeps the adjacency or the session down: the last that speaks of it."""
+    down = False
+    for line in block.lines:
+        positive = line.words[1:] if line.words[0] == "no" else line.words
+        of_it = positive in (("passive-interface", session.place), ("passive-interface", "default"))
+        if positive == ("neighbor", session.place, "shutdown") if session.bgp else of_it:
+            down = line.words[0] != "no"
+    return down
+
+
 def _place_session(original: Original, session: Session) -> None:
+    if _is_down(original.block(session.head), session) == session.down:
+        said = f"{original.file}: `{session.head}` keeps the adjacency at {session.place} down already"
+        if not session.down:
+            said = f"{original.file}: `{session.head}` does not keep the adjacency at {session.place} down: "
+            said += "on the copy it is down for another reason, which this does not mend"
+        raise Wrong(said)
     text = f"neighbor {session.place} shutdown" if session.bgp else f"passive-interface {session.place}"
     original.add_last(original.block(session.head), ("" if session.down else "no ") + text)
 
 
 def _renumber(original: Original, mine: Changes) -> dict[int, int]:
-    """New numbers of old entries, by their lines, in lists with numbers that get new entries; these rise from the front."""
+    """New numbers of old entries, by their lines, in lists with numbers that get new entries; these rise from the
+    front."""
     numbers = {}
     for key in dict.fromkeys((entry.prefix, entry.name) for entry in mine.entries):
         listed, many = original.lists[key], sum((entry.prefix, entry.name) == key for entry in mine.entries)
@@ -155,7 +191,8 @@ def _numbered_lines(placed: Sequence[Placed]) -> list[str]:
 
 
 def transfer(text: str, mine: Changes, file: str, process: str = "") -> str:
-    """The file with these changes, which name what it names; new lists before the head of this process, where it is there."""
+    """The file with these changes, which name what it names; new lists before the head of this process, where it is
+    there."""
     original = Original(file, split(text))
     _place_entries(original, mine)
     _place_lists(original, mine, process)
@@ -180,20 +217,23 @@ def renamed(changes: Changes, original: Original, names: copies.Mapping) -> Chan
     """The changes of a copy in the names of the router; a new list whose name is taken there gets the next free one."""
     router = changes.router
     face: Callable[[str], str] = lambda name: names.interface(router, name)
-    taken = {name for _, name in original.lists} | {word for block in original.blocks for line in [block.head, *block.lines] for word in line.words if word.startswith("ARC-")}
+    taken = {name for _, name in original.lists}
+    for block in original.blocks:
+        taken |= {word for line in [block.head, *block.lines] for word in line.words if word.startswith("ARC-")}
     fresh: dict[str, str] = {}
     for listed in changes.lists:
-        number = 1
-        while (name := listed.name if listed.name not in taken and number == 1 else f"ARC-{number}") in taken | set(fresh.values()):
-            number += 1
+        free = (f"ARC-{number}" for number in range(1, len(taken) + 2))
+        name = listed.name if listed.name not in taken else next(name for name in free if name not in taken)
         fresh[listed.name] = name
+        taken.add(name)
         if name != listed.name:
             original.notes.append(f"{original.file}: the name {listed.name} is taken there, so the new list is {name}")
     listname: Callable[[str], str] = lambda name: fresh.get(name) or names.list_name(router, name)
-    bindings = [
-        Binding(one.prefix, listname(one.name), one.place if one.prefix else face(one.place), one.head if one.prefix else f"interface {face(one.place)}")
-        for one in changes.bindings
-    ]
+    bindings = []
+    for one in changes.bindings:
+        place = one.place if one.prefix else face(one.place)
+        head = one.head if one.prefix else f"interface {place}"
+        bindings.append(Binding(one.prefix, listname(one.name), place, head))
     sessions = [one if one.bgp else replace(one, place=face(one.place)) for one in changes.sessions]
     return Changes(
         hostname(original.blocks, original.file), original.file,
@@ -210,7 +250,10 @@ def _fronts(copy: str, original: Original, changes: Changes, mine: Changes) -> N
     for key, real in pairs.items():
         here, there = lists[key].entries, original.lists[real].entries if real in original.lists else []
         if here and there and normal(lists[key].kind, here[0].words) != normal(lists[key].kind, there[0].words):
-            original.notes.append(f"{original.file}: the copy's list {key[1]} begins with another entry; the new ones stand before `{there[0].text}`")
+            original.notes.append(
+                f"{original.file}: the copy's list {key[1]} begins with another entry; the new ones stand before "
+                f"`{there[0].text}`"
+            )
 
 
 def process_of(text: str) -> str:
@@ -218,7 +261,9 @@ def process_of(text: str) -> str:
     return next((" ".join(block.head.words) for block in blocks_of(split(text)) if block.begins("router")), "")
 
 
-def put_back(before: str, after: str, original: str, file: str, names: copies.Mapping) -> tuple[str, Changes, list[str]]:
+def put_back(before: str, after: str, original: str, file: str, names: copies.Mapping) -> tuple[
+    str, Changes, list[str]
+]:
     """The original with what changed from one copy to the other; the changes in its names; and what to know of them.
 
     What comes out is read again: it has every line of the original, just these changes, and each in its place."""
@@ -254,16 +299,21 @@ def returned(options: argparse.Namespace) -> list[Returned]:
         row = found.setdefault(one.original, Returned(one.original, text, text))
         row.after, _, notes = put_back(one.before, one.after, row.after, one.original, one.mapping)
         row.notes += notes
+    if options.join:
+        for row in found.values():
+            row.after = transfer(row.before, fewer(row.changes()), row.file, process_of(row.before))
     return list(found.values())
 
 
 def arguments() -> argparse.ArgumentParser:
     words = commands.parser(
         "back",
-        "Puts a repair of copies into the files as the routers printed them. Each new line is put into the same block, before the same line: entries at "
-        "the front of their list, new lists before the routing process, the others at the end of their block. The result is read again and compared: "
-        "it has every line of the original in its order, and no other change than the copy. Where that cannot be, nothing is written.\n\n"
-        "EDITS is a certificate of repair, what repair printed, or a list of edits. With --copies SUFFIX in its place the files that repair wrote are taken.",
+        "Puts a repair of copies into the files as the routers printed them. Each new line is put into the same "
+        "block, before the same line: entries at the front of their list, new lists before the routing process, the "
+        "others at the end of their block. The result is read again and compared: it has every line of the original "
+        "in its order, and no other change than the copy. Where that cannot be, nothing is written.\n\nEDITS is a "
+        "certificate of repair, what repair printed, or a list of edits. With --copies SUFFIX in its place the files "
+        "that repair wrote are taken.",
         "the changed files, each under the name of the original with --out behind it.",
         """
         bin/back net.json repair.cert --originals . --out .new
@@ -271,7 +321,9 @@ def arguments() -> argparse.ArgumentParser:
         """,
     )
     copies.add_arguments(words)
-    words.add_argument("--out", metavar="SUFFIX", required=True, help="what follows the name of an original in that of its copy")
+    words.add_argument(
+        "--out", metavar="SUFFIX", required=True, help="what follows the name of an original in that of its copy"
+    )
     commands.with_json(words)
     commands.with_force(words)
     return words
@@ -285,7 +337,9 @@ def main(words: list[str]) -> int:
     for one in returned(options):
         mine = one.changes()
         made[one.file + options.out] = one.after
-        many = len(mine.entries) + sum(len(listed.entries) for listed in mine.lists) + len(mine.bindings) + len(mine.sessions)
+        many = len(mine.entries) + sum(len(listed.entries) for listed in mine.lists) + len(mine.bindings) + len(
+            mine.sessions
+        )
         rows.append({"router": mine.router, "file": one.file, "written": one.file + options.out, "lines": many})
         notes += one.notes
     commands.check_free(list(made), options.force)
@@ -294,7 +348,9 @@ def main(words: list[str]) -> int:
     if options.json:
         commands.put(commands.as_json({"files": rows, "notes": notes}))
         return commands.FINE
-    lines = [f"wrote {row['written']}: {counted(int(str(row['lines'])), 'new line')} of commands" for row in rows] or ["nothing has to be changed"]
+    lines = [
+        f"wrote {row['written']}: {counted(int(str(row['lines'])), 'new line')} of commands" for row in rows
+    ] or ["nothing has to be changed"]
     for note in notes:
         lines += wrapped(f"note: {os.path.basename(note)}", "", "    ")
     commands.put("\n".join(lines) + "\n")

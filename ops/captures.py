@@ -6,7 +6,7 @@ from ops import ios
 
 ESCAPES = re.compile(r"\x1b\[[0-9;?]*[A-Za-z]|\x1b[()][A-Z0-9]|\x07")
 MORE = re.compile(r" ?-{1,2} ?[Mm]ore ?-{1,2} ?")
-ERASED = re.compile(r"(?:\x08+ *\x08*|\r *\r?)+")
+ERASED = re.compile(r"(?:\x08+(?: +\x08+)?|\r(?: +\r)?)+")
 SHOW = re.compile(r"^\S+[#>] ?(?:do )?sh[ow]* (?:run|conf|start|tech|archive)")
 PROMPT = re.compile(r"^[A-Za-z0-9._/:@-]+(?:\([a-z0-9-]+\))?[#>]")
 SYSLOG = re.compile(r"^(?:\d+: )?[*.]?[A-Z][a-z]{2} +\d+ (?:\d{4} )?\d\d:\d\d:\d\d[^%]*%[A-Z0-9_]+-(?:[A-Z0-9_]+-)?\d-[A-Z0-9_]+: ")

@@ -40,7 +40,8 @@ class Binding:
 
 @dataclass(frozen=True)
 class Session:
-    """An adjacency at an interface, or a session with a neighbor, that goes down or comes up; `head` is that of its process."""
+    """An adjacency at an interface, or a session with a neighbor, that goes down or comes up; `head` is that of its
+    process."""
 
     place: str
     head: str
@@ -97,7 +98,10 @@ def heads(found: Sequence[Block]) -> dict[int, Block]:
 
 
 def hostname(found: Sequence[Block], name: str) -> str:
-    return next((block.head.words[1] for block in reversed(found) if block.begins("hostname") and len(block.head.words) > 1), name)
+    return next(
+        (block.head.words[1] for block in reversed(found) if block.begins("hostname") and len(block.head.words) > 1),
+        name,
+    )
 
 
 class _Reader:
@@ -119,7 +123,9 @@ class _Reader:
             return self._entry(True, words[2], words[5:] if words[3] == "seq" else words[3:])
         elif head[:1] == ("interface",) and words[:2] == ("ip", "access-group") and words[3:] == ("in",):
             self.changes.bindings.append(Binding(False, words[2], " ".join(head[1:]), " ".join(head)))
-        elif head[:2] == ("router", "bgp") and words[:1] == ("neighbor",) and words[2:3] == ("prefix-list",) and words[4:] == ("in",):
+        elif head[:2] == ("router", "bgp") and words[:1] == ("neighbor",) and words[2:3] == (
+            "prefix-list",
+        ) and words[4:] == ("in",):
             self.changes.bindings.append(Binding(True, words[3], words[1], " ".join(head)))
         else:
             return self._session(words, " ".join(head))
@@ -150,7 +156,8 @@ class _Reader:
 
 
 def changes_of(before: str, after: str, file: str) -> Changes:
-    """What stands in the file after, and not in the file before; `Wrong` where anything else is changed than a repair may."""
+    """What stands in the file after, and not in the file before; `Wrong` where anything else is changed than a repair
+    may."""
     old, new = split(before), split(after)
     places = aligned(old, new, file)
     found, blocks = blocks_of(new), blocks_of(old)
@@ -168,7 +175,10 @@ def changes_of(before: str, after: str, file: str) -> Changes:
             continue
         head = () if block is None or block.head.number == place + 1 else block.head.words
         if not words or not reader.add(words, head):
-            raise Wrong(f"{file}: line {place + 1} of the file after the repair is none that a repair writes: {_plain(line)[:60]}")
+            raise Wrong(
+                f"{file}: line {place + 1} of the file after the repair is none that a repair writes: "
+                f"{_plain(line)[:60]}"
+            )
     reader.end()
     _check_fronts(changes, before, after, file)
     return changes

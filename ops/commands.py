@@ -2,6 +2,7 @@
 import argparse
 import json
 import os
+import re
 import signal
 import subprocess
 import sys
@@ -12,6 +13,7 @@ from dataclasses import dataclass
 
 TOP = os.path.dirname(os.path.dirname(os.path.abspath(__file__)))
 WIDTH = 80
+CONTROLS = re.compile(r"[\x00-\x08\x0b-\x1f\x7f-\x9f]")
 FINE, NOT_SO, CANNOT = 0, 1, 2
 
 
@@ -48,7 +50,7 @@ def with_force(words: argparse.ArgumentParser) -> None:
 
 
 def with_program(words: argparse.ArgumentParser) -> None:
-    words.add_argument("--arcv", metavar="PATH", help="the program to ask; bin/arcv without it")
+    words.add_argument("--arcv", metavar="PATH", help="the program to ask; $ARCV, or bin/arcv, without it")
 
 
 def program(options: argparse.Namespace) -> str:
@@ -56,6 +58,10 @@ def program(options: argparse.Namespace) -> str:
     path = options.arcv or os.environ.get("ARCV") or os.path.join(TOP, "bin", "arcv")
     if not os.access(path, os.X_OK) or os.path.isdir(path):
         raise Wrong(f"{path} is no program")
+    if os.path.abspath(path) == os.path.join(TOP, "bin", "arcv") and not os.path.exists(
+        os.path.join(TOP, ".built", "arcv")
+    ):
+        tell("bin/arcv proves and builds the program first, which takes half an hour or more")
     return os.path.abspath(path)
 
 
@@ -125,10 +131,15 @@ def save(path: str, text: str, force: bool = False) -> None:
         raise Wrong(f"{path} cannot be written: {error.strerror}") from error
 
 
+def visible(text: str) -> str:
+    """The text with its control characters, which a terminal would act on, as question marks."""
+    return CONTROLS.sub("?", text)
+
+
 def put(text: str) -> None:
     """Prints a text; bytes of files that are no UTF-8 come as they are."""
     sys.stdout.flush()
-    sys.stdout.buffer.write(text.encode("utf-8", "surrogateescape"))
+    sys.stdout.buffer.write(visible(text).encode("utf-8", "surrogateescape"))
     sys.stdout.buffer.flush()
 
 
@@ -138,7 +149,7 @@ def as_json(value: object) -> str:
 
 def tell(text: str) -> None:
     """A line on standard error."""
-    print(text, file=sys.stderr, flush=True)
+    print(visible(text), file=sys.stderr, flush=True)
 
 
 def counted(number: int, noun: str, many: str = "") -> str:

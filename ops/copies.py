@@ -34,7 +34,8 @@ class Same:
 
 @dataclass
 class Repaired:
-    """A router file that a repair changes: its name in the document, before and after, and the original that it is a copy of."""
+    """A router file that a repair changes: its name in the document, before and after, and the original that it is a
+    copy of."""
 
     name: str
     before: str
@@ -46,8 +47,11 @@ class Repaired:
 def add_arguments(words: argparse.ArgumentParser) -> None:
     """DOC, and EDITS or --copies; --originals; --arcv."""
     words.add_argument("doc", metavar="DOC", help="the document that was repaired; its router files lie in its folder")
-    words.add_argument("edits", metavar="EDITS", nargs="?", help="a certificate, what repair printed, or a list of edits")
+    words.add_argument(
+        "edits", metavar="EDITS", nargs="?", help="a certificate, what repair printed, or a list of edits"
+    )
     words.add_argument("--copies", metavar="SUFFIX", help="take the files that repair or apply wrote with this suffix")
+    words.add_argument("--join", action="store_true", help="new entries that together are one are written as one")
     words.add_argument("--originals", metavar="FOLDER", help="where the files lie as the routers printed them")
     commands.with_program(words)
 
@@ -93,7 +97,8 @@ def _originals(doc: str, folder: str | None) -> tuple[dict[str, str], str, Mappi
 
 
 def original_text(path: str) -> str:
-    """A file as the router printed it. Of what a terminal recorded it is the configuration alone, as the copies are of that."""
+    """A file as the router printed it. Of what a terminal recorded it is the configuration alone, as the copies are
+    of that."""
     text, capture = load(path), captures.read(path, path)
     raw = dict(numbered(split(text)))
     added = [line for line in capture.dropped if line.text.strip() and not line.text.startswith(captures.FRONT)]
@@ -126,6 +131,8 @@ def repaired(options: argparse.Namespace) -> list[Repaired]:
         if options.originals is None and not files:
             original = os.path.normpath(os.path.join(folder, name))
         if files and router not in files:
-            raise Wrong(f"{name} stands for no router's file, so what the repair changes there cannot be entered anywhere")
+            raise Wrong(
+                f"{name} stands for no router's file, so what the repair changes there cannot be entered anywhere"
+            )
         found.append(Repaired(name, before, after, min(original, os.path.relpath(original), key=len), mapping))
     return found

@@ -8,7 +8,7 @@ from dataclasses import dataclass, field
 from typing import Any
 
 from ops import ports
-from ops.commands import Wrong, load, save
+from ops.commands import Wrong, load
 
 KINDS = ("blocked", "through", "reach")
 WITH_PORTS = (6, 17)
@@ -101,7 +101,10 @@ def _asked(holds: bool, path: str, what: str) -> None:
 
 def _link(path: str, number: int, value: Any) -> Link:
     where = f"link {number}"
-    _asked(isinstance(value, dict) and set(value) <= {"a", "b", "waypoint"}, path, f"{where} has members other than a, b, waypoint")
+    _asked(
+        isinstance(value, dict) and set(value) <= {"a", "b", "waypoint"}, path,
+        f"{where} has members other than a, b, waypoint",
+    )
     for end in ("a", "b"):
         text = value.get(end)
         _asked(isinstance(text, str) and ":" in text, path, f"{where}: `{end}` is not ROUTER:INTERFACE")
@@ -117,8 +120,14 @@ def _policy(path: str, number: int, value: Any) -> Policy:
     _asked(kind in KINDS, path, f"{where}: `kind` is not blocked, through or reach")
     for end in ("from", "to"):
         _asked(is_prefix(value.get(end)), path, f"{where}: `{end}` is no prefix such as 10.1.0.0/24")
-    _asked((kind == "reach") == ("failures" in value), path, f"{where}: `failures` stands exactly where the kind is reach")
-    _asked("failures" not in value or _is_number(value["failures"], 0, (1 << 64) - 1), path, f"{where}: `failures` is no number")
+    _asked(
+        (kind == "reach") == ("failures" in value), path,
+        f"{where}: `failures` stands exactly where the kind is reach",
+    )
+    _asked(
+        "failures" not in value or _is_number(value["failures"], 0, (1 << 64) - 1), path,
+        f"{where}: `failures` is no number",
+    )
     right = "proto" not in value or proto in ("tcp", "udp", "icmp") or _is_number(proto, 1, 255)
     _asked(right, path, f"{where}: `proto` is not tcp, udp, icmp or a number from 1 to 255")
     right = "port" not in value or (proto in ("tcp", "udp", *WITH_PORTS) and _is_number(port, 0, 65535))
@@ -139,10 +148,12 @@ def parse_document(text: str, path: str = "it") -> Document:
     _asked(not extra, path, f"it has a member that is not known: {', '.join(sorted(extra))}")
     for name in ("routers", "links", "policies"):
         _asked(isinstance(value[name], list), path, f"`{name}` is no list")
-    right = bool(value["routers"]) and all(isinstance(name, str) and name and "\0" not in name for name in value["routers"])
+    names = value["routers"]
+    right = bool(names) and all(isinstance(name, str) and name and "\0" not in name for name in names)
     _asked(right, path, "`routers` is not a list of names of files")
     weights = value.get("weights", {})
-    right = isinstance(weights, dict) and set(weights) <= set(EDIT_KINDS) and all(_is_number(cost, 1, 16) for cost in weights.values())
+    right = isinstance(weights, dict) and set(weights) <= set(EDIT_KINDS)
+    right = right and all(_is_number(cost, 1, 16) for cost in weights.values())
     _asked(right, path, "`weights` has something other than list, filter and session with 1 to 16")
     links = [_link(path, number, link) for number, link in enumerate(value["links"], 1)]
     policies = [_policy(path, number, policy) for number, policy in enumerate(value["policies"], 1)]
@@ -173,10 +184,6 @@ def document_text(document: Document) -> str:
     return "{\n" + ",\n".join(parts) + "\n}\n"
 
 
-def write_document(path: str, document: Document, force: bool = False) -> None:
-    save(path, document_text(document), force)
-
-
 def folder_of(path: str) -> str:
     """The folder in which the names of a document's router files are looked up."""
     return os.path.dirname(os.path.abspath(path))
@@ -184,12 +191,16 @@ def folder_of(path: str) -> str:
 
 def with_files(document: Document, names: dict[str, str]) -> Document:
     """The same over other files."""
-    return Document([names.get(name, name) for name in document.routers], document.links, document.policies, document.weights)
+    return Document(
+        [names.get(name, name) for name in document.routers], document.links, document.policies, document.weights
+    )
 
 
 def with_policies(document: Document, numbers: list[int]) -> Document:
     """The same with these policies alone, counted from 1."""
-    return Document(document.routers, document.links, [document.policies[number - 1] for number in numbers], document.weights)
+    return Document(
+        document.routers, document.links, [document.policies[number - 1] for number in numbers], document.weights
+    )
 
 
 def service_words(policy: Policy) -> str:
@@ -201,7 +212,8 @@ def service_words(policy: Policy) -> str:
 
 
 def span_words(word: str) -> str:
-    """What a word `service:P.N-P.N` or `service:P.N` of a report says: `TCP 22`, `TCP 22 to 25`, `UDP`, `protocols 18 to 255`."""
+    """What a word `service:P.N-P.N` or `service:P.N` of a report says: `TCP 22`, `TCP 22 to 25`, `UDP`, `protocols 18
+    to 255`."""
     found = re.fullmatch(r"service:([0-9]+)\.([0-9]+)(?:-([0-9]+)\.([0-9]+))?", word)
     if not found:
         return word

@@ -40,7 +40,9 @@ def places(names: Sequence[str]) -> tuple[dict[str, Point], float, float]:
     spots = {}
     for number, name in enumerate(names):
         angle = math.pi * (2 * number / len(names) - 1)
-        spots[name] = (width / 2 + (width / 2 - 110) * math.cos(angle), height / 2 + (height / 2 - 62) * math.sin(angle))
+        spots[name] = (
+            width / 2 + (width / 2 - 110) * math.cos(angle), height / 2 + (height / 2 - 62) * math.sin(angle)
+        )
     return spots, width, height
 
 
@@ -48,7 +50,9 @@ def free_spot(start: Point, middle: Point, end: Point, taken: list[Point]) -> Po
     """Where on the curve a link's number has room beside those that stand already."""
     x, y = middle
     for share in (0.5, 0.42, 0.58, 0.35, 0.65, 0.28, 0.72):
-        x, y = ((1 - share) ** 2 * p + 2 * share * (1 - share) * q + share**2 * r for p, q, r in zip(start, middle, end))
+        x, y = (
+            (1 - share) ** 2 * p + 2 * share * (1 - share) * q + share**2 * r for p, q, r in zip(start, middle, end)
+        )
         if all(math.hypot(x - u, y - v) > 26 for u, v in taken):
             break
     taken.append((x, y))
@@ -80,7 +84,8 @@ def numbers_of(words: Sequence[str], most: int) -> list[int]:
 
 
 def marks(lines: Sequence[Sequence[str]], most: int) -> tuple[list[tuple[str, list[int]]], set[int], set[str]]:
-    """From the witness lines: the links of each path with its colour, the links of the cut, and the routers of a side."""
+    """From the witness lines: the links of each path with its colour, the links of the cut, and the routers of a
+    side."""
     paths: list[tuple[str, list[int]]] = []
     cut: set[int] = set()
     side: set[str] = set()
@@ -121,13 +126,18 @@ def drawn(
     for colour, path in paths:
         out += [f'  <path class="witness" stroke="{colour}" d="{ways[link - 1][0]}"/>' for link in path]
     for number, (_, x, y) in enumerate(ways, 1):
-        out.append(f'  <circle class="number" cx="{x:.0f}" cy="{y:.0f}" r="11"/><text class="small" x="{x:.0f}" y="{y + 4:.0f}">{number}</text>')
+        out.append(
+            f'  <circle class="number" cx="{x:.0f}" cy="{y:.0f}" r="11"/><text class="small" x="{x:.0f}" y="{y + 4:.0f}">{number}</text>'
+        )
         if number in cut:
             out.append(f'  <path class="cut" d="M{x - 13:.0f} {y - 13:.0f} l26 26 m0 -26 l-26 26"/>')
     for name, nets in routers.items():
         x, y = spots[name]
         half = max(46, 4.6 * len(name))
-        out.append(f'  <rect class="router{" side" if name in side else ""}" x="{x - half:.0f}" y="{y - 22:.0f}" width="{2 * half:.0f}" height="44" rx="9"/>')
+        out.append(
+            f'  <rect class="router{" side" if name in side else ""}" x="{x - half:.0f}" y="{y - 22:.0f}" width="{2 * half:.0f}" '
+            'height="44" rx="9"/>'
+        )
         out.append(f'  <text x="{x:.0f}" y="{y + 5:.0f}">{escape(name)}</text>')
         first = y + 38 if y > height / 2 - 1 else y - 28 - 14 * (len(nets) - 1)
         for row, net in enumerate(nets):
@@ -179,9 +189,10 @@ def of_policy(routers: Routers, number: int, policy: Policy, block: Block) -> st
 def arguments() -> argparse.ArgumentParser:
     words = commands.parser(
         "draw",
-        "Prints a drawing (SVG) of a document's network: routers, links with their numbers, waypoints doubled, and host networks. With a report "
-        "of verify there is a drawing for each policy that is named, or for all of them, with its two networks in bold and its witness "
-        "marked: paths in cold colours, a walk in red, the links of a cut crossed out, the routers of a side shaded. It judges nothing.",
+        "Prints a drawing (SVG) of a document's network: routers, links with their numbers, waypoints doubled, and "
+        "host networks. With a report of verify there is a drawing for each policy that is named, or for all of "
+        "them, with its two networks in bold and its witness marked: paths in cold colours, a walk in red, the links "
+        "of a cut crossed out, the routers of a side shaded. It judges nothing.",
         "nothing, or the file of --out.",
         "bin/draw net.json report.txt 3 > policy-3.svg",
     )
@@ -210,7 +221,12 @@ def main(words: list[str]) -> int:
         if number not in blocks or number > len(document.policies):
             raise Wrong(f"{options.report} has no block for policy {number}, or {options.doc} has not that policy")
         policy = document.policies[number - 1]
-        drawings.append(drawn(nets, links, title_of(number, policy, blocks[number].answer), blocks[number].lines, (policy.source, policy.target)))
+        drawings.append(
+            drawn(
+                nets, links, title_of(number, policy, blocks[number].answer), blocks[number].lines,
+                (policy.source, policy.target),
+            )
+        )
     text = sheet(title, drawings or [drawn(nets, links, title, [], ())])
     if options.out:
         commands.save(options.out, text, options.force)

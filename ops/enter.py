@@ -37,7 +37,9 @@ class Router:
 
     def free_name(self) -> str:
         """A name for one more list, which neither the file nor a new list has."""
-        taken = self.fresh | {word for block in self.blocks for line in [block.head, *block.lines] for word in line.words}
+        taken = self.fresh | {
+            word for block in self.blocks for line in [block.head, *block.lines] for word in line.words
+        }
         name = next(name for number in range(1, len(taken) + 2) if (name := f"ARC-{number}") not in taken)
         self.fresh.add(name)
         return name
@@ -54,7 +56,10 @@ class Router:
     def family(self, head: str, neighbor: str) -> list[str]:
         """The address family in which a neighbor is activated, as the lines that lead there."""
         block = next(block for block in self.blocks if " ".join(block.head.words) == head)
-        inner = {" ".join(words) for words, line in families(block) if words and line.words[:3] == ("neighbor", neighbor, "activate")}
+        inner = {
+            " ".join(words)
+            for words, line in families(block) if words and line.words[:3] == ("neighbor", neighbor, "activate")
+        }
         plain = [words for words in sorted(inner) if words.startswith("ipv4") and "vrf" not in words]
         return [f" address-family {plain[0]}"] if plain else []
 
@@ -84,9 +89,12 @@ def _spacing(entries: Sequence[Entry]) -> str:
 
 
 def _resequenced(router: Router, listed: ListText, many: int) -> tuple[list[int], dict[int, int]]:
-    """Gives a list numbers with room before its first entry; the room's numbers, and each old entry's number by its line."""
+    """Gives a list numbers with room before its first entry; the room's numbers, and each old entry's number by its
+    line."""
     first = 10 * (many + 1)
-    back, numbers = f"ip access-list resequence {listed.name} 10 10", {entry.line: first + 10 * place for place, entry in enumerate(listed.entries)}
+    back, numbers = f"ip access-list resequence {listed.name} 10 10", {
+        entry.line: first + 10 * place for place, entry in enumerate(listed.entries)
+    }
     if listed.is_numbered():
         spacing = _spacing(listed.entries)
         back = f"ip access-list resequence {listed.name} {spacing}" if spacing else ""
@@ -124,7 +132,8 @@ def _packet_entries(router: Router, listed: ListText, texts: Sequence[str]) -> N
         lines.append(f"{number} {text}")
     remark = f"List {listed.name}: {counted(len(texts), 'entry', 'entries')} in front"
     if twice:
-        remark += f". The same entry stands further down (`{twice[0]}`), and IOS would take no second one: it is taken out, and its place is entered at once"
+        remark += f". The same entry stands further down (`{twice[0]}`), and IOS would take no second one: "
+        remark += "it is taken out, and the new one entered at once"
     router.steps.append(Step(remark, _indented([listed.command], lines), _indented([listed.command], back)))
 
 
@@ -149,16 +158,21 @@ def _route_entries(router: Router, listed: ListText, texts: Sequence[str]) -> No
     for neighbor, head in neighbors:
         lead = [head, *router.family(head, neighbor)]
         front = f"neighbor {neighbor} prefix-list"
-        router.steps.append(
-            Step(f"{name} in place of {listed.name} at neighbor {neighbor}", _indented(lead, [f"{front} {name} in"]), _indented(lead, [f"{front} {listed.name} in"]), [_soft(neighbor)])
-        )
-    router.notes.append(f"list {listed.name} stays as it is, and is bound no more; in the files after the repair it has the new entries itself")
+        there, gone = (_indented(lead, [f"{front} {bound} in"]) for bound in (name, listed.name))
+        said = f"{name} in place of {listed.name} at neighbor {neighbor}"
+        router.steps.append(Step(said, there, gone, [_soft(neighbor)]))
+    router.notes.append(
+        f"list {listed.name} stays as it is, and is bound no more; in the files after the repair it has the new "
+        "entries itself"
+    )
 
 
 def _new_list(router: Router, listed: NewList, remark: str = "") -> None:
     """A whole new list, before anything binds it."""
     if listed.prefix:
-        lines = [f"ip prefix-list {listed.name} seq {5 * number} {text}" for number, text in enumerate(listed.entries, 1)]
+        lines = [
+            f"ip prefix-list {listed.name} seq {5 * number} {text}" for number, text in enumerate(listed.entries, 1)
+        ]
         back = [f"no ip prefix-list {listed.name}"]
         show = f"show ip prefix-list {listed.name}"
     else:
@@ -168,25 +182,30 @@ def _new_list(router: Router, listed: NewList, remark: str = "") -> None:
     what = "prefix list" if listed.prefix else "list"
     said = remark or f"A new {what} {listed.name} of {counted(len(listed.entries), 'entry', 'entries')}, which nothing binds yet"
     router.steps.append(Step(said, lines, back))
-    router.notes.append(f"before `{'prefix list' if listed.prefix else 'list'} {listed.name}` is bound, `{show}` has to show {counted(len(listed.entries), 'entry', 'entries')}, the last of them `{listed.entries[-1]}`")
+    router.notes.append(
+        f"before `{'prefix list' if listed.prefix else 'list'} {listed.name}` is bound, `{show}` has to show "
+        f"{counted(len(listed.entries), 'entry', 'entries')}, the last of them `{listed.entries[-1]}`"
+    )
 
 
 def _bind(router: Router, binding: Binding) -> None:
-    if not binding.prefix:
-        line = f"ip access-group {binding.name} in"
-        router.steps.append(Step(f"List {binding.name}, in at {binding.place}", _indented([binding.head], [line]), _indented([binding.head], [f"no {line}"])))
-        return
-    line, lead = f"neighbor {binding.place} prefix-list {binding.name} in", [binding.head, *router.family(binding.head, binding.place)]
-    router.steps.append(
-        Step(f"Prefix list {binding.name} at neighbor {binding.place}", _indented(lead, [line]), _indented(lead, [f"no {line}"]), [_soft(binding.place)])
-    )
+    if binding.prefix:
+        line, lead = f"neighbor {binding.place} prefix-list {binding.name} in", [binding.head]
+        lead += router.family(binding.head, binding.place)
+        said, behind = f"Prefix list {binding.name} at neighbor {binding.place}", [_soft(binding.place)]
+    else:
+        line, lead = f"ip access-group {binding.name} in", [binding.head]
+        said, behind = f"List {binding.name}, in at {binding.place}", []
+    router.steps.append(Step(said, _indented(lead, [line]), _indented(lead, [f"no {line}"]), behind))
 
 
 def _turn(router: Router, session: Session) -> None:
     line = f"neighbor {session.place} shutdown" if session.bgp else f"passive-interface {session.place}"
     there, gone = _indented([session.head], [line]), _indented([session.head], [f"no {line}"])
     said = session_words(session)
-    router.steps.append(Step(said[0].upper() + said[1:], there if session.down else gone, gone if session.down else there))
+    router.steps.append(
+        Step(said[0].upper() + said[1:], there if session.down else gone, gone if session.down else there)
+    )
 
 
 def _entries(router: Router, changes: Changes, permits: bool) -> None:
@@ -239,7 +258,8 @@ def entered(router: Router, down: bool) -> list[str]:
         lines += _remark(note)
     if down:
         lines += _remark(
-            f"An adjacency goes down: come in another way, or let the router start anew in {MINUTES} minutes, unless all is well then. It comes back with its saved "
+            f"An adjacency goes down: come in another way, or let the router start anew in {MINUTES} minutes, "
+            "unless all is well then. It comes back with its saved "
             "configuration, so save it as it is now (copy running-config startup-config), and then"
         )
         lines.append(f"reload in {MINUTES}")
@@ -267,10 +287,12 @@ def ordered(rows: Sequence[Planned]) -> list[Planned]:
 def arguments() -> argparse.ArgumentParser:
     words = commands.parser(
         "enter",
-        "Prints a repair as IOS commands for each router, in a safe order: a list whole before it is bound, entries with numbers below the first, `clear ip bgp .. soft in` "
-        "behind what changes routes, adjacencies that go down last and with `reload in`. The numbers are those of the files as the routers printed them, "
-        "so fetch them right before. In between the network is in states of which no policy was asked.\n\n"
-        "EDITS is a certificate of repair, what repair printed, or a list of edits. With --copies SUFFIX in its place the files that repair wrote are taken.",
+        "Prints a repair as IOS commands for each router, in a safe order: a list whole before it is bound, entries "
+        "with numbers below the first, `clear ip bgp .. soft in` behind what changes routes, adjacencies that go "
+        "down last and with `reload in`. The numbers are those of the files as the routers printed them, so fetch "
+        "them right before. In between the network is in states of which no policy was asked.\n\nEDITS is a "
+        "certificate of repair, what repair printed, or a list of edits. With --copies SUFFIX in its place the files "
+        "that repair wrote are taken.",
         "nothing, or with --out a file ROUTER.enter and a file ROUTER.back for each router into FOLDER.",
         """
         bin/enter net.json repair.cert --originals .
@@ -290,15 +312,25 @@ def main(words: list[str]) -> int:
     routers = [(steps_of(row), goes_down(row)) for row in rows]
     texts = {router.name: (entered(router, down), taken_back(router)) for router, down in routers}
     if options.out:
-        files = {os.path.join(options.out, name + end): "\n".join(lines) + "\n" for name, both in texts.items() for end, lines in zip((".enter", ".back"), both)}
+        files = {
+            os.path.join(options.out, name + end): "\n".join(lines) + "\n"
+            for name, both in texts.items()
+            for end, lines in zip((".enter", ".back"), both)
+        }
         commands.check_free(list(files), options.force)
         for path, text in files.items():
             commands.save(path, text, True)
         commands.put("".join(f"wrote {path}\n" for path in files) or "nothing has to be changed\n")
     elif options.json:
-        commands.put(commands.as_json([{"router": name, "enter": there, "back": back} for name, (there, back) in texts.items()]))
+        commands.put(
+            commands.as_json(
+                [{"router": name, "enter": there, "back": back} for name, (there, back) in texts.items()]
+            )
+        )
     else:
-        parts = ["\n".join(there) for there, _ in texts.values()] + ["\n".join(back) for _, back in reversed(texts.values())]
+        parts = ["\n".join(there) for there, _ in texts.values()] + [
+            "\n".join(back) for _, back in reversed(texts.values())
+        ]
         commands.put("\n\n".join(parts or ["nothing has to be changed"]) + "\n")
     for row in rows:
         for note in row.notes:

@@ -40,6 +40,7 @@ class Exact:
         self.judge(routers)
 
     def kind_of(self, routers: Sequence[Router]) -> str:
+        """The protocol of the network, `ospf` or `bgp`; notes where routers have several."""
         kinds = [block.head.words[1] for router in routers for block in router.processes]
         kind = "ospf" if "ospf" in kinds else "bgp" if kinds else ""
         if not kind:
@@ -53,6 +54,7 @@ class Exact:
         return kind
 
     def judge(self, routers: Sequence[Router]) -> None:
+        """Notes what the lines of routers and their processes cost."""
         for name, process in self.processes.items():
             router = self.routers[name]
             self.notes += [note for note in router.notes if "reach" in note.loses() and not note.text.startswith("system mtu")]
@@ -66,6 +68,7 @@ class Exact:
             self.judge_ospf()
 
     def judge_ospf(self) -> None:
+        """Notes what processes of OSPF have that is not modelled, or not at all routers."""
         lines = {name: {note.text for note in process.notes if note.cost == "adjacency" and not note.text.startswith(("area", "bfd"))}
                  for name, process in self.processes.items()}
         if len({frozenset(texts) for texts in lines.values()}) > 1:
@@ -161,6 +164,7 @@ class Exact:
             self.meetings.append(Meeting(faces, segment))
 
     def adjacent(self, a: Face, b: Face) -> adjacency.Judged:
+        """Whether OSPF makes an adjacency of two interfaces."""
         pa, pb = self.process(a), self.process(b)
         assert isinstance(pa, Ospf) and isinstance(pb, Ospf)
         for router, face, far in ((pa.router, a, b), (pb.router, b, a)):

@@ -61,6 +61,7 @@ class Builder:
         return self.nodes[name]
 
     def port(self, face: Face, address: Interface, is_end: bool) -> building.Port:
+        """An interface on the copy, with its lists."""
         node, router = self.node(face.router), self.exact.routers[face.router]
         made = node.port(face.name, address, is_end)
         if made.name != face.name:

@@ -1,17 +1,15 @@
 """explain: a report, or another text of arcv, in words."""
 import argparse
 from collections.abc import Iterable, Sequence
-from dataclasses import dataclass, field
 
 from ops import commands, showing
-from ops.commands import Wrong, counted, wrapped
+from ops.commands import Wrong, counted
 from ops.documents import Document, Policy, folder_of, read_document, span_words
 from ops.faces import Routers
 from ops.reports import Block, Edit, Text, read_text
+from ops.told import ORDER, Told
 from ops.wording import Names, names_of, title
 
-ANSWER_WORDS = {"yes": "yes", "no": "NO", "refused": "NOT ANSWERED"}
-ORDER = ("no", "refused", "yes")
 WHY_REJECTED = {
     "form": "the line is not of a form that may stand there",
     "policy": "a block is not that of the next policy, is missing, or is one too many",
@@ -26,20 +24,6 @@ WHY_REJECTED = {
     "not-refuted": "the log ends without a proof that nothing cheaper is enough",
 }
 LOG_STEP = "a step of the log does not follow from those before it: the files may be others than those of the proof"
-
-
-@dataclass
-class Told:
-    """One answer in words, with what a drawing of it needs."""
-
-    head: str
-    answer: str
-    lines: list[str] = field(default_factory=list)  # may be longer than a line of a terminal
-    number: int = 0
-    name: str = ""
-    policy: Policy | None = None
-    block: Block | None = None
-    mark: str = ""
 
 
 class Teller:
@@ -60,7 +44,9 @@ class Teller:
         start = host.router if host else self._start(links)
         routers = self.routers.along(start, links) if self.routers and start else []
         if len(routers) == len(links) + 1:
-            steps = [f"{self.names.router(router)} {self.port(router, number)}" for router, number in zip(routers, links)]
+            steps = [
+                f"{self.names.router(router)} {self.port(router, number)}" for router, number in zip(routers, links)
+            ]
             return " > ".join([*steps, self.names.router(routers[-1])])
         return "; ".join(f"link {number}: {self.names.link(number)}" for number in links)
 
@@ -73,7 +59,9 @@ class Teller:
         """Where a way of two links or more begins: at the end of the first that the second has not."""
         if not self.routers or len(links) < 2 or max(links) > len(self.routers.document.links):
             return ""
-        first, second = ({router for router, _ in self.routers.document.links[number - 1].ends()} for number in links[:2])
+        first, second = (
+            {router for router, _ in self.routers.document.links[number - 1].ends()} for number in links[:2]
+        )
         return next(iter(first - second)) if len(first - second) == 1 else ""
 
     def router_list(self, words: Iterable[str]) -> str:
@@ -103,7 +91,10 @@ class Teller:
         if len(rows) == 1:
             return found + [f"They get as far as {self.router_list(bound[0])}{around}."]
         order = {router: None for routers in entered for router in routers}
-        found.append(f"Of {counted(len(rows), 'class', 'classes')} of packets {len(entered)} enter and get at most to {self.router_list(order)}{around}.")
+        found.append(
+            f"Of {counted(len(rows), 'class', 'classes')} of packets {len(entered)} enter and get at most to "
+            f"{self.router_list(order)}{around}."
+        )
         return found
 
     def _cut(self, block: Block) -> list[str]:
@@ -114,7 +105,9 @@ class Teller:
         elif not cut:
             found = ["No route is there, even with every link up."]
         else:
-            found = ["With " + ("this link" if len(cut) == 1 else f"these {len(cut)} links") + " failed no route is left:"]
+            found = [
+                "With " + ("this link" if len(cut) == 1 else f"these {len(cut)} links") + " failed no route is left:"
+            ]
             found += [f"  {text}" for text in self.links(cut)]
         return found + [f"Cut off with the source: {self.router_list(side)}."]
 
@@ -145,7 +138,9 @@ class Teller:
         links = [word for word in line[3:] if word.isdigit()]
         if kind == "walk":
             where = self.way(line[1], links)
-            return [f"Packets from {self.packets(line[1:])} are delivered, with every other link failed, by", f"  {where}"]
+            return [
+                f"Packets from {self.packets(line[1:])} are delivered, with every other link failed, by", f"  {where}"
+            ]
         if kind == "arc":
             return [f"Link {line[1]} leads straight there: {self.names.link(int(line[1]))}."]
         if kind == "no-entry":
@@ -179,8 +174,10 @@ class Teller:
     def edit(self, edit: Edit) -> str:
         """An edit in words. Which way it turns what it names is told by bin/plan."""
         router = self.names.router(edit.router)
-        packets = self.packets([word for word in (edit.source, edit.target, edit.service) if word]) if edit.kind == "packet" else ""
-        name = self.names.list_name(edit.router, edit.name) if edit.place == "list" else self.names.interface(edit.router, edit.name)
+        words = [word for word in (edit.source, edit.target, edit.service) if word]
+        packets = self.packets(words) if edit.kind == "packet" else ""
+        named = self.names.list_name if edit.place == "list" else self.names.interface
+        name = named(edit.router, edit.name)
         if edit.kind == "session":
             return f"at {router}: the adjacency at {name} goes down, or comes up if it is down"
         if edit.kind == "route":
@@ -191,49 +188,25 @@ class Teller:
         return f"at {router}: list {name} turns about what it does with {packets}"
 
 
-def explain_policy(name: str, policy: Policy, block: Block, names: Names, routers: Routers | None = None) -> list[str]:
-    """One answer in words, in lines of at most 80 columns, of which the first says the policy and the answer."""
-    head = f"{name + ': ' if name else ''}{title(block.number, policy, _Nameless(names))}"
-    return shown(Told(head, block.answer, Teller(names, routers).witness(policy, block)))
-
-
-class _Nameless:
-    """Names without those of policies."""
-
-    def __init__(self, names: Names) -> None:
-        self.router, self.link, self.network = names.router, names.link, names.network
-        self.interface, self.list_name = names.interface, names.list_name
-
-    def policy(self, number: int) -> str:
-        return ""
-
-
-def shown(told: Told) -> list[str]:
-    """The lines of an answer in 80 columns."""
-    mark = f" ({told.mark})" if told.mark else ""
-    lines = wrapped(f"{told.head}: {ANSWER_WORDS.get(told.answer, told.answer)}{mark}", "", "    ")
-    for line in told.lines:
-        front = "      " if line.startswith("  ") else "    "
-        lines += wrapped(line.strip(), front, front + ("  " if front == "      " else ""))
-    return lines
-
-
-def summary(blocks: Sequence[Block]) -> str:
-    """`1 no, 0 not answered, 2 yes: 3 policies`."""
-    counts = {answer: sum(block.answer == answer for block in blocks) for answer in ORDER}
-    return f"{counts['no']} no, {counts['refused']} not answered, {counts['yes']} yes: {counted(len(blocks), 'policy', 'policies')}"
-
-
 def tell_blocks(text: Text, document: Document, names: Names, routers: Routers) -> list[Told]:
     """The answers of a report or a certificate, noes first."""
     teller, found = Teller(names, routers), []
     for block in text.blocks:
         if not 1 <= block.number <= len(document.policies):
-            raise Wrong(f"line {block.at} speaks of policy {block.number}, and the document has {len(document.policies)}: is it the report of another one?")
+            raise Wrong(
+                f"line {block.at} speaks of policy {block.number}, and the document has {len(document.policies)}: is "
+                "it the report of another one?"
+            )
         policy = document.policies[block.number - 1]
         if policy.kind != block.kind:
-            raise Wrong(f"line {block.at} answers `{block.kind}`, and policy {block.number} is `{policy.kind}`: is it the report of another document?")
-        told = Told(title(block.number, policy, names), block.answer, teller.witness(policy, block), block.number, names.policy(block.number), policy, block, block.mark)
+            raise Wrong(
+                f"line {block.at} answers `{block.kind}`, and policy {block.number} is `{policy.kind}`: is it the "
+                "report of another document?"
+            )
+        told = Told(
+            title(block.number, policy, names), block.answer, teller.witness(policy, block), block.number,
+            names.policy(block.number), policy, block, block.mark,
+        )
         if block.number in text.alone:
             told.lines += _alone(teller, text.alone[block.number])
         found.append(told)
@@ -250,7 +223,9 @@ def _alone(teller: Teller, links: Sequence[int]) -> list[str]:
 def tell_single(text: Text, ends: Sequence[str], names: Names, routers: Routers) -> list[Told]:
     """The answer of `nodes` or `prefers`; FROM and TO stand in some witnesses alone, so they may be given."""
     block = text.blocks[0]
-    prefixes = next((line[1:3] for line in block.lines if len(line) > 2 and "/" in line[1] and "/" in line[2]), tuple(ends))
+    prefixes = next(
+        (line[1:3] for line in block.lines if len(line) > 2 and "/" in line[1] and "/" in line[2]), tuple(ends)
+    )
     source, target = (prefixes[0], prefixes[1]) if len(prefixes) == 2 else ("the source", "the target")
     where = f"{names.network(source)} to {names.network(target)}"
     if text.form == "nodes":
@@ -288,7 +263,9 @@ def tell_repair(text: Text, names: Names, routers: Routers) -> Told:
     if text.answer == "none":
         return Told(f"no edits that cost at most {text.numbers[0]} are enough", "none")
     if text.answer == "budget":
-        return Told(f"the search was given up after {counted(text.numbers[0], 'conflict')}: nothing is claimed", "budget")
+        return Told(
+            f"the search was given up after {counted(text.numbers[0], 'conflict')}: nothing is claimed", "budget"
+        )
     head = f"{counted(len(edits), 'edit')} at the price of {text.numbers[0]} {'is' if len(edits) == 1 else 'are'} enough, and nothing cheaper is"
     return Told(head if edits else "nothing has to be changed: every policy holds", "repaired", edits)
 
@@ -317,7 +294,7 @@ def tell_rejected(line: int, word: str, text: str, document: Document, names: Na
 
 def _is_head(row: str) -> bool:
     words = row.split()
-    return len(words) in (4, 5) and words[0].isdigit() and words[3].isdigit() and len(words[0]) < 10 and len(words[3]) < 10
+    return len(words) in (4, 5) and all(word.isdigit() and len(word) < 10 for word in (words[0], words[3]))
 
 
 def tell(text: Text, ends: Sequence[str], document: Document, names: Names, routers: Routers) -> list[Told]:
@@ -330,20 +307,28 @@ def tell(text: Text, ends: Sequence[str], document: Document, names: Names, rout
     if text.form in ("report", "recheck", "certificate"):
         return found + tell_blocks(text, document, names, routers)
     if text.form == "rejected":
-        raise Wrong(f"REPORT has to be the text that was checked, with `--rejected {text.numbers[0]} {text.answer}` behind it")
+        raise Wrong(
+            f"REPORT has to be the text that was checked, with `--rejected {text.numbers[0]} {text.answer}` behind it"
+        )
     if text.form == "accepted":
         return [Told("accepted: every answer of that text is true of these files", "accepted")]
     if text.form == "refused":
-        return [Told(f"nothing was judged: {text.answer}", "nothing", ["docs/manual.md has each kind under Refusals; `bin/refusals DOC` lists every line."])]
+        return [
+            Told(
+                f"nothing was judged: {text.answer}", "nothing",
+                ["docs/manual.md has each kind under Refusals; `bin/refusals DOC` lists every line."],
+            )
+        ]
     return found
 
 
 def arguments() -> argparse.ArgumentParser:
     words = commands.parser(
         "explain",
-        "Says in words what arcv printed: noes first, with names of policies, routers and ports in place of numbers, and the sum at the end. "
-        "REPORT is a report of verify or recheck, what nodes, prefers or trace printed, a certificate of repair, or `-` for standard input. "
-        "Names of policies and networks come from DOC's file of names, as bin/policies writes it.",
+        "Says in words what arcv printed: noes first, with names of policies, routers and ports in place of numbers, "
+        "and the sum at the end. REPORT is a report of verify or recheck, what nodes, prefers or trace printed, a "
+        "certificate of repair, or `-` for standard input. Names of policies and networks come from DOC's file of "
+        "names, as bin/policies writes it.",
         "nothing, or the file of --out.",
         """
         bin/arcv verify net.json | bin/explain net.json -
@@ -386,4 +371,6 @@ def main(words: list[str]) -> int:
         commands.save(options.out, text, options.force)
     else:
         commands.put(text)
-    return commands.FINE if all(one.answer not in ("no", "refused", "rejected", "none", "budget", "nothing") for one in told) else commands.NOT_SO
+    return commands.FINE if all(
+        one.answer not in ("no", "refused", "rejected", "none", "budget", "nothing") for one in told
+    ) else commands.NOT_SO

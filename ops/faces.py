@@ -1,4 +1,5 @@
-"""The interfaces of router files, as much as names and words need: addresses, what is shut down, which lists are bound."""
+"""The interfaces of router files, as much as names and words need: addresses, what is shut down, which lists are
+bound."""
 import ipaddress
 import os
 from collections.abc import Iterator
@@ -102,7 +103,8 @@ class Routers:
         return found + sorted({router for router, _ in self.ends} - set(found))
 
     def hosts(self) -> list[HostNetwork]:
-        """Every network of hosts: the subnet of an interface that is no link's end, of a loopback under OSPF its address."""
+        """Every network of hosts: the subnet of an interface that is no link's end, of a loopback under OSPF its
+        address."""
         if self._hosts is None:
             self._hosts = list(self._read_hosts())
         return self._hosts
@@ -145,8 +147,3 @@ class Routers:
             at = b if at == a else a
             way.append(at)
         return way
-
-
-def host_networks(document: Document, folder: str) -> list[HostNetwork]:
-    """Every network of hosts of a document."""
-    return Routers(document, folder).hosts()

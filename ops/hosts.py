@@ -68,10 +68,6 @@ def split(prefix: Net, segments: Sequence[Segment]) -> list[Net]:
     return sorted({net for net in nets if net.subnet_of(prefix)})
 
 
-def segment_of(prefix: Net, segments: Sequence[Segment]) -> Segment | None:
-    return next((segment for segment in segments if any(prefix.subnet_of(net) for net in segment.nets)), None)
-
-
 def parts(place: int, source: Net, target: Net, segments: Sequence[Segment]) -> tuple[list[Part], str]:
     """The parts of a policy, and why there are none, or nothing."""
     ends: list[list[Net]] = []

@@ -19,7 +19,10 @@ Class = tuple[str, str, str]
 def shut(text: str) -> str:
     """A router file with every interface shut down."""
     lines = split(text)
-    last = {block.lines[-1].number if block.lines else block.head.number for block in blocks_of(lines) if block.begins("interface")}
+    last = {
+        block.lines[-1].number if block.lines else block.head.number
+        for block in blocks_of(lines) if block.begins("interface")
+    }
     out = []
     for number, line in enumerate(lines, 1):
         out.append(line if line.endswith("\n") or number not in last else line + "\n")
@@ -30,7 +33,10 @@ def shut(text: str) -> str:
 
 def classes_of(asked: Trial) -> set[Class]:
     """The traffic classes of a document: sources, destinations, and the word of their services, empty for all."""
-    policies = [Policy("blocked", policy.source, policy.target, None, policy.proto, policy.port) for policy in asked.document.policies]
+    policies = [
+        Policy("blocked", policy.source, policy.target, None, policy.proto, policy.port)
+        for policy in asked.document.policies
+    ]
     document = Document(asked.document.routers, asked.document.links, policies, asked.document.weights)
     blocks = asked.over(document, {name: shut(text) for name, text in asked.texts.items()}).verify()
     found = set()
@@ -59,18 +65,28 @@ def inside(small: Class, wide: Class) -> bool:
 
 
 def _makers(first: Texts, now: Texts) -> dict[tuple[str, str, str], tuple[str, str]]:
-    """The lists that earlier rounds made, by router, kind and name: what an edit of the first files calls them, and where they are bound."""
+    """The lists that earlier rounds made, by router, kind and name: what an edit of the first files calls them, and
+    where they are bound."""
     found = {}
     for name, text in now.items():
         blocks = blocks_of(split(text))
         old = lists_of(blocks_of(split(first[name])))
-        router = next((block.head.words[1] for block in reversed(blocks) if block.begins("hostname") and len(block.head.words) > 1), "")
+        router = next(
+            (
+                block.head.words[1]
+                for block in reversed(blocks) if block.begins("hostname") and len(block.head.words) > 1
+            ),
+            "",
+        )
         for block in blocks:
             for line in block.lines:
-                if block.begins("interface") and line.words[:2] == ("ip", "access-group") and line.words[-1] == "in" and (False, line.words[2]) not in old:
-                    found[router, "packet", line.words[2]] = ("interface", block.head.words[1])
-                if block.begins("router", "bgp") and line.words[2:3] == ("prefix-list",) and (True, line.words[3]) not in old:
-                    found[router, "route", line.words[3]] = ("neighbor", line.words[1])
+                words = line.words
+                is_bound = words[:2] == ("ip", "access-group") and words[3:] == ("in",)
+                if block.begins("interface") and is_bound and (False, words[2]) not in old:
+                    found[router, "packet", words[2]] = ("interface", block.head.words[1])
+                is_bound = words[2:3] == ("prefix-list",) and words[4:] == ("in",)
+                if block.begins("router", "bgp") and is_bound and (True, words[3]) not in old:
+                    found[router, "route", words[3]] = ("neighbor", words[1])
     return found
 
 
@@ -81,14 +97,19 @@ def joined(rounds: Iterable[tuple[Sequence[Edit], Texts]], first: Trial) -> list
     for edits, texts in rounds:
         makers = _makers(first.texts, texts)
         for edit in edits:
-            place, name = makers.get((edit.router, edit.kind, edit.name), (edit.place, edit.name)) if edit.place == "list" else (edit.place, edit.name)
+            place, name = makers.get(
+                (edit.router, edit.kind, edit.name), (edit.place, edit.name)
+            ) if edit.place == "list" else (edit.place, edit.name)
             mine = replace(edit, place=place, name=name)
             if edit.kind != "packet":
                 parts = [mine]
             else:
                 classes = classes if classes is not None else classes_of(first)
                 wide = (edit.source, edit.target, edit.service)
-                parts = [replace(mine, source=one[0], target=one[1], service=one[2]) for one in sorted(classes) if inside(one, wide)]
+                parts = [
+                    replace(mine, source=one[0], target=one[1], service=one[2])
+                    for one in sorted(classes) if inside(one, wide)
+                ]
                 if not parts:
                     raise Wrong(f"`{edit.line()}` is of no class of the whole document")
             for part in parts:

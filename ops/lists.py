@@ -21,7 +21,8 @@ class Entry:
 
 @dataclass
 class ListText:
-    """A list of a file. `kind` is extended, standard or prefix; `head` is the line of its block, 0 where it stands line by line."""
+    """A list of a file. `kind` is extended, standard or prefix; `head` is the line of its block, 0 where it stands
+    line by line."""
 
     kind: str
     name: str
@@ -57,7 +58,9 @@ def _of_block(block: Block) -> Iterator[tuple[str, str, int, Entry | None]]:
             yield words[2], words[3], block.head.number, _entry(line, line.words)
     elif words[0] == "access-list" and len(words) > 2:
         yield _numbered_kind(words[1]), words[1], 0, _entry(block.head, words[2:])
-    elif words[:2] == ("ip", "prefix-list") and len(words) > 3 and words[2] != "sequence-number" and words[3] != "description":
+    elif words[:2] == ("ip", "prefix-list") and len(words) > 3 and words[2] != "sequence-number" and words[
+        3
+    ] != "description":
         rest = words[4:] if words[3] == "seq" else words[3:]
         yield "prefix", words[2], 0, _entry(block.head, rest)
 
@@ -108,7 +111,8 @@ def _ends(words: list[str]) -> Iterator[str]:
 
 
 def normal(kind: str, words: Sequence[str]) -> tuple[str, ...]:
-    """The words of an entry in one spelling, so that two say the same where these are equal. What is logged does not count."""
+    """The words of an entry in one spelling, so that two say the same where these are equal. What is logged does not
+    count."""
     if kind == "prefix":
         return tuple(words)
     kept = [word for word in words if word not in ("log", "log-input")]

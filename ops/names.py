@@ -1,4 +1,5 @@
 """The map of a copy: what its routers, interfaces, lists and links are in the network, and the names that networks have."""
+import ipaddress
 import json
 import re
 from dataclasses import asdict, dataclass, field
@@ -36,22 +37,20 @@ class CopyMap:
         return self.links[number - 1] if 0 < number <= len(self.links) else f"link {number}"
 
     def network(self, prefix: str) -> str:
-        name = self.networks.get(prefix)
-        return f"{name} ({prefix})" if name else prefix
+        if prefix in self.networks:
+            return f"{self.networks[prefix]} ({prefix})"
+        try:
+            inner = ipaddress.IPv4Network(prefix)
+        except ValueError:
+            return prefix
+        wider = [outer for outer in map(ipaddress.IPv4Network, self.networks) if inner.subnet_of(outer)]
+        return f"{prefix} of {self.networks[str(max(wider, key=lambda net: net.prefixlen))]}" if wider else prefix
 
     def policy(self, number: int) -> str:
         return self.policies[number - 1] if 0 < number <= len(self.policies) else ""
 
     def text(self) -> str:
         return json.dumps({"version": 1, **asdict(self)}, indent=1) + "\n"
-
-
-def load_map(path: str) -> CopyMap:
-    """The map in a file."""
-    with open(path, encoding="utf-8") as file:
-        said = json.load(file)
-    known = asdict(CopyMap())
-    return CopyMap(**{name: said[name] for name in known if name in said})
 
 
 def is_read(name: str) -> bool:

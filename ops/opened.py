@@ -14,14 +14,6 @@ POINT = " ip ospf network point-to-point"
 OPEN_LIST = "arcv-permits-all"
 
 
-@dataclass(frozen=True)
-class Ask:
-    """A part of a policy that one document asks about: the policy's place, and the two prefixes."""
-    place: int
-    source: Net
-    target: Net
-
-
 @dataclass
 class OpenCopy:
     """A copy: files by name, the document, the map, and what is not as it was, by file."""
@@ -164,6 +156,7 @@ class Opener:
         return True
 
     def hub(self, segment: Segment, asked: Sequence[Net]) -> None:
+        """Lays a segment as a router of its own."""
         self.hubs += 1
         hub = self.node(f"segment-{self.hubs}", f"the segment {segment.text()}", None)
         for face in segment.faces:

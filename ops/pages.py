@@ -1,4 +1,5 @@
-"""pages: the manual page and the completions of shells, made from the table of the program's commands and the tools' own words."""
+"""pages: the manual page and the completions of shells, made from the table of the program's commands and the tools'
+own words."""
 import argparse
 import importlib
 import os
@@ -11,7 +12,18 @@ from ops.commands import TOP, Wrong, load
 
 TABLE = os.path.join(TOP, "crates", "run_messages", "src", "commands.rt")
 MANUAL = os.path.join(TOP, "docs", "manual.md")
-FORM = re.compile(r'Form \{\s*name: "([^"]*)",\s*places: "([^"]*)",\s*options: "([^"]*)",\s*meaning: "([^"]*)",\s*\}', re.S)
+ABOUT = (
+    "arcv reads router files in the language of Cisco IOS, a document with the links between them and with policies, "
+    "and says which policies hold, whatever links fail. Each answer has a witness, which can be checked by itself. "
+    "A repair is the cheapest one, and its certificate proves that."
+)
+FILES_AND_STREAMS = (
+    "A file is looked up in the folder in which the command runs. Answers are printed to standard output, everything "
+    "else to standard error."
+)
+FORM = re.compile(
+    r'Form \{\s*name: "([^"]*)",\s*places: "([^"]*)",\s*options: "([^"]*)",\s*meaning: "([^"]*)",\s*\}', re.S
+)
 FILES = ("DOC", "CERT", "REPORT", "EDITS", "CNF", "PROOF", "NAME", "TEXT", "FILE", "PATH", "FOLDER", "SEAL")
 
 
@@ -55,7 +67,12 @@ def program_commands() -> list[Command]:
         pairs = tuple(zip(words[::2], words[1::2]))
         if name not in asks:
             raise Wrong(f"docs/manual.md has no row for {name}")
-        found.append(Command(name, tuple(places.split()), pairs, " ".join(part for part in (name, places, options) if part), asks[name], meaning))
+        found.append(
+            Command(
+                name, tuple(places.split()), pairs, " ".join(part for part in (name, places, options) if part),
+                asks[name], meaning,
+            )
+        )
     if not found or set(asks) != {command.name for command in found}:
         raise Wrong(f"{TABLE} and docs/manual.md do not have the same commands")
     return found
@@ -67,7 +84,9 @@ def _word(action: argparse.Action) -> str:
     if action.option_strings:
         text = " ".join(part for part in (action.option_strings[-1], value) if part)
         return text if action.required else f"[{text}]"
-    return {None: value, "?": f"[{value}]", "*": f"[{value} ..]"}.get(action.nargs if isinstance(action.nargs, str) else None, value)
+    return {None: value, "?": f"[{value}]", "*": f"[{value} ..]"}.get(
+        action.nargs if isinstance(action.nargs, str) else None, value
+    )
 
 
 def tools() -> list[Command]:
@@ -81,7 +100,9 @@ def tools() -> list[Command]:
         parser = importlib.import_module(f"ops.{module[1]}").arguments()
         places, options = [], []
         for action in parser._actions:  # argparse has no public name for these
-            value = action.metavar if isinstance(action.metavar, str) else " ".join(action.metavar or ()) or action.dest.upper()
+            value = action.metavar if isinstance(action.metavar, str) else " ".join(
+                action.metavar or ()
+            ) or action.dest.upper()
             if not action.option_strings:
                 places.append(value)
             elif action.nargs == 0:
@@ -109,9 +130,7 @@ def manual_page() -> str:
         lines += [f".B arcv {command.name}", _roff(command.form.removeprefix(command.name).strip()), ".br"]
     lines += [
         ".SH DESCRIPTION",
-        _roff("arcv reads router files in the language of Cisco IOS, a document with the links between them and with policies, and says which policies hold, "
-              "whatever links fail. Each answer has a witness, which can be checked by itself. A repair is the cheapest one, and its certificate proves that."),
-        ".PP", _roff("A file is looked up in the folder in which the command runs. Answers are printed to standard output, everything else to standard error."),
+        _roff(ABOUT), ".PP", _roff(FILES_AND_STREAMS),
         ".SH COMMANDS",
     ]
     for command in program_commands():
@@ -122,7 +141,10 @@ def manual_page() -> str:
     lines += [".SH TOOLS", _roff("Scripts in bin/ beside the program. Nothing of them is proved. Each has --help.")]
     for tool in tools():
         lines += [".TP", f".B {_roff(tool.form)}", _roff(tool.asks[0].upper() + tool.asks[1:] + ".")]
-    lines += [".SH SEE ALSO", _roff("docs/manual.md, docs/formats.md, docs/model.md and docs/real-files.md of the repository.")]
+    lines += [
+        ".SH SEE ALSO",
+        _roff("docs/manual.md, docs/formats.md, docs/model.md and docs/real-files.md of the repository."),
+    ]
     return "\n".join(lines) + "\n"
 
 
@@ -133,16 +155,32 @@ def _takes_file(place: str) -> bool:
 def bash() -> str:
     """Completion for bash."""
     programs, mine = program_commands(), tools()
-    lines = ["# Made by bin/pages. Do not edit.", "_arcv() {", "    local word=${COMP_WORDS[COMP_CWORD]} options=", "    COMPREPLY=()"]
-    lines += ["    if [ \"$COMP_CWORD\" -eq 1 ]; then", f"        COMPREPLY=($(compgen -W '{' '.join(command.name for command in programs)}' -- \"$word\"))", "        return", "    fi"]
+    lines = [
+        "# Made by bin/pages. Do not edit.", "_arcv() {", "    local word=${COMP_WORDS[COMP_CWORD]} options=",
+        "    COMPREPLY=()",
+    ]
+    lines += [
+        "    if [ \"$COMP_CWORD\" -eq 1 ]; then",
+        f"        COMPREPLY=($(compgen -W '{' '.join(command.name for command in programs)}' -- \"$word\"))",
+        "        return", "    fi",
+    ]
     lines.append("    case ${COMP_WORDS[1]} in")
     for command in programs:
         lines.append(f"        {command.name}) options='{' '.join(option for option, _ in command.options)}' ;;")
-    lines += ["    esac", "    case $word in", "        -*) COMPREPLY=($(compgen -W \"$options\" -- \"$word\")) ;;", "        *) COMPREPLY=($(compgen -f -- \"$word\")) ;;", "    esac", "}"]
-    lines += ["complete -o filenames -F _arcv arcv", "_arcv_tool() {", "    local word=${COMP_WORDS[COMP_CWORD]} options=", "    COMPREPLY=()", "    case ${COMP_WORDS[0]##*/} in"]
+    lines += [
+        "    esac", "    case $word in", "        -*) COMPREPLY=($(compgen -W \"$options\" -- \"$word\")) ;;",
+        "        *) COMPREPLY=($(compgen -f -- \"$word\")) ;;", "    esac", "}",
+    ]
+    lines += [
+        "complete -o filenames -F _arcv arcv", "_arcv_tool() {", "    local word=${COMP_WORDS[COMP_CWORD]} options=",
+        "    COMPREPLY=()", "    case ${COMP_WORDS[0]##*/} in",
+    ]
     for tool in mine:
         lines.append(f"        {tool.name}) options='{' '.join(option for option, _ in tool.options)}' ;;")
-    lines += ["    esac", "    case $word in", "        -*) COMPREPLY=($(compgen -W \"$options\" -- \"$word\")) ;;", "        *) COMPREPLY=($(compgen -f -- \"$word\")) ;;", "    esac", "}"]
+    lines += [
+        "    esac", "    case $word in", "        -*) COMPREPLY=($(compgen -W \"$options\" -- \"$word\")) ;;",
+        "        *) COMPREPLY=($(compgen -f -- \"$word\")) ;;", "    esac", "}",
+    ]
     lines += [f"complete -o filenames -F _arcv_tool {' '.join('bin/' + tool.name for tool in mine)}"]
     return "\n".join(lines) + "\n"
 
@@ -153,11 +191,17 @@ def _quoted(text: str) -> str:
 
 def zsh() -> str:
     """Completion for zsh."""
-    lines = ["#compdef arcv", "# Made by bin/pages. Do not edit.", "_arcv() {", "    local -a found", "    if (( CURRENT == 2 )); then", "        found=("]
+    lines = [
+        "#compdef arcv", "# Made by bin/pages. Do not edit.", "_arcv() {", "    local -a found",
+        "    if (( CURRENT == 2 )); then", "        found=(",
+    ]
     lines += [f"            '{command.name}:{_quoted(command.asks)}'" for command in program_commands()]
     lines += ["        )", "        _describe command found", "        return", "    fi", "    case ${words[2]} in"]
     for command in program_commands():
-        specs = " ".join(f"'{option}[{_quoted(value)}]:{_quoted(value)}:{'_files' if _takes_file(value) else ''}'" for option, value in command.options)
+        specs = " ".join(
+            f"'{option}[{_quoted(value)}]:{_quoted(value)}:{'_files' if _takes_file(value) else ''}'"
+            for option, value in command.options
+        )
         lines.append(f"        {command.name}) _arguments {specs + ' ' if specs else ''}'*:file:_files' ;;")
     return "\n".join([*lines, "    esac", "}", "_arcv \"$@\"", ""])
 
@@ -169,26 +213,38 @@ def fish() -> str:
         lines.append(f"complete -c arcv -n __fish_use_subcommand -f -a {command.name} -d '{_quoted(command.asks)}'")
         for option, value in command.options:
             needs = "-r" if _takes_file(value) else "-x"
-            lines.append(f"complete -c arcv -n '__fish_seen_subcommand_from {command.name}' -l {option.removeprefix('--')} {needs} -d '{_quoted(value)}'")
+            lines.append(
+                f"complete -c arcv -n '__fish_seen_subcommand_from {command.name}' -l {option.removeprefix('--')} "
+                f"{needs} -d '{_quoted(value)}'"
+            )
     return "\n".join(lines) + "\n"
 
 
 def made() -> dict[str, str]:
     """All pages by their paths from the top of the repository."""
-    return {"docs/arcv.1": manual_page(), "docs/completions/arcv.bash": bash(), "docs/completions/_arcv": zsh(), "docs/completions/arcv.fish": fish()}
+    return {
+        "docs/arcv.1": manual_page(), "docs/completions/arcv.bash": bash(), "docs/completions/_arcv": zsh(),
+        "docs/completions/arcv.fish": fish(),
+    }
 
 
 def differing() -> list[str]:
     """The pages that are not there, or not as they would be made."""
-    return [path for path, text in made().items() if not os.path.exists(os.path.join(TOP, path)) or load(os.path.join(TOP, path)) != text]
+    return [
+        path
+        for path, text in made().items()
+        if not os.path.exists(os.path.join(TOP, path)) or load(os.path.join(TOP, path)) != text
+    ]
 
 
 def arguments() -> argparse.ArgumentParser:
     words = commands.parser(
         "pages",
-        "Makes the manual page docs/arcv.1 and the completions of bash, zsh and fish from the table of commands in the program's source, "
-        "docs/manual.md and the words of the tools. With --check it names those that are not as they would be made.",
-        "docs/arcv.1, docs/completions/arcv.bash, docs/completions/_arcv and docs/completions/arcv.fish; with --check nothing.",
+        "Makes the manual page docs/arcv.1 and the completions of bash, zsh and fish from the table of commands in "
+        "the program's source, docs/manual.md and the words of the tools. With --check it names those that are not "
+        "as they would be made.",
+        "docs/arcv.1, docs/completions/arcv.bash, docs/completions/_arcv and docs/completions/arcv.fish; with "
+        "--check nothing.",
         """
         bin/pages --force
         man docs/arcv.1

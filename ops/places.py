@@ -38,7 +38,8 @@ def _spelt(text: str, names: SPELT) -> str:
 
 
 def _groups(found: Sequence[Block]) -> tuple[dict[int, str], dict[str, dict[int, str]]]:
-    """The block or list of each line, and the lines of each with their texts. Entries are in one spelling, in whatever form the file has its list."""
+    """The block or list of each line, and the lines of each with their texts. Entries are in one spelling, in
+    whatever form the file has its list."""
     head_of: dict[int, str] = {}
     lines: dict[str, dict[int, str]] = {"": {}}
     for block in found:
@@ -66,13 +67,17 @@ def new_places(pair: Pair, file: str) -> Iterator[Place]:
             continue
         head = head_of[number]
         group = {at: text for at, text in lines[head].items() if at in kept}
-        yield Place(lines[head][number], head, tuple(text for at, text in group.items() if at > number), tuple(group.values()))
+        yield Place(
+            lines[head][number], head, tuple(text for at, text in group.items() if at > number), tuple(group.values())
+        )
 
 
 def _names(changes: Changes, mine: Changes) -> SPELT:
     """From the words of the copy to those of the router, of what the changes name."""
     found = {}
-    for one, two in zip([*changes.entries, *changes.lists, *changes.bindings], [*mine.entries, *mine.lists, *mine.bindings]):
+    for one, two in zip(
+        [*changes.entries, *changes.lists, *changes.bindings], [*mine.entries, *mine.lists, *mine.bindings]
+    ):
         found[one.name] = two.name
     for one, two in zip([*changes.bindings, *changes.sessions], [*mine.bindings, *mine.sessions]):
         found[one.place] = two.place
@@ -88,14 +93,19 @@ def _agrees(copy: Place, real: Place, names: SPELT) -> bool:
 
 
 def check(copy: Pair, real: Pair, changes: Changes, mine: Changes, file: str) -> None:
-    """Each new line of the copy stands in the router's file in the same block, before the same line; `Wrong` where one does not."""
+    """Each new line of the copy stands in the router's file in the same block, before the same line; `Wrong` where
+    one does not."""
     names = _names(changes, mine)
     left = list(new_places(real, file))
     for place in new_places(copy, file):
         text, head = _spelt(place.text, names), _spelt(place.head, names)
         found = next((other for other in left if (other.text, other.head) == (text, head)), None)
         if found is None:
-            raise Wrong(f"{file}: `{text}` would not stand below `{head}`" if head else f"{file}: `{text}` would not stand there")
+            raise Wrong(
+                f"{file}: `{text}` would not stand below `{head}`"
+                if head
+                else f"{file}: `{text}` would not stand there"
+            )
         left.remove(found)
         if not _agrees(place, found, names) and not _is_new_list(text, place, found):
             raise Wrong(f"{file}: `{text}` would not stand before the line before which it stands in the copy")
@@ -106,4 +116,5 @@ def check(copy: Pair, real: Pair, changes: Changes, mine: Changes, file: str) ->
 def _is_new_list(text: str, copy: Place, real: Place) -> bool:
     """A new list may stand anywhere at the top where the copy's process is not the router's."""
     process = next((head for head in copy.block if head.startswith("router ")), "")
-    return not real.head and process not in real.block and text.split()[:2] in (["ip", "access-list"], ["ip", "prefix-list"])
+    is_list = text.split()[:2] in (["ip", "access-list"], ["ip", "prefix-list"])
+    return is_list and not real.head and process not in real.block

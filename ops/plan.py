@@ -8,6 +8,7 @@ from ops.back import returned
 from ops.changes import Changes, Session
 from ops.commands import counted, wrapped
 from ops.documents import read_document
+from ops.fewer import fewer
 from ops.ios import Block
 from ops.joining import price
 from ops.lists import blocks_of, split
@@ -32,7 +33,9 @@ def planned(options: argparse.Namespace) -> list[Planned]:
     return found
 
 
-USERS = ("access-group", "access-list", "list", "community", "match", "distribute-list", "traffic-filter", "peer", "serve")
+USERS = (
+    "access-group", "access-list", "list", "community", "match", "distribute-list", "traffic-filter", "peer", "serve"
+)
 
 
 def _is_use(words: Sequence[str], name: str) -> bool:
@@ -54,7 +57,10 @@ def uses(changes: Changes, text: str) -> list[str]:
         for block in blocks:
             for line in [block.head, *block.lines]:
                 if _is_use(line.words, name):
-                    found.append(f"{changes.router}: `{line.text.strip()}` names list {name} too, so the new entries act there as well")
+                    found.append(
+                        f"{changes.router}: `{line.text.strip()}` names list {name} too, so the new entries act "
+                        "there as well"
+                    )
     return found
 
 
@@ -69,10 +75,15 @@ def details(changes: Changes) -> list[str]:
     lines = []
     for name in dict.fromkeys((entry.prefix, entry.name) for entry in changes.entries):
         texts = [entry.text for entry in changes.entries if (entry.prefix, entry.name) == name]
-        lines.append(f"{'prefix list' if name[0] else 'list'} {name[1]}: {counted(len(texts), 'entry', 'entries')} in front")
+        lines.append(
+            f"{'prefix list' if name[0] else 'list'} {name[1]}: {counted(len(texts), 'entry', 'entries')} in front"
+        )
         lines += [f"    {text}" for text in texts]
     for listed in changes.lists:
-        where = [("at neighbor " if bind.prefix else "in at ") + bind.place for bind in changes.bindings if (bind.prefix, bind.name) == (listed.prefix, listed.name)]
+        where = [
+            ("at neighbor " if bind.prefix else "in at ") + bind.place
+            for bind in changes.bindings if (bind.prefix, bind.name) == (listed.prefix, listed.name)
+        ]
         lines.append(f"new {'prefix list' if listed.prefix else 'list'} {listed.name}, bound {', '.join(where)}")
         lines += [f"    {text}" for text in listed.entries]
     return lines + [session_words(session) for session in changes.sessions]
@@ -82,6 +93,11 @@ def counts(changes: Changes) -> tuple[int, int, int, int, int]:
     """New lists, entries in front of old lists, bindings, sessions that go down, and such as come up."""
     down = sum(session.down for session in changes.sessions)
     return len(changes.lists), len(changes.entries), len(changes.bindings), down, len(changes.sessions) - down
+
+
+def new_entries(changes: Changes) -> int:
+    """How many entries are new, in old lists and in new ones."""
+    return len(changes.entries) + sum(len(listed.entries) for listed in changes.lists)
 
 
 COLUMNS = ("new lists", "entries", "bindings", "down", "up")
@@ -115,7 +131,9 @@ def said(rows: Sequence[Planned], total: int) -> list[str]:
     lines = table(rows, total)
     rest = total - len(rows)
     others = {0: ".", 1: ", and the other file is as before."}.get(rest, f", and the {rest} other files are as before.")
-    lines += wrapped(f"Nothing else changes: every line of {'this file' if len(rows) == 1 else 'these files'} stays{others}")
+    lines += wrapped(
+        f"Nothing else changes: every line of {'this file' if len(rows) == 1 else 'these files'} stays{others}"
+    )
     for row in rows:
         lines += ["", f"{row.changes.router} ({row.changes.file})"]
         for line in details(row.changes):
@@ -143,8 +161,9 @@ def as_rows(rows: Sequence[Planned]) -> list[dict[str, object]]:
 def arguments() -> argparse.ArgumentParser:
     words = commands.parser(
         "plan",
-        "Shows what a repair changes, as a table with a sum and then line by line: lists, entries, bindings, sessions. EDITS is a certificate of repair, "
-        "what repair printed, or a list of edits; arcv puts them into copies in a folder of its own. With --copies SUFFIX the files that repair wrote are taken.",
+        "Shows what a repair changes, as a table with a sum and then line by line: lists, entries, bindings, "
+        "sessions. EDITS is a certificate of repair, what repair printed, or a list of edits; arcv puts them into "
+        "copies in a folder of its own. With --copies SUFFIX the files that repair wrote are taken.",
         "nothing.",
         """
         bin/plan net.json repair.cert
@@ -160,11 +179,18 @@ def main(words: list[str]) -> int:
     options = arguments().parse_args(words)
     document = read_document(options.doc)
     rows, total = planned(options), copies.total(options.doc, document)
+    edits = copies.edits_of(options)
+    cost = price(edits, document.weights)
     if options.json:
-        commands.put(commands.as_json({"routers": as_rows(rows), "of": total, "price": price(copies.edits_of(options), document.weights) if options.edits else None}))
-    else:
-        lines = said(rows, total)
-        if edits := copies.edits_of(options):
-            lines += ["", f"{counted(len(edits), 'edit')} at the price of {price(edits, document.weights)}"]
-        commands.put("\n".join(lines) + "\n")
+        value = {"routers": as_rows(rows), "of": total, "price": cost if options.edits else None}
+        commands.put(commands.as_json(value))
+        return commands.FINE
+    lines = said(rows, total)
+    many = sum(new_entries(row.changes) for row in rows)
+    few = sum(new_entries(fewer(row.changes)) for row in rows)
+    if few < many:
+        lines += ["", f"{counted(many, 'entry', 'entries')}, which --join makes {few}"]
+    if edits:
+        lines += ["", f"{counted(len(edits), 'edit')} at the price of {cost}"]
+    commands.put("\n".join(lines) + "\n")
     return commands.FINE

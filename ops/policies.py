@@ -30,7 +30,7 @@ def waypoints_of(document: Document, points: Sequence[str]) -> list[Link]:
 def silent_pairs(networks: dict[str, str], policies: Sequence[Policy]) -> list[tuple[str, str, str]]:
     """The pairs of networks that no policy speaks of wholly, and of which services some does."""
     near = [
-        {prefix: {place for place, policy in enumerate(policies) if network(prefix).overlaps(network(getattr(policy, end)))} for prefix in networks.values()}
+        {prefix: _near(prefix, [getattr(policy, end) for policy in policies]) for prefix in networks.values()}
         for end in ("source", "target")
     ]
     nets = {name: network(prefix) for name, prefix in networks.items()}
@@ -48,6 +48,11 @@ def silent_pairs(networks: dict[str, str], policies: Sequence[Policy]) -> list[t
     return found
 
 
+def _near(prefix: str, others: Sequence[str]) -> set[int]:
+    """The places of the prefixes that share an address with this one."""
+    return {place for place, other in enumerate(others) if network(prefix).overlaps(network(other))}
+
+
 def _covers(policy: Policy, source: str, target: str) -> bool:
     wide = network(source).subnet_of(network(policy.source)) and network(target).subnet_of(network(policy.target))
     return wide and policy.proto is None
@@ -61,7 +66,8 @@ def _part(policy: Policy, source: str, target: str) -> str:
 
 def networks_of(options: argparse.Namespace, document: Document) -> dict[str, str]:
     """The networks of hosts of a document by their names; one without a name is named by its prefix."""
-    given = options.names or next((path for path in (names_file(options.doc), os.path.join(os.path.dirname(options.doc), "names.json")) if os.path.exists(path)), "")
+    beside = (names_file(options.doc), os.path.join(os.path.dirname(options.doc), "names.json"))
+    given = options.names or next((path for path in beside if os.path.exists(path)), "")
     names = {network(prefix): name for prefix, name in (read_networks(given) if given else {}).items()}
     found: dict[str, str] = {}
     for host in Routers(document, folder_of(options.doc)).hosts():
@@ -73,17 +79,16 @@ def networks_of(options: argparse.Namespace, document: Document) -> dict[str, st
 def arguments() -> argparse.ArgumentParser:
     words = commands.parser(
         "policies",
-        "Makes a text of policies a document: the routers and links are those of DOC, and each line of TEXT says what has to hold. "
-        "Prints the pairs of networks of which no policy speaks.\n\n"
-        "group NAME = WORD ..   WORD is a prefix, or a name of a network or group\n\n"
-        "[NAME:] FROM never reaches TO [SERVICE] [both ways]\n\n"
-        "[NAME:] FROM reaches TO [SERVICE] [survives N] [both ways]\n\n"
-        "[NAME:] FROM reaches TO only through W.. [SERVICE] [both ways]\n\n"
-        "all pairs survive N [except A to B, C and D, E]\n\n"
-        "FROM and TO are such words, or `everyone`; SERVICE is tcp, tcp PORT, udp, udp PORT, icmp or protocol N; W is a router, ROUTER:INTERFACE, or "
-        "`waypoints` for the links that DOC marks. `#` begins a comment. Names of networks come from the file of names beside DOC.",
-        "with --out the document, and a file of names beside it (FILE.names.json); where the policies are more than 256, or name different waypoints, several "
-        "documents: FILE.json, FILE-2.json and so on. Without it nothing.",
+        "Makes a text of policies a document: the routers and links are those of DOC, and each line of TEXT says "
+        "what has to hold. Prints the pairs of networks of which no policy speaks.\n\ngroup NAME = WORD ..   WORD is "
+        "a prefix, or a name of a network or group\n\n[NAME:] FROM never reaches TO [SERVICE] [both ways]\n\n[NAME:] "
+        "FROM reaches TO [SERVICE] [survives N] [both ways]\n\n[NAME:] FROM reaches TO only through W.. [SERVICE] "
+        "[both ways]\n\nall pairs survive N [except A to B, C and D, E]\n\nFROM and TO are such words, or "
+        "`everyone`; SERVICE is tcp, tcp PORT, udp, udp PORT, icmp or protocol N; W is a router, ROUTER:INTERFACE, "
+        "or `waypoints` for the links that DOC marks. `#` begins a comment. Names of networks come from the file of "
+        "names beside DOC.",
+        "with --out the document, and a file of names beside it (FILE.names.json); where the policies are more than "
+        "256, or name different waypoints, several documents: FILE.json, FILE-2.json and so on. Without it nothing.",
         """
         cat > policies.txt
         group guests = 10.1.99.0/24 10.2.99.0/24
@@ -102,10 +107,13 @@ def arguments() -> argparse.ArgumentParser:
 
 
 def documents_of(found: Sequence[Named], document: Document) -> list[tuple[list[Named], Document]]:
-    """The documents of these policies: one for each set of waypoints, since that is one of links, and of at most 256 policies."""
+    """The documents of these policies: one for each set of waypoints, since that is one of links, and of at most 256
+    policies."""
     other = next((named for named in found if named.packets != "all"), None)
     if other:
-        raise Wrong(f"line {other.line}: a document cannot speak of `{other.packets}` packets alone; bin/start asks of them")
+        raise Wrong(
+            f"line {other.line}: a document cannot speak of `{other.packets}` packets alone; bin/start asks of them"
+        )
     sets = list(dict.fromkeys(named.waypoints for named in found if named.policy.kind == "through")) or [()]
     made = []
     for points in sets:
@@ -136,10 +144,15 @@ def _said(found: Sequence[Named], silent: Sequence[tuple[str, str, str]], wrote:
     return lines
 
 
-def _write(options: argparse.Namespace, made: Sequence[tuple[list[Named], Document]], prefixes: dict[str, str]) -> list[str]:
+def _write(
+    options: argparse.Namespace, made: Sequence[tuple[list[Named], Document]], prefixes: dict[str, str]
+) -> list[str]:
     """Writes the documents, and a file of names beside each."""
     if folder_of(options.out) != folder_of(options.doc):
-        raise Wrong(f"{options.out} has to lie in the folder of {options.doc}, in which the names of router files are looked up")
+        raise Wrong(
+            f"{options.out} has to lie in the folder of {options.doc}, in which the names of router files are looked "
+            "up"
+        )
     paths = [_named(options.out, number) for number in range(1, len(made) + 1)]
     commands.check_free([name for path in paths for name in (path, names_file(path))], options.force)
     for path, (found, document) in zip(paths, made):
@@ -158,10 +171,19 @@ def main(words: list[str]) -> int:
         raise Wrong(f"{options.text}: {error}") from error
     made = documents_of(found, document)
     silent = silent_pairs(networks, [named.policy for named in found])
-    wrote = _write(options, made, {prefix: name for name, prefix in networks.items() if name != prefix}) if options.out else []
+    wrote = _write(
+        options, made, {prefix: name for name, prefix in networks.items() if name != prefix}
+    ) if options.out else []
     if options.json:
         rows = [{"from": source, "to": target, "spoken of": part} for source, target, part in silent]
-        commands.put(commands.as_json({"policies": [{"name": one.name, "line": one.line, **one.policy.members()} for one in found], "silent": rows, "wrote": wrote}))
+        commands.put(
+            commands.as_json(
+                {
+                    "policies": [{"name": one.name, "line": one.line, **one.policy.members()} for one in found],
+                    "silent": rows, "wrote": wrote,
+                }
+            )
+        )
     else:
         commands.put("\n".join(_said(found, silent, wrote)) + "\n")
     return commands.FINE

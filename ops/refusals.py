@@ -11,7 +11,7 @@ from typing import Any
 
 from lab.router_ids import warnings
 from ops import commands
-from ops.commands import TOP, Wrong, counted
+from ops.commands import Wrong, counted
 
 WHAT_TO_DO = {
     "orphan-line": "an indented line with no block above it: a comment `!` at the start of a line ends a block",
@@ -135,11 +135,13 @@ def told(lines: list[Line], left: Refusal | None) -> list[str]:
 def arguments() -> argparse.ArgumentParser:
     words = commands.parser(
         "refusals",
-        "Lists every line of a document's router files that arcv refuses, with its text, and what to do where a kind comes first. arcv tells the first "
-        "refusal alone, so this lays copies of the files into a temporary folder, comments the refused line out there (`!` at the start of a top line "
-        "and of its block, ` !` in an indented one, so that line numbers stay), and asks again, until no line of one file is refused by itself. The refusal "
-        "that is left then, of the files and the document together, is told last, after `then:`. Where none is left, a line `warning:` names each router id "
-        "that another router may take by itself, which arcv does not refuse. The names of router files are looked up in DOC's folder.",
+        "Lists every line of a document's router files that arcv refuses, with its text, and what to do where a kind "
+        "comes first. arcv tells the first refusal alone, so this lays copies of the files into a temporary folder, "
+        "comments the refused line out there (`!` at the start of a top line and of its block, ` !` in an indented "
+        "one, so that line numbers stay), and asks again, until no line of one file is refused by itself. The "
+        "refusal that is left then, of the files and the document together, is told last, after `then:`. Where none "
+        "is left, a line `warning:` names each router id that another router may take by itself, which arcv does not "
+        "refuse. The names of router files are looked up in DOC's folder.",
         "nothing but in the temporary folder.",
         "bin/refusals net.json",
     )
@@ -156,8 +158,6 @@ def main(words: list[str]) -> int:
     program = commands.program(options)
     folder, base = os.path.split(os.path.abspath(options.doc))
     lines: list[Line] = []
-    if program == os.path.join(TOP, "bin", "arcv") and not os.path.exists(os.path.join(TOP, ".built/arcv")):
-        commands.tell("refusals: bin/arcv proves and builds the program first")
     left, _ = asked(program, folder, base)
     document = names_of(options.doc)
     warned: list[str] = []

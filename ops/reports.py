@@ -3,7 +3,10 @@ import re
 from dataclasses import dataclass, field
 
 ANSWERS = ("yes", "no", "refused")
-HEADS = {"arc-report 1": "report", "arc-recheck 1": "recheck", "arc-nodes 1": "nodes", "arc-prefers 1": "prefers", "arc-repair 1": "certificate"}
+HEADS = {
+    "arc-report 1": "report", "arc-recheck 1": "recheck", "arc-nodes 1": "nodes", "arc-prefers 1": "prefers",
+    "arc-repair 1": "certificate",
+}
 
 
 @dataclass(frozen=True)
@@ -20,7 +23,8 @@ class Block:
 
 @dataclass(frozen=True)
 class Edit:
-    """An edit: of a session, of a route or of packets; at a bound list, at an interface or at a neighbour without one."""
+    """An edit: of a session, of a route or of packets; at a bound list, at an interface or at a neighbour without
+    one."""
 
     kind: str
     router: str
@@ -43,7 +47,8 @@ class Edit:
 
 @dataclass
 class Text:
-    """A text of arcv. `form` is report, recheck, nodes, prefers, certificate, trace, repair, edits, rejected, accepted or refused."""
+    """A text of arcv. `form` is report, recheck, nodes, prefers, certificate, trace, repair, edits, rejected,
+    accepted or refused."""
 
     form: str
     blocks: list[Block] = field(default_factory=list)
@@ -78,7 +83,9 @@ def _block(lines: list[str], at: int) -> tuple[Block, int]:
     if at + 1 + count > len(lines):
         raise ValueError(f"line {len(lines) + 1}: the text ends too early")
     witness = tuple(tuple(line.split()) for line in lines[at + 1 : at + 1 + count])
-    return Block(int(words[0]), words[1], words[2], witness, words[4] if len(words) == 5 else "", at + 1), at + 1 + count
+    return Block(
+        int(words[0]), words[1], words[2], witness, words[4] if len(words) == 5 else "", at + 1
+    ), at + 1 + count
 
 
 def _blocks(lines: list[str], at: int, ends: tuple[str, ...]) -> tuple[list[Block], int]:
@@ -113,7 +120,10 @@ def _single(lines: list[str], form: str) -> Text:
     front = 2 if form == "nodes" else 1
     if len(words) != front + 2 or words[front] not in ANSWERS or not words[-1].isdigit():
         raise ValueError(f"line 2: no answer of {form}")
-    block = Block(int(words[1]) if form == "nodes" else 0, words[0], words[front], tuple(tuple(line.split()) for line in lines[2:-1]), at=2)
+    block = Block(
+        int(words[1]) if form == "nodes" else 0, words[0], words[front],
+        tuple(tuple(line.split()) for line in lines[2:-1]), at=2,
+    )
     if len(block.lines) != int(words[-1]):
         raise ValueError(f"line {len(lines)}: it has not as many lines as line 2 says")
     _ended(lines, len(lines) - 1)

@@ -89,6 +89,9 @@ class Router:
 READ_TOP = (("hostname",), ("interface",), ("router", "ospf"), ("router", "bgp"), ("ip", "access-list"), ("access-list",),
             ("ip", "prefix-list"), ("ip", "route"), ("vrf", "definition"), ("ip", "vrf"), ("object-group",), ("route-map",))
 GIVEN = ("dhcp", "negotiated", "pool", "slarp", "auto", "autoconfig")
+QUEUES = ("class", "bandwidth", "priority", "shape", "set", "queue-limit", "random-detect", "fair-queue", "description", "trust", "compression",
+          "netflow-sampler", "queue-buffers", "estimate", "account", "exit")
+POLICERS = ("police", "drop", "conform-action", "exceed-action", "violate-action", "admit")
 OTHER_SYSTEMS = (("feature",), ("vdc",), ("ASA", "Version"), ("nameif",), ("router", "static"), ("set", "version"))
 VRF_LINES = ("rd", "address-family", "exit-address-family", "description", "maximum", "vnet", "snmp", "!")
 SHARED = (("standby", "*", "ip"), ("standby", "ip"), ("vrrp", "*", "ip"), ("glbp", "*", "ip"), ("vrrp", "*", "address"))
@@ -115,6 +118,7 @@ class Reader:
             self.note(line.number, line.text, "capture", "inert", "no line of the configuration")
         for line in orphans:
             self.note(line.number, line.text, "orphan", "unknown", "an indented line with no block above it")
+            self.note(line.number, line.text, "orphan", "elsewhere", "an indented line with no block above it: an interface may be missing")
         if not capture.is_whole:
             self.note(0, "", "capture", "unknown", "the capture does not end in `end`: lines may be missing")
             self.note(0, "", "capture", "elsewhere", "the capture does not end in `end`: interfaces may be missing")
@@ -133,13 +137,18 @@ class Reader:
         return row
 
     def read(self) -> Router:
+        """The router, from all blocks of the file."""
         groups = self.groups()
         for block in self.blocks:
             words = block.head.words
+            if block.begins("ip", "address") or block.begins("shutdown"):
+                self.note(block.head.number, block.head.text, "orphan", "elsewhere", "a line of an interface that is not indented")
             if any(block.begins(*front) for front in OTHER_SYSTEMS):
                 self.note(block.head.number, block.head.text, "system", "elsewhere", "a file of another system than IOS: its interfaces may not be read")
             if block.begins("router"):
                 self.peers(block)
+            if block.begins("crypto") and any("reverse-route" in line.words or line.words[:2] == ("route", "set") for line in block.lines):
+                self.note(block.head.number, block.head.text, "crypto", "routes", "routes are put in for the far ends of tunnels")
             if block.begins("ip", "default-gateway") and is_address(words[-1]):
                 self.router.hops.append(("", Address(words[-1])))
             if block.begins("interface") and len(words) > 1:
@@ -166,6 +175,7 @@ class Reader:
         return self.router
 
     def groups(self) -> entries.Groups:
+        """The object groups of the file."""
         networks: dict[str, list[tuple[str, ...]]] = {}
         services: dict[str, list[tuple[str, ...]]] = {}
         for block in self.blocks:
@@ -178,6 +188,7 @@ class Reader:
         return entries.groups_of(networks, services)
 
     def interface(self, block: ios.Block) -> None:
+        """Takes the block of an interface."""
         face = Face(self.router.name, "".join(block.head.words[1:]), block.head, block.lines)
         if self.router.face(face.name) is not None:
             self.note(block.head.number, block.head.text, "interface", "unknown", "the block of an interface stands twice")
@@ -223,6 +234,7 @@ class Reader:
         return True
 
     def address(self, face: Face, line: ios.Line) -> None:
+        """Takes a line that gives an address."""
         words = line.words
         try:
             value = Interface(f"{words[2]}/{words[3]}")
@@ -248,33 +260,33 @@ class Reader:
         self.note(line.number, line.text, "address", "routes", "its address is given to it by another device", face)
 
     def service_policy(self, face: Face, line: ios.Line) -> None:
+        """Takes a line that binds a policy map."""
         words = line.words
         if len(words) != 3 or words[1] not in ("input", "output"):
             self.judge(("interface",), line, face)
             return
-        row = self.table.find(("interface",), words)
-        if row is not None:
+        if self.table.find(("interface",), words) is not None:
             self.judge(("interface",), line, face)
-        elif self.may_drop(words[2], ()):
-            self.note(line.number, line.text, "service-policy", "drops", "a class of it polices or drops", face)
-        else:
-            self.note(line.number, line.text, "service-policy", "nothing", "it marks, queues and shapes", face)
+            return
+        cost = self.policy_cost(words[2], ())
+        reason = {"nothing": "it marks, queues and shapes", "drops": "a class of it polices or drops", "unknown": "a class of it does what no row knows"}[cost]
+        self.note(line.number, line.text, "service-policy", cost, reason, face)
 
-    def may_drop(self, name: str, above: tuple[str, ...]) -> bool:
-        """Whether a policy map has a class that may drop packets by itself, or one of which that is not known."""
+    def policy_cost(self, name: str, above: tuple[str, ...]) -> str:
+        """What the classes of a policy map cost: nothing, drops, or unknown; a map that is not there does nothing."""
         block = next((b for b in self.blocks if b.head.words == ("policy-map", name)), None)
-        if block is None or name in above:
-            return True
-        known = ("class", "bandwidth", "priority", "shape", "set", "queue-limit", "random-detect", "fair-queue", "description",
-                 "service-policy", "trust", "compression", "netflow-sampler", "queue-buffers", "estimate", "account")
+        if block is None:
+            return "nothing"
+        found = {"unknown"} if name in above else {"nothing"}
         for line in block.lines:
-            if line.words[0] not in known:
-                return True
-            if line.words[0] == "service-policy" and self.may_drop(line.words[-1], (*above, name)):
-                return True
-        return False
+            if line.words[0] == "service-policy" and name not in above:
+                found.add(self.policy_cost(line.words[-1], (*above, name)))
+            elif line.words[0] not in QUEUES:
+                found.add("drops" if line.words[0] in POLICERS else "unknown")
+        return next(cost for cost in ("unknown", "drops", "nothing") if cost in found)
 
     def packet_list(self, block: ios.Block, groups: entries.Groups) -> None:
+        """Takes a list, or an entry of one that stands line by line."""
         words = block.head.words
         if words[0] == "access-list":
             number = int(words[1]) if len(words) > 1 and words[1].isdigit() else 0
@@ -328,6 +340,7 @@ class Reader:
                 self.labels = True
 
     def static(self, line: ios.Line) -> None:
+        """Takes a static route: where it leads, and whether it leads from one table to another."""
         words = list(line.words[2:])
         vrf = ""
         if words[:1] == ["vrf"] and len(words) > 1:
@@ -359,6 +372,7 @@ class Reader:
                 self.router.leaks = True
 
     def route_map(self, block: ios.Block) -> None:
+        """Takes the addresses and interfaces to which a route map sends packets."""
         for line in block.lines:
             if line.words[:2] in (("set", "vrf"), ("set", "global"), ("set", "ip")) and {"vrf", "global"} & set(line.words):
                 self.router.leaks = True

@@ -9,7 +9,7 @@ PATH = os.path.join(os.path.dirname(os.path.abspath(__file__)), "rules.rows")
 PLACES = ("top", "block", "interface", "process", "ospf", "bgp", "segment")
 MADE = ("unknown", "elsewhere")  # by the tools themselves: a row may not say so
 LOSES: dict[str, tuple[str, ...]] = {
-    "inert": (), "nothing": (), "gateway": (), "time": (), "adjacency": ("reach",), "drops": ("reach",), "routes": ("reach",),
+    "inert": (), "nothing": (), "inferred": (), "time": (), "adjacency": ("reach",), "drops": ("reach",), "routes": ("reach",),
     "passes": ("reach", "blocked", "through"), "unknown": ("reach", "blocked", "through"), "elsewhere": ("blocked", "through"),
 }
 

@@ -40,13 +40,12 @@ def checksum(path: str) -> str:
 
 def program_of(options: argparse.Namespace) -> str:
     """The program itself: of bin/arcv what it has built."""
-    built = os.path.join(TOP, ".built", "arcv")
-    path = commands.program(options)
-    if os.path.abspath(path) == os.path.join(TOP, "bin", "arcv"):
-        if not os.path.exists(built):
-            raise Wrong("no program is built yet: call bin/arcv once, or name one by --arcv")
-        return built
-    return path
+    built, mine = os.path.join(TOP, ".built", "arcv"), os.path.join(TOP, "bin", "arcv")
+    if os.path.abspath(options.arcv or os.environ.get("ARCV") or mine) != mine:
+        return commands.program(options)
+    if not os.path.exists(built):
+        raise Wrong("no program is built yet: call bin/arcv once, or name one by --arcv")
+    return built
 
 
 def _said(words: Sequence[str]) -> str:
@@ -64,7 +63,11 @@ def sealed(options: argparse.Namespace, folder: str) -> list[Sealed]:
     files = [("document", options.doc)]
     files += [("router file", os.path.join(folder_of(options.doc), name)) for name in document.routers]
     files += [("report", path) for path in options.reports]
-    files += [("names", path) for path in (names_file(options.doc), os.path.join(os.path.dirname(options.doc), "map.json")) if os.path.exists(path)]
+    files += [
+        ("names", path)
+        for path in (names_file(options.doc), os.path.join(os.path.dirname(options.doc), "map.json"))
+        if os.path.exists(path)
+    ]
     files.append(("program", program_of(options)))
     found: dict[str, Sealed] = {}
     for what, path in files:
@@ -121,8 +124,9 @@ def compared(rows: Sequence[Sealed], folder: str) -> list[tuple[Sealed, str]]:
 def arguments() -> argparse.ArgumentParser:
     words = commands.parser(
         "seal",
-        "Prints checksums (SHA-256) of a document, its router files, its reports or certificates, and the program, as one text to lie beside a report. "
-        "It names the sources and the kit too, where the program was built here. With --check it compares the files with such a text.",
+        "Prints checksums (SHA-256) of a document, its router files, its reports or certificates, and the program, "
+        "as one text to lie beside a report. It names the sources and the kit too, where the program was built here. "
+        "With --check it compares the files with such a text.",
         "nothing, or the file of --out.",
         """
         bin/seal net.json report.txt --out report.seal
@@ -149,13 +153,17 @@ def main(words: list[str]) -> int:
         if options.json:
             commands.put(commands.as_json([{"what": row.what, "name": row.name, "is": said} for row, said in rows]))
         else:
-            lines = [f"{row.name}: {said}" for row, said in wrong] + [f"{len(rows) - len(wrong)} of {counted(len(rows), 'file')} as sealed"]
+            lines = [f"{row.name}: {said}" for row, said in wrong] + [
+                f"{len(rows) - len(wrong)} of {counted(len(rows), 'file')} as sealed"
+            ]
             commands.put("\n".join(lines) + "\n")
         return commands.NOT_SO if wrong else commands.FINE
     if not options.doc or not options.reports:
         raise Wrong("DOC and a REPORT have to stand; or --check SEAL")
     rows = sealed(options, os.path.dirname(os.path.abspath(options.out)) if options.out else os.getcwd())
-    text = commands.as_json([{"what": row.what, "name": row.name, "sha256": row.sum} for row in rows]) if options.json else seal_text(options, rows)
+    text = commands.as_json(
+        [{"what": row.what, "name": row.name, "sha256": row.sum} for row in rows]
+    ) if options.json else seal_text(options, rows)
     if options.out:
         commands.save(options.out, text, options.force)
     else:

@@ -2,15 +2,12 @@
 import json
 from collections.abc import Callable, Sequence
 from html import escape
-from typing import TYPE_CHECKING
 from xml.sax.saxutils import quoteattr
 
 from ops import draw
 from ops.commands import counted, wrapped
 from ops.faces import Routers
-
-if TYPE_CHECKING:
-    from ops.explain import Told
+from ops.told import Told, shown
 
 ELEMENTS = 60_000  # of all drawings of a page
 HEADS = {"no": "No", "refused": "Not answered", "yes": "Yes"}
@@ -28,20 +25,18 @@ p {{ margin: .2em 0 }} .inner {{ padding-left: 2em }} svg {{ max-width: 100%; he
 """
 
 
-def _sum(told: Sequence["Told"]) -> dict[str, int]:
+def _sum(told: Sequence[Told]) -> dict[str, int]:
     judged = [one for one in told if one.number]
     return {answer: sum(one.answer == answer for one in judged) for answer in HEADS}
 
 
-def _sum_line(told: Sequence["Told"]) -> str:
+def _sum_line(told: Sequence[Told]) -> str:
     counts = _sum(told)
     total = sum(counts.values())
     return f"{counts['no']} no, {counts['refused']} not answered, {counts['yes']} yes: {counted(total, 'policy', 'policies')}"
 
 
-def text(told: Sequence["Told"], _doc: str, _routers: Routers) -> str:
-    from ops.explain import shown
-
+def text(told: Sequence[Told], _doc: str, _routers: Routers) -> str:
     lines: list[str] = []
     for one in told:
         if one.answer not in HEADS:
@@ -57,10 +52,12 @@ def text(told: Sequence["Told"], _doc: str, _routers: Routers) -> str:
     return "\n".join(lines).rstrip("\n") + "\n"
 
 
-def as_json(told: Sequence["Told"], doc: str, _routers: Routers) -> str:
+def as_json(told: Sequence[Told], doc: str, _routers: Routers) -> str:
     answers = []
     for one in told:
-        found: dict[str, object] = {"answer": one.answer, "says": one.head, "words": [line.strip() for line in one.lines]}
+        found: dict[str, object] = {
+            "answer": one.answer, "says": one.head, "words": [line.strip() for line in one.lines]
+        }
         if one.number:
             found = {"number": one.number, "name": one.name, **found}
         if one.policy and one.number:
@@ -73,33 +70,46 @@ def as_json(told: Sequence["Told"], doc: str, _routers: Routers) -> str:
     return json.dumps({"document": doc, "sum": _sum(told), "answers": answers}, indent=1, ensure_ascii=False) + "\n"
 
 
-def junit(told: Sequence["Told"], doc: str, _routers: Routers) -> str:
+def junit(told: Sequence[Told], doc: str, _routers: Routers) -> str:
     judged = [one for one in told if one.number or one.block] or list(told)
     failed = sum(one.answer in ("no", "rejected", "none") for one in judged)
     errors = sum(one.answer in ("refused", "budget", "nothing") for one in judged)
     head = f"tests=\"{len(judged)}\" failures=\"{failed}\" errors=\"{errors}\""
-    lines = ['<?xml version="1.0" encoding="UTF-8"?>', f"<testsuites {head}>", f" <testsuite name={_attribute(doc)} {head}>"]
+    lines = [
+        '<?xml version="1.0" encoding="UTF-8"?>', f"<testsuites {head}>",
+        f" <testsuite name={_attribute(doc)} {head}>",
+    ]
     for one in judged:
         start = f"  <testcase classname={_attribute(doc)} name={_attribute(one.head)}"
-        kind = {"no": "failure", "rejected": "failure", "none": "failure", "refused": "error", "budget": "error", "nothing": "error"}.get(one.answer)
+        kind = {
+            "no": "failure", "rejected": "failure", "none": "failure", "refused": "error", "budget": "error",
+            "nothing": "error",
+        }.get(one.answer)
         if kind is None:
             lines.append(start + "/>")
             continue
         words = _legal("\n".join(line.strip() for line in one.lines))
-        lines += [start + ">", f"   <{kind} message={_attribute(one.answer)}>{escape(words, quote=False)}</{kind}>", "  </testcase>"]
+        lines += [
+            start + ">", f"   <{kind} message={_attribute(one.answer)}>{escape(words, quote=False)}</{kind}>",
+            "  </testcase>",
+        ]
     return "\n".join([*lines, " </testsuite>", "</testsuites>", ""])
 
 
 def _legal(words: str) -> str:
     """Without what XML cannot hold."""
-    return "".join(letter if letter in "\n\t" or " " <= letter < "\ud800" or "\ue000" <= letter < "\ufffe" or letter > "\uffff" else "?" for letter in words)
+    return "".join(
+        letter
+        if letter in "\n\t" or " " <= letter < "\ud800" or "\ue000" <= letter < "\ufffe" or letter > "\uffff" else "?"
+        for letter in words
+    )
 
 
 def _attribute(words: str) -> str:
     return quoteattr(_legal(words))
 
 
-def html(told: Sequence["Told"], doc: str, routers: Routers) -> str:
+def html(told: Sequence[Told], doc: str, routers: Routers) -> str:
     body = ['<table class="sum"><tr>']
     for answer, count in _sum(told).items():
         body.append(f'<td class="{answer}">{HEADS[answer]}: {count}</td>')
@@ -113,7 +123,10 @@ def html(told: Sequence["Told"], doc: str, routers: Routers) -> str:
             body.append(f'<h2 class="{answer}">{HEADS[answer]}</h2>')
         for one in rows:
             body.append(f"<h3>{escape(one.head)}</h3>")
-            body += [f'<p{" class=inner" if line.startswith("  ") else ""}>{escape(line.strip())}</p>' for line in one.lines]
+            body += [
+                f'<p{" class=inner" if line.startswith("  ") else ""}>{escape(line.strip())}</p>'
+                for line in one.lines
+            ]
             if one.policy and one.block and (drawings := drawings - 1) >= 0:
                 body.append(draw.of_policy(routers, one.number, one.policy, one.block))
     if drawings < 0:
@@ -121,4 +134,6 @@ def html(told: Sequence["Told"], doc: str, routers: Routers) -> str:
     return PAGE.format(title=escape(_legal(f"{doc}: what arcv answers")), body=_legal("\n".join(body)))
 
 
-FORMS: dict[str, Callable[[Sequence["Told"], str, Routers], str]] = {"text": text, "json": as_json, "junit": junit, "html": html}
+FORMS: dict[str, Callable[[Sequence[Told], str, Routers], str]] = {
+    "text": text, "json": as_json, "junit": junit, "html": html
+}

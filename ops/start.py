@@ -22,7 +22,7 @@ def arguments() -> argparse.ArgumentParser:
         "start",
         "Reads the running-configs in FOLDER, one file a router, as a terminal or a program of yours saved them; finds links and networks of hosts; "
         "writes copies that arcv reads; asks it about each policy of the copy that decides it; and says what cannot be answered, what needs "
-        "your yes, what was left out, and the answers. Nothing in FOLDER is changed.\n\n"
+        "your yes, what was left out, and the answers. Nothing in FOLDER is changed. The status is 0 where every answer is yes.\n\n"
         "What has to hold stands in policies.txt: the first call writes one that asks each two networks to reach each other whichever link fails. "
         "Change it, fetch the files anew when you like, and call again with --again.",
         "FOLDER/arcv (or OUT): policies.txt and names.json, if they are not there; the copies; changes.txt with each line that a copy does not have "
@@ -55,6 +55,8 @@ def read_captures(folder: str, table: rules.Table) -> tuple[list[Router], list[s
             continue
         capture = captures.read(path, name)
         texts = [line.text for line in capture.lines]
+        if not any(text.strip() for text in texts):
+            raise Wrong(f"{name} is empty: fetch it anew, or take it out of the folder")
         signs = [bool(captures.host_of(texts)), any(text.startswith("interface ") for text in texts)]
         if any(signs) and not all(signs):
             raise Wrong(f"{name} has {'a' if signs[0] else 'no'} line `hostname ..` and {'an' if signs[1] else 'no'} line `interface ..`: "
@@ -82,6 +84,9 @@ def claims(texts: Sequence[str]) -> list[Net]:
 def network_names(path: str, segments: Sequence[Segment], transit: Sequence[Segment]) -> dict[str, str]:
     """The names of networks by prefix: those of the file, and new ones."""
     known = read_networks(path) if os.path.exists(path) else {}
+    twice = sorted({name for name in known.values() if list(known.values()).count(name) > 1})
+    if twice:
+        raise Wrong(f"{path}: {twice[0]} is the name of two networks")
     return {**known, **hosts.named(segments, transit, known)}
 
 
@@ -109,7 +114,7 @@ def found_text(found: Sequence[Router], other: Sequence[str], segments: Sequence
     for prefix in own:
         lines += wrapped(f"{networks[prefix]} {prefix}", "  ")
     if other:
-        lines += wrapped(f"No running-configs, and not read: {', '.join(other)}", "", "  ")
+        lines += wrapped(f"Not read, since no running-configs: {', '.join(other)}. A router whose file is missing forwards unseen.", "", "  ")
     return lines
 
 
@@ -125,8 +130,6 @@ def main(words: list[str]) -> int:
     out = options.to or os.path.join(folder, "arcv")
     rows = options.rows or (os.path.join(out, "rows.txt") if os.path.exists(os.path.join(out, "rows.txt")) else None)
     program = commands.program(options)
-    if program == os.path.join(commands.TOP, "bin", "arcv") and not os.path.exists(os.path.join(commands.TOP, ".built", "arcv")):
-        commands.tell("start: bin/arcv proves and builds the program first, which takes half an hour or more")
     try:
         table = rules.table(rows)
     except (OSError, ValueError) as error:

@@ -9,7 +9,10 @@ from ops.documents import Policy, is_prefix, network
 NAME = re.compile(r"[A-Za-z0-9_][A-Za-z0-9_.-]*")
 PACKETS = ("opening", "client")
 EVERYONE = "everyone"
-WORDS = {"never", "reach", "reaches", "only", "through", "survives", "survive", "both", "ways", "all", "pairs", "except", "and", "to", EVERYONE, *PACKETS}
+WORDS = {
+    "never", "reach", "reaches", "only", "through", "survives", "survive", "both", "ways", "all", "pairs", "except",
+    "and", "to", EVERYONE, *PACKETS,
+}
 MOST_FAILURES = 16
 MOST = 20_000
 
@@ -97,7 +100,9 @@ def _waypoints(words: list[str], found: Statement) -> None:
     while words and words[0] not in WORDS | {"tcp", "udp", "icmp", "protocol"}:
         points.append(words.pop(0).rstrip(","))
     if not points:
-        raise ValueError("`only through` names waypoints: a router, ROUTER:INTERFACE, or `waypoints` for those of the document")
+        raise ValueError(
+            "`only through` names waypoints: a router, ROUTER:INTERFACE, or `waypoints` for those of the document"
+        )
     found.kind, found.waypoints = "through", () if points == ["waypoints"] else tuple(points)
 
 
@@ -159,7 +164,10 @@ def _group(words: list[str], reading: Reading) -> None:
 
 def _pairs(sources: Iterable[str], targets: Iterable[str]) -> list[tuple[str, str]]:
     """The pairs of different networks; a policy from a network to itself is none."""
-    return [(source, target) for source, target in product(sources, targets) if not network(source).overlaps(network(target))]
+    return [
+        (source, target)
+        for source, target in product(sources, targets) if not network(source).overlaps(network(target))
+    ]
 
 
 def _policies(statement: Statement, reading: Reading) -> list[Named]:
@@ -237,7 +245,10 @@ def _check(found: Sequence[Named]) -> None:
     for one, other in _contradictions(found):
         first, second = sorted((one, other), key=lambda named: named.line)
         where = f"{one.policy.source} to {one.policy.target}"
-        raise ValueError(f"line {second.line}: it contradicts line {first.line}: packets from {where} cannot both arrive and never arrive")
+        raise ValueError(
+            f"line {second.line}: it contradicts line {first.line}: packets from {where} cannot both arrive and "
+            "never arrive"
+        )
 
 
 def read_policies(text: str, networks: dict[str, str]) -> list[Named]:

@@ -10,6 +10,7 @@ from ops.commands import counted, wrapped
 from ops.documents import Policy
 from ops.faces import Routers
 from ops.links import Segment
+from ops.opened import OPEN_LIST
 from ops.routers import Router
 from ops.wording import policy_words
 
@@ -73,6 +74,27 @@ def witness(reply: Reply) -> list[str]:
     return [part for line in teller.witness(policy, reply.block) for part in wrapped(line.strip(), "    " + line[: len(line) - len(line.lstrip())])]
 
 
+def lists_on_way(reply: Reply) -> str:
+    """The lists that let the packets of a walk pass, where they are bound in the network."""
+    assert reply.block is not None
+    words = [word for word in reply.block.lines[0] if not word.startswith("service:")]
+    routers, links = routers_of(reply), [int(word) for word in words[3:]]
+    ends = [routers.owner(prefix) for prefix in words[1:3]]
+    if words[0] != "walk" or not all(ends):
+        return ""
+    first, last = ends
+    assert first is not None and last is not None
+    places = [(first.router, first.interface, "in")]
+    for router, far, number in zip(routers.along(first.router, links), routers.along(first.router, links)[1:], links):
+        faces = dict(reply.document.links[number - 1].ends())
+        places += [(router, faces[router], "out"), (far, faces[far], "in")]
+    places.append((last.router, last.interface, "out"))
+    names = reply.map
+    found = [f"{names.list_name(router, bound)} {way} at {names.interface(router, face)} of {names.router(router)}" for router, face, way in places
+             if (bound := routers.bound(router, face, way)) and bound != OPEN_LIST]
+    return f"Lists on this way, which let them pass: {'; '.join(found)}." if found else "No list is bound on this way."
+
+
 def cannot_lines(answers: Answers) -> list[str]:
     """What stands in the way of an answer, each reason with the kinds of policies that it costs, and how many."""
     reasons: dict[str, list[tuple[int, rules.Note | None]]] = {}
@@ -132,7 +154,7 @@ def left_out(routers: Sequence[Router]) -> list[rules.Note]:
     found = []
     for router in routers:
         notes = router.notes + [note for face in router.faces for note in face.notes]
-        found += [note for note in notes if note.cost in ("nothing", "time")]
+        found += [note for note in notes if note.cost in ("nothing", "time", "inferred")]
     return found
 
 
@@ -168,12 +190,6 @@ class _Names:
         return ""
 
 
-def had_by(joined: Joined) -> str:
-    """Of which copies an answer was had."""
-    kinds = sorted({reply.kind for reply in joined.replies})
-    return ", ".join(COPIES[kind] for kind in kinds)
-
-
 def key(joined: Joined) -> str:
     """What a policy asks, whatever it is called."""
     return f"{sorted(joined.named.policy.members().items())} {joined.named.packets} {joined.named.waypoints}"
@@ -205,6 +221,8 @@ def answer_lines(answers: Answers, before: dict[str, str]) -> list[str]:
             if wanted == "no":
                 first = next(reply for reply in joined.replies if reply.answer() == "no" and not reply.is_stronger)
                 lines += witness(first)
+                if first.kind == "open":
+                    lines += wrapped(lists_on_way(first), "    ")
                 side = "more" if first.kind == "open" else "fewer"
                 other = f"; {counted(first.unlike, 'entry', 'entries')} of its lists let {side} packets pass than on the routers" if first.unlike else ""
                 lines += wrapped(f"by {COPIES[first.kind]} ({first.copy}){other}", "      ")

@@ -1,4 +1,5 @@
-"""Questions to arcv over texts of router files, each in a folder of its own, so that nothing of the user's is touched."""
+"""Questions to arcv over texts of router files, each in a folder of its own, so that nothing of the user's is
+touched."""
 import os
 import tempfile
 from collections.abc import Sequence
@@ -30,7 +31,8 @@ class Trial:
         return {name: f"{number}.cfg" for number, name in enumerate(self.document.routers, 1)}
 
     def run(self, words: Sequence[str], extra: Texts | None = None) -> tuple[Answer, Texts, Texts]:
-        """Runs a command. Its answer; the router files that it wrote, by the user's names; the other files that it wrote."""
+        """Runs a command. Its answer; the router files that it wrote, by the user's names; the other files that it
+        wrote."""
         with tempfile.TemporaryDirectory(prefix="arcv-ops-") as folder:
             names = self.names()
             for name, copy in names.items():
@@ -40,7 +42,10 @@ class Trial:
                 commands.save(os.path.join(folder, name), text)
             answer = run_arcv(self.program, words, folder)
             wrote = {line[6:] for line in answer.out.split("\n") if line.startswith("wrote ")}
-            written = {name: load(os.path.join(folder, copy + SUFFIX)) for name, copy in names.items() if copy + SUFFIX in wrote}
+            written = {
+                name: load(os.path.join(folder, copy + SUFFIX))
+                for name, copy in names.items() if copy + SUFFIX in wrote
+            }
             others = {name: load(os.path.join(folder, name)) for name in wrote if not name.endswith(".cfg" + SUFFIX)}
             return answer, written, others
 
@@ -57,7 +62,10 @@ class Trial:
         return read_report(answer.out)
 
     def repair(self, price: int, conflicts: int) -> "Repair":
-        words = ["repair", "net.json", "--out", SUFFIX, "--proof", "cert", "--max-price", str(price), "--conflicts", str(conflicts)]
+        words = [
+            "repair", "net.json", "--out", SUFFIX, "--proof", "cert", "--max-price", str(price), "--conflicts",
+            str(conflicts),
+        ]
         answer, written, others = self.run(words)
         if answer.status == 5:
             return Repair("refused", 0, self.reason(answer), [], {}, "")
@@ -66,18 +74,23 @@ class Trial:
 
     def apply(self, edits: Sequence[Edit]) -> tuple[Texts, str]:
         """The router files after the edits and what arcv writes, or why it refuses them."""
-        answer, written, _ = self.run(["apply", "net.json", "edits", "--out", SUFFIX], {"edits": "".join(edit.line() + "\n" for edit in edits)})
+        answer, written, _ = self.run(
+            ["apply", "net.json", "edits", "--out", SUFFIX], {"edits": "".join(edit.line() + "\n" for edit in edits)}
+        )
         if answer.status == 0:
             return written, ""
         words = answer.first.split()
-        if len(words) == 4 and words[:2] == ["refused", "edits"] and words[2].isdigit() and 0 < int(words[2]) <= len(edits):
+        if len(words) == 4 and words[:2] == ["refused", "edits"] and words[2].isdigit() and 0 < int(words[2]) <= len(
+            edits
+        ):
             return {}, f"`{edits[int(words[2]) - 1].line()}` is no edit of the files as they are now"
         return {}, self.reason(answer)
 
 
 @dataclass
 class Repair:
-    """What `repair` said: repaired, none, budget or refused, with its number; the edits; all texts after them; the certificate."""
+    """What `repair` said: repaired, none, budget or refused, with its number; the edits; all texts after them; the
+    certificate."""
 
     answer: str
     number: int

@@ -27,7 +27,9 @@ class Names(Protocol):
 class PlainNames:
     """The names of a document, and those of a file of names beside it."""
 
-    def __init__(self, document: Document, networks: dict[str, str] | None = None, policies: list[str] | None = None) -> None:
+    def __init__(
+        self, document: Document, networks: dict[str, str] | None = None, policies: list[str] | None = None
+    ) -> None:
         self.document, self.policies = document, policies or []
         self.networks = {network(prefix): name for prefix, name in (networks or {}).items() if is_prefix(prefix)}
 
@@ -98,7 +100,9 @@ def map_beside(doc: str) -> CopyMap | None:
     for name, default in vars(plain).items():
         given = value.get(name, default)
         parts = given.values() if isinstance(given, dict) else given if isinstance(given, list) else ()
-        if type(given) is not type(default) or not all(isinstance(part, str) or name == "real" and part is None for part in parts):
+        if type(given) is not type(default) or not all(
+            isinstance(part, str) or name == "real" and part is None for part in parts
+        ):
             raise Wrong(f"{path} is no map of copies: `{name}`")
         setattr(plain, name, given)
     return plain

@@ -3,7 +3,7 @@ from collections.abc import Iterable
 from dataclasses import dataclass
 
 from ops import ports
-from ops.entries import ANY, EVERY, Area, Box, Entry, Net, among
+from ops.entries import EVERY, Area, Box, Entry, Net, among
 from ops.routers import PacketList
 
 MOST = 2000
@@ -122,7 +122,3 @@ def direction(done: str, wider: bool) -> str:
     if done.startswith(("matches", "said")):
         return "exact"
     return "wider" if wider else "narrower"
-
-
-def everything() -> Box:
-    return Box(EVERY, Area((ANY,)), Area((ANY,)))

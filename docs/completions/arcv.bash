@@ -29,12 +29,12 @@ _arcv_tool() {
     local word=${COMP_WORDS[COMP_CWORD]} options=
     COMPREPLY=()
     case ${COMP_WORDS[0]##*/} in
-        back) options='--help --copies --originals --arcv --out --json --force' ;;
+        back) options='--help --copies --join --originals --arcv --out --json --force' ;;
         draw) options='--help --out --force' ;;
-        enter) options='--help --copies --originals --arcv --out --json --force' ;;
+        enter) options='--help --copies --join --originals --arcv --out --json --force' ;;
         explain) options='--help --json --junit --html --rejected --ends --names --out --force' ;;
         pages) options='--help --check --force' ;;
-        plan) options='--help --copies --originals --arcv --json' ;;
+        plan) options='--help --copies --join --originals --arcv --json' ;;
         policies) options='--help --out --names --json --force' ;;
         quiet) options='--help --to --adjacencies --rows' ;;
         refusals) options='--help --arcv --json' ;;

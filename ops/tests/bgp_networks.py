@@ -44,6 +44,7 @@ class BgpNetwork:
         self.said = Sessions()
         hosts = [segment.net for segment in self.net.segments if segment.is_hosts]
         for place, segment in enumerate(self.net.segments):
+            segment.second = None
             ends = self.net.up(place)
             for face in ends:
                 if segment.is_hosts and dice.random() < 0.95:

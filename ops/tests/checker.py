@@ -24,9 +24,12 @@ World = Network | BgpNetwork
 
 def policies_of(made: Network, dice: random.Random, can_route: bool) -> list[statements.Named]:
     """Random policies between the networks of hosts."""
-    nets = [segment.net for segment in made.segments if segment.is_hosts and any(not f.is_shut for f in made.faces if made.segments[f.segment] is segment)]
+    there = [place for place, segment in enumerate(made.segments) if segment.is_hosts and made.up(place)]
+    nets = [(place, own) for place in there for own in made.segments[place].nets()]
     found = []
-    for source, target in itertools.permutations(nets, 2):
+    for (place, source), (other, target) in itertools.permutations(nets, 2):
+        if place == other:
+            continue
         kind = "reach" if can_route else dice.choice(("blocked", "blocked", "through"))
         proto, port = dice.choice(((None, None), (6, None), (6, 22), (6, 80), (17, 53), (1, None), (17, None)))
         packets = dice.choice(("all", "all", "opening", "client"))
@@ -85,7 +88,7 @@ def arrives(made: Network, packet: Packet, gateway: Face, target: int, failed: s
 
 
 def place_of(made: Network, prefix: str) -> int:
-    return next(place for place, segment in enumerate(made.segments) if Net(prefix).subnet_of(segment.net))
+    return next(place for place, segment in enumerate(made.segments) if any(Net(prefix).subnet_of(own) for own in segment.nets()))
 
 
 def wrong_packet(world: World, named: statements.Named, dice: random.Random, tries: int) -> str:

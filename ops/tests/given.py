@@ -12,8 +12,13 @@ CASES = os.path.join(TOP, "conformance")
 
 def program() -> str:
     """A built program, or nothing: the one that ARCV names, that the gate built, or that bin/arcv keeps."""
-    found = (os.environ.get("ARCV", ""), os.path.join(TOP, "crates", "arcv", "out", "arcv"), os.path.join(TOP, ".built", "arcv"))
-    return next((os.path.abspath(path) for path in found if path and os.access(path, os.X_OK) and not os.path.isdir(path)), "")
+    found = (
+        os.environ.get("ARCV", ""), os.path.join(TOP, "crates", "arcv", "out", "arcv"),
+        os.path.join(TOP, ".built", "arcv"),
+    )
+    return next(
+        (os.path.abspath(path) for path in found if path and os.access(path, os.X_OK) and not os.path.isdir(path)), ""
+    )
 
 
 def read(path: str) -> str:

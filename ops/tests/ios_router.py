@@ -1,4 +1,5 @@
-"""A router that takes IOS commands, as far as repairs need it, and is stricter than a router: it ends at what would go wrong."""
+"""A router that takes IOS commands, as far as repairs need it, and is stricter than a router: it ends at what would
+go wrong."""
 import re
 
 from ops.ios import Block
@@ -20,7 +21,10 @@ class Router:
         self.shown = {key: listed.is_numbered() for key, listed in found.items()}
         for key, listed in found.items():
             step = 5 if key[0] else hidden
-            self.lists[key] = [(entry.number if entry.number is not None else step * place, entry.text) for place, entry in enumerate(listed.entries, 1)]
+            self.lists[key] = [
+                (entry.number if entry.number is not None else step * place, entry.text)
+                for place, entry in enumerate(listed.entries, 1)
+            ]
         self.known = set(self.lists)
         self.mode: tuple[str, ...] = ()
         self.cleared: list[str] = []
@@ -43,7 +47,9 @@ class Router:
         elif words[:2] == ["ip", "access-list"]:
             self.mode = ("list", words[3])
             if (False, words[3]) not in self.lists:
-                self.lists[False, words[3]], self.kinds[False, words[3]], self.shown[False, words[3]] = [], words[2], True
+                self.lists[False, words[3]], self.kinds[False, words[3]], self.shown[False, words[3]] = [], words[
+                    2
+                ], True
         elif words[:3] == ["no", "ip", "access-list"]:
             self._unbound(words[4])
             del self.lists[False, words[4]]
@@ -74,13 +80,18 @@ class Router:
             raise Refused(" ".join(words))
 
     def _resequence(self, name: str, first: int, step: int) -> None:
-        self.lists[False, name] = [(first + step * place, text) for place, (_, text) in enumerate(self.lists[False, name])]
+        self.lists[False, name] = [
+            (first + step * place, text) for place, (_, text) in enumerate(self.lists[False, name])
+        ]
 
     def _put(self, key: tuple[bool, str], number: int, text: str) -> None:
         entries = self.lists.setdefault(key, [])
         if any(number == other for other, _ in entries):
             raise Refused(f"number {number} is in use")
-        if any(normal(self.kinds.get(key, "prefix"), text.split()) == normal(self.kinds.get(key, "prefix"), old.split()) for _, old in entries):
+        if any(
+            normal(self.kinds.get(key, "prefix"), text.split()) == normal(self.kinds.get(key, "prefix"), old.split())
+            for _, old in entries
+        ):
             raise Refused(f"the entry is there already: {text}")
         entries.append((number, text))
         entries.sort()
@@ -115,7 +126,13 @@ class Router:
             raise Refused(f"{name} is still bound")
 
     def _block(self, head: str) -> Block:
-        block = next((block for block in blocks_of([line + "\n" for line in self.lines]) if " ".join(block.head.words) == head), None)
+        block = next(
+            (
+                block
+                for block in blocks_of([line + "\n" for line in self.lines]) if " ".join(block.head.words) == head
+            ),
+            None,
+        )
         if block is None:
             raise Refused(f"no {head}")
         return block
@@ -162,7 +179,9 @@ class Router:
     @staticmethod
     def _same_setting(positive: list[str]):  # type: ignore[no-untyped-def]
         """Whether a line sets the same value: a list that is bound replaces another one."""
-        front = positive[:2] if positive[:2] == ["ip", "access-group"] else positive[:3] if positive[2:3] == ["prefix-list"] else positive
+        front = positive[:2] if positive[:2] == ["ip", "access-group"] else positive[:3] if positive[2:3] == [
+            "prefix-list"
+        ] else positive
 
         def same(words: list[str]) -> bool:
             other = words[1:] if words[0] == "no" else words
@@ -187,10 +206,14 @@ class Router:
                 out += self._printed((False, words[3]), "", True)
                 done.add((False, words[3]))
                 skip = True
-            elif words[:1] == ["access-list"] and words[2:3] != ["remark"] or words[:2] == ["ip", "prefix-list"] and words[3:4] not in ([], ["description"]):
+            elif words[:1] == ["access-list"] and words[2:3] != ["remark"] or words[:2] == [
+                "ip", "prefix-list"
+            ] and words[3:4] not in ([], ["description"]):
                 key = (True, words[2]) if words[0] == "ip" else (False, words[1])
                 if key not in done and key in self.lists:
-                    out += self._printed(key, f"ip prefix-list {key[1]} seq " if key[0] else f"access-list {key[1]} ", key[0])
+                    out += self._printed(
+                        key, f"ip prefix-list {key[1]} seq " if key[0] else f"access-list {key[1]} ", key[0]
+                    )
                 done.add(key)
             elif words[:1] == ["router"] or words == ["end"]:
                 for key in [key for key in self.lists if key not in done | self.known]:
@@ -205,4 +228,7 @@ class Router:
     def _printed(self, key: tuple[bool, str], front: str, numbers: bool) -> list[str]:
         shown = self.shown[key] and numbers
         lead = front or " "
-        return [f"{lead}{number} {text}" if shown else f"{lead if not key[0] else re.sub(' seq $', ' ', lead)}{text}" for number, text in self.lists[key]]
+        return [
+            f"{lead}{number} {text}" if shown else f"{lead if not key[0] else re.sub(' seq $', ' ', lead)}{text}"
+            for number, text in self.lists[key]
+        ]

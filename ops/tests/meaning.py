@@ -17,7 +17,8 @@ def _passive(block: Block, faces: list[str]) -> dict[tuple[str, ...], object]:
 
 
 def meaning(text: str) -> dict[tuple[str, ...], object]:
-    """The entries of the list at each place, those that never act left out, and whether each adjacency that a line names is there."""
+    """The entries of the list at each place, those that never act left out, and whether each adjacency that a line
+    names is there."""
     blocks = blocks_of(split(text))
     lists = lists_of(blocks)
     faces = [" ".join(block.head.words[1:]) for block in blocks if block.begins("interface")]

@@ -60,7 +60,7 @@ class Maker:
 
     def end(self, groups: list[str]) -> tuple[str, Callable[[int], bool]]:
         """The text of a source or destination, and the addresses that it means."""
-        kind = self.dice.choice(("any", "net", "net", "net", "part", "host", "loose", "group"))
+        kind = self.dice.choice(("any", "any", "net", "net", "net", "part", "host", "loose", "group"))
         net = self.dice.choice(self.networks)
         if kind == "any":
             return "any", lambda address: True
@@ -103,7 +103,9 @@ class Maker:
 
     def tail(self, protocol: int) -> tuple[str, Test]:
         """The text of what else an entry looks at, and the packets that it means."""
-        kind = self.dice.choice(("", "", "", "", "log", "dscp", "time", "fragments", "flags", "flags", "type"))
+        kind = self.dice.choice(("", "", "", "", "log", "dscp", "time", "fragments"))
+        if protocol in (1, 6) and self.dice.random() < 0.4:
+            kind = "flags" if protocol == 6 else "type"
         if kind == "log":
             return f" {self.dice.choice(('log', 'log-input'))}", lambda packet: True
         if kind == "dscp":

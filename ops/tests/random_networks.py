@@ -22,6 +22,7 @@ class Face:
     cost: int = 1
     is_passive: bool = True
     undefined: str = ""
+    vrf: str = ""
 
 
 @dataclass
@@ -30,6 +31,10 @@ class Segment:
     net: Net
     has_outside: bool = False
     is_hosts: bool = False
+    second: Net | None = None  # a network of secondary addresses on the same wire
+
+    def nets(self) -> list[Net]:
+        return [self.net] + ([self.second] if self.second else [])
 
 
 @dataclass
@@ -40,6 +45,11 @@ class Network:
     routers: list[str] = field(default_factory=list)
     lists: dict[str, list[AccessList]] = field(default_factory=dict)
     statics: dict[str, list[str]] = field(default_factory=dict)
+    leaks: dict[str, str] = field(default_factory=dict)  # routers whose tables have routes of one another, and the line by which
+
+    def table(self, face: Face) -> str:
+        """The table of routes of an interface, as one name with its router."""
+        return face.router if face.router in self.leaks else f"{face.router} {face.vrf}"
 
     def up(self, segment: int) -> list[Face]:
         return [face for face in self.faces if face.segment == segment and not face.is_shut]
@@ -49,10 +59,17 @@ class Network:
         lines = ["Building configuration...", "", "Current configuration : 4711 bytes", "!", "version 15.2", f"hostname {router}", "!"]
         for one in self.lists.get(router, []):
             lines += one.groups
+        leak = self.leaks.get(router, "")
+        if any(face.vrf for face in self.faces if face.router == router):
+            lines += ["vrf definition RED", " rd 65000:1", " !", " address-family ipv4", *([f"  {leak}"] if leak[:1] == "r" else []), " exit-address-family", "!"]
         for face in self.faces:
             if face.router != router:
                 continue
             lines += [f"interface {face.name}", f" description segment {face.segment}"]
+            lines += [f" vrf forwarding {face.vrf}"] if face.vrf else []
+            second = self.segments[face.segment].second
+            if second is not None:
+                lines.append(f" ip address {second.network_address + 1 + self.faces.index(face)} {second.netmask} secondary")
             lines.append(f" ip address {face.address.ip} {face.address.netmask}")
             for way, bound in (("in", face.inbound), ("out", face.outbound)):
                 if bound is not None:
@@ -69,6 +86,7 @@ class Network:
         lines += [f" no passive-interface {face.name}" for face in self.faces if face.router == router and not face.is_passive]
         lines += [" network 0.0.0.0 255.255.255.255 area 0", "!"]
         lines += [f"ip route {static}" for static in self.statics.get(router, [])]
+        lines += [leak] if leak[:2] == "ip" else []
         for one in self.lists.get(router, []):
             lines += list_lines(one, dice)
         return "\n".join([*lines, "!", "end", ""])
@@ -81,15 +99,16 @@ class Network:
 
         def arrive(segment: int) -> None:
             for face in self.up(segment):
-                if face.router not in seen and face.router != cross and (face.inbound is None or face.inbound.permits(packet)):
-                    seen.add(face.router)
-                    waiting.append(face.router)
+                table = self.table(face)
+                if table not in seen and face.router != cross and (face.inbound is None or face.inbound.permits(packet)):
+                    seen.add(table)
+                    waiting.append(table)
 
         arrive(source)
         while waiting:
-            router = waiting.popleft()
+            table = waiting.popleft()
             for face in self.faces:
-                if face.router != router or face.is_shut or (face.outbound is not None and not face.outbound.permits(packet)):
+                if self.table(face) != table or face.is_shut or (face.outbound is not None and not face.outbound.permits(packet)):
                     continue
                 if face.segment == target:
                     return True
@@ -146,6 +165,8 @@ def network(dice: random.Random, can_route: bool) -> Network:
                 one.name = f"GigabitEthernet3/{counts[one.router]}"
     for _ in range(dice.randint(2, 5)):
         made.segments.append(Segment(Net(f"10.0.{len(made.segments)}.0/24"), is_hosts=True))
+        if dice.random() < 0.15:
+            made.segments[-1].second = Net(f"10.50.{len(made.segments)}.0/24")
         gateways = dice.sample(made.routers, min(len(made.routers), dice.choice((1, 1, 1, 2, 3))))
         for place, router in enumerate(gateways, 1):
             found = face(router, len(made.segments) - 1, place)
@@ -153,6 +174,8 @@ def network(dice: random.Random, can_route: bool) -> Network:
             if found.name.startswith("Serial"):
                 found.name = f"Vlan9{counts[router]}"
     strange(made, dice, face, can_route)
+    if not can_route:
+        tables(made, dice)
     bind(made, dice, can_route)
     return made
 
@@ -171,6 +194,17 @@ def strange(made: Network, dice: random.Random, face, can_route: bool) -> None: 
             made.segments[own.segment].has_outside = True
     if not can_route and dice.random() < 0.3:
         made.statics.setdefault(dice.choice(made.routers), []).append("10.0.0.0 255.0.0.0 Null0")
+
+
+def tables(made: Network, dice: random.Random) -> None:
+    """Puts some interfaces of some routers into a table of their own, and lets some of these leak."""
+    for router in made.routers:
+        if dice.random() < 0.25:
+            for face in made.faces:
+                if face.router == router and dice.random() < 0.5:
+                    face.vrf = "RED"
+            if dice.random() < 0.4:
+                made.leaks[router] = dice.choice(("route-target import 65000:1", "ip route vrf RED 0.0.0.0 0.0.0.0 192.168.0.1 global"))
 
 
 def bind(made: Network, dice: random.Random, can_route: bool) -> None:

@@ -70,7 +70,7 @@ def row(name: str, arcv: str) -> Row:
             entries += 1
         elif cost != "inert":
             acted.add(line.rsplit("    (", 1)[1].split(":", 1)[0])
-            left += cost in ("nothing", "time", "gateway")
+            left += cost in ("nothing", "time", "inferred")
     answers = {kind: Counter(str(one["answer"]) for one in found if one["kind"] == kind) for kind in KINDS}
     questions = len({text for one in found for text in one["needs"]})  # type: ignore[attr-defined]
     lines = sum(count(path) for path in captures_of(name))

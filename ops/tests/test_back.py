@@ -67,8 +67,13 @@ class Back(unittest.TestCase):
                 self.assertEqual(put_back(before, after, before, case, Same())[0], after)
 
     def test_entry_before_lines_that_the_copy_leaves_out(self) -> None:
-        after, mine, notes = put_back(COPY, copy_with(" permit ip any any", " deny ip any host 10.2.0.9\n permit ip any any"), ROUTER, "r1", Renamed())
-        self.assertIn("GUESTS\n deny ip any host 10.2.0.9\n permit tcp any any established\n permit ip any any\n", after)
+        after, mine, notes = put_back(
+            COPY, copy_with(" permit ip any any", " deny ip any host 10.2.0.9\n permit ip any any"), ROUTER, "r1",
+            Renamed(),
+        )
+        self.assertIn(
+            "GUESTS\n deny ip any host 10.2.0.9\n permit tcp any any established\n permit ip any any\n", after
+        )
         self.assertEqual([entry.text for entry in mine.entries], ["deny ip any host 10.2.0.9"])
         self.assertIn("begins with another entry", notes[0])
 
@@ -80,7 +85,9 @@ class Back(unittest.TestCase):
         self.assertIn(" permit ip any any\n!\nrouter ospf 1\n", after)
 
     def test_session_under_the_name_of_the_router(self) -> None:
-        after, _, _ = put_back(COPY, copy_with(" area 0\n", " area 0\n passive-interface Ethernet101/30\n"), ROUTER, "r1", Renamed())
+        after, _, _ = put_back(
+            COPY, copy_with(" area 0\n", " area 0\n passive-interface Ethernet101/30\n"), ROUTER, "r1", Renamed()
+        )
         self.assertIn(" area 0 authentication\n passive-interface Vlan30\n!\n", after)
 
     def test_name_that_is_taken(self) -> None:
@@ -101,6 +108,8 @@ class Back(unittest.TestCase):
             "stands 0 times": (bind, ROUTER.replace("GigabitEthernet0/1", "GigabitEthernet0/2")),
             "stands 2 times": (bind, ROUTER + "interface GigabitEthernet0/1\n"),
             "no list GUESTS": (entry, ROUTER.replace("extended GUESTS", "extended STAFF")),
+            "does not keep the adjacency": (COPY.replace("area 0\n", "area 0\n no passive-interface GigabitEthernet0/1\n"), ROUTER),
+            "is a standard list": (entry, ROUTER.replace("extended GUESTS\n permit tcp any any established\n permit ip any any", "standard GUESTS\n permit any")),
             "is not in the file after": (entry.replace(" permit ip any any\n", ""), ROUTER),
             "none that a repair writes": (copy_with("!\nrouter", "!\nip route 0.0.0.0 0.0.0.0 10.0.1.2\n!\nrouter"), ROUTER),
         }
@@ -112,7 +121,10 @@ class Back(unittest.TestCase):
         """Where the router's list has its entries in another order than the copy, nothing is written."""
         before = COPY.replace(" permit ip any any", " deny ip any host 10.2.0.8\n permit ip any any")
         after = before.replace(" deny ip any host 10.2.0.8", " deny ip any host 10.2.0.9\n deny ip any host 10.2.0.8")
-        other = ROUTER.replace(" permit tcp any any established\n permit ip any any\n", " permit ip any any\n deny ip any host 10.2.0.8\n")
+        other = ROUTER.replace(
+            " permit tcp any any established\n permit ip any any\n",
+            " permit ip any any\n deny ip any host 10.2.0.8\n",
+        )
         with self.assertRaisesRegex(Wrong, "before which it stands in the copy"):
             put_back(before, after, other, "r1", Renamed())
 
@@ -123,7 +135,10 @@ class Back(unittest.TestCase):
 
     def test_line_ends_and_last_line(self) -> None:
         original = ROUTER.removesuffix("end\n").removesuffix("!\n").rstrip("\n").replace("\n", "\r\n")
-        after, _, _ = put_back(COPY, copy_with(" permit ip any any", " deny ip any host 10.2.0.9\n permit ip any any"), original, "r1", Renamed())
+        after, _, _ = put_back(
+            COPY, copy_with(" permit ip any any", " deny ip any host 10.2.0.9\n permit ip any any"), original, "r1",
+            Renamed(),
+        )
         self.assertEqual(after.replace(" deny ip any host 10.2.0.9\r\n", ""), original)
 
 
@@ -141,10 +156,14 @@ class Quiet(WithFolder):
         for name in os.listdir(place):
             original = name.removesuffix(suffix)
             before, after = read(os.path.join(EXAMPLES, example, original)), read(self.path(original + ".real"))
-            real, copy = changes_of(before, after, name), changes_of(read(self.path("quiet/" + original)), read(self.path("quiet/" + name)), name)
+            real, copy = changes_of(before, after, name), changes_of(
+                read(self.path("quiet/" + original)), read(self.path("quiet/" + name)), name
+            )
             self.assertEqual(real.same(), copy.same())
             self.assertEqual(meaning(after), meaning(read(self.path("quiet/" + name))))
-        again = tool("back", "repair.json", "--copies", suffix, "--originals", ".", "--out", ".real", folder=self.folder)
+        again = tool(
+            "back", "repair.json", "--copies", suffix, "--originals", ".", "--out", ".real", folder=self.folder
+        )
         self.assertEqual(again.returncode, 2)
 
     def test_campus(self) -> None:

@@ -31,7 +31,7 @@ class Captures(unittest.TestCase):
 
     def test_pages(self) -> None:
         for mark in (" --More-- " + "\x08" * 9 + " " * 8 + "\x08" * 9, " --More-- \r" + " " * 16 + "\r", " --More-- \x1b[K", "--More--" + "\x08" * 8 + " " * 8 + "\x08" * 8,
-                     " --More-- " + " " * 8):
+                     " --More-- " + " " * 8, " --More-- \r", " --More-- " + "\x08" * 10):
             with self.subTest(mark=mark):
                 paged = [mark + line if place in (5, 6) else line for place, line in enumerate(LINES)]
                 self.assertEqual(texts("\r\n".join(paged).encode()), LINES)

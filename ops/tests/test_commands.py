@@ -15,7 +15,10 @@ import unittest
 from ops import commands, pages
 from ops.tests.given import EXAMPLES, TOP, WithFolder, read, tool
 
-MODULES = {"policies": "policies", "explain": "explain", "draw": "draw", "plan": "plan", "enter": "enter", "back": "back", "repair-steps": "steps", "seal": "seal", "refusals": "refusals"}
+MODULES = {
+    "policies": "policies", "explain": "explain", "draw": "draw", "plan": "plan", "enter": "enter", "back": "back",
+    "repair-steps": "steps", "seal": "seal", "refusals": "refusals",
+}
 
 
 def called(name: str, words: list[str]) -> tuple[int, str, str]:
@@ -92,9 +95,18 @@ class Files(WithFolder):
         with self.assertRaises(commands.Wrong):
             commands.save(self.path("folder"), "x", True)
 
+    def test_control_characters_are_shown_as_question_marks(self) -> None:
+        self.lay("office")
+        self.write("net.names.json", '{"networks": {"10.1.0.0/24": "ser\\u001b[31mvers"}, "policies": []}')
+        done = tool("explain", "net.json", "report.txt", folder=self.folder)
+        self.assertIn("ser?[31mvers (10.1.0.0/24)", done.stdout)
+        self.assertNotIn("\x1b", done.stdout)
+
     def test_a_closed_output(self) -> None:
         words = [sys.executable, os.path.join(TOP, "bin", "explain"), "net.json", "report.txt"]
-        run = subprocess.Popen(words, cwd=os.path.join(EXAMPLES, "campus"), stdout=subprocess.PIPE, stderr=subprocess.PIPE)
+        run = subprocess.Popen(
+            words, cwd=os.path.join(EXAMPLES, "campus"), stdout=subprocess.PIPE, stderr=subprocess.PIPE
+        )
         assert run.stdout and run.stderr
         run.stdout.close()
         self.assertNotIn(b"Traceback", run.stderr.read())
@@ -115,7 +127,9 @@ class Seal(WithFolder):
         self.write("hq.cfg", read(self.path("hq.cfg")) + "!\n")
         os.unlink(self.path("report.txt"))
         done = tool("seal", "--check", "report.seal", folder=self.folder)
-        self.assertEqual((done.returncode, done.stdout), (1, "hq.cfg: changed\nreport.txt: missing\n3 of 5 files as sealed\n"))
+        self.assertEqual(
+            (done.returncode, done.stdout), (1, "hq.cfg: changed\nreport.txt: missing\n3 of 5 files as sealed\n")
+        )
         self.assertEqual(tool("seal", "--check", "net.json", folder=self.folder).returncode, 2)
 
 
@@ -124,7 +138,9 @@ def mangled(text: str, dice: random.Random) -> str:
     for _ in range(dice.randrange(1, 4)):
         at, end = sorted((dice.randrange(len(text) + 1), dice.randrange(len(text) + 1)))
         end = min(end, at + dice.choice((1, 5, 40, 1000)))
-        text = text[:at] + dice.choice(("", text[at:end] * 2, "99999999999", "\x00", "\udcff", " ", "\n", "end", "-1", "{", '"')) + text[end:]
+        text = text[:at] + dice.choice(
+            ("", text[at:end] * 2, "99999999999", "\x00", "\udcff", " ", "\n", "end", "-1", "{", '"')
+        ) + text[end:]
     return text
 
 
@@ -148,8 +164,17 @@ class Wrong(WithFolder):
             self.write(name, read(os.path.join(source, name)))
         routers = [name for name in names if name.endswith(".cfg")]
         self.write(routers[0] + ".new", mangled(read(os.path.join(source, routers[0])), dice))
-        self.write("edits", mangled("edit session hq Serial0/0/0\nedit packet hq list F 10.1.0.0/24 10.2.0.0/24\n", dice))
-        self.write("text", mangled("group g = 10.1.0.0/24 10.2.0.0/24\na: g never reach 10.20.0.0/24 tcp 22\nall pairs survive 1 except g\n", dice))
+        self.write(
+            "edits", mangled("edit session hq Serial0/0/0\nedit packet hq list F 10.1.0.0/24 10.2.0.0/24\n", dice)
+        )
+        self.write(
+            "text",
+            mangled(
+                "group g = 10.1.0.0/24 10.2.0.0/24\na: g never reach 10.20.0.0/24 tcp 22\nall pairs survive 1 except "
+                "g\n",
+                dice,
+            ),
+        )
         broken = dice.choice([*names, "edits", "text"])
         self.write(broken, mangled(read(self.path(broken)), dice))
         doc, arcv = self.path("net.json"), ["--arcv", fake]

@@ -1,4 +1,5 @@
-"""Commands that are entered make a router what the file after the repair says, and those that take them back what it was."""
+"""Commands that are entered make a router what the file after the repair says, and those that take them back what it
+was."""
 import random
 import unittest
 
@@ -76,7 +77,10 @@ class Entered(unittest.TestCase):
         self.assertFalse([line for line in lines if "resequence" in line])
 
     def test_no_number_is_free(self) -> None:
-        lines = try_out(self, *self.with_entries(SHOWN.replace("10 permit", "1 permit"), ["deny icmp any any", "deny udp any any"]))
+        lines = try_out(
+            self,
+            *self.with_entries(SHOWN.replace("10 permit", "1 permit"), ["deny icmp any any", "deny udp any any"]),
+        )
         self.assertIn(" ip access-list resequence GUESTS 30 10", lines)
         self.assertIn("  20 deny udp any any", lines)
 
@@ -100,11 +104,16 @@ class Entered(unittest.TestCase):
         before = FILE.format(entries=SHOWN)
         after = transfer(before, Changes("r1", "r1.cfg", [NewEntry(True, "FROM-B", "deny 10.3.0.0/24")]), "r1.cfg")
         lines = try_out(self, before, after)
-        self.assertLess(lines.index(" ip prefix-list ARC-1 seq 10 permit 10.2.0.0/24"), lines.index("  neighbor 10.0.1.2 prefix-list ARC-1 in"))
+        self.assertLess(
+            lines.index(" ip prefix-list ARC-1 seq 10 permit 10.2.0.0/24"),
+            lines.index("  neighbor 10.0.1.2 prefix-list ARC-1 in"),
+        )
 
     def test_list_stands_before_it_is_bound(self) -> None:
         before = FILE.format(entries=SHOWN)
-        mine = Changes("r1", "r1.cfg", lists=[NewList(False, "ARC-1", ("deny ip any host 10.1.0.1", "permit ip any any"))])
+        mine = Changes(
+            "r1", "r1.cfg", lists=[NewList(False, "ARC-1", ("deny ip any host 10.1.0.1", "permit ip any any"))]
+        )
         mine.bindings = [Binding(False, "ARC-1", "GigabitEthernet0/1", "interface GigabitEthernet0/1")]
         lines = try_out(self, before, transfer(before, mine, "r1.cfg"))
         self.assertLess(lines.index("  20 permit ip any any"), lines.index("  ip access-group ARC-1 in"))
@@ -137,7 +146,9 @@ class Entered(unittest.TestCase):
 
     def test_what_goes_down_comes_last(self) -> None:
         before = FILE.format(entries=SHOWN)
-        down = transfer(before, Changes("r1", "r1.cfg", sessions=[Session("10.0.1.2", "router bgp 65001", True)]), "r1.cfg")
+        down = transfer(
+            before, Changes("r1", "r1.cfg", sessions=[Session("10.0.1.2", "router bgp 65001", True)]), "r1.cfg"
+        )
         rows = [row(before, down), row(*self.with_entries(SHOWN, ["deny icmp any any"]))]
         self.assertEqual([goes_down(one) for one in ordered(rows)], [False, True])
 
@@ -177,7 +188,10 @@ def random_file(dice: random.Random) -> str:
         lines.append(f"ip prefix-list P seq {number} {dice.choice(('permit', 'deny'))} {prefix}")
     lines += ["!", "router ospf 1" if dice.random() < 0.5 else "router bgp 65001"]
     if "bgp" in lines[-1]:
-        lines += [" neighbor 10.0.1.2 remote-as 65002", " neighbor 10.0.2.2 remote-as 65003", *([" neighbor 10.0.1.2 prefix-list P in"] if dice.random() < 0.5 else [])]
+        lines += [
+            " neighbor 10.0.1.2 remote-as 65002", " neighbor 10.0.2.2 remote-as 65003",
+            *([" neighbor 10.0.1.2 prefix-list P in"] if dice.random() < 0.5 else []),
+        ]
     else:
         lines += [" passive-interface default", " no passive-interface GigabitEthernet0/1"]
     lines.append("!")
@@ -200,7 +214,14 @@ def random_changes(dice: random.Random, before: str) -> Changes:
         changes.entries += [NewEntry(False, name, text) for text in fresh if text != first]
     if dice.random() < 0.5:
         changes.entries += [NewEntry(True, "P", f"deny 10.{dice.randrange(9)}.0.0/24 le 30")]
-    free = next((face for face in range(3) if f"GigabitEthernet0/{face}\n ip address 10.{face}.0.1 255.255.255.0\n ip access-group" not in before), None)
+    free = next(
+        (
+            face
+            for face in range(3)
+            if f"GigabitEthernet0/{face}\n ip address 10.{face}.0.1 255.255.255.0\n ip access-group" not in before
+        ),
+        None,
+    )
     if free is not None:
         changes.lists = [NewList(False, "ARC-1", ("deny ip any host 10.1.0.7", "permit ip any any"))]
         changes.bindings = [Binding(False, "ARC-1", f"GigabitEthernet0/{free}", f"interface GigabitEthernet0/{free}")]

@@ -57,7 +57,7 @@ class InTheWay(unittest.TestCase):
 
     def test_what_is_not_modelled(self) -> None:
         for more, part in ((("router bgp 1",), "one process a router"), (("router eigrp 1",), "routes of another protocol"),
-                           (("mpls ldp router-id Loopback0",), "labels"), (("segment-routing mpls",), "labels"), (("a new feature",), "no row")):
+                           (("crypto map VPN 10 ipsec-isakmp", " reverse-route"), "far ends of tunnels"), (("mpls ldp router-id Loopback0",), "labels"), (("segment-routing mpls",), "labels"), (("a new feature",), "no row")):
             self.assertTrue(any(part in text for text in reasons(judged(*pair(more_a=more)))), more)
         for line in ("redistribute bgp 1", "redistribute static route-map X", "distribute-list 1 in", "area 0 range 10.0.0.0 255.0.0.0", "summary-address 10.0.0.0 255.0.0.0"):
             made = judged(*pair(), router("c", *face("Gi0/9", "10.9.0.1/24"), *OSPF, f" {line}"))

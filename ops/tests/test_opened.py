@@ -108,6 +108,8 @@ class WhatIsNoted(unittest.TestCase):
         self.assertIn("elsewhere", self.costs("interface Gi0/0", " ip address 10.0.0.1/24"))
         self.assertIn("elsewhere", self.costs("interface Gi0/0", " ipv4 address 10.0.0.1 255.255.255.0"))
         self.assertIn("elsewhere", self.costs("feature ospf"))
+        self.assertIn("elsewhere", self.costs("!", " ip address 10.0.0.1 255.255.255.0"))
+        self.assertIn("elsewhere", self.costs("interface Gi0/0", "ip address 10.0.0.1 255.255.255.0"))
 
     def test_what_stands_twice(self) -> None:
         self.assertIn("unknown", self.costs(*face("Gi0/0", "10.0.0.1/24"), *face("Gi0/0", "10.0.0.1/24")))
@@ -115,8 +117,10 @@ class WhatIsNoted(unittest.TestCase):
 
     def test_service_policies(self) -> None:
         shaping = ("policy-map P", " class class-default", "  shape average 1000000")
+        nested = ("policy-map Q", " class class-default", "  service-policy P", "interface Gi0/0", " service-policy output Q")
         policing = ("policy-map P", " class class-default", "  police 8000 conform-action transmit exceed-action drop")
         self.assertNotIn("drops", self.costs(*shaping, "interface Gi0/0", " service-policy output P"))
         self.assertIn("drops", self.costs(*policing, "interface Gi0/0", " service-policy output P"))
-        self.assertIn("drops", self.costs("interface Gi0/0", " service-policy output NOT-THERE"))
+        self.assertIn("unknown", self.costs("policy-map P", " class X", "  divert somewhere", "interface Gi0/0", " service-policy output P"))
+        self.assertIn("drops", self.costs(*policing, *nested))
         self.assertIn("unknown", self.costs("interface Gi0/0", " service-policy type inspect X"))

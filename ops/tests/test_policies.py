@@ -34,7 +34,9 @@ class Statements(unittest.TestCase):
                 self.assertEqual(said(text), policies)
 
     def test_packets_and_waypoints(self) -> None:
-        one, two = read_policies("staff never reach servers tcp opening\nt: guests reach servers only through fw r1:Gi0/1 tcp 80", NETWORKS)
+        one, two = read_policies(
+            "staff never reach servers tcp opening\nt: guests reach servers only through fw r1:Gi0/1 tcp 80", NETWORKS
+        )
         self.assertEqual((one.packets, two.waypoints, two.policy.port), ("opening", ("fw", "r1:Gi0/1"), 80))
 
     def test_all_pairs_and_first_policies(self) -> None:
@@ -60,8 +62,16 @@ class Statements(unittest.TestCase):
 
     def test_pairs_that_nobody_asks_about(self) -> None:
         a, b, c = NETWORKS.values()
-        found = silent_pairs(NETWORKS, [Policy("blocked", a, b), Policy("reach", a, c, 0, "tcp", 22), Policy("blocked", b, a)])
-        self.assertEqual(found, [("staff", "servers", "TCP 22"), ("guests", "servers", ""), ("servers", "staff", ""), ("servers", "guests", "")])
+        found = silent_pairs(
+            NETWORKS, [Policy("blocked", a, b), Policy("reach", a, c, 0, "tcp", 22), Policy("blocked", b, a)]
+        )
+        self.assertEqual(
+            found,
+            [
+                ("staff", "servers", "TCP 22"), ("guests", "servers", ""), ("servers", "staff", ""),
+                ("servers", "guests", ""),
+            ],
+        )
 
 
 class Command(WithFolder):
@@ -86,23 +96,34 @@ class Command(WithFolder):
         self.lay("square")
         self.write("text", "10.1.0.0/24 reach 10.4.0.0/24 only through north\n")
         self.assertEqual(tool("policies", "text", "net.json", "--out", "new.json", folder=self.folder).returncode, 0)
-        self.assertEqual([link.waypoint for link in read_document(self.path("new.json")).links], [True, True, False, False])
+        self.assertEqual(
+            [link.waypoint for link in read_document(self.path("new.json")).links], [True, True, False, False]
+        )
         self.write("text", "10.1.0.0/24 reach 10.4.0.0/24 only through nowhere\n")
         self.assertIn("no link ends at nowhere", tool("policies", "text", "net.json", folder=self.folder).stderr)
 
 
     def test_several_documents(self) -> None:
         self.lay("square")
-        self.write("text", "10.1.0.0/24 reach 10.4.0.0/24 only through north\n10.1.0.0/24 reach 10.2.0.0/24\n10.1.0.0/24 reach 10.4.0.0/24 only through south\n")
+        self.write(
+            "text",
+            "10.1.0.0/24 reach 10.4.0.0/24 only through north\n10.1.0.0/24 reach 10.2.0.0/24\n10.1.0.0/24 reach "
+            "10.4.0.0/24 only through south\n",
+        )
         done = tool("policies", "text", "net.json", "--out", "new.json", folder=self.folder)
         self.assertIn("wrote new-2.json\n", done.stdout)
         one, two = (read_document(self.path(name)) for name in ("new.json", "new-2.json"))
-        self.assertEqual([[link.waypoint for link in document.links] for document in (one, two)], [[True, True, False, False], [False, False, True, True]])
+        self.assertEqual(
+            [[link.waypoint for link in document.links] for document in (one, two)],
+            [[True, True, False, False], [False, False, True, True]],
+        )
         self.assertEqual([len(document.policies) for document in (one, two)], [2, 1])
         ports = "\n".join(f"10.1.0.0/24 never reach 10.4.0.0/24 tcp {port}" for port in range(1, 301))
         self.write("many", ports + "\n")
         done = tool("policies", "many", "net.json", "--out", "many.json", folder=self.folder)
-        self.assertEqual([len(read_document(self.path(name)).policies) for name in ("many.json", "many-2.json")], [256, 44])
+        self.assertEqual(
+            [len(read_document(self.path(name)).policies) for name in ("many.json", "many-2.json")], [256, 44]
+        )
 
 
 if __name__ == "__main__":

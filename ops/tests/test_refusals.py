@@ -10,7 +10,13 @@ class Refusals(WithFolder):
     def test_every_line_of_every_file(self) -> None:
         self.lay("office")
         for name in ("hq.cfg", "warehouse.cfg"):
-            self.write(name, read(self.path(name)).replace("!\ninterface GigabitEthernet0/1\n", "!\nip nat pool X\ninterface GigabitEthernet0/1\n ip ospf cost 0\n"))
+            self.write(
+                name,
+                read(self.path(name)).replace(
+                    "!\ninterface GigabitEthernet0/1\n",
+                    "!\nip nat pool X\ninterface GigabitEthernet0/1\n ip ospf cost 0\n",
+                ),
+            )
         before = read(self.path("hq.cfg"))
         done = tool("refusals", "net.json", "--arcv", program(), "--json", folder=self.folder)
         self.assertEqual(done.returncode, 1, done.stderr)

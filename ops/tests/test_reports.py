@@ -26,13 +26,19 @@ class Texts(unittest.TestCase):
             if os.path.exists(path):
                 text = read_text(read(path))
                 self.assertEqual(text.form, "certificate")
-                self.assertEqual([edit.line() for edit in text.edits], [line for line in read(path).split("\n") if line.startswith("edit ")])
+                self.assertEqual(
+                    [edit.line() for edit in text.edits],
+                    [line for line in read(path).split("\n") if line.startswith("edit ")],
+                )
                 seen += 1
         self.assertGreater(seen, 3)
 
     def test_answer_and_witness(self) -> None:
         blocks = read_report(read(os.path.join(EXAMPLES, "square", "report.txt")))
-        self.assertEqual([(block.number, block.kind, block.answer) for block in blocks], [(1, "reach", "yes"), (2, "reach", "no"), (3, "blocked", "no")])
+        self.assertEqual(
+            [(block.number, block.kind, block.answer) for block in blocks],
+            [(1, "reach", "yes"), (2, "reach", "no"), (3, "blocked", "no")],
+        )
         self.assertEqual(blocks[1].lines, (("cut", "1", "3"), ("side", "west")))
 
     def test_recheck(self) -> None:
@@ -69,7 +75,10 @@ class Documents(unittest.TestCase):
                              ('{"kind": "open"}', "kind"), ("3", "policy 1"), ('{"kind": "blocked", "from": "10.1.0.0/24", "to": "10.2.0.0/24", "port": 22}', "port")):
             with self.subTest(policy), self.assertRaisesRegex(Wrong, says):
                 parse_document(good % policy)
-        for text in ("", "[]", "{}", "{", '{"version": 1, "routers": [], "links": [], "policies": []}', '{"version": 1, "routers": "a", "links": [], "policies": []}'):
+        for text in (
+            "", "[]", "{}", "{", '{"version": 1, "routers": [], "links": [], "policies": []}',
+            '{"version": 1, "routers": "a", "links": [], "policies": []}',
+        ):
             with self.subTest(text), self.assertRaises(Wrong):
                 parse_document(text)
 

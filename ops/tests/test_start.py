@@ -147,6 +147,8 @@ class Command(WithFolder):
         self.assertIn("is no program", tool("start", folder, "--arcv", self.path("no")).stderr)
         self.write("rows.txt", "nonsense\n")
         self.assertIn("rows.txt:1", tool("start", folder, "--arcv", "/bin/true", "--rows", self.path("rows.txt")).stderr)
+        self.write("net/c.cfg", "\n")
+        self.assertIn("c.cfg is empty", tool("start", folder, "--arcv", "/bin/true").stderr)
         self.write("net/c.cfg", "hostname a\ninterface Loopback0\nend\n")
         self.assertIn("both of a", tool("start", folder, "--arcv", "/bin/true").stderr)
         for run in (tool("start", "--help"), tool("quiet", "--help")):
@@ -158,7 +160,9 @@ class Command(WithFolder):
         folder = self.files()
         self.write("net/a.cfg", read(self.path("net/a.cfg")).replace(" description", " ip nat inside\n description"))
         self.write("net/arcv/policies.txt", "p: floor-a never reaches floor-b tcp 22\n")
-        self.assertIn("NO: p", tool("start", folder, "--arcv", ARCV).stdout)
+        first = tool("start", folder, "--arcv", ARCV).stdout
+        self.assertIn("NO: p", first)
+        self.assertIn("No list is bound on this way.", first)
         lists = "ip access-list extended L\n deny ip any any\nend"
         self.write("net/a.cfg", read(self.path("net/a.cfg")).replace(" ip nat", " ip access-group L in\n ip nat").replace("\nend", "\n" + lists))
         asked_of = tool("start", folder, "--arcv", ARCV, "--again").stdout

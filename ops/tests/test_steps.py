@@ -6,16 +6,12 @@ import stat
 import subprocess
 import unittest
 
-from ops.lists import split
 from ops.commands import Wrong, run_arcv
-from ops.copies import original_text
 from ops.documents import read_document
 from ops.joining import classes_of, inside, joined, shut
 from ops.reports import Block, parse_edit, read_text
-from ops.steps import hints, listed, on_the_way
+from ops.parts import hints, listed, on_the_way
 from ops.tests.given import EXAMPLES, TOP, WithFolder, program, read, tool
-from ops.tests.ios_router import Router
-from ops.tests.meaning import meaning
 from ops.trial import not_yes, trial_of
 
 NETWORKS = os.path.join(TOP, "ops", "tests", "networks")
@@ -45,7 +41,10 @@ class Words(unittest.TestCase):
 
     def test_which_policies_lie_on_the_ways(self) -> None:
         document = read_document(os.path.join(EXAMPLES, "square", "net.json"))
-        blocks = [Block(1, "reach", "yes", (("path", "1", "2"),)), Block(2, "reach", "yes", (("path", "3", "4"),)), Block(3, "blocked", "no", (("walk", "a", "b", "1"),))]
+        blocks = [
+            Block(1, "reach", "yes", (("path", "1", "2"),)), Block(2, "reach", "yes", (("path", "3", "4"),)),
+            Block(3, "blocked", "no", (("walk", "a", "b", "1"),)),
+        ]
         document.policies[1] = type(document.policies[1])("reach", "10.3.0.0/24", "10.1.0.0/24", 1)
         self.assertEqual(on_the_way(document, blocks, [3]), [1])
 
@@ -55,7 +54,10 @@ class Generated(WithFolder):
 
     def setUp(self) -> None:
         super().setUp()
-        subprocess.run([os.path.join(EXAMPLES, "generated", "make"), "6", self.path("net")], check=True, stdout=subprocess.DEVNULL)
+        subprocess.run(
+            [os.path.join(EXAMPLES, "generated", "make"), "6", self.path("net")], check=True,
+            stdout=subprocess.DEVNULL,
+        )
         self.net = self.path("net")
 
     def policies(self, text: str) -> None:
@@ -64,7 +66,10 @@ class Generated(WithFolder):
         self.assertEqual(done.returncode, 0, done.stderr)
 
     def steps(self, *words: str) -> subprocess.CompletedProcess[str]:
-        return tool("repair-steps", "asked.json", "--out", ".new", "--proof", "cert", "--after", "after.json", "--arcv", program(), *words, folder=self.net)
+        return tool(
+            "repair-steps", "asked.json", "--out", ".new", "--proof", "cert", "--after", "after.json", "--arcv",
+            program(), *words, folder=self.net,
+        )
 
     def status(self, *words: str) -> int:
         return run_arcv(program(), words, self.net).status
@@ -73,12 +78,25 @@ class Generated(WithFolder):
 @HAS
 class Steps(Generated):
     def test_cheapest(self) -> None:
-        self.policies("10.1.0.0/24 never reaches 10.4.0.0/24\n10.2.0.0/24 never reaches 10.5.0.0/24\n10.1.0.0/24 reaches 10.2.0.0/24 survives 1\n")
+        self.policies(
+            "10.1.0.0/24 never reaches 10.4.0.0/24\n10.2.0.0/24 never reaches 10.5.0.0/24\n10.1.0.0/24 reaches "
+            "10.2.0.0/24 survives 1\n"
+        )
         done = self.steps()
         self.assertEqual(done.returncode, 0, done.stderr)
         self.assertIn("The cheapest repair costs 2: 2 edits.", done.stdout)
-        self.assertRegex(done.stderr, r"price at most 1, 2,000 conflicts: none \([0-9.]+ s\)\nprice at most 2, 2,000 conflicts: repaired, it costs 2")
-        self.assertEqual((self.status("check", "asked.json", "cert"), self.status("verify", "after.json"), self.status("verify", "asked.json")), (0, 0, 1))
+        self.assertRegex(
+            done.stderr,
+            r"price at most 1, 2,000 conflicts: none \([0-9.]+ s\)\nprice at most 2, 2,000 conflicts: repaired, it "
+            r"costs 2",
+        )
+        self.assertEqual(
+            (
+                self.status("check", "asked.json", "cert"), self.status("verify", "after.json"),
+                self.status("verify", "asked.json"),
+            ),
+            (0, 0, 1),
+        )
         again = self.steps()
         self.assertEqual(again.returncode, 2)
         self.assertIn("--force", again.stderr)
@@ -96,12 +114,17 @@ class Steps(Generated):
         self.assertEqual(self.status("check", "asked.json", "cert"), 0)
 
     def test_by_parts(self) -> None:
-        self.policies("a: everyone never reaches 10.4.0.0/24\n10.1.0.0/24 reaches 10.2.0.0/24 survives 1 both ways\n10.5.0.0/24 reaches 10.6.0.0/24 survives 1\n")
+        self.policies(
+            "a: everyone never reaches 10.4.0.0/24\n10.1.0.0/24 reaches 10.2.0.0/24 survives 1 both "
+            "ways\n10.5.0.0/24 reaches 10.6.0.0/24 survives 1\n"
+        )
         done = self.steps("--conflicts", "8")
         self.assertEqual(done.returncode, 0, done.stderr)
         self.assertIn("repaired by parts", done.stderr)
         self.assertIn("It is not shown to be the cheapest.", " ".join(done.stdout.split()))
-        bounds = re.search(r"It costs (\d+). The least price is at least (\d+) and at most (\d+).", " ".join(done.stdout.split()))
+        bounds = re.search(
+            r"It costs (\d+). The least price is at least (\d+) and at most (\d+).", " ".join(done.stdout.split())
+        )
         assert bounds
         price, least, most = (int(number) for number in bounds.groups())
         edits = read(os.path.join(self.net, "cert.edits")).strip().split("\n")
@@ -110,7 +133,13 @@ class Steps(Generated):
         self.assertEqual(self.status("verify", "after.json"), 0)
         files = {name: read(os.path.join(self.net, name)) for name in os.listdir(self.net) if name.endswith(".new")}
         self.assertEqual(self.status("apply", "asked.json", "cert.edits", "--out", ".again"), 0)
-        self.assertEqual(files, {name.replace(".again", ".new"): read(os.path.join(self.net, name)) for name in os.listdir(self.net) if name.endswith(".again")})
+        self.assertEqual(
+            files,
+            {
+                name.replace(".again", ".new"): read(os.path.join(self.net, name))
+                for name in os.listdir(self.net) if name.endswith(".again")
+            },
+        )
         if os.path.exists(os.path.join(self.net, "cert")):
             self.assertEqual(self.status("check", "asked.json", "cert"), 0)
 
@@ -119,7 +148,9 @@ class Steps(Generated):
         done = self.steps("--no-sessions")
         self.assertEqual(done.returncode, 0, done.stderr)
         self.assertNotIn("adjacency at", done.stdout)
-        self.assertEqual((self.status("check", "asked.no-sessions.json", "cert"), self.status("verify", "after.json")), (0, 0))
+        self.assertEqual(
+            (self.status("check", "asked.no-sessions.json", "cert"), self.status("verify", "after.json")), (0, 0)
+        )
 
     def test_what_cannot_be_repaired_is_said(self) -> None:
         self.policies("10.1.0.0/24 reaches 10.4.0.0/24 survives 5\n10.2.0.0/24 never reaches 10.5.0.0/24\n")
@@ -129,7 +160,10 @@ class Steps(Generated):
 
     def test_a_file_that_is_read_is_not_written(self) -> None:
         self.policies("10.2.0.0/24 never reaches 10.5.0.0/24\n")
-        done = tool("repair-steps", "asked.json", "--out", ".new", "--proof", "./r1.cfg", "--arcv", program(), "--force", folder=self.net)
+        done = tool(
+            "repair-steps", "asked.json", "--out", ".new", "--proof", "./r1.cfg", "--arcv", program(), "--force",
+            folder=self.net,
+        )
         self.assertEqual(done.returncode, 2)
         self.assertIn("is read", done.stderr)
 
@@ -139,7 +173,10 @@ class Limits(WithFolder):
     def test_too_many_edits(self) -> None:
         net = self.path("net")
         subprocess.run([os.path.join(EXAMPLES, "generated", "make"), "14", net], check=True, stdout=subprocess.DEVNULL)
-        self.write("net/text", "10.1.0.0/24 never reaches 10.8.0.0/24\nall pairs survive 1 except 10.1.0.0/24 to 10.8.0.0/24\n")
+        self.write(
+            "net/text",
+            "10.1.0.0/24 never reaches 10.8.0.0/24\nall pairs survive 1 except 10.1.0.0/24 to 10.8.0.0/24\n",
+        )
         tool("policies", "text", "net.json", "--out", "asked.json", folder=net)
         words = ("asked.json", "--out", ".new", "--proof", "cert", "--after", "after.json", "--arcv", program())
         done = tool("repair-steps", *words, folder=net)
@@ -153,7 +190,9 @@ class Limits(WithFolder):
 class Joining(Generated):
     def test_edits_of_rounds_are_edits_of_the_whole(self) -> None:
         self.policies("10.1.0.0/24 never reaches 10.4.0.0/24\n10.1.0.0/25 reaches 10.2.0.0/24 survives 1\n")
-        whole = trial_of(program(), read_document(os.path.join(self.net, "asked.json")), os.path.join(self.net, "asked.json"))
+        whole = trial_of(
+            program(), read_document(os.path.join(self.net, "asked.json")), os.path.join(self.net, "asked.json")
+        )
         self.assertEqual({one[0] for one in classes_of(whole)}, {"10.1.0.0/25", "10.1.0.128/25"})
         wide = parse_edit("edit packet r1 interface GigabitEthernet0/0 10.1.0.0/24 10.4.0.0/24")
         edits = joined([([wide], whole.texts)], whole)
@@ -163,136 +202,14 @@ class Joining(Generated):
         self.assertEqual(not_yes(whole.over(texts={**whole.texts, **written}).verify()), [])
         twice = parse_edit("edit packet r1 list ARC-1 10.1.0.0/25 10.4.0.0/24")
         edits = joined([([wide], whole.texts), ([twice], {**whole.texts, **written})], whole)
-        self.assertEqual([edit.line() for edit in edits], ["edit packet r1 interface GigabitEthernet0/0 10.1.0.128/25 10.4.0.0/24"])
+        self.assertEqual(
+            [edit.line() for edit in edits], ["edit packet r1 interface GigabitEthernet0/0 10.1.0.128/25 10.4.0.0/24"]
+        )
         with self.assertRaises(Wrong):
-            joined([([parse_edit("edit packet r1 interface GigabitEthernet0/0 10.9.0.0/24 10.4.0.0/24")], whole.texts)], whole)
-
-
-@HAS
-class RoundTrip(WithFolder):
-    """Break a network, repair it, plan, enter, fetch, verify, recheck; and put the repair into the files as well."""
-
-    def way(self, example: str, broken: str, line: str, policy: str) -> None:
-        self.lay(example)
-        text = read(self.path(broken))
-        self.assertIn(line, text)
-        self.write(broken, text.replace(line, "", 1))
-        originals = {name: read(self.path(name)) for name in os.listdir(self.folder) if name.endswith(".cfg")}
-        self.quiet()
-        self.ask("verify", "repair.json", 1)
-        self.assertIn(f"{policy} no ", self.ask("verify", "repair.json", 1))
-        done = tool("repair-steps", "repair.json", "--out", ".new", "--proof", "cert", "--after", "aft.json", "--arcv", program(), folder=self.folder)
-        self.assertEqual(done.returncode, 0, done.stderr)
-        report = self.ask("verify", "aft.json", 0)
-        self.write("aft.txt", report)
-        self.assertEqual(self.ask("check", "repair.json", 0, "cert"), "accepted\n")
-        words = ("repair.json", "cert", "--originals", ".", "--arcv", program())
-        plan = tool("plan", *words, "--json", folder=self.folder)
-        self.assertEqual(plan.returncode, 0, plan.stderr)
-        entered = json.loads(tool("enter", *words, "--json", folder=self.folder).stdout)
-        self.assertEqual(sorted(row["router"] for row in json.loads(plan.stdout)["routers"]), sorted(row["router"] for row in entered))
-        back = tool("back", *words, "--out", ".real", folder=self.folder)
-        self.assertEqual(back.returncode, 0, back.stderr)
-        for row in entered:
-            name = row["router"] + ".cfg"
-            router = Router(originals[name])
-            router.enter(row["enter"])
-            self.write(name, router.config())
-            self.assertEqual(meaning(router.config()), meaning(read(self.path(name + ".real"))))
-            router.enter(row["back"])
-            self.assertEqual(meaning(router.config()), meaning(originals[name]))
-        self.quiet()
-        self.ask("verify", "repair.json", 0)
-        self.assertNotIn(" new", self.ask("recheck", "repair.json", 0, "aft.txt"))
-        for name in originals:
-            self.write(name, read(self.path(name + ".real")) if os.path.exists(self.path(name + ".real")) else originals[name])
-        self.quiet()
-        self.ask("verify", "repair.json", 0)
-
-    def test_parts_of_routes(self) -> None:
-        self.lay("edge")
-        self.write("text", "203.0.113.0/24 never reaches 198.19.0.0/24\n198.18.0.0/24 never reaches 198.19.0.0/24 tcp 22 both ways\n"
-                   "203.0.114.0/24 never reaches 198.18.0.0/24 udp\n203.0.113.0/24 reaches 203.0.114.0/24 survives 1 both ways\n"
-                   "198.19.0.0/24 reaches 198.18.0.0/24 tcp 443 only through waypoints\n")
-        self.assertEqual(tool("policies", "text", "net.json", "--out", "asked.json", folder=self.folder).returncode, 0)
-        done = tool("repair-steps", "asked.json", "--out", ".new", "--proof", "cert", "--after", "aft.json", "--parts", "--arcv", program(), folder=self.folder)
-        self.assertEqual(done.returncode, 0, done.stderr)
-        self.assertIn("The least price is at least 1 and at most ", done.stdout)
-        self.ask("verify", "aft.json", 0)
-        self.assertEqual(run_arcv(program(), ["apply", "asked.json", "cert.edits", "--out", ".again"], self.folder).status, 0)
-        for name in os.listdir(self.path("quiet")):
-            if name.endswith(".new"):
-                self.assertEqual(read(self.path("quiet/" + name)), read(self.path("quiet/" + name.removesuffix(".new") + ".again")))
-        words = ("asked.json", "cert.edits", "--originals", ".", "--arcv", program())
-        for row in json.loads(tool("enter", *words, "--json", folder=self.folder).stdout):
-            router = Router(read(self.path(row["router"] + ".cfg")))
-            router.enter(row["enter"])
-            self.write(row["router"] + ".cfg", router.config())
-        self.quiet()
-        self.ask("verify", "asked.json", 0)
-
-    def quiet(self) -> None:
-        files = sorted(name for name in os.listdir(self.folder) if name.endswith(".cfg"))
-        done = tool("quiet", *files, folder=self.folder)
-        self.assertEqual(done.returncode, 0, done.stderr)
-
-    def ask(self, command: str, document: str, status: int, *more: str) -> str:
-        answer = run_arcv(program(), [command, document, *more], self.folder)
-        self.assertEqual(answer.status, status, answer.reason())
-        return answer.out
-
-    def test_campus(self) -> None:
-        self.way("campus", "wifi.cfg", " ip access-group FROM-GUESTS in\n", "5 blocked")
-
-    def test_edge(self) -> None:
-        self.way("edge", "provider-a.cfg", " neighbor 10.254.2.1 prefix-list FROM-CUSTOMER in\n", "4 through")
-
-
-@HAS
-class RoundTripOfCaptures(WithFolder):
-    """From the captures of a network in which a policy does not hold, by way of its copies, onto its routers and back."""
-
-    def start(self, folder: str) -> str:
-        done = tool("start", folder, "--policies", "policies.txt", "--to", folder + "/arcv", "--arcv", program(), folder=self.folder)
-        self.assertEqual(done.stderr, "")
-        return done.stdout.strip().split("\n")[-1]
-
-    def way(self, network: str, copy: str) -> None:
-        source = os.path.join(NETWORKS, network)
-        for name in os.listdir(source):
-            self.write(name if name == "policies.txt" else "net/" + name, read(os.path.join(source, name)))
-        self.assertIn(" 1 no, 0 not answered", self.start("net"))
-        place = self.path(f"net/arcv/{copy}")
-        done = tool("repair-steps", "net.json", "--out", ".new", "--proof", "cert", "--after", "aft.json", "--arcv", program(), folder=place)
-        self.assertEqual(done.returncode, 0, done.stderr)
-        self.assertNotIn("adjacency at", done.stdout)
-        words = ("net.json", "cert", "--arcv", program())
-        rows = json.loads(tool("plan", *words, "--json", folder=place).stdout)["routers"]
-        steps = json.loads(tool("enter", *words, "--json", folder=place).stdout)
-        self.assertEqual([row["router"] for row in rows], [row["router"] for row in steps])
-        self.assertEqual(tool("back", *words, "--out", ".real", folder=place).returncode, 0)
-        for name in sorted(os.listdir(self.path("net"))):
-            if name.endswith(".real"):
-                original, real = original_text(self.path("net/" + name.removesuffix(".real"))), read(self.path("net/" + name))
-                row = next(row for row in steps if f"hostname {row['router']}\n" in original)
-                router = Router(original)
-                router.enter(row["enter"])
-                self.write("entered/" + name.removesuffix(".real"), router.config())
-                self.write("put/" + name.removesuffix(".real"), real)
-                self.assertEqual(meaning(router.config()), meaning(real))
-                router.enter(row["back"])
-                self.assertEqual(meaning(router.config()), meaning(original))
-        for folder in ("entered", "put"):
-            for name in os.listdir(source):
-                if name != "policies.txt" and not os.path.exists(self.path(f"{folder}/{name}")):
-                    self.write(f"{folder}/{name}", read(os.path.join(source, name)))
-            self.assertIn(" 0 no, 0 not answered", self.start(folder))
-
-    def test_terminal_and_open_copy(self) -> None:
-        self.way("metro-ring", "open")
-
-    def test_subinterfaces_and_exact_copy(self) -> None:
-        self.way("hub-subinterfaces", "exact")
+            joined(
+                [([parse_edit("edit packet r1 interface GigabitEthernet0/0 10.9.0.0/24 10.4.0.0/24")], whole.texts)],
+                whole,
+            )
 
 
 class WithoutProgram(WithFolder):
@@ -305,31 +222,34 @@ class WithoutProgram(WithFolder):
 
     def test_a_refusal_is_told(self) -> None:
         self.lay("office")
-        done = tool("repair-steps", "net.json", "--out", ".new", "--proof", "cert", "--arcv", self.fake("echo 'refused 1.cfg 6 unknown-line'; exit 5\n"), folder=self.folder)
+        done = tool(
+            "repair-steps", "net.json", "--out", ".new", "--proof", "cert", "--arcv",
+            self.fake("echo 'refused 1.cfg 6 unknown-line'; exit 5\n"), folder=self.folder,
+        )
         self.assertEqual(done.returncode, 2)
         self.assertIn("refused hq.cfg 6 unknown-line", done.stderr)
         self.assertFalse(os.path.exists(self.path("cert")))
 
     def test_a_failure_is_told(self) -> None:
         self.lay("office")
-        done = tool("repair-steps", "net.json", "--out", ".new", "--proof", "cert", "--arcv", self.fake("echo 'no more memory' >&2; exit 8\n"), folder=self.folder)
+        done = tool(
+            "repair-steps", "net.json", "--out", ".new", "--proof", "cert", "--arcv",
+            self.fake("echo 'no more memory' >&2; exit 8\n"), folder=self.folder,
+        )
         self.assertEqual(done.returncode, 2)
         self.assertIn("no more memory", done.stderr)
 
     def test_ctrl_c_leaves_what_is_known(self) -> None:
         self.lay("office")
         script = 'case "$*" in *"--max-price 1 "*) echo "none 1"; echo "wrote cert"; printf "arc-repair 1\\nanswer none 1\\nlog\\nend\\n" > cert; exit 2 ;; esac\nkill -INT $PPID; sleep 5; exit 3\n'
-        done = tool("repair-steps", "net.json", "--out", ".new", "--proof", "cert", "--arcv", self.fake(script), folder=self.folder)
+        done = tool(
+            "repair-steps", "net.json", "--out", ".new", "--proof", "cert", "--arcv", self.fake(script),
+            folder=self.folder,
+        )
         self.assertEqual(done.returncode, 130)
         self.assertIn("No edits that cost at most 1 are enough: cert is the proof.", done.stderr)
         self.assertEqual(read_text(read(self.path("cert"))).numbers, (1,))
         self.assertFalse([name for name in os.listdir(self.folder) if name.endswith(".new")])
-
-
-class Changes(unittest.TestCase):
-    def test_lines_keep_their_ends(self) -> None:
-        self.assertEqual(split("a\r\nb\n\nc"), ["a\r\n", "b\n", "\n", "c"])
-        self.assertTrue(os.path.isdir(TOP))
 
 
 if __name__ == "__main__":
