@@ -72,7 +72,7 @@ def plant(kind: str, run: Run) -> str:
     """Puts a fault into the site of a run that is not up yet, and tells which."""
     site, told = run.site, None
     site.network = deepcopy(site.network)
-    failed = next((sorted(links) for links in run.sets if links), [])
+    failed = sorted(next((links for links in run.sets if links), frozenset()))
     if kind == "cost":
         told = plant_cost(site.network, next(iter(run.rows(frozenset()).values()), {}))
     elif kind == "list":

@@ -59,7 +59,8 @@ def draw_sets(network: Network, found: Claims, options: Options, draw: Random) -
 
 def in_order(sets: dict[Failures, str]) -> dict[Failures, str]:
     """The failure sets in an order in which few links come up again from one to the next, since that is what takes time."""
-    left, ordered, last = dict(sets), {}, frozenset()
+    left, last = dict(sets), Failures()
+    ordered: dict[Failures, str] = {}
     while left:
         following = min(left, key=lambda failed: (len(last - failed), len(failed - last), sorted(failed)))
         ordered[following], last = left.pop(following), following

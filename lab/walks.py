@@ -58,7 +58,8 @@ class Ways:
 
     def follow(self, sighting: Sighting) -> tuple[list[Link], str]:
         """The links that the packet crossed, in order, and what is wrong with what was seen."""
-        left, place, crossed = sighting.arrivals.copy(), self.source.router, []
+        left, place = sighting.arrivals.copy(), self.source.router
+        crossed: list[Link] = []
         if not left[self.source]:
             return [], f"it never came in at {self.named(self.source)}"
         left[self.source] -= 1
