@@ -31,7 +31,8 @@ START_SECONDS, BESIDE = 60, 8
 
 
 class Site:
-    """A network that runs. `failed` is the set of links that are down now; those in `unfailing`, where a plant put them, never are."""
+    """A network that runs. `failed` is the set of links that are down now; those in `unfailing`, where a plant put them, never
+    are."""
 
     def __init__(self, spaces: Spaces, network: Network) -> None:
         self.spaces, self.network = spaces, network
@@ -128,8 +129,10 @@ class Site:
             file.write("\n".join([*words, ""]))
         for name in (folder, os.path.join(folder, f"{daemon}.conf")):
             shutil.chown(name, "frr", "frr")
-        command = [os.path.join(DAEMONS, daemon), "-f", f"{folder}/{daemon}.conf", "-i", f"{folder}/{daemon}.pid", "-z", f"{folder}/zserv",
-                   "--vty_socket", folder, "-A", "127.0.0.1", "-P", "0"]
+        command = [
+            os.path.join(DAEMONS, daemon), "-f", f"{folder}/{daemon}.conf", "-i", f"{folder}/{daemon}.pid", "-z", f"{folder}/zserv",
+            "--vty_socket", folder, "-A", "127.0.0.1", "-P", "0",
+        ]
         self.spaces.start(self.parts[place], command)
 
     def await_socket(self, place: int, name: str) -> None:

@@ -100,7 +100,8 @@ class Reading(unittest.TestCase):
         self.assertEqual(router_id(self.one), IPv4Address("10.9.0.1"))
 
     def test_a_router_id_that_another_router_may_take(self) -> None:
-        taken = read_router(OSPF.replace("router ospf 7", "router ospf 7\n router-id 10.2.0.1").replace("hostname one", "hostname taker"))
+        lines = {"router ospf 7": "router ospf 7\n router-id 10.2.0.1", "hostname one": "hostname taker"}
+        taken = read_router("\n".join(lines.get(line, line) for line in OSPF.split("\n")))
         found = [(router.name, other.name, str(identity)) for router, other, identity in clashes([self.one, taken])]
         self.assertEqual(found, [("taker", "one", "10.2.0.1")])
         self.assertEqual(list(clashes([self.one, self.two])), [])
