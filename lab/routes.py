@@ -93,3 +93,15 @@ def compare(site: Site, rows: Rows, hops: Hops) -> list[str]:
                 text = f"arcv says {words_of(row.cost, row.links)}, FRR {words_of(found, hops[place, host])}"
                 texts.append(f"row {router.name} {host}: {text}")
     return texts
+
+
+def compared(site: Site, rows: Rows) -> tuple[Hops, list[str]]:
+    """The routes once they stand still, and what differs then. A daemon may tell costs later than the kernel routes, so that what
+    differs has to do so for long."""
+    begun = time.monotonic()
+    while True:
+        hops = settle(site, rows)
+        texts = compare(site, rows, hops)
+        if not texts or time.monotonic() - begun >= FIRM:
+            return hops, texts
+        time.sleep(1)

@@ -13,7 +13,7 @@ from lab.network import Network, read_network
 from lab.packets import Chooser
 from lab.probes import Packet, Probes
 from lab.program import Program, Traffic
-from lab.routes import Rows, compare, hops_now, settle
+from lab.routes import Rows, compared, hops_now, settle
 from lab.site import BESIDE, Site
 from lab.spaces import Spaces
 from lab.walks import Walk, Ways
@@ -117,7 +117,7 @@ class Run:
     def try_set(self, failed: Failures, origin: str, rows: Rows, probes: Probes) -> None:
         """Compares routes and packets under one failure set, `rows` being what arcv says of it."""
         self.site.fail(failed)
-        hops = settle(self.site, rows)
+        hops, texts = compared(self.site, rows)
         counts = self.tally.counts
         counts["sets"] += 1
         counts["rows"] += len(hops)
@@ -125,10 +125,6 @@ class Run:
             row = rows[host][self.network.routers[place].name]
             counts["rows with several next hops"] += len(row.links) > 1
             counts["rows without a route"] += row.cost is None
-        texts = compare(self.site, rows, hops)
-        if texts:
-            hops = settle(self.site, rows)
-            texts = compare(self.site, rows, hops)
         for text in texts:
             self.differs(failed, origin, text)
         self.try_packets(failed, origin, rows, probes)
