@@ -79,7 +79,7 @@ class Run:
         with open(os.path.join(program.folder, "lab-report"), "w") as file:
             file.write(report)
         self.claims = claimed.gather(program, document, "lab-report", self.network, self.verdicts, self.draw, options.node_failures)
-        self.chooser = Chooser(self.network, self.draw)
+        self.chooser = Chooser(self.network, self.claims.traffics, self.draw)
         self.sets = draw_sets(self.network, self.claims, options, self.draw)
         self.site = Site(spaces, self.network)
 
