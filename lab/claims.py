@@ -9,7 +9,7 @@ from lab.program import Program, Row, Traffic, Verdict, traffic_of
 from lab.walks import Walk
 
 Failures = frozenset[int]
-MOST_PAIRS = 3
+MOST_PAIRS, NODE_FAILURES = 3, 1
 
 
 @dataclass(frozen=True)
@@ -176,9 +176,7 @@ def preferred_claims(found: Claims, program: Program, document: str, network: Ne
         found.say(said, all_services(policy), just(frozenset()), goes_by(tuple(names)))
 
 
-def gather(
-    program: Program, document: str, report: str, network: Network, verdicts: list[Verdict], draw: Random, node_failures: int
-) -> Claims:
+def gather(program: Program, document: str, report: str, network: Network, verdicts: list[Verdict], draw: Random) -> Claims:
     """All claims on a network: of its verdicts, of its `alone` lines, and of `nodes` and `prefers` asked of its policies."""
     found = Claims()
     found.try_set(frozenset(), "nothing")
@@ -193,8 +191,7 @@ def gather(
             alone_claims(found, network, policy, alone[policy.number], draw)
         if (policy.source, policy.target) not in asked and len(asked) < MOST_PAIRS:
             asked.add((policy.source, policy.target))
-            for failures in range(1, node_failures + 1):
-                verdict = program.nodes(document, policy.source, policy.target, failures)
-                node_claims(found, network, policy, failures, verdict, draw)
+            verdict = program.nodes(document, policy.source, policy.target, NODE_FAILURES)
+            node_claims(found, network, policy, NODE_FAILURES, verdict, draw)
             preferred_claims(found, program, document, network, policy, draw)
     return found

@@ -228,6 +228,7 @@ class Drawing:
         return found
 
     def document(self) -> dict[str, object]:
+        """The document, with waypoints at some links."""
         links = []
         for number, ends in enumerate(self.links, 1):
             faces = [next(face for face in self.routers[place].faces if face.link == number) for place in ends]

@@ -4,7 +4,7 @@ Where FRR is known to act otherwise than IOS, the translation takes IOS's side; 
 from ipaddress import IPv4Network
 from typing import Iterator
 
-from lab.network import End, Network, cost_of, host_network, is_enabled, is_passive, is_point, list_at, router_id
+from lab.network import End, Network, cost_of, host_network, is_passive, is_point, list_at, router_id
 from lab.settings import ALL_SERVICES, Interface, PacketEntry, RouteEntry, Router
 
 HELLO, DEAD = 1, 3

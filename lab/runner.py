@@ -27,7 +27,6 @@ class Options:
     sets: int = 20
     down: Optional[Failures] = None
     seed: int = 1
-    node_failures: int = 1
 
 
 @dataclass
@@ -36,11 +35,6 @@ class Tally:
     counts: Counter[str] = field(default_factory=Counter)
     claims: Counter[str] = field(default_factory=Counter)
     differences: list[str] = field(default_factory=list)
-
-    def add(self, other: "Tally") -> None:
-        self.counts += other.counts
-        self.claims += other.claims
-        self.differences += other.differences
 
 
 def draw_sets(network: Network, found: Claims, options: Options, draw: Random) -> dict[Failures, str]:
@@ -78,7 +72,7 @@ class Run:
         report, self.verdicts = program.verify(document)
         with open(os.path.join(program.folder, "lab-report"), "w") as file:
             file.write(report)
-        self.claims = claimed.gather(program, document, "lab-report", self.network, self.verdicts, self.draw, options.node_failures)
+        self.claims = claimed.gather(program, document, "lab-report", self.network, self.verdicts, self.draw)
         self.chooser = Chooser(self.network, self.claims.traffics, self.draw)
         self.sets = draw_sets(self.network, self.claims, options, self.draw)
         self.site = Site(spaces, self.network)
