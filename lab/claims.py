@@ -9,7 +9,7 @@ from lab.program import Program, Row, Traffic, Verdict, traffic_of
 from lab.walks import Walk
 
 Failures = frozenset[int]
-MOST_PAIRS = 3
+MOST_PAIRS, NODE_FAILURES = 3, 1
 
 
 @dataclass(frozen=True)
@@ -36,6 +36,10 @@ class Claims:
         self.sets.setdefault(failed, of)
 
 
+def fate(walk: Walk) -> str:
+    return "and arrived" if walk.arrived else "and was lost"
+
+
 def arrives(walk: Walk) -> str:
     return "" if walk.arrived else "it was lost"
 
@@ -53,11 +57,11 @@ def passes(waypoints: Failures) -> Callable[[Walk], str]:
 
 
 def goes_over(links: Failures) -> Callable[[Walk], str]:
-    return lambda walk: "" if walk.arrived and set(walk.links) == links else f"it went over {list(walk.links)}, arrived: {walk.arrived}"
+    return lambda walk: "" if walk.arrived and set(walk.links) == links else f"it went over {list(walk.links)}, {fate(walk)}"
 
 
 def goes_by(names: tuple[str, ...]) -> Callable[[Walk], str]:
-    return lambda walk: "" if walk.arrived and walk.routers == names else f"it went by {', '.join(walk.routers)}, arrived: {walk.arrived}"
+    return lambda walk: "" if walk.arrived and walk.routers == names else f"it went by {', '.join(walk.routers)}, {fate(walk)}"
 
 
 def at_most(failures: int) -> Callable[[Failures], bool]:
@@ -168,10 +172,11 @@ def preferred_claims(found: Claims, program: Program, document: str, network: Ne
         return
     verdict = program.prefers(document, policy.source, policy.target, names)
     if verdict.answer == "yes":
-        found.say(f"prefers {policy.source} {policy.target} {','.join(names)} yes", all_services(policy), just(frozenset()), goes_by(tuple(names)))
+        said = f"prefers {policy.source} {policy.target} {','.join(names)} yes"
+        found.say(said, all_services(policy), just(frozenset()), goes_by(tuple(names)))
 
 
-def gather(program: Program, document: str, report: str, network: Network, verdicts: list[Verdict], draw: Random, node_failures: int) -> Claims:
+def gather(program: Program, document: str, report: str, network: Network, verdicts: list[Verdict], draw: Random) -> Claims:
     """All claims on a network: of its verdicts, of its `alone` lines, and of `nodes` and `prefers` asked of its policies."""
     found = Claims()
     found.try_set(frozenset(), "nothing")
@@ -186,7 +191,7 @@ def gather(program: Program, document: str, report: str, network: Network, verdi
             alone_claims(found, network, policy, alone[policy.number], draw)
         if (policy.source, policy.target) not in asked and len(asked) < MOST_PAIRS:
             asked.add((policy.source, policy.target))
-            for failures in range(1, node_failures + 1):
-                node_claims(found, network, policy, failures, program.nodes(document, policy.source, policy.target, failures), draw)
+            verdict = program.nodes(document, policy.source, policy.target, NODE_FAILURES)
+            node_claims(found, network, policy, NODE_FAILURES, verdict, draw)
             preferred_claims(found, program, document, network, policy, draw)
     return found

@@ -36,8 +36,8 @@ def built() -> str:
 
 
 def lay(path: str, folder: str) -> str:
-    """Lays copies of a document's router files into a new folder, under numbers, and the document that names them so. Files of a
-    folder `quiet` that are not there are made by bin/quiet. Gives the document's name."""
+    """Lays copies of a document's router files into a new folder, with numbers before their names, and the document that names
+    them so. Files of a folder `quiet` that are not there are made by bin/quiet. Gives the document's name."""
     os.makedirs(folder)
     home = os.path.dirname(os.path.abspath(path))
     with open(path, encoding="utf-8") as file:
@@ -47,7 +47,7 @@ def lay(path: str, folder: str) -> str:
         source = os.path.join(home, name)
         if not os.path.exists(source) and os.path.basename(os.path.dirname(source)) == "quiet":
             source = quieted(source, folder)
-        names.append(f"{number}.cfg")
+        names.append(f"{number}-{os.path.basename(name)}")
         shutil.copyfile(source, os.path.join(folder, names[-1]))
     write_document({**document, "routers": names}, folder, "net.json")
     return "net.json"

@@ -7,7 +7,9 @@ from random import Random
 from typing import Optional
 
 KINDS = ("GigabitEthernet", "GigabitEthernet", "FastEthernet", "Serial", "TenGigabitEthernet")
-SERVICES = ("tcp {} {} eq 22", "tcp {} {} eq www", "tcp {} {} range 135 139", "udp {} {} eq domain", "udp {} {}", "icmp {} {}", "47 {} {}")
+SERVICES = (
+    "tcp {} {} eq 22", "tcp {} {} eq www", "tcp {} {} range 135 139", "udp {} {} eq domain", "udp {} {}", "icmp {} {}", "47 {} {}",
+)
 SIZES = (3, 3, 4, 4, 5, 5, 6, 7, 8, 10)
 ASKED = (("tcp", 22), ("tcp", 443), ("tcp", None), ("udp", 53), ("icmp", None), (47, None))
 
@@ -165,7 +167,8 @@ class Drawing:
                 wide = self.chance(0.3)
                 bounds = self.draw.choice((" le 32", " ge 24", " ge 20 le 28")) if wide else ""
                 prefix = IPv4Network((host.network_address, 16), strict=False) if wide else host
-                router.lists.append(f"ip prefix-list {name} seq {5 * number} {self.draw.choice(('deny', 'deny', 'permit'))} {prefix}{bounds}")
+                answer = self.draw.choice(("deny", "deny", "permit"))
+                router.lists.append(f"ip prefix-list {name} seq {5 * number} {answer} {prefix}{bounds}")
             if self.chance(0.85):
                 router.lists.append(f"ip prefix-list {name} seq 50 permit 0.0.0.0/0 le 32")
 
@@ -225,6 +228,7 @@ class Drawing:
         return found
 
     def document(self) -> dict[str, object]:
+        """The document, with waypoints at some links."""
         links = []
         for number, ends in enumerate(self.links, 1):
             faces = [next(face for face in self.routers[place].faces if face.link == number) for place in ends]
@@ -238,7 +242,8 @@ def text_of(router: Draft) -> str:
     """The file of a router."""
     lines = [f"hostname {router.name}", "!"]
     for face in router.faces:
-        lines += [f"interface {face.name}", f" ip address {face.address} {face.prefix.netmask}", *(f" {line}" for line in face.lines), "!"]
+        lines += [f"interface {face.name}", f" ip address {face.address} {face.prefix.netmask}"]
+        lines += [*(f" {line}" for line in face.lines), "!"]
     return "\n".join([*lines, *router.lists, *router.process, "!", "end", ""])
 
 

@@ -4,7 +4,7 @@ Where FRR is known to act otherwise than IOS, the translation takes IOS's side; 
 from ipaddress import IPv4Network
 from typing import Iterator
 
-from lab.network import End, Network, cost_of, host_network, is_enabled, is_passive, is_point, list_at, router_id
+from lab.network import End, Network, cost_of, host_network, is_passive, is_point, list_at, router_id
 from lab.settings import ALL_SERVICES, Interface, PacketEntry, RouteEntry, Router
 
 HELLO, DEAD = 1, 3
@@ -74,7 +74,7 @@ def route_line(name: str, sequence: int, entry: RouteEntry) -> str:
     """An entry of a prefix list. FRR has no `ge` equal to the length, which says nothing."""
     length = entry.prefix.prefixlen
     bounds = f" ge {entry.low}" if entry.low > length else ""
-    bounds += f" le {entry.high}" if entry.high > max(entry.low, length) else f" le {entry.high}" if entry.low > length else ""
+    bounds += f" le {entry.high}" if entry.high > length else ""
     return f"ip prefix-list {name} seq {sequence} {'permit' if entry.permit else 'deny'} {entry.prefix}{bounds}"
 
 
@@ -87,14 +87,15 @@ def bgp_words(network: Network, place: int) -> list[str]:
         for number, entry in enumerate(entries, 1)
     ]
     words += [
-        f"router bgp {router.number}", " no bgp ebgp-requires-policy", " bgp network import-check", " bgp bestpath as-path multipath-relax",
-        " timers bgp 20 60",
+        f"router bgp {router.number}", " no bgp ebgp-requires-policy", " bgp network import-check",
+        " bgp bestpath as-path multipath-relax", " timers bgp 20 60",
     ]
     identity = router_id(router)
     if identity is not None:
         words.append(f" bgp router-id {identity}")
     for address, neighbour in router.neighbours.items():
-        words += [f" neighbor {address} {line}" for line in (f"remote-as {neighbour.remote_as}", "timers connect 1", "advertisement-interval 0")]
+        lines = (f"remote-as {neighbour.remote_as}", "timers connect 1", "advertisement-interval 0")
+        words += [f" neighbor {address} {line}" for line in lines]
         if neighbour.is_shut:
             words.append(f" neighbor {address} shutdown")
     words += [" address-family ipv4 unicast", f"  maximum-paths {min(router.maximum_paths or 1, MOST_PATHS)}"]

@@ -3,7 +3,7 @@ import json
 import os
 from dataclasses import dataclass, field
 from ipaddress import IPv4Address, IPv4Network
-from typing import Optional
+from typing import Any, Optional
 
 from lab.settings import ALL_SERVICES, PROTOCOLS, Interface, PacketEntry, Router, read_router
 
@@ -117,14 +117,18 @@ def list_at(router: Router, face: Interface, side: str) -> list[PacketEntry]:
     return router.packet_lists.get(face.lists.get(side, ""), [])
 
 
-def services_asked(policy: dict[str, object]) -> tuple[int, int]:
+def services_asked(policy: dict[str, Any]) -> tuple[int, int]:
     """The services of a policy of the document."""
     if "proto" not in policy:
         return ALL_SERVICES
     proto = policy["proto"]
-    number = PROTOCOLS[proto] if isinstance(proto, str) else int(str(proto))
-    low = int(str(policy.get("port", 0)))
-    return number << 16 | low, number << 16 | int(str(policy.get("port", 0xFFFF)))
+    number = PROTOCOLS[proto] if isinstance(proto, str) else proto
+    return number << 16 | policy.get("port", 0), number << 16 | policy.get("port", 0xFFFF)
+
+
+def policy_of(number: int, policy: dict[str, Any]) -> Policy:
+    source, target = (IPv4Network(policy[end]) for end in ("from", "to"))
+    return Policy(number, policy["kind"], source, target, policy.get("failures", 0), services_asked(policy))
 
 
 def read_network(path: str) -> Network:
@@ -142,11 +146,7 @@ def read_network(path: str) -> Network:
         parts = [link[side].partition(":") for side in ("a", "b")]
         one, other = (End(places[name], face) for name, _, face in parts)
         links.append(Link(number, (one, other), bool(link.get("waypoint"))))
-    policies = [
-        Policy(number, item["kind"], IPv4Network(item["from"]), IPv4Network(item["to"]), item.get("failures", 0), services_asked(item))
-        for number, item in enumerate(document["policies"], 1)
-    ]
-    network = Network(routers, links, policies)
+    network = Network(routers, links, [policy_of(number, item) for number, item in enumerate(document["policies"], 1)])
     network.link_at = {end: link for link in links for end in link.ends}
     for place, router in enumerate(routers):
         for face in router.interfaces.values():

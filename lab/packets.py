@@ -1,7 +1,7 @@
 """Which packets of a class are sent: a few, at the bounds of what the network's lists and policies tell apart."""
 from ipaddress import IPv4Address, IPv4Network
 from random import Random
-from typing import Iterator
+from typing import Iterable, Iterator
 
 from lab.network import Network
 from lab.probes import Packet
@@ -13,10 +13,12 @@ UNSENT = (0, 255)
 TRIES = 20
 
 
-def marks_of(network: Network) -> tuple[list[IPv4Network], list[int]]:
-    """The prefixes and the services at the bounds of what lists and policies speak of."""
+def marks_of(network: Network, traffics: Iterable[Traffic]) -> tuple[list[IPv4Network], list[int]]:
+    """The prefixes and the services at the bounds of what lists, policies and these classes speak of."""
     prefixes: set[IPv4Network] = set()
     services: set[int] = set(USUAL)
+    for traffic in traffics:
+        services |= set(at_bounds(*traffic.services))
     for router in network.routers:
         for entry in (entry for entries in router.packet_lists.values() for entry in entries):
             prefixes |= {entry.source, entry.target}
@@ -37,9 +39,9 @@ def at_bounds(low: int, high: int) -> Iterator[int]:
 class Chooser:
     """Draws packets of classes in a network."""
 
-    def __init__(self, network: Network, draw: Random) -> None:
+    def __init__(self, network: Network, traffics: Iterable[Traffic], draw: Random) -> None:
         self.network, self.draw = network, draw
-        self.prefixes, self.services = marks_of(network)
+        self.prefixes, self.services = marks_of(network, traffics)
 
     def protocols(self) -> set[int]:
         return {service >> 16 for service in self.services}
@@ -62,16 +64,12 @@ class Chooser:
                 return address
         return prefix[0]
 
-    def service(self, low: int, high: int) -> int:
-        """A service of a range that can be sent."""
-        inner = [service for service in self.services if low <= service <= high]
-        first = low if low >> 16 not in UNSENT else 1 << 16
-        return self.draw.choice(inner or [first])
-
     def packets(self, traffic: Traffic, count: int) -> list[Packet]:
-        """Some packets of a class, each once."""
+        """Some packets of a class, each once; none of one whose protocols cannot be sent."""
+        low, high = traffic.services
+        services = [service for service in self.services if low <= service <= high]
         drawn = {
-            Packet(self.address(traffic.source), self.address(traffic.target), self.service(*traffic.services))
-            for _ in range(count)
+            Packet(self.address(traffic.source), self.address(traffic.target), self.draw.choice(services))
+            for _ in range(count if services else 0)
         }
         return sorted(drawn, key=str)

@@ -39,6 +39,7 @@ def is_kept_down(network: Network, end: End, far: End) -> bool:
 
 
 def plant_cost(network: Network, rows: dict[str, Row]) -> Optional[str]:
+    """Adds one to the cost of an interface that is used."""
     end = used_end(network, rows) if network.protocol == "ospf" else None
     if end is None:
         return None
@@ -48,6 +49,7 @@ def plant_cost(network: Network, rows: dict[str, Row]) -> Optional[str]:
 
 
 def plant_list(network: Network) -> Optional[str]:
+    """Binds a list at the other side of its interface."""
     for end in network.hosts.values():
         router, face = network.routers[end.router], network.face(end)
         for side, other in (("in", "out"), ("out", "in")):
@@ -58,6 +60,7 @@ def plant_list(network: Network) -> Optional[str]:
 
 
 def plant_session(network: Network) -> Optional[str]:
+    """Brings an adjacency or session up that the files keep down."""
     end = kept_down(network)
     if end is None:
         return None
@@ -72,7 +75,7 @@ def plant(kind: str, run: Run) -> str:
     """Puts a fault into the site of a run that is not up yet, and tells which."""
     site, told = run.site, None
     site.network = deepcopy(site.network)
-    failed = next((sorted(links) for links in run.sets if links), [])
+    failed = sorted(next((links for links in run.sets if links), frozenset()))
     if kind == "cost":
         told = plant_cost(site.network, next(iter(run.rows(frozenset()).values()), {}))
     elif kind == "list":

@@ -43,7 +43,7 @@ class Sighting:
 
 def checksum(data: bytes) -> int:
     """The checksum of RFC 1071."""
-    total = sum(struct.unpack(f"!{len(data) // 2}H", data))
+    total: int = sum(struct.unpack(f"!{len(data) // 2}H", data))
     total = (total & 0xFFFF) + (total >> 16)
     return ~((total & 0xFFFF) + (total >> 16)) & 0xFFFF
 
@@ -80,7 +80,7 @@ def number_of(data: bytes) -> Optional[int]:
     if len(data) < 36 or data[0] != 0x45:
         return None
     load = data[20 + HEADERS.get(data[9], 0):]
-    return int(struct.unpack_from("!Q", load, 8)[0]) if load.startswith(MAGIC) and len(load) >= 16 else None
+    return int.from_bytes(load[8:16], "big") if load.startswith(MAGIC) else None
 
 
 def keep_marked(line: socket.socket) -> None:

@@ -70,7 +70,9 @@ class Program:
 
     def run(self, *words: str) -> tuple[int, str]:
         """The status and the text of a run that is not refused."""
-        done = subprocess.run([self.path, *words], cwd=self.folder, stdin=subprocess.DEVNULL, capture_output=True, text=True, timeout=SECONDS)
+        done = subprocess.run(
+            [self.path, *words], cwd=self.folder, stdin=subprocess.DEVNULL, capture_output=True, text=True, timeout=SECONDS
+        )
         if done.returncode > 3:
             raise Refused(f"arcv {' '.join(words)} ends with {done.returncode}: {done.stdout}{done.stderr}".strip())
         return done.returncode, done.stdout

@@ -1,5 +1,4 @@
-"""A router id that another router may take by itself: arcv's language has it, and under OSPF there are no routes between the two."""
-import os
+"""A router id that another router may take by itself: it is no refusal, and under OSPF there are no routes between the two."""
 from ipaddress import IPv4Address
 from typing import Iterator
 
@@ -17,8 +16,12 @@ def clashes(routers: list[Router]) -> Iterator[tuple[Router, Router, IPv4Address
 
 
 def warnings(document: str) -> list[str]:
-    """A line for each such pair of a document whose files arcv does not refuse."""
+    """A line for each such pair of a document; none where the files cannot be read, which are none that arcv takes."""
+    try:
+        routers = read_network(document).routers
+    except (OSError, LookupError, ValueError, TypeError, AttributeError):
+        return []
     return [
-        f"{router.name} sets the router id {identity}, an address of {other.name}, which sets none and may take it: set one at {other.name}"
-        for router, other, identity in clashes(read_network(os.path.abspath(document)).routers)
+        f"{router.name} sets the router id {identity}, an address of {other.name}, which sets none and may take it: set one there"
+        for router, other, identity in clashes(routers)
     ]

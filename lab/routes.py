@@ -56,19 +56,22 @@ def settle(site: Site, rows: Rows) -> Hops:
             return hops_now(site, list(rows))
 
 
-def ospf_costs(site: Site, place: int) -> dict[IPv4Network, int]:
-    """The costs of the routes that are in use."""
-    lines = re.findall(r"^O\S*>\S* (\S+) \[[0-9]+/([0-9]+)\]", site.ask(place, "zebra", "show ip route ospf"), re.M)
+def costs_now(site: Site) -> list[dict[IPv4Network, int]]:
+    """For each router the costs of the routes that are in use, or the lengths of the AS paths of the best ones."""
+    if site.network.protocol == "ospf":
+        return [ospf_costs(text) for text in site.ask("zebra", "show ip route ospf")]
+    return [path_lengths(text) for text in site.ask("bgpd", "show bgp ipv4 unicast json")]
+
+
+def ospf_costs(text: str) -> dict[IPv4Network, int]:
+    lines = re.findall(r"^O\S*>\S* (\S+) \[[0-9]+/([0-9]+)\]", text, re.M)
     return {IPv4Network(prefix): int(cost) for prefix, cost in lines}
 
 
-def bgp_costs(site: Site, place: int) -> dict[IPv4Network, int]:
-    """The lengths of the AS paths of the best routes."""
-    answer = json.loads(site.ask(place, "bgpd", "show bgp ipv4 unicast json"))
-    return {
-        IPv4Network(prefix): len(route["path"].split())
-        for prefix, routes in answer.get("routes", {}).items() for route in routes if route.get("bestpath")
-    }
+def path_lengths(text: str) -> dict[IPv4Network, int]:
+    tables = json.loads(text).get("routes", {})
+    best = {prefix: route for prefix, routes in tables.items() for route in routes if route.get("bestpath")}
+    return {IPv4Network(prefix): len(route["path"].split()) for prefix, route in best.items()}
 
 
 def words_of(cost: Optional[int], links: frozenset[int]) -> str:
@@ -79,8 +82,7 @@ def compare(site: Site, rows: Rows, hops: Hops) -> list[str]:
     """A line for each row whose next hops or cost are others: the router and the host network."""
     network, texts = site.network, []
     wrong = set(wrong_hops(site, rows, hops))
-    for place, router in enumerate(network.routers):
-        costs = ospf_costs(site, place) if network.protocol == "ospf" else bgp_costs(site, place)
+    for (place, router), costs in zip(enumerate(network.routers), costs_now(site)):
         for host, table in rows.items():
             end, row = network.hosts[host], table[router.name]
             if end.router == place:
@@ -91,3 +93,15 @@ def compare(site: Site, rows: Rows, hops: Hops) -> list[str]:
                 text = f"arcv says {words_of(row.cost, row.links)}, FRR {words_of(found, hops[place, host])}"
                 texts.append(f"row {router.name} {host}: {text}")
     return texts
+
+
+def compared(site: Site, rows: Rows) -> tuple[Hops, list[str]]:
+    """The routes once they stand still, and what differs then. A daemon may tell costs later than the kernel routes, so that what
+    differs has to do so for long."""
+    begun = time.monotonic()
+    while True:
+        hops = settle(site, rows)
+        texts = compare(site, rows, hops)
+        if not texts or time.monotonic() - begun >= FIRM:
+            return hops, texts
+        time.sleep(1)

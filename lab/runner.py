@@ -13,7 +13,7 @@ from lab.network import Network, read_network
 from lab.packets import Chooser
 from lab.probes import Packet, Probes
 from lab.program import Program, Traffic
-from lab.routes import Rows, compare, hops_now, settle
+from lab.routes import Rows, compared, hops_now, settle
 from lab.site import BESIDE, Site
 from lab.spaces import Spaces
 from lab.walks import Walk, Ways
@@ -27,7 +27,6 @@ class Options:
     sets: int = 20
     down: Optional[Failures] = None
     seed: int = 1
-    node_failures: int = 1
 
 
 @dataclass
@@ -36,11 +35,6 @@ class Tally:
     counts: Counter[str] = field(default_factory=Counter)
     claims: Counter[str] = field(default_factory=Counter)
     differences: list[str] = field(default_factory=list)
-
-    def add(self, other: "Tally") -> None:
-        self.counts += other.counts
-        self.claims += other.claims
-        self.differences += other.differences
 
 
 def draw_sets(network: Network, found: Claims, options: Options, draw: Random) -> dict[Failures, str]:
@@ -59,7 +53,8 @@ def draw_sets(network: Network, found: Claims, options: Options, draw: Random) -
 
 def in_order(sets: dict[Failures, str]) -> dict[Failures, str]:
     """The failure sets in an order in which few links come up again from one to the next, since that is what takes time."""
-    left, ordered, last = dict(sets), {}, frozenset()
+    left, last = dict(sets), Failures()
+    ordered: dict[Failures, str] = {}
     while left:
         following = min(left, key=lambda failed: (len(last - failed), len(failed - last), sorted(failed)))
         ordered[following], last = left.pop(following), following
@@ -77,8 +72,8 @@ class Run:
         report, self.verdicts = program.verify(document)
         with open(os.path.join(program.folder, "lab-report"), "w") as file:
             file.write(report)
-        self.claims = claimed.gather(program, document, "lab-report", self.network, self.verdicts, self.draw, options.node_failures)
-        self.chooser = Chooser(self.network, self.draw)
+        self.claims = claimed.gather(program, document, "lab-report", self.network, self.verdicts, self.draw)
+        self.chooser = Chooser(self.network, self.claims.traffics, self.draw)
         self.sets = draw_sets(self.network, self.claims, options, self.draw)
         self.site = Site(spaces, self.network)
 
@@ -116,7 +111,7 @@ class Run:
     def try_set(self, failed: Failures, origin: str, rows: Rows, probes: Probes) -> None:
         """Compares routes and packets under one failure set, `rows` being what arcv says of it."""
         self.site.fail(failed)
-        hops = settle(self.site, rows)
+        hops, texts = compared(self.site, rows)
         counts = self.tally.counts
         counts["sets"] += 1
         counts["rows"] += len(hops)
@@ -124,10 +119,6 @@ class Run:
             row = rows[host][self.network.routers[place].name]
             counts["rows with several next hops"] += len(row.links) > 1
             counts["rows without a route"] += row.cost is None
-        texts = compare(self.site, rows, hops)
-        if texts:
-            hops = settle(self.site, rows)
-            texts = compare(self.site, rows, hops)
         for text in texts:
             self.differs(failed, origin, text)
         self.try_packets(failed, origin, rows, probes)

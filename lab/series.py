@@ -18,9 +18,10 @@ KINDS = {"ospf": Kind("ospf"), "bgp": Kind("bgp"), "bgp-one": Kind("bgp", False)
 MIX = ("ospf", "bgp", "ospf", "bgp-one", "ospf", "bgp", "ospf", "bgp-one", "ospf", "bgp", "ospf")
 DRAFTS = 60
 ROWS = (
-    "networks", "routers", "links", "sets", "rows", "rows with several next hops", "rows without a route", "probes", "probes delivered",
-    "probes with a claim", "claims let go for an own address", "probes sent again", "differences",
+    "networks", "routers", "links", "sets", "rows", "rows with several next hops", "rows without a route", "probes",
+    "probes delivered", "probes with a claim", "claims let go for an own address", "probes sent again", "differences",
 )
+ANSWERS = [f"{kind} {answer}" for kind in ("reach", "blocked", "through") for answer in ("yes", "no", "refused")]
 
 
 @dataclass
@@ -118,4 +119,5 @@ def table(paths: list[str]) -> str:
         numbers = [sums[kind][row] for kind in kinds]
         text.append(f"| {row} | {' | '.join(f'{number:,}' for number in [*numbers, sum(numbers)])} |")
     text += ["", "| claim | probes |", "|---|---|", *(f"| {claim} | {count:,} |" for claim, count in sorted(claims.items()))]
-    return "\n".join(text)
+    answers = {word: sum(counts[word] for counts in sums.values()) for word in ANSWERS}
+    return "\n".join([*text, "", ", ".join(f"{word} {count:,}" for word, count in answers.items() if count)])

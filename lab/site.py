@@ -8,6 +8,7 @@ import socket
 import subprocess
 import time
 from concurrent.futures import ThreadPoolExecutor
+from contextlib import ExitStack
 from ipaddress import IPv4Interface
 from typing import Iterable
 
@@ -26,11 +27,12 @@ SWITCHES = {
     "net/ipv4/conf/default/accept_local": 1, "net/ipv4/conf/all/send_redirects": 0, "net/ipv4/conf/default/send_redirects": 0,
     "net/ipv4/fib_multipath_hash_policy": 1, "net/ipv4/icmp_ratelimit": 0, "net/ipv4/icmp_echo_ignore_all": 1,
 }
-START_SECONDS, BESIDE = 60, 4
+START_SECONDS, BESIDE = 60, 8
 
 
 class Site:
-    """A network that runs. `failed` is the set of links that are down now; those in `unfailing`, where a plant put them, never are."""
+    """A network that runs. `failed` is the set of links that are down now; those in `unfailing`, where a plant put them, never
+    are."""
 
     def __init__(self, spaces: Spaces, network: Network) -> None:
         self.spaces, self.network = spaces, network
@@ -127,8 +129,10 @@ class Site:
             file.write("\n".join([*words, ""]))
         for name in (folder, os.path.join(folder, f"{daemon}.conf")):
             shutil.chown(name, "frr", "frr")
-        command = [os.path.join(DAEMONS, daemon), "-f", f"{folder}/{daemon}.conf", "-i", f"{folder}/{daemon}.pid", "-z", f"{folder}/zserv",
-                   "--vty_socket", folder, "-A", "127.0.0.1", "-P", "0"]
+        command = [
+            os.path.join(DAEMONS, daemon), "-f", f"{folder}/{daemon}.conf", "-i", f"{folder}/{daemon}.pid", "-z", f"{folder}/zserv",
+            "--vty_socket", folder, "-A", "127.0.0.1", "-P", "0",
+        ]
         self.spaces.start(self.parts[place], command)
 
     def await_socket(self, place: int, name: str) -> None:
@@ -153,19 +157,27 @@ class Site:
             if frr.is_alive(self.network.face(end)):
                 self.kernels[end.router].turn(self.device(end), is_up)
 
-    def ask(self, place: int, daemon: str, command: str) -> str:
-        """What a daemon answers to a command."""
-        with socket.socket(socket.AF_UNIX) as line:
-            line.settimeout(START_SECONDS)
-            line.connect(os.path.join(self.folder(place), f"{daemon}.vty"))
-            line.sendall(command.encode() + b"\0")
-            answer = b""
-            while answer[-4:-1] != b"\0\0\0":
-                piece = line.recv(1 << 16)
-                if not piece:
-                    raise OSError(f"{daemon} broke off at `{command}`")
-                answer += piece
-        return answer[:-4].decode()
+    def ask(self, daemon: str, command: str) -> list[str]:
+        """What this daemon of each router answers to a command; all are asked before the first is heard."""
+        with ExitStack() as stack:
+            lines = [stack.enter_context(socket.socket(socket.AF_UNIX)) for _ in self.parts]
+            for place, line in enumerate(lines):
+                line.settimeout(START_SECONDS)
+                line.connect(os.path.join(self.folder(place), f"{daemon}.vty"))
+                line.sendall(command.encode() + b"\0")
+            answers = [heard(line) for line in lines]
+        return answers
+
+
+def heard(line: socket.socket) -> str:
+    """One answer of a daemon, which three zeros and a status end."""
+    answer = b""
+    while answer[-4:-1] != b"\0\0\0":
+        piece = line.recv(1 << 16)
+        if not piece:
+            raise OSError("a daemon of FRR broke off")
+        answer += piece
+    return answer[:-4].decode()
 
 
 def wire(one: tuple[str, str], other: tuple[str, str]) -> str:

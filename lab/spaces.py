@@ -1,8 +1,8 @@
 """Network namespaces of a run, the processes in them, and their end, whatever ends the run.
 
-A run's namespaces, and its folder, have the number of its process in their names, so that two runs share none. A run takes its
-own down at its end and when it is stopped; a guard, a process beside it, does so where the run dies without a word; and `sweep` does
-for whatever is left of runs that are gone."""
+A run's namespaces, and its folder, have the number of its process in their names, so that two runs share none. A run takes its own
+down at its end and when it is stopped; a guard, a process beside it, does so where the run is killed; and `sweep` does so for
+whatever is left of runs that are gone."""
 import atexit
 import os
 import re

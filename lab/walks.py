@@ -21,7 +21,8 @@ class Walk:
 def permits(entries: list[PacketEntry], packet: Packet) -> bool:
     """What an ACL says of a packet; one without entries permits everything."""
     for entry in entries:
-        if packet.source in entry.source and packet.target in entry.target and entry.services[0] <= packet.service <= entry.services[1]:
+        (low, high), is_inside = entry.services, packet.source in entry.source and packet.target in entry.target
+        if is_inside and low <= packet.service <= high:
             return entry.permit
     return not entries
 
@@ -58,7 +59,8 @@ class Ways:
 
     def follow(self, sighting: Sighting) -> tuple[list[Link], str]:
         """The links that the packet crossed, in order, and what is wrong with what was seen."""
-        left, place, crossed = sighting.arrivals.copy(), self.source.router, []
+        left, place = sighting.arrivals.copy(), self.source.router
+        crossed: list[Link] = []
         if not left[self.source]:
             return [], f"it never came in at {self.named(self.source)}"
         left[self.source] -= 1
@@ -117,8 +119,8 @@ class Ways:
         """What is wrong with where the packet ended: at a router where it came in at this interface."""
         is_in = self.is_permitted(came, "in", packet)
         if not arrived:
-            is_free = is_in and not self.may_stop(came.router, packet)
-            return f"it was lost at {self.network.routers[came.router].name}, where nothing denies it and a route is left" if is_free else ""
+            name, is_free = self.network.routers[came.router].name, is_in and not self.may_stop(came.router, packet)
+            return f"it was lost at {name}, where nothing denies it and a route is left" if is_free else ""
         if came.router != self.target.router:
             return "it arrived without having come to its router"
         if not is_in:

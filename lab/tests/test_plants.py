@@ -22,12 +22,12 @@ def spaces() -> Spaces:
 
 @unittest.skipIf(desk.missing() is not None or not ARCV, "the lab cannot run here, or ARCV names no program")
 class Plants(unittest.TestCase):
-    def found(self, kind: Optional[str], example: str, down: set[int], line: Optional[tuple[str, str]] = None) -> list[str]:
-        """The differences of an example under one failure set, with a line put behind another in a file of it."""
+    def found(self, kind: Optional[str], example: str, down: set[int], line: Optional[tuple[str, str, str]] = None) -> list[str]:
+        """The differences of an example under one failure set, with a line put into a file behind another."""
         program = Program(os.path.abspath(ARCV or ""), os.path.join(spaces().folder, self.id()))
         document = desk.lay(os.path.join(desk.TOP, "examples", example, "net.json"), program.folder)
         if line:
-            self.put(os.path.join(program.folder, "1.cfg"), *line)
+            self.put(os.path.join(program.folder, line[0]), *line[1:])
         self.addCleanup(setattr, routes, "FIRM", routes.FIRM)
         run = Run(program, document, Options(0, frozenset(down)), lambda _: None, spaces())
         if kind:
@@ -55,11 +55,11 @@ class Plants(unittest.TestCase):
         self.named(self.found("list", "services", set()), "the list inbound at branch:GigabitEthernet0/2 denies it, and it went on")
 
     def test_an_adjacency_left_up(self) -> None:
-        passive = (" passive-interface GigabitEthernet0/0", " passive-interface GigabitEthernet0/1")
+        passive = ("1-west.cfg", " passive-interface GigabitEthernet0/0", " passive-interface GigabitEthernet0/1")
         self.named(self.found("session", "square", {3}, passive), "row west 10.4.0.0/24: arcv says none, FRR 20 via 1")
 
     def test_a_session_left_up(self) -> None:
-        shut = (" neighbor 10.0.1.2 description lyon", " neighbor 10.0.1.2 shutdown")
+        shut = ("1-paris.cfg", " neighbor 10.0.1.2 description lyon", " neighbor 10.0.1.2 shutdown")
         self.named(self.found("session", "triangle", {2}, shut), "row paris 10.2.0.0/24: arcv says none, FRR 1 via 1")
 
     def test_a_failure_that_is_not_applied(self) -> None:

@@ -3,6 +3,7 @@ import unittest
 from ipaddress import IPv4Address, IPv4Network
 
 from lab.network import cost_of, host_network, is_enabled, is_passive, is_point, list_at, router_id
+from lab.router_ids import clashes
 from lab.settings import ALL_SERVICES, ANY, PacketEntry, RouteEntry, read_router
 
 OSPF = """hostname one
@@ -97,6 +98,13 @@ class Reading(unittest.TestCase):
         self.assertTrue(is_enabled(self.one, faces["Serial0/0"]) and not is_enabled(self.one, faces["Loopback0"]))
         self.assertEqual(host_network(self.one, faces["Loopback0"]), IPv4Network("10.9.0.1/32"))
         self.assertEqual(router_id(self.one), IPv4Address("10.9.0.1"))
+
+    def test_a_router_id_that_another_router_may_take(self) -> None:
+        lines = {"router ospf 7": "router ospf 7\n router-id 10.2.0.1", "hostname one": "hostname taker"}
+        taken = read_router("\n".join(lines.get(line, line) for line in OSPF.split("\n")))
+        found = [(router.name, other.name, str(identity)) for router, other, identity in clashes([self.one, taken])]
+        self.assertEqual(found, [("taker", "one", "10.2.0.1")])
+        self.assertEqual(list(clashes([self.one, self.two])), [])
 
 
 if __name__ == "__main__":

@@ -36,9 +36,9 @@ class Words(unittest.TestCase):
 
     def test_lengths_that_frr_does_not_take(self) -> None:
         prefix = IPv4Network("10.0.0.0/16")
-        self.assertEqual(route_line("P", 5, RouteEntry(True, prefix, 16, 16)), "ip prefix-list P seq 5 permit 10.0.0.0/16")
-        self.assertEqual(route_line("P", 5, RouteEntry(True, prefix, 16, 24)), "ip prefix-list P seq 5 permit 10.0.0.0/16 le 24")
-        self.assertEqual(route_line("P", 5, RouteEntry(True, prefix, 24, 24)), "ip prefix-list P seq 5 permit 10.0.0.0/16 ge 24 le 24")
+        for low, high, bounds in ((16, 16, ""), (16, 24, " le 24"), (24, 24, " ge 24 le 24")):
+            line = route_line("P", 5, RouteEntry(True, prefix, low, high))
+            self.assertEqual(line, f"ip prefix-list P seq 5 permit 10.0.0.0/16{bounds}")
 
     def test_packet_lists(self) -> None:
         network = alone(OSPF)

@@ -34,10 +34,15 @@ def tool(name: str, *words: str, folder: str = TOP, given: str = "") -> subproce
     )
 
 
+def cases() -> list[str]:
+    """The recorded cases, by their paths in conformance/."""
+    return sorted(os.path.relpath(at, CASES) for at, _, files in os.walk(CASES) if "cmd" in files)
+
+
 def pairs() -> list[tuple[str, str, str]]:
     """Router files before and after edits that are recorded: the case, both texts."""
     found = []
-    for case in sorted(os.listdir(CASES)):
+    for case in cases():
         after = os.path.join(CASES, case, "after")
         store = os.path.join(CASES, case, "store")
         of = os.path.join(CASES, case, "store-of")

@@ -167,10 +167,10 @@ class Quiet(WithFolder):
         self.assertEqual(again.returncode, 2)
 
     def test_campus(self) -> None:
-        self.back("campus", "repair-campus")
+        self.back("campus", "repair/campus")
 
     def test_edge(self) -> None:
-        self.back("edge", "repair-edge-that-arrives")
+        self.back("edge", "repair/edge-that-arrives")
 
 
 if __name__ == "__main__":

@@ -246,7 +246,7 @@ def meaning_of(before: str, name: str) -> str:
 
 class Command(WithFolder):
     def test_files_of_a_window(self) -> None:
-        before, after = next((before, after) for case, before, after in pairs() if case == "repair-services")
+        before, after = next((before, after) for case, before, after in pairs() if case == "repair/services")
         self.lay("services")
         self.write("branch.cfg", before)
         self.write("branch.cfg.new", after)

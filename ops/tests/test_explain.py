@@ -136,7 +136,7 @@ class Rejections(WithFolder):
         self.assertIn("is answered yes in line 2.\n    path 1\n    path 2\n", done.stdout)
 
     def test_step_of_a_log(self) -> None:
-        case = os.path.join(CASES, "check-repair-accepted", "store")
+        case = os.path.join(CASES, "check/repair-accepted", "store")
         text = read(os.path.join(case, "cert"))
         line = text.split("\n").index("log") + 2
         done = tool("explain", "net.json", "cert", "--rejected", str(line), "hint-not-unit", folder=case)

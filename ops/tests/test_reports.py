@@ -5,13 +5,13 @@ import unittest
 from ops.documents import document_text, parse_document, span_words
 from ops.commands import Wrong
 from ops.reports import parse_edit, read_edits, read_report, read_text
-from ops.tests.given import CASES, EXAMPLES, read
+from ops.tests.given import CASES, EXAMPLES, cases, read
 
 
 class Texts(unittest.TestCase):
     def test_every_recorded_answer_is_read(self) -> None:
         read_forms = set()
-        for case in sorted(os.listdir(CASES)):
+        for case in cases():
             path = os.path.join(CASES, case, "stdout")
             if os.path.exists(path) and read(path) and not read(path).startswith(("usage", "s ", "generated", "wrote")):
                 with self.subTest(case):
@@ -21,7 +21,7 @@ class Texts(unittest.TestCase):
 
     def test_every_certificate_of_a_repair_is_read(self) -> None:
         seen = 0
-        for case in sorted(os.listdir(CASES)):
+        for case in cases():
             path = os.path.join(CASES, case, "after", "cert")
             if os.path.exists(path):
                 text = read_text(read(path))
