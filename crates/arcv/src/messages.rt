@@ -34,14 +34,19 @@ fn explain_commands(rt: &HostRuntime) -> io::Result<()> {
 
 /// The first word names no command: the one that may be meant.
 fn explain_name(rt: &HostRuntime, word: &[u8]) -> io::Result<()> {
-    let unknown = b"arcv: no command is named ".as_slice();
-    match near_form(word) {
-        Some(form) => say(
-            rt,
-            &[unknown, word, b"; is it ", form.name.as_bytes(), b"?"],
-        ),
-        None => say(rt, &[unknown, word]),
-    }
+    let Some(form) = near_form(word) else {
+        return say(rt, &[b"arcv: no command is named ", word]);
+    };
+    let name = form.name;
+    let near = format!(in rt.alloc(); "; is it {name}?")?;
+    say(
+        rt,
+        &[
+            b"arcv: no command is named ",
+            front_of(word),
+            near.as_bytes(),
+        ],
+    )
 }
 
 /// The words match no command: what is wrong with them, and the form of the command that the first
