@@ -14,7 +14,7 @@ use Rattle.edit_list.specs.declared.edit_kinds.Edit.{Edit}
 use Rattle.edit_list.specs.declared.edit_kinds.Edit.TheVariants as edits
 use Rattle.edit_list.specs.declared.sites.Site.{Site}
 use Rattle.edit_list.specs.declared.sites.Site.TheVariants.{Bound, New}
-use Rattle.edit_list.specs.Changes.{route_list_change, new_route_change, packet_list_change, new_packet_change, list_prefixes, new_prefixes, list_classes, new_classes}
+use Rattle.edit_list.specs.Changes.{packet_list_change, new_packet_change, list_classes, new_classes}
 use Rattle.edit_list.specs.EditLists.{has_session, edits_at, link_edits, route_edit, packet_edit, all_edits, writable_classes, AreEdits}
 use Rattle.edit_laws.specs.Laws.{PacketEditsAreWritable, ChosenClassesAreWritable}
 use Rattle.edit_list.specs.Numbered.{if_number, of_number}
@@ -81,20 +81,6 @@ new_class (edits.RouteNew face prefix) n c h = absurd (none-some (n, c) h)
 new_class (edits.PacketList list class) n c h = absurd (none-some (n, c) h)
 new_class (edits.PacketNew face class) n c h = ap (λ (p : ℕ × Class). Some p.1) (same_Some (face.0, class) (n, c) h)
 
-listed_prefix : (e : Edit) (n : ℕ) (p : Prefix) → route_list_change e ≡ Some (n, p) → prefix_put e ≡ Some p
-listed_prefix (edits.Session face) n p h = absurd (none-some (n, p) h)
-listed_prefix (edits.RouteList list prefix) n p h = ap (λ (q : ℕ × Prefix). Some q.1) (same_Some (list.0, prefix) (n, p) h)
-listed_prefix (edits.RouteNew face prefix) n p h = absurd (none-some (n, p) h)
-listed_prefix (edits.PacketList list class) n p h = absurd (none-some (n, p) h)
-listed_prefix (edits.PacketNew face class) n p h = absurd (none-some (n, p) h)
-
-new_prefix : (e : Edit) (n : ℕ) (p : Prefix) → new_route_change e ≡ Some (n, p) → prefix_put e ≡ Some p
-new_prefix (edits.Session face) n p h = absurd (none-some (n, p) h)
-new_prefix (edits.RouteList list prefix) n p h = absurd (none-some (n, p) h)
-new_prefix (edits.RouteNew face prefix) n p h = ap (λ (q : ℕ × Prefix). Some q.1) (same_Some (face.0, prefix) (n, p) h)
-new_prefix (edits.PacketList list class) n p h = absurd (none-some (n, p) h)
-new_prefix (edits.PacketNew face class) n p h = absurd (none-some (n, p) h)
-
 module _ (chosen : List Edit) (place : ℕ) where
   pub class_of_list : (c : Class) → Contains (list_classes chosen place) c → (e : Edit) × Contains chosen e × (class_put e ≡ Some c)
   class_of_list c there =
@@ -107,18 +93,6 @@ module _ (chosen : List Edit) (place : ℕ) where
       let n = numbered_there place (filter_map new_packet_change chosen) c there in
       let from = picked_from new_packet_change chosen (n.0, c) n.1 in
       (from.0, from.1, new_class from.0 n.0 c from.2)
-
-  pub prefix_of_list : (p : Prefix) → Contains (list_prefixes chosen place) p → (e : Edit) × Contains chosen e × (prefix_put e ≡ Some p)
-  prefix_of_list p there =
-      let n = numbered_there place (filter_map route_list_change chosen) p there in
-      let from = picked_from route_list_change chosen (n.0, p) n.1 in
-      (from.0, from.1, listed_prefix from.0 n.0 p from.2)
-
-  pub prefix_of_new : (p : Prefix) → Contains (new_prefixes chosen place) p → (e : Edit) × Contains chosen e × (prefix_put e ≡ Some p)
-  prefix_of_new p there =
-      let n = numbered_there place (filter_map new_route_change chosen) p there in
-      let from = picked_from new_route_change chosen (n.0, p) n.1 in
-      (from.0, from.1, new_prefix from.0 n.0 p from.2)
 
 -- what an edit of the list puts into lists: an entry for a class that one entry can speak for, or for a destination
 module _ (net : Network) (destinations : List Prefix) (classes : List Class) where
@@ -179,9 +153,6 @@ module _ (net : Network) (destinations : List Prefix) (classes : List Class) whe
   -- it can be written
   pub class_writable : (e : Edit) (c : Class) → Contains (all_edits net destinations classes) e → class_put e ≡ Some c → IsTrue (is_writable c.service)
   class_writable e c there puts = (from_filter (λ (class : Class). is_writable class.service) classes c ((all_good e there).0 c puts)).1
-
-  pub prefix_listed : (e : Edit) (p : Prefix) → Contains (all_edits net destinations classes) e → prefix_put e ≡ Some p → Contains destinations p
-  prefix_listed e p there = (all_good e there).1 p
 
 -- what the edits of a network for a document put into lists can be written
 module _ (net : Network) (doc : Document) (list : List Edit) (are : AreEdits net doc list) where
