@@ -10,7 +10,7 @@ from dataclasses import dataclass
 from ops import commands
 from ops.commands import TOP, Wrong, load
 
-TABLE = os.path.join(TOP, "crates", "run_messages", "src", "commands.rt")
+TABLE = os.path.join(TOP, "crates", "command_words", "src", "forms.rt")
 MANUAL = os.path.join(TOP, "docs", "manual.md")
 ABOUT = (
     "arcv reads router files in the language of Cisco IOS, a document with the links between them and with policies, "
@@ -21,8 +21,9 @@ FILES_AND_STREAMS = (
     "A file is looked up in the folder in which the command runs. Answers are printed to standard output, everything "
     "else to standard error."
 )
+OPTION = re.compile(r'const (\w+): CommandOption = CommandOption \{\s*name: "([^"]*)",\s*value: "([^"]*)",\s*\};')
 FORM = re.compile(
-    r'Form \{\s*name: "([^"]*)",\s*places: "([^"]*)",\s*options: "([^"]*)",\s*meaning: "([^"]*)",\s*\}', re.S
+    r'name: "([^"]*)",\s*places: &\[([^]]*)\],\s*needed: &\[([^]]*)\],\s*optional: &\[([^]]*)\],\s*meaning: "([^"]*)"'
 )
 FILES = ("DOC", "CERT", "REPORT", "EDITS", "CNF", "PROOF", "NAME", "TEXT", "FILE", "PATH", "FOLDER", "SEAL")
 
@@ -62,17 +63,16 @@ def program_commands() -> list[Command]:
     """The commands of the program, by the table in its source; what each asks is said by the manual."""
     asks = {row[0].split()[1]: row[1] for row in _rows(load(MANUAL), "| command | asks |")}
     found = []
-    for name, places, options, meaning in FORM.findall(load(TABLE)):
-        words = options.replace("[", "").replace("]", "").split()
-        pairs = tuple(zip(words[::2], words[1::2]))
+    table = load(TABLE)
+    pair_of = {const: (f"--{option}", value) for const, option, value in OPTION.findall(table)}
+    for name, places, needed, optional, meaning in FORM.findall(table):
         if name not in asks:
             raise Wrong(f"docs/manual.md has no row for {name}")
-        found.append(
-            Command(
-                name, tuple(places.split()), pairs, " ".join(part for part in (name, places, options) if part),
-                asks[name], meaning,
-            )
-        )
+        words = tuple(re.findall(r'"([^"]*)"', places))
+        must = [pair_of[const] for const in re.findall(r"\w+", needed)]
+        may = [pair_of[const] for const in re.findall(r"\w+", optional)]
+        options = [" ".join(pair) for pair in must] + [f"[{' '.join(pair)}]" for pair in may]
+        found.append(Command(name, words, (*must, *may), " ".join([name, *words, *options]), asks[name], meaning))
     if not found or set(asks) != {command.name for command in found}:
         raise Wrong(f"{TABLE} and docs/manual.md do not have the same commands")
     return found

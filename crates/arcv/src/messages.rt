@@ -5,10 +5,10 @@ use crate::notes::explain_answer;
 use arc_base::Name;
 use arc_base::limits::ROUTER_FILE_LIMIT;
 use arc_outside::{DiskStore, Operation, StdSink, read_all};
+use command_words::{command_forms, form_named};
 use run_messages::{
-    FORMS, Refused, Tee, VERSION, WrongWord, asks_for_help, asks_for_version, document_fault,
-    document_item, form_of, front_of, line_at, near_form, told_refusal, visible, words_fault,
-    wrong_word,
+    Refused, Tee, VERSION, WrongWord, asks_for_help, asks_for_version, document_fault,
+    document_item, front_of, line_at, near_form, told_refusal, visible, words_fault, wrong_word,
 };
 use std::io::Write;
 use std::{env, fs, io, str};
@@ -24,7 +24,7 @@ pub fn say(rt: &HostRuntime, pieces: &[&[u8]]) -> io::Result<()> {
 
 /// Help is asked for: the forms of all commands, and what their words stand for.
 fn explain_commands(rt: &HostRuntime) -> io::Result<()> {
-    for form in FORMS.iter() {
+    for form in command_forms() {
         let usage = form.to_string(rt.alloc())?;
         say(rt, &[b"arcv ", usage.as_bytes()])?;
         say(rt, &[b"    ", form.meaning.as_bytes()])?;
@@ -52,7 +52,7 @@ fn explain_name(rt: &HostRuntime, word: &[u8]) -> io::Result<()> {
 /// The words match no command: what is wrong with them, and the form of the command that the first
 /// of them names.
 fn explain_words(rt: &HostRuntime, words: &[Name]) -> io::Result<()> {
-    let Some((command, given)) = words.split_first() else {
+    let Some(command) = words.first() else {
         return match env::args(rt) {
             Ok(_) => say(rt, &[b"arcv: a command is missing"]),
             Err(_) => say(rt, &[b"arcv: a word is not UTF-8"]),
@@ -64,10 +64,11 @@ fn explain_words(rt: &HostRuntime, words: &[Name]) -> io::Result<()> {
     if asks_for_version(command.bytes()) {
         return say(rt, &[b"arcv ", VERSION.as_bytes()]);
     }
-    let Some(form) = form_of(command.bytes()) else {
+    let named = str::from_utf8(command.bytes()).ok().and_then(form_named);
+    let Some(form) = named else {
         return explain_name(rt, command.bytes());
     };
-    if let Some(fault) = words_fault(rt.alloc(), form, given) {
+    if let Some(fault) = words_fault(rt.alloc(), form, words) {
         say(rt, &[b"arcv: ", fault.as_bytes()])?;
     }
     let usage = form.to_string(rt.alloc())?;

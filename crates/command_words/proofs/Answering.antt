@@ -4,24 +4,53 @@ use Rattle.std.specs.List.{AllByRecursion, list_all}
 use Rattle.std.specs.Str.{bytes_eq, is_utf8}
 use Rattle.std.proofs.lemmas.Bool.{and_parts}
 use Rattle.std.proofs.lemmas.Slice.Eq.{bytes_eq-Decides}
-use Rattle.clap.specs.Walk.{Row, Text, answers_to, nothing_held, rows_after}
+use Rattle.clap.specs.Walk.{Row, Text, answers_to, first_of, nothing_held, rows_after}
 use Rattle.clap.specs.Simple.{label_of, subcommand_of}
 use Rattle.clap.specs.Kinds.{Kinds, or_else}
 use Rattle.clap.specs.Faults.{fault_of, level_fault}
-use Rattle.command_words.specs.Commands.{Form, command_in, forms, meaning}
+use Rattle.command_words.specs.Commands.{Form, command_by, command_in, forms, meaning}
 use Rattle.command_words.specs.Grammar.{app}
 use Rattle.command_words.specs.Matched.{matched_command}
 use Rattle.command_words.specs.declared.commands.Command.{Command}
 use Rattle.command_words.proofs.Entering.{entered_fault_is, entered_rows, form_label, form_rules, form_shape, no_word, unnamed}
-use Rattle.command_words.proofs.FormLaws.{Answer, Law}
-use Rattle.command_words.proofs.OptionForms.{apply_law, generate_law, repair_law, solve_law, trace_law}
-use Rattle.command_words.proofs.PlainForms.{check_law, lrat_law, nodes_law, prefers_law, recheck_law, verify_law}
+use Rattle.command_words.proofs.FormLaws.{Answer, IsFine, Law, laws_of}
 use Rattle.command_words.proofs.Rules.{first_empty}
 
 -- ---- the table
 
-all_laws : AllByRecursion Law forms
-all_laws = (verify_law, (trace_law, (repair_law, (check_law, (apply_law, (solve_law, (lrat_law, (generate_law, (nodes_law, (prefers_law, (recheck_law, tt)))))))))))
+-- the values that each command is read from are those of its places and options
+all_fine : AllByRecursion IsFine forms
+all_fine = (
+  (refl, (refl, λ f g same. rw (same (codes "DOC") refl) refl)),
+  (
+    (refl, (refl, λ f g same. rw (same (codes "DOC") refl, same (codes "FROM") refl, same (codes "TO") refl, same (codes "down") refl) refl)),
+    (
+      (refl, (refl, λ f g same. rw (same (codes "DOC") refl, same (codes "out") refl, same (codes "proof") refl, same (codes "max-price") refl, same (codes "conflicts") refl) refl)),
+      (
+        (refl, (refl, λ f g same. rw (same (codes "DOC") refl, same (codes "CERT") refl) refl)),
+        (
+          (refl, (refl, λ f g same. rw (same (codes "DOC") refl, same (codes "EDITS") refl, same (codes "out") refl) refl)),
+          (
+            (refl, (refl, λ f g same. rw (same (codes "CNF") refl, same (codes "proof") refl, same (codes "conflicts") refl) refl)),
+            (
+              (refl, (refl, λ f g same. rw (same (codes "CNF") refl, same (codes "PROOF") refl) refl)),
+              (
+                (refl, (refl, λ f g same. rw (same (codes "N") refl, same (codes "proof") refl) refl)),
+                (
+                  (refl, (refl, λ f g same. rw (same (codes "DOC") refl, same (codes "FROM") refl, same (codes "TO") refl, same (codes "K") refl) refl)),
+                  (
+                    (refl, (refl, λ f g same. rw (same (codes "DOC") refl, same (codes "FROM") refl, same (codes "TO") refl, same (codes "ROUTERS") refl) refl)),
+                    ((refl, (refl, λ f g same. rw (same (codes "DOC") refl, same (codes "REPORT") refl) refl)), tt),
+                  ),
+                ),
+              ),
+            ),
+          ),
+        ),
+      ),
+    ),
+  ),
+)
 
 abbrev is_called : Text → Form → Bool
 is_called word form = bytes_eq form.name word
@@ -92,10 +121,13 @@ form_line form found is words texts =
     let meant : command_in (form.name ∷ words) ≡ meaning form words = ap (λ (o : Option Form). option_and_then (λ f. meaning f words) o) is in
     let kinds : Kinds = or_else (level_fault (form_shape form) [] nothing_held words false []) [] in
     let rows : Option (Text × List Row) = Some (form.name, rows_after (form_rules form) [] words) in
+    let read : matched_command rows ≡ command_by form.kind (λ name. first_of name (rows_after (form_rules form) [] words)) =
+    ap (λ (o : Option Form). option_and_then (λ f. command_by f.kind (λ name. first_of name (rows_after (form_rules form) [] words))) o) is in
     as_line (form.name ∷ words) kinds rows
     (entered_fault_is form.name (form_shape form) found.label found.shape (and_false (bytes_eq form.name (codes "help"))) words)
     (entered_rows form.name (form_shape form) found.label found.shape (and_false (bytes_eq form.name (codes "help"))) words)
-    (subst (λ (o : Option Command). Answer kinds (matched_command rows) o) (sym meant) (and_no_more _ _ _ (found.law words texts)))
+    (subst (λ (o : Option Command). Answer kinds (matched_command rows) o) (sym meant)
+    (subst (λ (o : Option Command). Answer kinds o (meaning form words)) (sym read) (and_no_more _ _ _ (found.law words texts))))
 
 other_line : (word : Text) (words : List Text) → is_utf8 word ≡ true → find (is_called word) forms ≡ None → LineAnswer (word ∷ words)
 other_line word words text none = record {
@@ -114,7 +146,7 @@ line_answers (word ∷ words) texts = go (find (is_called word) forms) refl
     go : (o : Option Form) → find (is_called word) forms ≡ o → LineAnswer (word ∷ words)
     go None is = other_line word words parts.0 is
     go (Some form) is =
-        let found : Found word forms form = found_in word forms form all_laws is in
+        let found : Found word forms form = found_in word forms form (laws_of forms all_fine) is in
         let P : Text → Type 0 = λ w. Found w forms form in
         let Q : Text → Type 0 = λ w. find (is_called w) forms ≡ Some form in
         subst (λ (w : Text). LineAnswer (w ∷ words)) found.name

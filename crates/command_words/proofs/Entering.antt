@@ -11,7 +11,7 @@ use Rattle.clap.specs.Faults.{check_fault, defaults_fault, entered_fault, fault_
 use Rattle.clap.specs.declared.error.kind.ErrorKind.TheVariants.{InvalidSubcommand, MissingSubcommand, UnknownArgument}
 use Rattle.command_words.specs.Commands.{Form, forms}
 use Rattle.command_words.specs.Grammar.{app}
-use Rattle.command_words.proofs.Forms.{IsPlain, IsHyphened, IsLong, View, double, first_letter, seen_plain, seen_hyphened, seen_end, seen_long, view_of}
+use Rattle.command_words.proofs.Hyphens.{IsPlain, IsHyphened, IsLong, View, double, first_letter, seen_plain, seen_hyphened, seen_end, seen_long, view_of}
 use Rattle.command_words.proofs.Readings.{rules_of}
 use Rattle.command_words.proofs.Rules.{first_empty, some_kind}
 use Rattle.command_words.proofs.WalkStates.{leaf}

@@ -1,5 +1,5 @@
 pub mod LinkNumbers
-pub mod Forms
+pub mod Hyphens
 pub mod Rules
 pub mod WalkStates
 pub mod Walking
@@ -9,8 +9,6 @@ pub mod Entering
 pub mod Readings
 pub mod PlainCommands
 pub mod FormLaws
-pub mod PlainForms
-pub mod OptionForms
 pub mod Answering
 pub mod ByManual
 pub mod SearchLimits

@@ -94,7 +94,7 @@ by_name_in needed (first ∷ names) rest name = go (bytes_eq first name) refl (b
     go false e later = rw e later
 
 -- a name of either list
-one_of_both : (needed optional : List Text) (name : Text) → names_one (needed ++ optional) name ≡ (names_one needed name || names_one optional name)
+pub one_of_both : (needed optional : List Text) (name : Text) → names_one (needed ++ optional) name ≡ (names_one needed name || names_one optional name)
 one_of_both [] optional name = refl
 one_of_both (first ∷ needed) optional name = go (bytes_eq first name) (one_of_both needed optional name)
   where

@@ -13,7 +13,7 @@ use Rattle.clap.specs.Kinds.{Kinds, or_else}
 use Rattle.clap.specs.Faults.{flags_fault, long_fault, positional_fault, settle_fault, step_fault, turn_fault, use_fault, walk_fault, word_fault}
 use Rattle.clap.specs.declared.error.kind.ErrorKind.TheVariants.{UnknownArgument}
 use Rattle.command_words.specs.Words.{Form, Given, given_by, name_in, names_one, option, option_gives, positional, then_more, value_gives, value_in, word_gives}
-use Rattle.command_words.proofs.Forms.{IsPlain, IsHyphened, IsEnd, IsLong, View, first_letter, seen_plain, seen_hyphened, seen_end, seen_long, view_of}
+use Rattle.command_words.proofs.Hyphens.{IsPlain, IsHyphened, IsEnd, IsLong, View, first_letter, seen_plain, seen_hyphened, seen_end, seen_long, view_of}
 use Rattle.command_words.proofs.Rules.{Judged, Reads, added, both_empty, first_empty, option_rule, place_rule, second_empty, some_kind, use_judged}
 use Rattle.command_words.proofs.WalkStates.{and_then_some, as_outcome, Fine, flat, held_by, IsJudged, leaf, no_command, no_more, nothing, one, option_outcome, or_false, outcome, Pending, positional_outcome, refused_word, settle_judged, settles, Settles, Settling, settling, state, sticks, stray_outcome, taken_word, within}
 

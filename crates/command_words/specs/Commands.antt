@@ -1,202 +1,213 @@
 -- The command that the words after the program's name match.
-use Rattle.std.specs.Prelude.{ℕ, ◌≤◌, List, [], ◌∷◌, ◌++◌, Option, Some, None, find}
-use Rattle.std.specs.Prelude.{option_and_then, bytes_eq, codes, if◌then◌else◌}
-use Rattle.std.specs.List.{list_all}
+use Rattle.std.specs.Prelude.{ℕ, ◌≤◌, ◌==◌, ◌&&◌, Bool, List, [], ◌∷◌, ◌++◌, length, map, Option, Some}
+use Rattle.std.specs.Prelude.{None, find, is_some, option_and_then, bytes_eq, codes}
+use Rattle.std.specs.Prelude.{if◌then◌else◌}
+use Rattle.std.specs.List.{list_all, slice_split}
 use Rattle.std.specs.Str.{is_utf8}
 use Rattle.arc_base.specs.declared.limits.TheConstants.{FAILURE_LIMIT, PRICE_LIMIT, DEFAULT_PRICE}
 use Rattle.arc_base.specs.declared.limits.TheConstants.{CONFLICT_LIMIT, DEFAULT_CONFLICTS}
 use Rattle.arc_base.specs.declared.limits.TheConstants.{FEWEST_GENERATED, MOST_GENERATED}
-use Rattle.command_words.specs.Values.{conflict_limit, generate_of, link_numbers, nodes_of}
-use Rattle.command_words.specs.Values.{prefers_of, price_bound, repair_of, solve_of, trace_of}
-use Rattle.command_words.specs.Words.{Given, arguments_of, positionals, value_of}
+use Rattle.arc_base.specs.Options.{◌>>=◌}
+use Rattle.arc_base.specs.PrefixText.{prefix_of}
+use Rattle.command_words.specs.Values.{link_numbers, number_within, router_names}
+use Rattle.command_words.specs.Words.{Given, arguments_of, names_one, positionals, value_of}
 use Rattle.command_words.specs.declared.commands.Command.{Command}
 use Rattle.command_words.specs.declared.commands.Command.TheVariants.{Verify, Trace, Repair, Check}
 use Rattle.command_words.specs.declared.commands.Command.TheVariants.{Apply, Solve, Lrat, Generate}
 use Rattle.command_words.specs.declared.commands.Command.TheVariants.{Nodes, Prefers, Recheck}
+use Rattle.command_words.specs.declared.forms.CommandForm.{CommandForm}
+use Rattle.command_words.specs.declared.forms.CommandKind.{CommandKind}
+use Rattle.command_words.specs.declared.forms.CommandKind.TheVariants as kinds
 
--- `verify DOC`
-abbrev pub verify_by : List (List ℕ) → Option Command
-verify_by (document ∷ []) = Some (Verify document)
-verify_by _ = None
+-- the value of an argument, by the name of its place or option
+abbrev pub Look : Type 0
+Look = List ℕ → Option (List ℕ)
 
--- the links that `--down` names; none where it does not stand
-abbrev pub down_by : Option (List ℕ) → Option (List ℕ)
-down_by None = Some []
-down_by (Some text) = link_numbers text
+-- the number that an option gives, and a usual one where it is left out
+abbrev pub number_or : ℕ → ℕ → ℕ → Option (List ℕ) → Option ℕ
+number_or usual least most None = Some usual
+number_or usual least most (Some text) = number_within least most text
 
--- `trace DOC FROM TO [--down A,B]`
-abbrev pub trace_by : Option (List ℕ) → List (List ℕ) → Option Command
-trace_by down (document ∷ from ∷ to ∷ []) = trace_of document from to (down_by down)
-trace_by down _ = None
+-- the links that an option names, and none where it is left out
+abbrev pub links_or_none : Option (List ℕ) → Option (List ℕ)
+links_or_none None = Some []
+links_or_none (Some text) = link_numbers text
 
--- `check DOC CERT`
-abbrev pub check_by : List (List ℕ) → Option Command
-check_by (document ∷ certificate ∷ []) = Some (Check document certificate)
-check_by _ = None
+abbrev pub verify_by : Look → Option Command
+verify_by value = do
+  document ← value (codes "DOC")
+  Some (Verify document)
 
--- how many conflicts `--conflicts` allows, and DEFAULT_CONFLICTS where it does not stand
-abbrev pub conflicts_by : Option (List ℕ) → Option ℕ
-conflicts_by None = Some DEFAULT_CONFLICTS
-conflicts_by (Some text) = conflict_limit text
+abbrev pub trace_by : Look → Option Command
+trace_by value = do
+  document ← value (codes "DOC")
+  from ← value (codes "FROM") >>= prefix_of
+  to ← value (codes "TO") >>= prefix_of
+  down ← links_or_none (value (codes "down"))
+  Some (Trace (record { document = document; from = from; to = to; down = down }))
 
--- `solve CNF --proof NAME [--conflicts N]`
-abbrev pub solve_by : Option (List ℕ) → Option (List ℕ) → List (List ℕ) → Option Command
-solve_by (Some proof) conflicts (formula ∷ []) = solve_of formula proof (conflicts_by conflicts)
-solve_by _ conflicts _ = None
+abbrev pub repair_by : Look → Option Command
+repair_by value = do
+  document ← value (codes "DOC")
+  suffix ← value (codes "out")
+  proof ← value (codes "proof")
+  bound ← number_or DEFAULT_PRICE 0 PRICE_LIMIT (value (codes "max-price"))
+  conflicts ← number_or DEFAULT_CONFLICTS 1 CONFLICT_LIMIT (value (codes "conflicts"))
+  Some (Repair (record {
+    document = document;
+    suffix = suffix;
+    proof = proof;
+    bound = bound;
+    conflicts = conflicts;
+  }))
 
--- `lrat CNF PROOF`
-abbrev pub lrat_by : List (List ℕ) → Option Command
-lrat_by (formula ∷ proof ∷ []) = Some (Lrat formula proof)
-lrat_by _ = None
+abbrev pub check_by : Look → Option Command
+check_by value = do
+  document ← value (codes "DOC")
+  certificate ← value (codes "CERT")
+  Some (Check document certificate)
 
--- the highest price that `--max-price` allows, and DEFAULT_PRICE where it does not stand
-abbrev pub bound_by : Option (List ℕ) → Option ℕ
-bound_by None = Some DEFAULT_PRICE
-bound_by (Some text) = price_bound text
+abbrev pub apply_by : Look → Option Command
+apply_by value = do
+  document ← value (codes "DOC")
+  edits ← value (codes "EDITS")
+  suffix ← value (codes "out")
+  Some (Apply (record { document = document; edits = edits; suffix = suffix }))
 
--- `repair DOC --out SUFFIX --proof NAME [--max-price N] [--conflicts N]`
-abbrev pub repair_by : Option (List ℕ) → Option (List ℕ) → Option (List ℕ) → Option (List ℕ) →
-    List (List ℕ) → Option Command
-repair_by (Some suffix) (Some proof) price conflicts (document ∷ []) =
-    repair_of document suffix proof (bound_by price) (conflicts_by conflicts)
-repair_by _ _ price conflicts _ = None
+abbrev pub solve_by : Look → Option Command
+solve_by value = do
+  formula ← value (codes "CNF")
+  proof ← value (codes "proof")
+  conflicts ← number_or DEFAULT_CONFLICTS 1 CONFLICT_LIMIT (value (codes "conflicts"))
+  Some (Solve (record { formula = formula; proof = proof; conflicts = conflicts }))
 
--- `apply DOC EDITS --out SUFFIX`
-abbrev pub apply_by : Option (List ℕ) → List (List ℕ) → Option Command
-apply_by (Some suffix) (document ∷ edits ∷ []) =
-    Some (Apply (record { document = document; edits = edits; suffix = suffix }))
-apply_by _ _ = None
+abbrev pub lrat_by : Look → Option Command
+lrat_by value = do
+  formula ← value (codes "CNF")
+  proof ← value (codes "PROOF")
+  Some (Lrat formula proof)
 
--- `generate N --proof NAME`
-abbrev pub generate_by : Option (List ℕ) → List (List ℕ) → Option Command
-generate_by (Some proof) (count ∷ []) = generate_of count proof
-generate_by _ _ = None
+abbrev pub generate_by : Look → Option Command
+generate_by value = do
+  number ← value (codes "N") >>= number_within FEWEST_GENERATED MOST_GENERATED
+  proof ← value (codes "proof")
+  Some (Generate (record { number = number; proof = proof }))
 
--- `nodes DOC FROM TO K`
-abbrev pub nodes_by : List (List ℕ) → Option Command
-nodes_by (document ∷ from ∷ to ∷ failures ∷ []) = nodes_of document from to failures
-nodes_by _ = None
+abbrev pub nodes_by : Look → Option Command
+nodes_by value = do
+  document ← value (codes "DOC")
+  from ← value (codes "FROM") >>= prefix_of
+  to ← value (codes "TO") >>= prefix_of
+  failures ← value (codes "K") >>= number_within 0 FAILURE_LIMIT
+  Some (Nodes (record { document = document; from = from; to = to; failures = failures }))
 
--- `prefers DOC FROM TO ROUTERS`
-abbrev pub prefers_by : List (List ℕ) → Option Command
-prefers_by (document ∷ from ∷ to ∷ routers ∷ []) = prefers_of document from to routers
-prefers_by _ = None
+abbrev pub prefers_by : Look → Option Command
+prefers_by value = do
+  document ← value (codes "DOC")
+  from ← value (codes "FROM") >>= prefix_of
+  to ← value (codes "TO") >>= prefix_of
+  routers ← value (codes "ROUTERS") >>= router_names
+  Some (Prefers (record { document = document; from = from; to = to; routers = routers }))
 
--- `recheck DOC REPORT`
-abbrev pub recheck_by : List (List ℕ) → Option Command
-recheck_by (document ∷ report ∷ []) =
-    Some (Recheck (record { document = document; report = report }))
-recheck_by _ = None
+abbrev pub recheck_by : Look → Option Command
+recheck_by value = do
+  document ← value (codes "DOC")
+  report ← value (codes "REPORT")
+  Some (Recheck (record { document = document; report = report }))
 
--- A command of the table: its name; what its positional words stand for, in order, each of them
--- required; the options that must stand, and those that may; and what all of these mean.
+-- the command of a kind, with these values
+abbrev pub command_by : CommandKind → Look → Option Command
+command_by kinds.Verify value = verify_by value
+command_by kinds.Trace value = trace_by value
+command_by kinds.Repair value = repair_by value
+command_by kinds.Check value = check_by value
+command_by kinds.Apply value = apply_by value
+command_by kinds.Solve value = solve_by value
+command_by kinds.Lrat value = lrat_by value
+command_by kinds.Generate value = generate_by value
+command_by kinds.Nodes value = nodes_by value
+command_by kinds.Prefers value = prefers_by value
+command_by kinds.Recheck value = recheck_by value
+
+-- A row of the table of commands: which command it is of; its name; what its positional words
+-- stand for, in order, each of them required; the options that must be given, and those that may.
 pub record Form : Type 0 where
+  pub kind : CommandKind
   pub name : List ℕ
   pub places : List (List ℕ)
   pub needed : List (List ℕ)
   pub optional : List (List ℕ)
-  pub means : List Given → Option Command
 
--- a command with no options
-abbrev pub plain : List ℕ → List (List ℕ) → (List (List ℕ) → Option Command) → Form
-plain name places by = record {
+-- the row that the program's table writes so
+abbrev pub form_of_row : CommandForm → Form
+form_of_row form = record {
+  kind = form.kind;
+  name = form.name.now;
+  places = map (λ place. place.now) form.places.now;
+  needed = map (λ choice. choice.name.now) form.needed.now;
+  optional = map (λ choice. choice.name.now) form.optional.now;
+}
+
+-- a row with these names, each list of them with spaces between
+abbrev pub row : CommandKind → List ℕ → List ℕ → List (List ℕ) → List (List ℕ) → Form
+row kind name places needed optional = record {
+  kind = kind;
   name = name;
-  places = places;
-  needed = [];
-  optional = [];
-  means = λ given. by (positionals given);
+  places = slice_split (λ byte. byte == 32) places;
+  needed = needed;
+  optional = optional;
 }
 
--- the commands
-abbrev pub verify_form : Form
-verify_form = plain (codes "verify") (codes "document" ∷ []) verify_by
-
-abbrev pub trace_form : Form
-trace_form = record {
-  name = codes "trace";
-  places = codes "document" ∷ codes "from" ∷ codes "to" ∷ [];
-  needed = [];
-  optional = codes "down" ∷ [];
-  means = λ given. trace_by (value_of (codes "down") given) (positionals given);
-}
-
-abbrev pub repair_form : Form
-repair_form = record {
-  name = codes "repair";
-  places = codes "document" ∷ [];
-  needed = codes "out" ∷ codes "proof" ∷ [];
-  optional = codes "max-price" ∷ codes "conflicts" ∷ [];
-  means =
-      λ given. repair_by (value_of (codes "out") given) (value_of (codes "proof") given)
-      (value_of (codes "max-price") given) (value_of (codes "conflicts") given) (positionals given);
-}
-
-abbrev pub check_form : Form
-check_form = plain (codes "check") (codes "document" ∷ codes "certificate" ∷ []) check_by
-
-abbrev pub apply_form : Form
-apply_form = record {
-  name = codes "apply";
-  places = codes "document" ∷ codes "edits" ∷ [];
-  needed = codes "out" ∷ [];
-  optional = [];
-  means = λ given. apply_by (value_of (codes "out") given) (positionals given);
-}
-
-abbrev pub solve_form : Form
-solve_form = record {
-  name = codes "solve";
-  places = codes "formula" ∷ [];
-  needed = codes "proof" ∷ [];
-  optional = codes "conflicts" ∷ [];
-  means =
-      λ given. solve_by (value_of (codes "proof") given)
-      (value_of (codes "conflicts") given) (positionals given);
-}
-
-abbrev pub lrat_form : Form
-lrat_form = plain (codes "lrat") (codes "formula" ∷ codes "proof" ∷ []) lrat_by
-
-abbrev pub generate_form : Form
-generate_form = record {
-  name = codes "generate";
-  places = codes "number" ∷ [];
-  needed = codes "proof" ∷ [];
-  optional = [];
-  means = λ given. generate_by (value_of (codes "proof") given) (positionals given);
-}
-
-abbrev pub nodes_form : Form
-nodes_form =
-    plain (codes "nodes")
-    (codes "document" ∷ codes "from" ∷ codes "to" ∷ codes "failures" ∷ []) nodes_by
-
-abbrev pub prefers_form : Form
-prefers_form =
-    plain (codes "prefers")
-    (codes "document" ∷ codes "from" ∷ codes "to" ∷ codes "routers" ∷ []) prefers_by
-
-abbrev pub recheck_form : Form
-recheck_form = plain (codes "recheck") (codes "document" ∷ codes "report" ∷ []) recheck_by
-
--- all of them
+-- all commands
 abbrev pub forms : List Form
 forms =
-    verify_form ∷ trace_form ∷ repair_form ∷ check_form ∷ apply_form ∷ solve_form ∷ lrat_form ∷
-    generate_form ∷ nodes_form ∷ prefers_form ∷ recheck_form ∷ []
+    row kinds.Verify (codes "verify") (codes "DOC") [] [] ∷
+    row kinds.Trace (codes "trace") (codes "DOC FROM TO") [] (codes "down" ∷ []) ∷
+    row kinds.Repair (codes "repair") (codes "DOC") (codes "out" ∷ codes "proof" ∷ [])
+    (codes "max-price" ∷ codes "conflicts" ∷ []) ∷
+    row kinds.Check (codes "check") (codes "DOC CERT") [] [] ∷
+    row kinds.Apply (codes "apply") (codes "DOC EDITS") (codes "out" ∷ []) [] ∷
+    row kinds.Solve (codes "solve") (codes "CNF") (codes "proof" ∷ []) (codes "conflicts" ∷ []) ∷
+    row kinds.Lrat (codes "lrat") (codes "CNF PROOF") [] [] ∷
+    row kinds.Generate (codes "generate") (codes "N") (codes "proof" ∷ []) [] ∷
+    row kinds.Nodes (codes "nodes") (codes "DOC FROM TO K") [] [] ∷
+    row kinds.Prefers (codes "prefers") (codes "DOC FROM TO ROUTERS") [] [] ∷
+    row kinds.Recheck (codes "recheck") (codes "DOC REPORT") [] [] ∷ []
+
+abbrev pub options_of : Form → List (List ℕ)
+options_of form = form.needed ++ form.optional
+
+-- the word in the place of this name
+abbrev pub word_at : List (List ℕ) → List (List ℕ) → Look
+word_at [] words name = None
+word_at (place ∷ places) [] name = None
+word_at (place ∷ places) (word ∷ words) name =
+    if bytes_eq place name then Some word else word_at places words name
+
+-- what the words give to a place or an option of a row
+abbrev pub argument_of : Form → List Given → Look
+argument_of form given name = if names_one (options_of form) name then value_of name given
+    else word_at form.places (positionals given) name
+
+-- each option that must be given is, and each place has a word, and there are no more words
+abbrev pub is_whole : Form → List Given → Bool
+is_whole form given = list_all (λ name. is_some (value_of name given)) form.needed
+    && (length (positionals given) == length form.places)
 
 -- what the words that follow a command's name mean
 abbrev pub meaning : Form → List (List ℕ) → Option Command
-meaning form words = option_and_then form.means (arguments_of (form.needed ++ form.optional) words)
+meaning form words = do
+  given ← arguments_of (options_of form) words
+  if is_whole form given then command_by form.kind (argument_of form given) else None
+
+-- the row of the command of this name
+abbrev pub form_named : List ℕ → Option Form
+form_named name = find (λ form. bytes_eq form.name name) forms
 
 -- the first word names a command of the table
-abbrev pub command_among : List Form → List ℕ → List (List ℕ) → Option Command
-command_among table name words =
-    option_and_then (λ form. meaning form words) (find (λ form. bytes_eq form.name name) table)
-
 abbrev pub command_in : List (List ℕ) → Option Command
 command_in [] = None
-command_in (name ∷ words) = command_among forms name words
+command_in (name ∷ words) = option_and_then (λ form. meaning form words) (form_named name)
 
 -- a word that is no text matches nothing
 abbrev pub command_of : List (List ℕ) → Option Command

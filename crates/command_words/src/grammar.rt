@@ -1,29 +1,20 @@
-//! The command line as `clap` knows it. Help is no command and no flag here: a request for it is
-//! refused as any other word, so that it matches no command.
-ghost use Rattle.std.specs.Prelude.{◌≡◌, IfOk, codes, false, true};
+//! The command line as `clap` knows it: the table of the commands, row by row. Help is no command
+//! and no flag here: a request for it is refused as any other word, so that it matches no command.
+ghost use Rattle.std.specs.Prelude.{◌≡◌, IfOk, codes, fold, map, false, true};
 ghost use Rattle.clap.specs.Simple.{app_of, new_app, with_rule, with_subcommand};
 ghost use Rattle.clap.specs.Words.{rule_of};
+ghost use Rattle.command_words.specs.Commands.{form_of_row};
 ghost use Rattle.command_words.specs.Grammar.{
-  app,
-  apply,
   bare,
-  check,
-  generate,
-  lrat,
-  nodes,
+  command_app,
   option,
   positional,
-  prefers,
-  recheck,
-  repair,
-  required_option,
-  solve,
-  trace,
-  verify,
-  with_first,
-  with_middle,
+  with_form,
+  with_option,
+  with_place,
 };
 
+use crate::forms::{CommandForm, CommandOption};
 use arc_base::Memory;
 use clap::{Arg, Command};
 use std::alloc::Global;
@@ -37,26 +28,11 @@ fn positional<'a>(alloc: Global, id: &'a str) -> Arg<'a>
 }
 
 /// An option that takes one value.
-fn option<'a>(alloc: Global, name: &'a str) -> Arg<'a>
-    ensures rule { rule_of result ≡ option name.entry.now }
+fn option<'a>(alloc: Global, name: &'a str, is_needed: bool) -> Arg<'a>
+    ensures rule { rule_of result ≡ option is_needed name.entry.now }
     ensures local { result.global ≡ false }
 {
-    Arg::new(alloc, name).long(name)
-}
-
-/// An option that takes one value and must stand.
-fn required_option<'a>(alloc: Global, name: &'a str) -> Arg<'a>
-    ensures rule { rule_of result ≡ required_option name.entry.now }
-    ensures local { result.global ≡ false }
-{
-    option(alloc, name).required(true)
-}
-
-/// A command with no arguments yet.
-fn named<'a>(alloc: Global, name: &'a str) -> Command<'a>
-    ensures { app_of result ≡ new_app name.entry.now }
-{
-    Command::new(alloc, name)
+    Arg::new(alloc, name).long(name).required(is_needed)
 }
 
 /// The command with one more argument, which holds for it alone.
@@ -68,6 +44,51 @@ fn with<'a>(command: Command<'a>, arg: Arg<'a>) -> Result<Command<'a>, Memory>
     Ok(command.arg(arg)?)
 }
 
+/// The command with a word for each of these places.
+fn with_places<'a>(
+    alloc: Global,
+    command: Command<'a>,
+    places: &'a [&'a str],
+) -> Result<Command<'a>, Memory>
+    ensures { IfOk result (λ more.
+        app_of more ≡ fold with_place (app_of command.entry)
+        (map (λ place. place.now) places.entry.now)) }
+{
+    let mut whole = command;
+    for place in places {
+        whole = with(whole, positional(alloc, place))?;
+    }
+    Ok(whole)
+}
+
+/// The command with these options.
+fn with_options<'a>(
+    alloc: Global,
+    command: Command<'a>,
+    options: &'a [CommandOption],
+    are_needed: bool,
+) -> Result<Command<'a>, Memory>
+    ensures { IfOk result (λ more.
+        app_of more ≡ fold (with_option are_needed) (app_of command.entry)
+        (map (λ choice. choice.name.now) options.entry.now)) }
+{
+    let mut whole = command;
+    for choice in options {
+        whole = with(whole, option(alloc, choice.name, are_needed))?;
+    }
+    Ok(whole)
+}
+
+/// The command of a row.
+fn command_of<'a>(alloc: Global, form: &'a CommandForm) -> Result<Command<'a>, Memory>
+    ensures { IfOk result (λ command. app_of command ≡ command_app (form_of_row form.entry.now)) }
+{
+    let command = Command::new(alloc, form.name);
+    let command = with_places(alloc, command, form.places)?;
+    let command = with_options(alloc, command, form.needed, true)?;
+    with_options(alloc, command, form.optional, false)
+}
+
 /// The command with one more below it.
 fn above<'a>(command: Command<'a>, below: Command<'a>) -> Result<Command<'a>, Memory>
     requires plain { (app_of below).top.is_plain ≡ true }
@@ -77,140 +98,37 @@ fn above<'a>(command: Command<'a>, below: Command<'a>) -> Result<Command<'a>, Me
     Ok(command.subcommand(below)?)
 }
 
-fn verify<'a>(alloc: Global) -> Result<Command<'a>, Memory>
-    ensures { IfOk result (λ command. app_of command ≡ verify) }
-{
-    let command = named(alloc, "verify");
-    with(command, positional(alloc, "document"))
-}
-
-fn trace<'a>(alloc: Global) -> Result<Command<'a>, Memory>
-    ensures { IfOk result (λ command. app_of command ≡ trace) }
-{
-    let command = named(alloc, "trace");
-    let command = with(command, positional(alloc, "document"))?;
-    let command = with(command, positional(alloc, "from"))?;
-    let command = with(command, positional(alloc, "to"))?;
-    with(command, option(alloc, "down"))
-}
-
-fn check<'a>(alloc: Global) -> Result<Command<'a>, Memory>
-    ensures { IfOk result (λ command. app_of command ≡ check) }
-{
-    let command = named(alloc, "check");
-    let command = with(command, positional(alloc, "document"))?;
-    with(command, positional(alloc, "certificate"))
-}
-
-fn solve<'a>(alloc: Global) -> Result<Command<'a>, Memory>
-    ensures { IfOk result (λ command. app_of command ≡ solve) }
-{
-    let command = named(alloc, "solve");
-    let command = with(command, positional(alloc, "formula"))?;
-    let command = with(command, required_option(alloc, "proof"))?;
-    with(command, option(alloc, "conflicts"))
-}
-
-fn lrat<'a>(alloc: Global) -> Result<Command<'a>, Memory>
-    ensures { IfOk result (λ command. app_of command ≡ lrat) }
-{
-    let command = named(alloc, "lrat");
-    let command = with(command, positional(alloc, "formula"))?;
-    with(command, positional(alloc, "proof"))
-}
-
-fn repair<'a>(alloc: Global) -> Result<Command<'a>, Memory>
-    ensures { IfOk result (λ command. app_of command ≡ repair) }
-{
-    let command = named(alloc, "repair");
-    let command = with(command, positional(alloc, "document"))?;
-    let command = with(command, required_option(alloc, "out"))?;
-    let command = with(command, required_option(alloc, "proof"))?;
-    let command = with(command, option(alloc, "max-price"))?;
-    with(command, option(alloc, "conflicts"))
-}
-
-fn apply<'a>(alloc: Global) -> Result<Command<'a>, Memory>
-    ensures { IfOk result (λ command. app_of command ≡ apply) }
-{
-    let command = named(alloc, "apply");
-    let command = with(command, positional(alloc, "document"))?;
-    let command = with(command, positional(alloc, "edits"))?;
-    with(command, required_option(alloc, "out"))
-}
-
-fn generate<'a>(alloc: Global) -> Result<Command<'a>, Memory>
-    ensures { IfOk result (λ command. app_of command ≡ generate) }
-{
-    let command = named(alloc, "generate");
-    let command = with(command, positional(alloc, "number"))?;
-    with(command, required_option(alloc, "proof"))
-}
-
-fn nodes<'a>(alloc: Global) -> Result<Command<'a>, Memory>
-    ensures { IfOk result (λ command. app_of command ≡ nodes) }
-{
-    let command = named(alloc, "nodes");
-    let command = with(command, positional(alloc, "document"))?;
-    let command = with(command, positional(alloc, "from"))?;
-    let command = with(command, positional(alloc, "to"))?;
-    with(command, positional(alloc, "failures"))
-}
-
-fn prefers<'a>(alloc: Global) -> Result<Command<'a>, Memory>
-    ensures { IfOk result (λ command. app_of command ≡ prefers) }
-{
-    let command = named(alloc, "prefers");
-    let command = with(command, positional(alloc, "document"))?;
-    let command = with(command, positional(alloc, "from"))?;
-    let command = with(command, positional(alloc, "to"))?;
-    with(command, positional(alloc, "routers"))
-}
-
-fn recheck<'a>(alloc: Global) -> Result<Command<'a>, Memory>
-    ensures { IfOk result (λ command. app_of command ≡ recheck) }
-{
-    let command = named(alloc, "recheck");
-    let command = with(command, positional(alloc, "document"))?;
-    with(command, positional(alloc, "report"))
-}
-
 /// `arcv` with no commands yet, of which one is required.
 fn bare<'a>(alloc: Global) -> Command<'a>
     ensures { app_of result ≡ bare }
 {
-    named(alloc, "arcv")
+    Command::new(alloc, "arcv")
         .no_binary_name(true)
         .disable_help_flag(true)
         .disable_help_subcommand(true)
         .subcommand_required(true)
 }
 
-/// `arcv` with its first commands.
-fn with_first<'a>(alloc: Global) -> Result<Command<'a>, Memory>
-    ensures { IfOk result (λ command. app_of command ≡ with_first) }
+/// The command with that of one more row below it.
+fn with_form<'a>(
+    alloc: Global,
+    command: Command<'a>,
+    form: &'a CommandForm,
+) -> Result<Command<'a>, Memory>
+    ensures { IfOk result (λ more.
+        app_of more ≡ with_form (app_of command.entry) (form_of_row form.entry.now)) }
 {
-    let arcv = above(bare(alloc), verify(alloc)?)?;
-    let arcv = above(arcv, trace(alloc)?)?;
-    let arcv = above(arcv, repair(alloc)?)?;
-    above(arcv, check(alloc)?)
+    above(command, command_of(alloc, form)?)
 }
 
-/// And with those that follow.
-fn with_middle<'a>(alloc: Global) -> Result<Command<'a>, Memory>
-    ensures { IfOk result (λ command. app_of command ≡ with_middle) }
+/// `arcv` with the commands of these rows, of which one is required.
+pub fn command_line<'a>(alloc: Global, forms: &'a [CommandForm]) -> Result<Command<'a>, Memory>
+    ensures { IfOk result (λ arcv.
+        app_of arcv ≡ fold with_form bare (map form_of_row forms.entry.now)) }
 {
-    let arcv = above(with_first(alloc)?, apply(alloc)?)?;
-    let arcv = above(arcv, solve(alloc)?)?;
-    let arcv = above(arcv, lrat(alloc)?)?;
-    above(arcv, generate(alloc)?)
-}
-
-/// `arcv` with all its commands, of which one is required.
-pub fn command_line<'a>(alloc: Global) -> Result<Command<'a>, Memory>
-    ensures { IfOk result (λ command. app_of command ≡ app) }
-{
-    let arcv = above(with_middle(alloc)?, nodes(alloc)?)?;
-    let arcv = above(arcv, prefers(alloc)?)?;
-    above(arcv, recheck(alloc)?)
+    let mut arcv = bare(alloc);
+    for form in forms {
+        arcv = with_form(alloc, arcv, form)?;
+    }
+    Ok(arcv)
 }

@@ -4,15 +4,19 @@
 #![tactic(auto)]
 
 mod commands;
+mod forms;
 mod grammar;
 pub mod laws;
 mod matched;
 mod reading;
-mod router_lists;
 mod values;
+mod wrong;
 
 pub use commands::{
     ApplyWords, Command, GenerateWords, NodesWords, PrefersWords, RecheckWords, RepairWords,
     SolveWords, TraceWords,
 };
-pub use reading::read_words;
+pub use forms::{CommandForm, CommandKind, CommandOption, command_forms, form_named};
+pub use reading::{explain_words, read_words};
+pub use values::{Fault, LAST_LINK};
+pub use wrong::{WrongWord, WrongWords};

@@ -1,317 +1,426 @@
-//! From what `clap` found to the command.
-ghost use Rattle.std.specs.Prelude.{◌≡◌, IfOk, MatchOption, None, Some, codes};
+//! From what `clap` found to the command: the row of its name, and one reader for each row.
+ghost use Rattle.std.specs.Prelude.{◌≡◌, ◌≤◌, ◌<◌, ◌^◌, IfOk, IfErr, MatchOption, MatchResult};
+ghost use Rattle.std.specs.Prelude.{None, Some, codes, option_and_then};
+ghost use Rattle.std.specs.Result.{result_ok};
+ghost use Rattle.arc_base.specs.PrefixText.{prefix_of};
 ghost use Rattle.clap.specs.Words.{first_of, found_of, rows_of, subcommand_rows_of};
-ghost use Rattle.command_words.specs.Commands.{conflicts_by};
-ghost use Rattle.command_words.specs.Matched.{
-  matched_apply,
-  matched_check,
-  matched_command,
-  matched_generate,
-  matched_later,
-  matched_lrat,
-  matched_named,
-  matched_nodes,
-  matched_prefers,
-  matched_recheck,
-  matched_repair,
-  matched_solve,
-  matched_trace,
-  matched_verify,
+ghost use Rattle.command_words.specs.Commands.{
+  apply_by,
+  check_by,
+  command_by,
+  generate_by,
+  links_or_none,
+  lrat_by,
+  nodes_by,
+  number_or,
+  prefers_by,
+  recheck_by,
+  repair_by,
+  solve_by,
+  trace_by,
+  verify_by,
 };
+ghost use Rattle.command_words.specs.Matched.{matched_command, matched_named};
+ghost use Rattle.command_words.specs.Values.{number_within, router_names};
 
-use crate::commands::{ApplyWords, Command, RecheckWords, SolveWords};
-use crate::router_lists::prefers_of;
-use crate::values::{
-    conflict_limit, generate_of, link_numbers, nodes_of, price_bound, repair_of, trace_of,
+use crate::commands::{
+    ApplyWords, Command, GenerateWords, NodesWords, PrefersWords, RecheckWords, RepairWords,
+    SolveWords, TraceWords,
 };
-use arc_base::limits::{DEFAULT_CONFLICTS, DEFAULT_PRICE};
-use arc_base::{List, Memory, Name};
+use crate::forms::{CommandKind, form_named};
+use crate::values::{self, Fault};
+use crate::wrong::{WrongWord, WrongWords};
+use arc_base::limits::{
+    CONFLICT_LIMIT, DEFAULT_CONFLICTS, DEFAULT_PRICE, FAILURE_LIMIT, FEWEST_GENERATED,
+    MOST_GENERATED, PRICE_LIMIT,
+};
+use arc_base::{List, Memory, Name, Prefix};
 use clap::ArgMatches;
 use std::alloc::Global;
 
+/// A value that is wrong: the name of its place or option, and what is wrong with it.
+#[derive(Clone, Copy, Debug)]
+struct WrongValue {
+    name: &'static str,
+    fault: Fault,
+}
+
+/// What is read, unless a value is wrong.
+type Read<T> = Result<T, WrongValue>;
+
+/// The value that is read, and else the end of the reading.
+macro_rules! read {
+    ($read:expr) => {
+        match $read {
+            Ok(value) => value,
+            Err(wrong) => return Ok(Err(wrong)),
+        }
+    };
+}
+
+/// The same of a value that needs memory.
+macro_rules! made {
+    ($read:expr) => {
+        match $read {
+            Ok(Ok(value)) => value,
+            Ok(Err(wrong)) => return Ok(Err(wrong)),
+            Err(memory) => return Err(memory),
+        }
+    };
+}
+
 /// The value of an argument.
-fn value<'a>(found: &ArgMatches<'a>, id: &str) -> Option<&'a str>
-    ensures { MatchOption result (first_of id.now (rows_of (found_of found.now)) ≡ None) (λ text.
-        first_of id.now (rows_of (found_of found.now)) ≡ Some text.now) }
+fn value<'a>(found: &ArgMatches<'a>, name: &str) -> Option<&'a str>
+    ensures { MatchOption result (first_of name.now (rows_of (found_of found.now)) ≡ None) (λ text.
+        first_of name.now (rows_of (found_of found.now)) ≡ Some text.now) }
 {
-    found.get_str(id)
+    found.get_str(name)
+}
+
+/// The text of an argument.
+fn text<'a>(found: &ArgMatches<'a>, name: &'static str) -> Read<&'a str>
+    ensures { MatchResult result
+        (λ text. first_of name.now (rows_of (found_of found.now)) ≡ Some text.now)
+        (λ wrong. first_of name.now (rows_of (found_of found.now)) ≡ None) }
+{
+    match value(found, name) {
+        Some(text) => Ok(text),
+        None => Err(WrongValue {
+            name,
+            fault: Fault::Missing,
+        }),
+    }
+}
+
+/// An argument that is a prefix.
+fn prefix(found: &ArgMatches<'_>, name: &'static str) -> Read<Prefix>
+    ensures { result_ok result
+        ≡ option_and_then prefix_of (first_of name.now (rows_of (found_of found.now))) }
+{
+    let word = text(found, name)?;
+    match values::prefix(word.as_bytes()) {
+        Ok(prefix) => Ok(prefix),
+        Err(fault) => Err(WrongValue { name, fault }),
+    }
+}
+
+/// An argument that is a number in a range.
+fn number(found: &ArgMatches<'_>, name: &'static str, least: u64, most: u64) -> Read<u64>
+    requires { most < 2 ^ 63 }
+    ensures number { result_ok result ≡ option_and_then (number_within least most)
+        (first_of name.now (rows_of (found_of found.now))) }
+    ensures most { IfOk result (λ number. number ≤ most) }
+{
+    let word = text(found, name)?;
+    match values::number(word.as_bytes(), least, most) {
+        Ok(number) => Ok(number),
+        Err(fault) => Err(WrongValue { name, fault }),
+    }
+}
+
+/// The number that an option gives, and `usual` where it is left out.
+fn number_or(
+    found: &ArgMatches<'_>,
+    name: &'static str,
+    usual: u64,
+    least: u64,
+    most: u64,
+) -> Read<u64>
+    requires most { most < 2 ^ 63 }
+    requires usual { usual ≤ most }
+    ensures number { result_ok result ≡ number_or usual least most
+        (first_of name.now (rows_of (found_of found.now))) }
+    ensures most { IfOk result (λ number. number ≤ most) }
+{
+    let Some(word) = value(found, name) else {
+        return Ok(usual);
+    };
+    match values::number(word.as_bytes(), least, most) {
+        Ok(number) => Ok(number),
+        Err(fault) => Err(WrongValue { name, fault }),
+    }
 }
 
 /// How many conflicts a search may learn from.
-fn conflicts_of(found: &ArgMatches<'_>) -> Option<u64>
-    ensures { result ≡ conflicts_by (first_of (codes "conflicts") (rows_of (found_of found.now))) }
+fn conflicts(found: &ArgMatches<'_>) -> Read<u64>
+    ensures { result_ok result ≡ number_or DEFAULT_CONFLICTS 1 CONFLICT_LIMIT
+        (first_of (codes "conflicts") (rows_of (found_of found.now))) }
 {
-    match value(found, "conflicts") {
-        Some(text) => conflict_limit(text.as_bytes()),
-        None => Some(DEFAULT_CONFLICTS),
+    number_or(found, "conflicts", DEFAULT_CONFLICTS, 1, CONFLICT_LIMIT)
+}
+
+/// The highest price of a repair.
+fn bound(found: &ArgMatches<'_>) -> Read<u64>
+    ensures number { result_ok result ≡ number_or DEFAULT_PRICE 0 PRICE_LIMIT
+        (first_of (codes "max-price") (rows_of (found_of found.now))) }
+    ensures most { IfOk result (λ number. number ≤ PRICE_LIMIT) }
+{
+    let usual = u64::from(DEFAULT_PRICE);
+    number_or(found, "max-price", usual, 0, u64::from(PRICE_LIMIT))
+}
+
+/// The links that an option names, and none where it is left out.
+fn links_or_none(
+    alloc: Global,
+    found: &ArgMatches<'_>,
+    name: &'static str,
+) -> Result<Read<List<u32>>, Memory>
+    ensures { IfOk result (λ links. result_ok links
+        ≡ links_or_none (first_of name.now (rows_of (found_of found.now)))) }
+{
+    let Some(word) = value(found, name) else {
+        return Ok(Ok(List::make(alloc)));
+    };
+    match values::links(alloc, word.as_bytes()) {
+        Ok(Ok(links)) => Ok(Ok(links)),
+        Ok(Err(fault)) => Ok(Err(WrongValue { name, fault })),
+        Err(memory) => Err(memory),
     }
 }
 
-fn verify(alloc: Global, found: &ArgMatches<'_>) -> Result<Option<Command>, Memory>
-    ensures { IfOk result (λ command. command ≡ matched_verify (rows_of (found_of found.now))) }
+/// An argument that is names of routers.
+fn routers(
+    alloc: Global,
+    found: &ArgMatches<'_>,
+    name: &'static str,
+) -> Result<Read<List<Name>>, Memory>
+    ensures { IfOk result (λ names. result_ok names
+        ≡ option_and_then router_names (first_of name.now (rows_of (found_of found.now)))) }
 {
-    let Some(document) = value(found, "document") else {
-        return Ok(None);
-    };
+    let word = read!(text(found, name));
+    match values::routers(alloc, word.as_bytes()) {
+        Ok(Ok(names)) => Ok(Ok(names)),
+        Ok(Err(fault)) => Ok(Err(WrongValue { name, fault })),
+        Err(memory) => Err(memory),
+    }
+}
+
+fn verify(alloc: Global, found: &ArgMatches<'_>) -> Result<Read<Command>, Memory>
+    ensures { IfOk result (λ read. result_ok read
+        ≡ verify_by (λ name. first_of name (rows_of (found_of found.now)))) }
+{
+    let document = read!(text(found, "DOC"));
     let document = Name::make(alloc, document.as_bytes())?;
-    Ok(Some(Command::Verify(document)))
+    Ok(Ok(Command::Verify(document)))
 }
 
-fn trace(alloc: Global, found: &ArgMatches<'_>) -> Result<Option<Command>, Memory>
-    ensures { IfOk result (λ command. command ≡ matched_trace (rows_of (found_of found.now))) }
+fn trace(alloc: Global, found: &ArgMatches<'_>) -> Result<Read<Command>, Memory>
+    ensures { IfOk result (λ read. result_ok read
+        ≡ trace_by (λ name. first_of name (rows_of (found_of found.now)))) }
 {
-    let Some(document) = value(found, "document") else {
-        return Ok(None);
-    };
-    let Some(from) = value(found, "from") else {
-        return Ok(None);
-    };
-    let Some(to) = value(found, "to") else {
-        return Ok(None);
-    };
-    let down = match value(found, "down") {
-        Some(text) => link_numbers(alloc, text.as_bytes())?,
-        None => Some(List::make(alloc)),
-    };
-    trace_of(
-        alloc,
-        document.as_bytes(),
-        from.as_bytes(),
-        to.as_bytes(),
+    let document = read!(text(found, "DOC"));
+    let from = read!(prefix(found, "FROM"));
+    let to = read!(prefix(found, "TO"));
+    let down = made!(links_or_none(alloc, found, "down"));
+    let document = Name::make(alloc, document.as_bytes())?;
+    Ok(Ok(Command::Trace(TraceWords {
+        document,
+        from,
+        to,
         down,
-    )
+    })))
 }
 
-fn check(alloc: Global, found: &ArgMatches<'_>) -> Result<Option<Command>, Memory>
-    ensures { IfOk result (λ command. command ≡ matched_check (rows_of (found_of found.now))) }
+fn repair(alloc: Global, found: &ArgMatches<'_>) -> Result<Read<Command>, Memory>
+    ensures { IfOk result (λ read. result_ok read
+        ≡ repair_by (λ name. first_of name (rows_of (found_of found.now)))) }
 {
-    let Some(document) = value(found, "document") else {
-        return Ok(None);
-    };
-    let Some(certificate) = value(found, "certificate") else {
-        return Ok(None);
-    };
+    let document = read!(text(found, "DOC"));
+    let suffix = read!(text(found, "out"));
+    let proof = read!(text(found, "proof"));
+    let bound = read!(bound(found));
+    let conflicts = read!(conflicts(found));
+    Ok(Ok(Command::Repair(RepairWords {
+        document: Name::make(alloc, document.as_bytes())?,
+        suffix: Name::make(alloc, suffix.as_bytes())?,
+        proof: Name::make(alloc, proof.as_bytes())?,
+        bound: bound as u32,
+        conflicts,
+    })))
+}
+
+fn check(alloc: Global, found: &ArgMatches<'_>) -> Result<Read<Command>, Memory>
+    ensures { IfOk result (λ read. result_ok read
+        ≡ check_by (λ name. first_of name (rows_of (found_of found.now)))) }
+{
+    let document = read!(text(found, "DOC"));
+    let certificate = read!(text(found, "CERT"));
     let document = Name::make(alloc, document.as_bytes())?;
     let certificate = Name::make(alloc, certificate.as_bytes())?;
-    Ok(Some(Command::Check(document, certificate)))
+    Ok(Ok(Command::Check(document, certificate)))
 }
 
-fn solve(alloc: Global, found: &ArgMatches<'_>) -> Result<Option<Command>, Memory>
-    ensures { IfOk result (λ command. command ≡ matched_solve (rows_of (found_of found.now))) }
+fn apply(alloc: Global, found: &ArgMatches<'_>) -> Result<Read<Command>, Memory>
+    ensures { IfOk result (λ read. result_ok read
+        ≡ apply_by (λ name. first_of name (rows_of (found_of found.now)))) }
 {
-    let Some(formula) = value(found, "formula") else {
-        return Ok(None);
-    };
-    let Some(proof) = value(found, "proof") else {
-        return Ok(None);
-    };
-    let Some(conflicts) = conflicts_of(found) else {
-        return Ok(None);
-    };
-    let formula = Name::make(alloc, formula.as_bytes())?;
-    let proof = Name::make(alloc, proof.as_bytes())?;
-    Ok(Some(Command::Solve(SolveWords {
-        formula,
-        proof,
+    let document = read!(text(found, "DOC"));
+    let edits = read!(text(found, "EDITS"));
+    let suffix = read!(text(found, "out"));
+    Ok(Ok(Command::Apply(ApplyWords {
+        document: Name::make(alloc, document.as_bytes())?,
+        edits: Name::make(alloc, edits.as_bytes())?,
+        suffix: Name::make(alloc, suffix.as_bytes())?,
+    })))
+}
+
+fn solve(alloc: Global, found: &ArgMatches<'_>) -> Result<Read<Command>, Memory>
+    ensures { IfOk result (λ read. result_ok read
+        ≡ solve_by (λ name. first_of name (rows_of (found_of found.now)))) }
+{
+    let formula = read!(text(found, "CNF"));
+    let proof = read!(text(found, "proof"));
+    let conflicts = read!(conflicts(found));
+    Ok(Ok(Command::Solve(SolveWords {
+        formula: Name::make(alloc, formula.as_bytes())?,
+        proof: Name::make(alloc, proof.as_bytes())?,
         conflicts,
     })))
 }
 
-fn lrat(alloc: Global, found: &ArgMatches<'_>) -> Result<Option<Command>, Memory>
-    ensures { IfOk result (λ command. command ≡ matched_lrat (rows_of (found_of found.now))) }
+fn lrat(alloc: Global, found: &ArgMatches<'_>) -> Result<Read<Command>, Memory>
+    ensures { IfOk result (λ read. result_ok read
+        ≡ lrat_by (λ name. first_of name (rows_of (found_of found.now)))) }
 {
-    let Some(formula) = value(found, "formula") else {
-        return Ok(None);
-    };
-    let Some(proof) = value(found, "proof") else {
-        return Ok(None);
-    };
+    let formula = read!(text(found, "CNF"));
+    let proof = read!(text(found, "PROOF"));
     let formula = Name::make(alloc, formula.as_bytes())?;
     let proof = Name::make(alloc, proof.as_bytes())?;
-    Ok(Some(Command::Lrat(formula, proof)))
+    Ok(Ok(Command::Lrat(formula, proof)))
 }
 
-fn repair(alloc: Global, found: &ArgMatches<'_>) -> Result<Option<Command>, Memory>
-    ensures { IfOk result (λ command. command ≡ matched_repair (rows_of (found_of found.now))) }
+fn generate(alloc: Global, found: &ArgMatches<'_>) -> Result<Read<Command>, Memory>
+    ensures { IfOk result (λ read. result_ok read
+        ≡ generate_by (λ name. first_of name (rows_of (found_of found.now)))) }
 {
-    let Some(document) = value(found, "document") else {
-        return Ok(None);
-    };
-    let Some(suffix) = value(found, "out") else {
-        return Ok(None);
-    };
-    let Some(proof) = value(found, "proof") else {
-        return Ok(None);
-    };
-    let bound = match value(found, "max-price") {
-        Some(text) => price_bound(text.as_bytes()),
-        None => Some(DEFAULT_PRICE),
-    };
-    let conflicts = conflicts_of(found);
-    repair_of(
-        alloc,
-        document.as_bytes(),
-        suffix.as_bytes(),
-        proof.as_bytes(),
-        bound,
-        conflicts,
-    )
+    let number = read!(number(found, "N", FEWEST_GENERATED, MOST_GENERATED));
+    let proof = read!(text(found, "proof"));
+    Ok(Ok(Command::Generate(GenerateWords {
+        number: number as u32,
+        proof: Name::make(alloc, proof.as_bytes())?,
+    })))
 }
 
-fn apply(alloc: Global, found: &ArgMatches<'_>) -> Result<Option<Command>, Memory>
-    ensures { IfOk result (λ command. command ≡ matched_apply (rows_of (found_of found.now))) }
+fn nodes(alloc: Global, found: &ArgMatches<'_>) -> Result<Read<Command>, Memory>
+    ensures { IfOk result (λ read. result_ok read
+        ≡ nodes_by (λ name. first_of name (rows_of (found_of found.now)))) }
 {
-    let Some(document) = value(found, "document") else {
-        return Ok(None);
-    };
-    let Some(edits) = value(found, "edits") else {
-        return Ok(None);
-    };
-    let Some(suffix) = value(found, "out") else {
-        return Ok(None);
-    };
+    let document = read!(text(found, "DOC"));
+    let from = read!(prefix(found, "FROM"));
+    let to = read!(prefix(found, "TO"));
+    let failures = read!(number(found, "K", 0, FAILURE_LIMIT));
+    Ok(Ok(Command::Nodes(NodesWords {
+        document: Name::make(alloc, document.as_bytes())?,
+        from,
+        to,
+        failures: failures as u32,
+    })))
+}
+
+fn prefers(alloc: Global, found: &ArgMatches<'_>) -> Result<Read<Command>, Memory>
+    ensures { IfOk result (λ read. result_ok read
+        ≡ prefers_by (λ name. first_of name (rows_of (found_of found.now)))) }
+{
+    let document = read!(text(found, "DOC"));
+    let from = read!(prefix(found, "FROM"));
+    let to = read!(prefix(found, "TO"));
+    let routers = made!(routers(alloc, found, "ROUTERS"));
     let document = Name::make(alloc, document.as_bytes())?;
-    let edits = Name::make(alloc, edits.as_bytes())?;
-    let suffix = Name::make(alloc, suffix.as_bytes())?;
-    Ok(Some(Command::Apply(ApplyWords {
+    Ok(Ok(Command::Prefers(PrefersWords {
         document,
-        edits,
-        suffix,
+        from,
+        to,
+        routers,
     })))
 }
 
-fn generate(alloc: Global, found: &ArgMatches<'_>) -> Result<Option<Command>, Memory>
-    ensures { IfOk result (λ command. command ≡ matched_generate (rows_of (found_of found.now))) }
+fn recheck(alloc: Global, found: &ArgMatches<'_>) -> Result<Read<Command>, Memory>
+    ensures { IfOk result (λ read. result_ok read
+        ≡ recheck_by (λ name. first_of name (rows_of (found_of found.now)))) }
 {
-    let Some(number) = value(found, "number") else {
-        return Ok(None);
-    };
-    let Some(proof) = value(found, "proof") else {
-        return Ok(None);
-    };
-    generate_of(alloc, number.as_bytes(), proof.as_bytes())
+    let document = read!(text(found, "DOC"));
+    let report = read!(text(found, "REPORT"));
+    Ok(Ok(Command::Recheck(RecheckWords {
+        document: Name::make(alloc, document.as_bytes())?,
+        report: Name::make(alloc, report.as_bytes())?,
+    })))
 }
 
-fn nodes(alloc: Global, found: &ArgMatches<'_>) -> Result<Option<Command>, Memory>
-    ensures { IfOk result (λ command. command ≡ matched_nodes (rows_of (found_of found.now))) }
+/// The command of this kind.
+fn read(alloc: Global, kind: CommandKind, found: &ArgMatches<'_>) -> Result<Read<Command>, Memory>
+    ensures { IfOk result (λ read. result_ok read
+        ≡ command_by kind (λ name. first_of name (rows_of (found_of found.now)))) }
 {
-    let Some(document) = value(found, "document") else {
-        return Ok(None);
-    };
-    let Some(from) = value(found, "from") else {
-        return Ok(None);
-    };
-    let Some(to) = value(found, "to") else {
-        return Ok(None);
-    };
-    let Some(failures) = value(found, "failures") else {
-        return Ok(None);
-    };
-    nodes_of(
-        alloc,
-        document.as_bytes(),
-        from.as_bytes(),
-        to.as_bytes(),
-        failures.as_bytes(),
-    )
+    match kind {
+        CommandKind::Verify => verify(alloc, found),
+        CommandKind::Trace => trace(alloc, found),
+        CommandKind::Repair => repair(alloc, found),
+        CommandKind::Check => check(alloc, found),
+        CommandKind::Apply => apply(alloc, found),
+        CommandKind::Solve => solve(alloc, found),
+        CommandKind::Lrat => lrat(alloc, found),
+        CommandKind::Generate => generate(alloc, found),
+        CommandKind::Nodes => nodes(alloc, found),
+        CommandKind::Prefers => prefers(alloc, found),
+        CommandKind::Recheck => recheck(alloc, found),
+    }
 }
 
-fn prefers(alloc: Global, found: &ArgMatches<'_>) -> Result<Option<Command>, Memory>
-    ensures { IfOk result (λ command. command ≡ matched_prefers (rows_of (found_of found.now))) }
-{
-    let Some(document) = value(found, "document") else {
-        return Ok(None);
-    };
-    let Some(from) = value(found, "from") else {
-        return Ok(None);
-    };
-    let Some(to) = value(found, "to") else {
-        return Ok(None);
-    };
-    let Some(routers) = value(found, "routers") else {
-        return Ok(None);
-    };
-    prefers_of(
-        alloc,
-        document.as_bytes(),
-        from.as_bytes(),
-        to.as_bytes(),
-        routers.as_bytes(),
-    )
+/// The value that is wrong, with its word.
+fn wrong_word(
+    alloc: Global,
+    found: &ArgMatches<'_>,
+    wrong: WrongValue,
+) -> Result<WrongWords, Memory> {
+    let word = value(found, wrong.name).unwrap_or("");
+    Ok(WrongWords::Value(WrongWord {
+        name: wrong.name,
+        word: Name::make(alloc, word.as_bytes())?,
+        fault: wrong.fault,
+    }))
 }
 
-fn recheck(alloc: Global, found: &ArgMatches<'_>) -> Result<Option<Command>, Memory>
-    ensures { IfOk result (λ command. command ≡ matched_recheck (rows_of (found_of found.now))) }
+/// The command of this kind, or else the word that is wrong.
+fn read_or_word(
+    alloc: Global,
+    kind: CommandKind,
+    found: &ArgMatches<'_>,
+) -> Result<Result<Command, WrongWords>, Memory>
+    ensures { IfOk result (λ read. result_ok read
+        ≡ command_by kind (λ name. first_of name (rows_of (found_of found.now)))) }
 {
-    let Some(document) = value(found, "document") else {
-        return Ok(None);
-    };
-    let Some(report) = value(found, "report") else {
-        return Ok(None);
-    };
-    let document = Name::make(alloc, document.as_bytes())?;
-    let report = Name::make(alloc, report.as_bytes())?;
-    Ok(Some(Command::Recheck(RecheckWords { document, report })))
+    match read(alloc, kind, found) {
+        Ok(Ok(command)) => Ok(Ok(command)),
+        Ok(Err(wrong)) => Ok(Err(wrong_word(alloc, found, wrong)?)),
+        Err(memory) => Err(memory),
+    }
 }
 
-/// The command of this name, where it edits files or makes some, or judges beyond failed links.
-fn later(alloc: Global, name: &str, found: &ArgMatches<'_>) -> Result<Option<Command>, Memory>
-    ensures { IfOk result (λ command.
-        command ≡ matched_later name.now (rows_of (found_of found.now))) }
+/// The command of this name, with the values that `clap` found.
+fn named(
+    alloc: Global,
+    name: &str,
+    found: &ArgMatches<'_>,
+) -> Result<Result<Command, WrongWords>, Memory>
+    ensures { IfOk result (λ read. result_ok read
+        ≡ matched_named name.now (rows_of (found_of found.now))) }
 {
-    if name == "repair" {
-        return repair(alloc, found);
+    match form_named(name) {
+        Some(form) => read_or_word(alloc, form.kind, found),
+        None => Ok(Err(WrongWords::NoCommand)),
     }
-    if name == "apply" {
-        return apply(alloc, found);
-    }
-    if name == "generate" {
-        return generate(alloc, found);
-    }
-    if name == "nodes" {
-        return nodes(alloc, found);
-    }
-    if name == "prefers" {
-        return prefers(alloc, found);
-    }
-    if name == "recheck" {
-        return recheck(alloc, found);
-    }
-    Ok(None)
-}
-
-/// The command of this name.
-fn named(alloc: Global, name: &str, found: &ArgMatches<'_>) -> Result<Option<Command>, Memory>
-    ensures { IfOk result (λ command.
-        command ≡ matched_named name.now (rows_of (found_of found.now))) }
-{
-    if name == "verify" {
-        return verify(alloc, found);
-    }
-    if name == "trace" {
-        return trace(alloc, found);
-    }
-    if name == "check" {
-        return check(alloc, found);
-    }
-    if name == "solve" {
-        return solve(alloc, found);
-    }
-    if name == "lrat" {
-        return lrat(alloc, found);
-    }
-    later(alloc, name, found)
 }
 
 /// The command with the values that `clap` found, each read.
 pub fn command_of_matches(
     alloc: Global,
     matches: &ArgMatches<'_>,
-) -> Result<Option<Command>, Memory>
-    ensures { IfOk result (λ command. command ≡ matched_command (subcommand_rows_of matches.now)) }
+) -> Result<Result<Command, WrongWords>, Memory>
+    ensures { IfOk result (λ read. result_ok read
+        ≡ matched_command (subcommand_rows_of matches.now)) }
 {
     let Some((name, found)) = matches.subcommand() else {
-        return Ok(None);
+        return Ok(Err(WrongWords::NoCommand));
     };
     named(alloc, name, found)
 }

@@ -1,12 +1,15 @@
 //! The reading of the words.
 ghost use Rattle.std.specs.Prelude.{◌≡◌, IfOk, IfSome, None, Some, if◌then◌else◌, map, option_map};
 ghost use Rattle.std.specs.List.{list_all};
+ghost use Rattle.std.specs.Result.{result_ok};
 ghost use Rattle.std.specs.Str.{is_utf8};
 ghost use Rattle.command_words.specs.Commands.{command_of, HasLimit};
 
 use crate::commands::Command;
+use crate::forms::command_forms;
 use crate::grammar::command_line;
 use crate::matched::command_of_matches;
+use crate::wrong::WrongWords;
 use arc_base::{Memory, Name};
 use clap::error::ErrorKind;
 use std::alloc::Global;
@@ -26,19 +29,29 @@ fn texts_of<'a>(alloc: Global, words: &'a [Name]) -> Result<Option<Vec<&'a str>>
     Ok(Some(texts))
 }
 
+/// The command that the words after the program's name match, and else why they match none.
+pub fn explain_words(alloc: Global, words: &[Name]) -> Result<Result<Command, WrongWords>, Memory>
+    ensures { IfOk result (λ read. result_ok read ≡ command_of words.now) }
+{
+    let Some(texts) = texts_of(alloc, words)? else {
+        return Ok(Err(WrongWords::NotText));
+    };
+    match command_line(alloc, command_forms())?.try_get_matches_from(texts.as_slice()) {
+        Ok(matches) => command_of_matches(alloc, &matches),
+        Err(error) => match error.kind() {
+            ErrorKind::OutOfMemory => Err(Memory),
+            _ => Ok(Err(WrongWords::Form(error))),
+        },
+    }
+}
+
 /// The command that the words after the program's name match, if they match one.
 pub fn read_words(alloc: Global, words: &[Name]) -> Result<Option<Command>, Memory>
     ensures command { IfOk result (λ command. command ≡ command_of words.now) }
     ensures limit { IfOk result (λ command. IfSome command HasLimit) }
 {
-    let Some(texts) = texts_of(alloc, words)? else {
-        return Ok(None);
-    };
-    match command_line(alloc)?.try_get_matches_from(texts.as_slice()) {
-        Ok(matches) => command_of_matches(alloc, &matches),
-        Err(error) => match error.kind() {
-            ErrorKind::OutOfMemory => Err(Memory),
-            _ => Ok(None),
-        },
+    match explain_words(alloc, words) {
+        Ok(read) => Ok(read.ok()),
+        Err(memory) => Err(memory),
     }
 }

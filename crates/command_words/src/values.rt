@@ -1,65 +1,88 @@
-//! The values of words: prefixes, the numbers of links and the limit of a search.
-ghost use Rattle.std.specs.Prelude.{◌≡◌, ◌≤◌, ◌<◌, ◌^◌, IfOk, IfSome};
+//! The values of words: prefixes, numbers, the numbers of links and the names of routers. Each
+//! reader says what is wrong with a word that it refuses.
+ghost use Rattle.std.specs.Prelude.{◌≡◌, ◌≤◌, ◌<◌, ◌^◌, IfOk, MatchResult, None, Some};
+ghost use Rattle.std.specs.List.{list_all};
+ghost use Rattle.std.specs.Result.{result_ok};
+ghost use Rattle.arc_base.specs.NameForms.{is_name};
+ghost use Rattle.arc_base.specs.PrefixText.{prefix_of};
 ghost use Rattle.command_words.specs.Values.{
-  conflict_limit,
-  failed_routers,
-  generate_of,
+  comma_words,
   link_number,
   link_numbers,
-  nodes_of,
   number_within,
-  price_bound,
-  repair_of,
-  router_count,
-  trace_of,
+  prefix_fault,
+  router_names,
 };
 
-use crate::commands::{Command, GenerateWords, NodesWords, RepairWords, TraceWords};
-use arc_base::limits::{
-    CONFLICT_LIMIT, FAILURE_LIMIT, FEWEST_GENERATED, MOST_GENERATED, PRICE_LIMIT,
+use arc_base::limits::ROUTER_LIMIT;
+use arc_base::{
+    List, Memory, Name, Prefix, cut_at, is_name, read_address, read_number, read_prefix,
 };
-use arc_base::{List, Memory, Name, cut_at, read_prefix};
 use cnf_types::natural;
 use std::alloc::Global;
 
-/// The trace with these words, if they are prefixes and the numbers are some.
-pub fn trace_of(
-    alloc: Global,
-    document: &[u8],
-    from: &[u8],
-    to: &[u8],
-    down: Option<List<u32>>,
-) -> Result<Option<Command>, Memory>
-    ensures { IfOk result (λ command. command ≡ trace_of document.now from.now to.now down) }
+/// The highest number of a link.
+pub const LAST_LINK: u64 = 4_294_967_295;
+
+/// What is wrong with a word that is to be a value.
+#[derive(Clone, Copy, Debug, PartialEq, Eq)]
+pub enum Fault {
+    /// There is none.
+    Missing,
+    /// It is not an address and a length.
+    NotPrefix,
+    /// It is this address and this length, and the address has bits past the length.
+    PastBits(u32, u64),
+    /// It is not a number of at most 10 digits from the first to the second of these.
+    NotNumber(u64, u64),
+    /// It is not numbers from 1 to `LAST_LINK`, of at most 10 digits each, joined by commas.
+    NotLinks,
+    /// It is not at most `ROUTER_LIMIT` names joined by commas.
+    NotRouters,
+}
+
+/// What is wrong with a word that is no prefix.
+fn prefix_fault(word: &[u8]) -> Fault
+    ensures { result ≡ prefix_fault word.now }
 {
-    let Some(origin) = read_prefix(from) else {
-        return Ok(None);
+    let Some((address, length)) = cut_at(word, b'/') else {
+        return Fault::NotPrefix;
     };
-    let Some(destination) = read_prefix(to) else {
-        return Ok(None);
+    let Some(address) = read_address(address) else {
+        return Fault::NotPrefix;
     };
-    let Some(down) = down else {
-        return Ok(None);
+    let Some(length) = read_number(length) else {
+        return Fault::NotPrefix;
     };
-    Ok(Some(Command::Trace(TraceWords {
-        document: Name::make(alloc, document)?,
-        from: origin,
-        to: destination,
-        down,
-    })))
+    if length > 32 {
+        Fault::NotPrefix
+    } else {
+        Fault::PastBits(address, length)
+    }
+}
+
+/// A prefix.
+pub fn prefix(word: &[u8]) -> Result<Prefix, Fault>
+    ensures { MatchResult result (λ prefix. prefix_of word.now ≡ Some prefix)
+        (λ fault. (prefix_of word.now ≡ None) × (fault ≡ prefix_fault word.now)) }
+{
+    match read_prefix(word) {
+        Some(prefix) => Ok(prefix),
+        None => Err(prefix_fault(word)),
+    }
 }
 
 /// A number of 1 to 10 digits in a range.
-fn number_within(word: &[u8], least: u64, most: u64) -> Option<u64>
+pub fn number(word: &[u8], least: u64, most: u64) -> Result<u64, Fault>
     requires { most < 2 ^ 63 }
-    ensures number { result ≡ number_within least most word.now }
-    ensures most { IfSome result (λ number. number ≤ most) }
+    ensures read { MatchResult result (λ number. number_within least most word.now ≡ Some number)
+        (λ fault. (number_within least most word.now ≡ None)
+        × (fault ≡ Fault.NotNumber least most)) }
+    ensures most { IfOk result (λ number. number ≤ most) }
 {
-    let number = natural(word, most)?;
-    if word.len() <= 10 && number >= least {
-        Some(number)
-    } else {
-        None
+    match natural(word, most) {
+        Some(number) if word.len() <= 10 && number >= least => Ok(number),
+        _ => Err(Fault::NotNumber(least, most)),
     }
 }
 
@@ -67,124 +90,63 @@ fn number_within(word: &[u8], least: u64, most: u64) -> Option<u64>
 fn link_number(word: &[u8]) -> Option<u32>
     ensures { result ≡ link_number word.now }
 {
-    let number = number_within(word, 1, 4_294_967_295)?;
-    Some(number as u32)
-}
-
-/// The number of conflicts that a search may learn from.
-pub fn conflict_limit(word: &[u8]) -> Option<u64>
-    ensures { result ≡ conflict_limit word.now }
-{
-    number_within(word, 1, CONFLICT_LIMIT)
+    match number(word, 1, LAST_LINK) {
+        Ok(number) => Some(number as u32),
+        Err(_) => None,
+    }
 }
 
 /// The numbers of links that commas join.
-pub fn link_numbers(alloc: Global, text: &[u8]) -> Result<Option<List<u32>>, Memory>
-    ensures { IfOk result (λ numbers. numbers ≡ link_numbers text.now) }
+pub fn links(alloc: Global, text: &[u8]) -> Result<Result<List<u32>, Fault>, Memory>
+    ensures { IfOk result (λ links. result_ok links ≡ link_numbers text.now) }
 {
     let mut numbers = Vec::new(alloc);
     let mut rest = text;
     while let Some((word, after)) = cut_at(rest, b',') {
         match link_number(word) {
             Some(number) => numbers.push(number)?,
-            None => return Ok(None),
+            None => return Ok(Err(Fault::NotLinks)),
         }
         rest = after;
     }
     match link_number(rest) {
         Some(number) => numbers.push(number)?,
-        None => return Ok(None),
+        None => return Ok(Err(Fault::NotLinks)),
     }
-    Ok(Some(List::of(numbers)?))
+    Ok(Ok(List::of(numbers)?))
 }
 
-/// The highest price of a repair.
-pub fn price_bound(word: &[u8]) -> Option<u32>
-    ensures { result ≡ price_bound word.now }
+/// The words that commas join.
+fn comma_words(alloc: Global, text: &[u8]) -> Result<List<Name>, Memory>
+    ensures { IfOk result (λ words. words ≡ comma_words text.now) }
 {
-    let number = number_within(word, 0, u64::from(PRICE_LIMIT))?;
-    Some(number as u32)
+    let mut words = Vec::new(alloc);
+    let mut rest = text;
+    while let Some((word, after)) = cut_at(rest, b',') {
+        words.push(Name::make(alloc, word)?)?;
+        rest = after;
+    }
+    words.push(Name::make(alloc, rest)?)?;
+    Ok(List::of(words)?)
 }
 
-/// How many routers may fail.
-fn failed_routers(word: &[u8]) -> Option<u32>
-    ensures { result ≡ failed_routers word.now }
+fn are_router_names(words: &[Name]) -> bool
+    ensures { result ≡ list_all is_name words.now }
 {
-    let number = number_within(word, 0, FAILURE_LIMIT)?;
-    Some(number as u32)
+    words.iter().all(|word| is_name(word.bytes()))
 }
 
-/// The repair with these words, if the numbers are some.
-pub fn repair_of(
-    alloc: Global,
-    document: &[u8],
-    suffix: &[u8],
-    proof: &[u8],
-    bound: Option<u32>,
-    conflicts: Option<u64>,
-) -> Result<Option<Command>, Memory>
-    ensures { IfOk result (λ command.
-        command ≡ repair_of document.now suffix.now proof.now bound conflicts) }
+/// The names of routers that commas join, at most `ROUTER_LIMIT`.
+pub fn routers(alloc: Global, text: &[u8]) -> Result<Result<List<Name>, Fault>, Memory>
+    ensures { IfOk result (λ names. result_ok names ≡ router_names text.now) }
 {
-    let Some(bound) = bound else {
-        return Ok(None);
-    };
-    let Some(conflicts) = conflicts else {
-        return Ok(None);
-    };
-    Ok(Some(Command::Repair(RepairWords {
-        document: Name::make(alloc, document)?,
-        suffix: Name::make(alloc, suffix)?,
-        proof: Name::make(alloc, proof)?,
-        bound,
-        conflicts,
-    })))
-}
-
-/// How many routers a network that is made has.
-fn router_count(word: &[u8]) -> Option<u32>
-    ensures { result ≡ router_count word.now }
-{
-    let number = number_within(word, FEWEST_GENERATED, MOST_GENERATED)?;
-    Some(number as u32)
-}
-
-/// The network to make with these words, if the count is one.
-pub fn generate_of(alloc: Global, count: &[u8], proof: &[u8]) -> Result<Option<Command>, Memory>
-    ensures { IfOk result (λ command. command ≡ generate_of count.now proof.now) }
-{
-    let Some(number) = router_count(count) else {
-        return Ok(None);
-    };
-    Ok(Some(Command::Generate(GenerateWords {
-        number,
-        proof: Name::make(alloc, proof)?,
-    })))
-}
-
-/// The judgement under failed routers with these words, if they are prefixes and the count is one.
-pub fn nodes_of(
-    alloc: Global,
-    document: &[u8],
-    from: &[u8],
-    to: &[u8],
-    count: &[u8],
-) -> Result<Option<Command>, Memory>
-    ensures { IfOk result (λ command. command ≡ nodes_of document.now from.now to.now count.now) }
-{
-    let Some(origin) = read_prefix(from) else {
-        return Ok(None);
-    };
-    let Some(destination) = read_prefix(to) else {
-        return Ok(None);
-    };
-    let Some(failures) = failed_routers(count) else {
-        return Ok(None);
-    };
-    Ok(Some(Command::Nodes(NodesWords {
-        document: Name::make(alloc, document)?,
-        from: origin,
-        to: destination,
-        failures,
-    })))
+    let words = comma_words(alloc, text)?;
+    if u64::from(words.len()) > ROUTER_LIMIT {
+        return Ok(Err(Fault::NotRouters));
+    }
+    if are_router_names(words.slice()) {
+        Ok(Ok(words))
+    } else {
+        Ok(Err(Fault::NotRouters))
+    }
 }

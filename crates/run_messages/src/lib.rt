@@ -10,14 +10,12 @@ mod lines;
 mod refusals;
 mod reports;
 mod showing;
-mod stop;
 mod tee;
 #[cfg(test)]
 mod tests;
-mod values;
 mod words;
 
-pub use commands::{FORMS, Form, VERSION, asks_for_help, asks_for_version, form_of, near_form};
+pub use commands::{VERSION, asks_for_help, asks_for_version, near_form};
 pub use documents::{document_fault, document_item};
 pub use lines::{WrongWord, line_at, wrong_word};
 pub use refusals::{Refused, told_refusal};

@@ -1,9 +1,10 @@
 use crate::{
-    Tee, WrongWord, asks_for_help, asks_for_version, document_fault, document_item, form_of,
-    front_of, is_barred, line_at, near_form, told_refusal, visible, words_fault, wrong_word,
+    Tee, WrongWord, asks_for_help, asks_for_version, document_fault, document_item, front_of,
+    is_barred, line_at, near_form, told_refusal, visible, words_fault, wrong_word,
 };
 use arc_base::Name;
 use arc_outside::{Sink, SureSink};
+use command_words::form_named;
 use std::alloc::Global;
 use std::test::Fail;
 
@@ -60,23 +61,38 @@ const COMMAND_LINES: &[(&str, &str)] = &[
     // the options
     (
         "verify d --quiet",
-        "wrong word: --quiet (verify has no such option)",
+        "unexpected argument '--quiet' found; tip: to pass '--quiet' as a value, use '-- --quiet'",
     ),
-    ("lrat f --=1", "wrong word: --=1 (lrat has no such option)"),
-    ("lrat f -x", "wrong word: -x (lrat has no such option)"),
+    ("lrat f --=1", "unexpected argument '--' found"),
+    (
+        "lrat f -x",
+        "unexpected argument '-x' found; tip: to pass '-x' as a value, use '-- -x'",
+    ),
     (
         "trace --down=1 d --down 2",
-        "wrong word: --down (that option stands twice)",
+        "the argument '--down <down>' cannot be used multiple times",
     ),
-    ("trace d --down", "a value is missing after --down"),
-    ("trace d --down -1", "a value is missing after --down"),
-    ("apply d e", "--out is missing"),
-    ("repair d --out .n --conflicts 5", "--proof is missing"),
+    (
+        "trace d --down",
+        "a value is required for '--down <down>' but none was supplied",
+    ),
+    ("trace d --down -1", "unexpected argument '-1' found"),
+    (
+        "apply d e",
+        "the following required arguments were not provided: --out <out>",
+    ),
+    (
+        "repair d --out .n --conflicts 5",
+        "the following required arguments were not provided: --proof <proof>",
+    ),
     // the places
-    ("recheck d", "too few words for DOC REPORT"),
+    (
+        "recheck d",
+        "the following required arguments were not provided: <REPORT>",
+    ),
     (
         "trace -- d 10.1.0.0/24 10.2.0.0/16 --down 2",
-        "too many words for DOC FROM TO",
+        "unexpected argument '--down' found",
     ),
     // the values
     (
@@ -138,17 +154,17 @@ fn said_of_words(alloc: Global, line: &str) -> Result<String, Fail> {
     for word in line.split(' ') {
         words.push(Name::make(alloc, word.as_bytes())?)?;
     }
-    let (command, given) = words.split_first().ok_or("no word")?;
-    let Some(form) = form_of(command.bytes()) else {
-        let said = match near_form(command.bytes()) {
+    let command = line.split(' ').next().ok_or("no word")?;
+    let Some(form) = form_named(command) else {
+        let said = match near_form(command.as_bytes()) {
             Some(form) => form.name,
-            None if asks_for_help(command.bytes()) => "help",
-            None if asks_for_version(command.bytes()) => "version",
+            None if asks_for_help(command.as_bytes()) => "help",
+            None if asks_for_version(command.as_bytes()) => "version",
             None => "none",
         };
         return Ok(String::from_str(alloc, said)?);
     };
-    match words_fault(alloc, form, given) {
+    match words_fault(alloc, form, words.as_slice()) {
         Some(fault) => Ok(fault),
         None => Ok(form.to_string(alloc)?),
     }

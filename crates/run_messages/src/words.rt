@@ -1,136 +1,101 @@
-//! Why words match no command, where the first of them names one.
+//! Why words match no command, as a sentence: what the reader of the words says is wrong.
 
-use crate::commands::Form;
-use crate::stop::Stop;
-use crate::values::check_value;
 use arc_base::Name;
-use std::alloc::Global;
+use arc_base::limits::{NAME_LIMIT, ROUTER_LIMIT};
+use command_words::{CommandForm, Fault, LAST_LINK, WrongWord, WrongWords, explain_words};
+use std::alloc::{AllocError, Global};
+use std::net::Ipv4Addr;
 use std::str;
 
-/// What the words that follow a command's name give it, as far as they are read.
-#[derive(Drop)]
-struct Given<'a> {
+/// The first address of the network of an address and a length up to 32.
+fn network(address: u32, length: u64) -> Ipv4Addr {
+    let past = 32u64.saturating_sub(length).min(32) as u32;
+    let mask = u32::MAX.checked_shl(past).unwrap_or(0);
+    Ipv4Addr::from_bits(address & mask)
+}
+
+/// What a value is, where a word was not.
+fn wanted(alloc: Global, fault: Fault) -> Result<String, AllocError> {
+    match fault {
+        Fault::Missing => format!(in alloc; "is missing"),
+        Fault::NotPrefix => format!(in alloc; "is a prefix such as 10.1.0.0/24"),
+        Fault::PastBits(address, length) => {
+            let network = network(address, length);
+            format!(in alloc; "has bits past its length; its network is {network}/{length}")
+        }
+        Fault::NotNumber(least, most) => {
+            format!(in alloc; "is a number from {least} to {most} of at most 10 digits")
+        }
+        Fault::NotLinks => {
+            let range = format_args!("from 1 to {LAST_LINK} of at most 10 digits");
+            format!(in alloc; "is numbers {range}, joined by commas")
+        }
+        Fault::NotRouters => {
+            let each = format_args!("each of 1 to {NAME_LIMIT} letters, digits, -, _ and .");
+            format!(in alloc; "is 1 to {ROUTER_LIMIT} names joined by commas, {each}")
+        }
+    }
+}
+
+/// A value is wrong.
+fn value_sentence(
     alloc: Global,
-    form: Form,
-    places: Vec<&'a str>,
-    options: Vec<(&'a str, &'a str)>,
-    // The option whose value is the next word.
-    waiting: Option<&'a str>,
-    // Whether `--` stood, after which no word is an option.
-    is_past_options: bool,
-}
-
-fn without_value(alloc: Global, option: &str) -> Stop {
-    Stop::saying(alloc, format_args!("a value is missing after {option}"))
-}
-
-impl<'a> Given<'a> {
-    fn has(&self, option: &str) -> bool {
-        self.options.iter().any(|given| given.0 == option)
-    }
-
-    fn take(&mut self, word: &'a str) -> Result<(), Stop> {
-        let is_option = !self.is_past_options && word.len() > 1 && word.starts_with('-');
-        if let Some(option) = self.waiting {
-            if is_option {
-                return Err(without_value(self.alloc, option));
-            }
-            self.waiting = None;
-            self.options.push((option, word))?;
-        } else if is_option && word == "--" {
-            self.is_past_options = true;
-        } else if is_option {
-            self.take_option(word)?;
-        } else {
-            self.places.push(word)?;
-        }
-        Ok(())
-    }
-
-    /// Takes `--NAME` or `--NAME=VALUE`.
-    fn take_option(&mut self, word: &'a str) -> Result<(), Stop> {
-        let (option, value) = match word.split_once('=') {
-            Some((option, value)) => (option, Some(value)),
-            None => (word, None),
-        };
-        if !self.form.has_option(option) {
-            let command = self.form.name;
-            let why = format_args!("{command} has no such option");
-            return Err(Stop::at_word(self.alloc, word, why));
-        }
-        if self.has(option) {
-            return Err(Stop::at_word(self.alloc, word, "that option stands twice"));
-        }
-        match value {
-            Some(value) => self.options.push((option, value))?,
-            None => self.waiting = Some(option),
-        }
-        Ok(())
-    }
-
-    /// Whether nothing is missing, and nothing one too many.
-    fn check_counts(&self) -> Result<(), Stop> {
-        if let Some(option) = self.waiting {
-            return Err(without_value(self.alloc, option));
-        }
-        for option in self.form.options.split(' ') {
-            if option.starts_with("--") && !self.has(option) {
-                return Err(Stop::saying(self.alloc, format_args!("{option} is missing")));
-            }
-        }
-        let wanted = self.form.places;
-        let count = wanted.split(' ').count();
-        if self.places.len() < count {
-            return Err(Stop::saying(self.alloc, format_args!("too few words for {wanted}")));
-        }
-        if self.places.len() > count {
-            return Err(Stop::saying(self.alloc, format_args!("too many words for {wanted}")));
-        }
-        Ok(())
-    }
-
-    fn check_values(&self) -> Result<(), Stop> {
-        for (place, word) in self.form.places.split(' ').zip(self.places.iter()) {
-            check_value(self.alloc, place, *word)?;
-        }
-        for (option, word) in self.options.iter() {
-            check_value(self.alloc, *option, *word)?;
-        }
-        Ok(())
-    }
-}
-
-fn check_words(alloc: Global, form: Form, words: &[Name]) -> Result<(), Stop> {
-    let mut given = Given {
-        alloc,
-        form,
-        places: Vec::new(alloc),
-        options: Vec::new(alloc),
-        waiting: None,
-        is_past_options: false,
+    form: CommandForm,
+    wrong: &WrongWord,
+) -> Result<String, AllocError> {
+    let name = wrong.name;
+    let hyphens = if form.places.contains(&name) {
+        ""
+    } else {
+        "--"
     };
-    for word in words {
-        match str::from_utf8(word.bytes()) {
-            Ok(word) => given.take(word)?,
-            Err(_) => return Err(Stop::saying(alloc, "a word is not UTF-8")),
+    let word = str::from_utf8(wrong.word.bytes()).unwrap_or("");
+    let why = wanted(alloc, wrong.fault)?;
+    format!(in alloc; "wrong word: {word} ({hyphens}{name} {why})")
+}
+
+/// What `clap` says of words that are in no command's form, without its usage, in one line.
+fn form_sentence(alloc: Global, said: &str) -> Result<String, AllocError> {
+    let said = said.strip_prefix("error: ").unwrap_or(said);
+    let mut sentence = String::new(alloc);
+    for line in said.lines() {
+        if line.starts_with("Usage:") {
+            break;
         }
+        if line.trim().starts_with("tip:") {
+            sentence.push_str(";")?;
+        }
+        if !sentence.is_empty() && !line.is_empty() {
+            sentence.push_str(" ")?;
+        }
+        sentence.push_str(line.trim())?;
     }
-    given.check_counts()?;
-    given.check_values()
+    Ok(sentence)
+}
+
+/// Why words are no command.
+fn sentence(alloc: Global, form: CommandForm, wrong: &WrongWords) -> Result<String, AllocError> {
+    match wrong {
+        WrongWords::NotText => format!(in alloc; "a word is not UTF-8"),
+        WrongWords::NoCommand => format!(in alloc; "no command is named so"),
+        WrongWords::Form(error) => form_sentence(alloc, error.to_string(alloc)?.as_str()),
+        WrongWords::Value(wrong) => value_sentence(alloc, form, wrong),
+    }
 }
 
 fn is_help(word: &[u8]) -> bool {
     matches!(word, b"--help" | b"-h")
 }
 
-/// Why the words that follow a command's name do not match its form. There is nothing to say where
-/// they do, and where there are none or they ask for help, so that the form alone is wanted.
-pub fn words_fault(alloc: Global, form: Form, words: &[Name]) -> Option<String> {
-    if words.is_empty() || words.iter().any(|word| is_help(word.bytes())) {
+/// Why words whose first is the name of this command do not match its form. There is nothing to
+/// say where they do, and where no others follow or they ask for help, so that the form alone is
+/// wanted.
+pub fn words_fault(alloc: Global, form: CommandForm, words: &[Name]) -> Option<String> {
+    if words.len() < 2 || words.iter().any(|word| is_help(word.bytes())) {
         return None;
     }
-    match check_words(alloc, form, words) {
-        Err(Stop::Said(why)) => Some(why),
-        Err(Stop::Memory) | Ok(()) => None,
+    match explain_words(alloc, words) {
+        Ok(Err(wrong)) => sentence(alloc, form, &wrong).ok(),
+        _ => None,
     }
 }

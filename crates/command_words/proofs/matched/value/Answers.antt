@@ -8,4 +8,4 @@ either None o e = sym e
 either (Some text) o e = sym e
 
 pub returns : goal.returns
-returns c = either c.get_str.result (first_of c.args.id.now (rows_of (found_of c.args.found.now))) (c.get_str.ensures ∙ first_value-rows (found_of c.args.found.now) c.args.id.now)
+returns c = either c.get_str.result (first_of c.args.name.now (rows_of (found_of c.args.found.now))) (c.get_str.ensures ∙ first_value-rows (found_of c.args.found.now) c.args.name.now)

@@ -1,7 +1,7 @@
 use Rattle.std.proofs.Common.{◌≡◌, ◌∙◌, ◌++◌, ◌∷◌, [], append_assoc, sym, ap, List, ℕ}
 use Rattle.command_words.specs.Values.{comma_words}
 use Rattle.command_words.proofs.LinkNumbers.{word_cut, whole_word, rest_shorter}
-use Rattle.command_words.proofs.router_lists.comma_words.Goals as goal
+use Rattle.command_words.proofs.values.comma_words.Goals as goal
 
 -- one word more
 more : (all words word rest after : List (List ℕ)) → all ≡ words ++ rest → rest ≡ word ++ after → all ≡ (words ++ word) ++ after

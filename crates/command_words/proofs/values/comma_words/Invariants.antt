@@ -1,6 +1,6 @@
 use Rattle.std.proofs.Common.{◌≡◌, ◌++◌, length}
 use Rattle.command_words.specs.Values.{comma_words}
-use Rattle.command_words.proofs.router_lists.comma_words.Given as goal
+use Rattle.command_words.proofs.values.comma_words.Given as goal
 
 -- the words so far, and those of the rest
 abbrev pub invariant-loop-word : goal.invariant-loop-word

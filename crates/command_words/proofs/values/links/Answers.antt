@@ -1,7 +1,7 @@
 use Rattle.std.proofs.Common.{◌≡◌, ◌∙◌, sym, ap, subst, List, [], ℕ, Some}
 use Rattle.command_words.specs.Values.{link_numbers}
 use Rattle.command_words.proofs.LinkNumbers.{following, words_of, word_cut, whole_word, none_before, number_more, number_none, number_last, rest_shorter}
-use Rattle.command_words.proofs.values.link_numbers.Goals as goal
+use Rattle.command_words.proofs.values.links.Goals as goal
 
 pub loop-word-init : goal.loop-word-init
 loop-word-init c =
