@@ -1,0 +1,1 @@
+"""Times of a built arcv beside other programs: `bench/run` measures, one module an idea."""
