@@ -1,25 +1,22 @@
 -- Whether an arc is routed can be decided, and the usable arcs of a network can be listed.
 use Rattle.std.proofs.Common.{◌≡◌, ℕ, zero, suc, ◌<◌, ◌⊎◌, inl, inr, Bool, true, false, Option, Some, None, List, [], ◌∷◌, length, ap, refl, sym, ◌∙◌, subst, arith}
-use Rattle.std.specs.Prelude.{IsTrue, IsFalse, IfSome, IsSomeAnd, Any, is_some, unwrap_or, slice_get}
+use Rattle.std.specs.Prelude.{◌↔◌, IsTrue, IsFalse, IfSome, IsSomeAnd, Any, is_some, slice_get}
 use Rattle.std.specs.List.{AllByRecursion}
 use Rattle.std.proofs.lemmas.Bool.{false≢true, cases_lt}
-use Rattle.std.proofs.lemmas.Bool.Decides.{eqb_tells}
 use Rattle.std.proofs.lemmas.Option.{slice_get_within}
 use Rattle.arc_base.specs.declared.prefix.Prefix.{Prefix}
 use Rattle.arc_base.specs.declared.place.Face.{Face}
 use Rattle.arc_base.specs.declared.place.ListId.{ListId}
-use Rattle.arc_base.proofs.SamePrefix.{same_prefix}
 use Rattle.net_model.specs.declared.lists.RouteList.{RouteList}
-use Rattle.net_model.specs.declared.rows.Protocol.{Protocol}
-use Rattle.net_model.specs.declared.rows.Protocol.TheVariants.{Ospf, Bgp}
 use Rattle.net_model.specs.declared.rows.FaceRow.{FaceRow}
 use Rattle.net_model.specs.declared.rows.LinkRow.{LinkRow}
-use Rattle.net_model.specs.declared.rows.RouterRow.{RouterRow}
 use Rattle.net_model.specs.declared.rows.SessionRow.{SessionRow}
 use Rattle.net_model.specs.declared.rows.Network.{Network}
+use Rattle.net_model.specs.Decided.{is_able_end, is_open, is_told}
 use Rattle.net_model.specs.Lists.{route_permits}
-use Rattle.net_model.specs.Routing.{Arc, IsArc, IsRouted, IsUsable, Tells, Names, TakesPart, IsAbleEnd, IsOpen, RouteListPermits, FilterPermits, Carries, session_at, tail_face, head_face, tail_end, head_end}
+use Rattle.net_model.specs.Routing.{Arc, IsArc, IsRouted, IsUsable, Tells, IsAbleEnd, IsOpen, RouteListPermits, FilterPermits, Carries, session_at, tail_face, head_face, tail_end, head_end}
 use Rattle.net_model.proofs.Arcs.{one_item, IsArc-unique}
+use Rattle.net_model.proofs.Decided.{able_right, open_right, told_right}
 use Rattle.net_laws.proofs.Triples.{true_or_false}
 
 -- it holds, or it does not
@@ -47,66 +44,15 @@ pub is_some_and : {X : Type 0} (P : X → Type 0) → ((x : X) → Decided (P x)
 is_some_and P each None = inr (λ h. h)
 is_some_and P each (Some x) = each x
 
-same_number : (m n : ℕ) → Decided (m ≡ n)
-same_number m n = elim (eqb_tells m n) [ inl e ↦ inl e.1 | inr e ↦ inr e.1 ]
-
-is_number : (o : Option ℕ) (n : ℕ) → Decided (o ≡ Some n)
-is_number None n = inr (λ e. false≢true (ap is_some e))
-is_number (Some m) n =
-    elim (eqb_tells m n) [ inl e ↦ inl (ap Some e.1) | inr e ↦ inr (λ q. e.1 (ap (λ (o : Option ℕ). unwrap_or o m) q)) ]
-
-is_prefix : (o : Option Prefix) (p : Prefix) → Decided (o ≡ Some p)
-is_prefix None p = inr (λ e. false≢true (ap is_some e))
-is_prefix (Some q) p =
-    elim (both (same_number q.addr p.addr) (same_number q.len p.len)) [
-      | inl e ↦ inl (ap Some (same_prefix q p e.0 e.1))
-      | inr n ↦ inr (λ e. let same : q ≡ p = ap (λ (o : Option Prefix). unwrap_or o q) e in n (ap (λ (x : Prefix). x.addr) same, ap (λ (x : Prefix). x.len) same))
-    ]
-
-no_any : {X : Type 0} (P : X → Type 0) (x : X) (xs : List X) → (P x → ⊥) → (Any P xs → ⊥) → Any P (x ∷ xs) → ⊥
-no_any P x xs n m (zero, y, within, e, h) = n (subst P (sym e) h)
-no_any P x xs n m (suc k, y, within, e, h) = m (k, y, omega arith, e, h)
-
-any : {X : Type 0} (P : X → Type 0) → ((x : X) → Decided (P x)) → (xs : List X) → Decided (Any P xs)
-any P each [] = inr (λ h. absurd (omega (arith, h.2)))
-any P each (x ∷ xs) =
-    elim (each x) [
-      | inl h ↦ inl (0, x, omega arith, refl, h)
-      | inr n ↦ elim (any P each xs) [
-        | inl h ↦ inl (suc h.0, h.1, omega (arith, h.2), h.3, h.4)
-        | inr m ↦ inr (no_any P x xs n m)
-      ]
-    ]
-
-tells : (to : Prefix) (face : FaceRow) → Decided (Tells to face)
-tells to face =
-    elim (both (is_prefix face.host to) (both (is_true face.told) (is_true face.up))) [
-      | inl h ↦ inl (record { host = h.0; told = h.1.0; up = h.1.1 })
-      | inr n ↦ inr (λ h. n (h.host, (h.told, h.up)))
-    ]
-
-names : (net : Network) (s : SessionRow) (face : FaceRow) → Decided (Names net s face)
-names net s face =
-    both (is_number face.addr s.peer)
-    (is_some_and (λ (r : RouterRow). s.remote ≡ r.asn) (λ r. same_number s.remote r.asn) (slice_get net.routers face.router.0))
-
-takes_part : (protocol : Protocol) (net : Network) (session : Option SessionRow) (near far : FaceRow) → Decided (TakesPart protocol net session near far)
-takes_part Ospf net session near far = is_true near.enabled
-takes_part Bgp net session near far = is_some_and (λ (s : SessionRow). Names net s far) (λ s. names net s far) session
+by_test : (b : Bool) (A : Type 0) → ((b ≡ true) ↔ A) → Decided A
+by_test true A right = inl (right.0 refl)
+by_test false A right = inr (λ h. false≢true (right.1 h))
 
 able_end : (net : Network) (session : Option SessionRow) (near far : FaceRow) → Decided (IsAbleEnd net session near far)
-able_end net session near far =
-    elim (both (is_true near.up) (both (is_true (is_some near.addr)) (takes_part net.protocol net session near far))) [
-      | inl h ↦ inl (record { up = h.0; addressed = h.1.0; takes_part = h.1.1 })
-      | inr n ↦ inr (λ h. n (h.up, (h.addressed, h.takes_part)))
-    ]
+able_end net session near far = by_test (is_able_end net session near far) (IsAbleEnd net session near far) (able_right net session near far)
 
 open_end : (session : Option SessionRow) (face : FaceRow) → Decided (IsOpen session face)
-open_end session face =
-    elim (both (is_false face.passive) (if_some (λ (s : SessionRow). IsFalse s.down) (λ s. is_false s.down) session)) [
-      | inl h ↦ inl (record { active = h.0; not_down = h.1 })
-      | inr n ↦ inr (λ h. n (h.active, h.not_down))
-    ]
+open_end session face = by_test (is_open session face) (IsOpen session face) (open_right session face)
 
 route_list : (net : Network) (to : Prefix) (filter : Option ListId) → Decided (RouteListPermits net filter to)
 route_list net to filter =
@@ -128,7 +74,7 @@ carries net to near tail far head =
 
 pub routed : (net : Network) (to : Prefix) (arc : Arc) → Decided (IsRouted net to arc)
 routed net to arc =
-    elim (both (any (Tells to) (tells to) net.faces)
+    elim (both (by_test (is_told net to) (Any (Tells to) net.faces) (told_right net to))
     (carries net to (session_at net (tail_face arc)) arc.tail (session_at net (head_face arc)) arc.head)) [
       | inl h ↦ inl (record { told = h.0; carries = h.1 })
       | inr n ↦ inr (λ h. n (h.told, h.carries))

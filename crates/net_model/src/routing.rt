@@ -2,9 +2,10 @@
 ghost use Rattle.std.specs.Prelude.{◌≡◌, ◌↔◌, ℕ, length, Any, find, slice_get, IsTrue, IfSome};
 ghost use Rattle.std.specs.Prelude.{IfNone};
 ghost use Rattle.std.specs.Option.{option_copied};
-ghost use Rattle.net_model.specs.Routing.{tail_end, head_end, session_at, Names, TakesPart};
-ghost use Rattle.net_model.specs.Routing.{IsAbleEnd, IsOpen, RouteListPermits, FilterPermits};
-ghost use Rattle.net_model.specs.Routing.{Tells, Carries, IsRoutedLink};
+ghost use Rattle.net_model.specs.Routing.{tail_end, head_end, session_at, IsAbleEnd, IsOpen};
+ghost use Rattle.net_model.specs.Routing.{RouteListPermits, FilterPermits, Tells, Carries};
+ghost use Rattle.net_model.specs.Routing.{IsRoutedLink};
+ghost use Rattle.net_model.specs.Decided.{names, takes_part, is_able_end, is_open, tells, is_told};
 ghost use Rattle.net_model.specs.Tables.{IsRoutedOver, IsToldOf};
 ghost use Rattle.net_model.specs.Forwarding.{LiesInHostOf, IsHostOf, IsHostFace, HasHost};
 
@@ -31,17 +32,18 @@ impl FaceRow {
 
     /// Whether this is the host network of this interface, is told, and the interface is up.
     fn tells(&self, to: Prefix) -> bool
-        ensures { IsTrue result ↔ Tells to self.now }
+        ensures { result ≡ tells to self.now }
     {
         match self.host {
-            Some(host) => host.is(&to) && self.told && self.up,
+            Some(host) => host.addr == to.addr && host.len == to.len && self.told && self.up,
             None => false,
         }
     }
 
     /// Whether this interface is not passive, and no session of it is shut down.
-    fn is_open(&self, session: Option<&SessionRow>) -> bool
-        ensures { IsTrue result ↔ IsOpen (option_copied session.entry) self.now }
+    pub fn is_open(&self, session: Option<&SessionRow>) -> bool
+        ensures holds { IsTrue result ↔ IsOpen (option_copied session.entry) self.now }
+        ensures value { result ≡ is_open (option_copied session.entry) self.now }
     {
         if self.passive {
             return false;
@@ -104,28 +106,37 @@ impl Network {
         self.sessions.slice().iter().find(|s| s.face.0 == face.0)
     }
 
-    /// Whether the host network is told and its interface is up. It looks through all interfaces of
-    /// the network.
-    pub fn is_told(&self, to: Prefix) -> bool
-        ensures { IsTrue result ↔ Any (Tells to) self.now.faces }
+    fn some_tells(&self, to: Prefix) -> bool
+        ensures { result ≡ is_told self.now to }
     {
         self.faces.slice().iter().any(|face| face.tells(to))
+    }
+
+    /// Whether the host network is told and its interface is up. It looks through all interfaces of
+    /// the network.
+    #[tactic(auto, using(crate::proofs::Decided::told_right))]
+    pub fn is_told(&self, to: Prefix) -> bool
+        ensures holds { IsTrue result ↔ Any (Tells to) self.now.faces }
+        ensures value { result ≡ is_told self.now to }
+    {
+        self.some_tells(to)
     }
 
     /// Whether the session's peer is the address of this interface, and its remote AS that of the
     /// interface's router.
     fn names(&self, session: &SessionRow, far: &FaceRow) -> bool
-        ensures { IsTrue result ↔ Names self.now session.now far.now }
+        ensures { result ≡ names self.now session.now far.now }
     {
+        let Some(addr) = far.addr else { return false };
         match self.routers.get(far.router.0) {
-            Some(router) => far.addr == Some(session.peer) && session.remote == router.asn,
+            Some(router) => addr == session.peer && session.remote == router.asn,
             None => false,
         }
     }
 
     fn takes_part(&self, session: Option<&SessionRow>, near: &FaceRow, far: &FaceRow) -> bool
-        ensures { IsTrue result ↔
-            TakesPart self.now.protocol self.now (option_copied session.entry) near.now far.now }
+        ensures { result
+            ≡ takes_part self.now.protocol self.now (option_copied session.entry) near.now far.now }
     {
         match self.protocol {
             Protocol::Ospf => near.enabled,
@@ -138,9 +149,12 @@ impl Network {
 
     /// Whether the interface `near` makes its link able from its side, where `far` is the other
     /// end.
+    #[tactic(auto, using(crate::proofs::Decided::able_right))]
     pub fn is_able_end(&self, session: Option<&SessionRow>, near: &FaceRow, far: &FaceRow) -> bool
-        ensures { IsTrue result ↔
+        ensures holds { IsTrue result ↔
             IsAbleEnd self.now (option_copied session.entry) near.now far.now }
+        ensures value { result
+            ≡ is_able_end self.now (option_copied session.entry) near.now far.now }
     {
         near.up && near.addr.is_some() && self.takes_part(session, near, far)
     }

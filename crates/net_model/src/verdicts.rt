@@ -1,4 +1,6 @@
 //! Verdicts on policies, with their witnesses.
+ghost use Rattle.std.specs.Prelude.{◌≡◌};
+ghost use Rattle.net_model.specs.Witnesses.{is_yes};
 
 use crate::lists::Packet;
 use crate::policies::Class;
@@ -38,4 +40,13 @@ pub enum Verdict {
     /// No answer to reach: an arc of this link, over which the packets may be routed, denies this
     /// packet.
     Refused(Packet, Link),
+}
+
+impl Verdict {
+    /// Whether it is a yes.
+    pub fn is_yes(&self) -> bool
+        ensures { result ≡ is_yes self.now }
+    {
+        matches!(self, Verdict::Closed(_) | Verdict::Paths(_))
+    }
 }

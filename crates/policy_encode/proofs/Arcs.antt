@@ -15,6 +15,7 @@ use Rattle.net_model.specs.declared.rows.FaceRow.{FaceRow}
 use Rattle.net_model.specs.declared.rows.LinkRow.{LinkRow}
 use Rattle.net_model.specs.declared.rows.Protocol.TheVariants.{Bgp}
 use Rattle.net_model.specs.declared.rows.Network.{Network}
+use Rattle.net_model.specs.Decided.{is_able_end, takes_part, is_told}
 use Rattle.net_model.specs.Routing.{Arc, IsArc, IsRouted, IsAbleEnd, IsOpen, FilterPermits, session_at, tail_end, head_end}
 use Rattle.net_model.specs.Forwarding.{Ends}
 use Rattle.condition_formula.specs.declared.condition.Condition.{Condition}
@@ -28,10 +29,9 @@ use Rattle.edit_list.specs.After.{IsFaceAfter}
 use Rattle.edit_list.specs.Numbered.{placed}
 use Rattle.edit_list.specs.Prices.{chosen_of}
 use Rattle.edit_list.proofs.RowFacts.{row_was, row_now}
-use Rattle.policy_encode.specs.Ables.{is_able_end, is_able, takes_part, is_told}
 use Rattle.policy_encode.specs.Answers.{session_condition, route_condition, arc_lists}
 use Rattle.policy_encode.specs.Laws.{IsEdited}
-use Rattle.policy_encode.specs.Questions.{is_never, routing_of, tail_row, head_row, arc_over, able_arcs, link_arcs, arcs_to}
+use Rattle.policy_encode.specs.Questions.{is_able, is_never, routing_of, tail_row, head_row, arc_over, able_arcs, link_arcs, arcs_to}
 use Rattle.policy_encode.proofs.Ables.{able_value, told_value}
 use Rattle.edit_laws.proofs.Apart.{from_placed, to_placed}
 use Rattle.policy_encode.specs.Mirrors.{IsMirror, HasMirror}
@@ -162,10 +162,10 @@ module _ (net : Network) (doc : Document) (list : List Edit) (flags : List Bool)
     is_arc false = record { link = ap (λ (l : List LinkRow). slice_get l link) ed.is_after.links ∙ rows.at_link; tail = rows.now_b; head = rows.now_a }
 
     able_a : (is_able_end net (session_at net row.a) a b ≡ true) ↔ IsAbleEnd after (session_at after row.a) c d
-    able_a = able_value net (chosen_of list flags) after ed.is_after row.a a c b d (ap (λ (f : FaceRow). f.up) rows.is_a.same) (ap (λ (f : FaceRow). f.addr) rows.is_a.same) (ap (λ (f : FaceRow). f.enabled) rows.is_a.same) (ap (λ (f : FaceRow). f.addr) rows.is_b.same) (ap (λ (f : FaceRow). f.router.0) rows.is_b.same)
+    able_a = able_value net (chosen_of list flags) after ed.is_after row.a a c b d row.b.0 rows.is_a rows.is_b
 
     able_b : (is_able_end net (session_at net row.b) b a ≡ true) ↔ IsAbleEnd after (session_at after row.b) d c
-    able_b = able_value net (chosen_of list flags) after ed.is_after row.b b d a c (ap (λ (f : FaceRow). f.up) rows.is_b.same) (ap (λ (f : FaceRow). f.addr) rows.is_b.same) (ap (λ (f : FaceRow). f.enabled) rows.is_b.same) (ap (λ (f : FaceRow). f.addr) rows.is_a.same) (ap (λ (f : FaceRow). f.router.0) rows.is_a.same)
+    able_b = able_value net (chosen_of list flags) after ed.is_after row.b b d a c row.a.0 rows.is_b rows.is_a
 
     -- an able end under BGP has a session
     has_session : (face : Face) (near far : FaceRow) → is_able_end net (session_at net face) near far ≡ true → net.protocol ≡ Bgp → session_at net face ≡ None → ⊥

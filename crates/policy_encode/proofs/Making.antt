@@ -14,6 +14,7 @@ use Rattle.net_model.specs.declared.policies.Policy.{Policy}
 use Rattle.net_model.specs.declared.rows.FaceRow.{FaceRow}
 use Rattle.net_model.specs.declared.rows.LinkRow.{LinkRow}
 use Rattle.net_model.specs.declared.rows.Network.{Network}
+use Rattle.net_model.specs.Decided.{is_told}
 use Rattle.net_model.specs.Forwarding.{IsHostOf, LiesInHostOf}
 use Rattle.net_model.specs.Validity.{IsValid}
 use Rattle.condition_formula.specs.declared.network.ConditionArc.{ConditionArc}
@@ -25,8 +26,7 @@ use Rattle.condition_formula.specs.Limits.{IsSmallNet}
 use Rattle.edit_list.specs.declared.edit_kinds.Edit.{Edit}
 use Rattle.edit_list.specs.Numbered.{placed}
 use Rattle.edit_list.proofs.Placing.{placed_length, placed_at}
-use Rattle.policy_encode.specs.Ables.{is_able, is_told}
-use Rattle.policy_encode.specs.Questions.{is_never, arc_over, able_arcs, link_arcs, arcs_to, IsQuestion, AreConditions}
+use Rattle.policy_encode.specs.Questions.{is_able, is_never, arc_over, able_arcs, link_arcs, arcs_to, IsQuestion, AreConditions}
 
 front : (test : ConditionArc → Bool) (x y : ConditionArc) → filter test (x ∷ []) ++ filter test (y ∷ []) ≡ filter test (x ∷ y ∷ [])
 front test x y = by (test x)

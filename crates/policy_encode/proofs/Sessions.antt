@@ -19,6 +19,7 @@ use Rattle.net_model.specs.declared.rows.SessionRow.{SessionRow}
 use Rattle.net_model.specs.declared.rows.Protocol.{Protocol}
 use Rattle.net_model.specs.declared.rows.Protocol.TheVariants.{Ospf, Bgp}
 use Rattle.net_model.specs.declared.rows.Network.{Network}
+use Rattle.net_model.specs.Decided.{is_open}
 use Rattle.net_model.specs.Lists.{route_permits}
 use Rattle.net_model.specs.Routing.{session_at, IsOpen, FilterPermits, RouteListPermits}
 use Rattle.net_model.specs.Validity.{IsPlace, IsValidSession, AreSessionsApart, FitsProtocol}
@@ -34,7 +35,7 @@ use Rattle.edit_list.specs.Prices.{chosen_of}
 use Rattle.edit_laws.proofs.Listed.{chosen_listed}
 use Rattle.edit_list.proofs.RowFacts.{item_of, row_now}
 use Rattle.edit_laws.proofs.Turning.{turning_prefixes, staying_prefixes}
-use Rattle.policy_encode.specs.Answers.{is_open, session_condition, route_answer, filter_condition, route_condition}
+use Rattle.policy_encode.specs.Answers.{session_condition, route_answer, filter_condition, route_condition}
 use Rattle.policy_encode.specs.Laws.{IsEdited}
 use Rattle.policy_encode.specs.Turning.{turned}
 use Rattle.edit_laws.proofs.Apart.{alike_of}

@@ -20,6 +20,7 @@ use Rattle.net_model.specs.declared.rows.FaceRow.{FaceRow}
 use Rattle.net_model.specs.declared.rows.LinkRow.{LinkRow}
 use Rattle.net_model.specs.declared.rows.SessionRow.{SessionRow}
 use Rattle.net_model.specs.declared.rows.Network.{Network}
+use Rattle.net_model.specs.Decided.{is_open, is_told}
 use Rattle.net_model.specs.Routing.{session_at, tail_end, head_end}
 use Rattle.net_model.specs.Validity.{IsValid, IsValidFace, IsValidLink}
 use Rattle.condition_formula.specs.declared.condition.Condition.{Condition}
@@ -31,9 +32,8 @@ use Rattle.condition_formula.specs.Conditions.{IsOf, HasEdits, bare}
 use Rattle.edit_list.specs.declared.edit_kinds.Edit.{Edit}
 use Rattle.edit_list.specs.declared.edit_kinds.Edit.TheVariants as edits
 use Rattle.edit_list.specs.Numbered.{placed}
-use Rattle.policy_encode.specs.Ables.{is_able, is_told}
-use Rattle.policy_encode.specs.Answers.{session_condition, filter_condition, route_answer, route_condition, list_condition, packet_answer, inbound_condition, outbound_condition, arc_lists, class_ends, is_open}
-use Rattle.policy_encode.specs.Questions.{is_never, tail_row, head_row, arc_over, able_arcs, link_arcs, arcs_to}
+use Rattle.policy_encode.specs.Answers.{session_condition, filter_condition, route_answer, route_condition, list_condition, packet_answer, inbound_condition, outbound_condition, arc_lists, class_ends}
+use Rattle.policy_encode.specs.Questions.{is_able, is_never, tail_row, head_row, arc_over, able_arcs, link_arcs, arcs_to}
 use Rattle.policy_encode.specs.Turning.{condition_at, place_of, turned}
 use Rattle.edit_laws.proofs.Apart.{AllPairs-flat_map, places_apart}
 use Rattle.policy_encode.proofs.Arcs.{Comes, comes_from}

@@ -1,6 +1,6 @@
 -- The conditions of a network: its own answers on sessions, routes and packets, each turned by the
 -- edit that acts on it.
-use Rattle.std.specs.Prelude.{◌&&◌, not, Bool, true, false, Option, Some, None, List, slice_get}
+use Rattle.std.specs.Prelude.{Bool, true, false, Option, Some, None, List, slice_get}
 use Rattle.std.specs.Prelude.{if◌then◌else◌}
 use Rattle.std.specs.Option.{option_map_or}
 use Rattle.arc_base.specs.declared.place.Face.{Face}
@@ -10,6 +10,7 @@ use Rattle.net_model.specs.declared.policies.Class.{Class}
 use Rattle.net_model.specs.declared.rows.FaceRow.{FaceRow}
 use Rattle.net_model.specs.declared.rows.SessionRow.{SessionRow}
 use Rattle.net_model.specs.declared.rows.Network.{Network}
+use Rattle.net_model.specs.Decided.{is_open}
 use Rattle.net_model.specs.Lists.{permits, route_permits}
 use Rattle.net_model.specs.Packets.{first_packet}
 use Rattle.net_model.specs.Routing.{session_at}
@@ -20,11 +21,6 @@ use Rattle.condition_formula.specs.declared.condition.ClassEnds.{ClassEnds}
 use Rattle.edit_list.specs.declared.edit_kinds.Edit.{Edit}
 use Rattle.edit_list.specs.declared.edit_kinds.Edit.TheVariants as edits
 use Rattle.policy_encode.specs.Turning.{turned}
-
--- whether the interface talks to its neighbour: it is not passive, and no session of it is shut
--- down
-abbrev pub is_open : Option SessionRow → FaceRow → Bool
-is_open session face = not face.passive && option_map_or (λ s. not s.down) session true
 
 -- when the interface at this place talks to its neighbour
 abbrev pub session_condition : Network → List Edit → Face → FaceRow → Condition

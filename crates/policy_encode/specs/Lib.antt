@@ -1,6 +1,5 @@
 pub mod Turning
 pub mod Answers
-pub mod Ables
 pub mod Questions
 pub mod Formulas
 pub mod Mirrors

@@ -1,7 +1,7 @@
 -- The network of conditions: for each policy of the document a question, with the arcs over which
 -- packets may go.
-use Rattle.std.specs.Prelude.{◌≡◌, ℕ, ◌+◌, Bool, true, false, not, Some, List, [], ◌∷◌, map, filter}
-use Rattle.std.specs.Prelude.{length, slice_get, if◌then◌else◌}
+use Rattle.std.specs.Prelude.{◌≡◌, ℕ, ◌+◌, ◌&&◌, Bool, true, false, not, Some, List, [], ◌∷◌, map}
+use Rattle.std.specs.Prelude.{filter, length, slice_get, if◌then◌else◌}
 use Rattle.std.specs.List.{flat_map, list_any, AllZip}
 use Rattle.std.specs.Option.{option_map_or}
 use Rattle.arc_base.specs.declared.place.Face.{Face}
@@ -14,6 +14,7 @@ use Rattle.net_model.specs.declared.policies.PolicyKind.TheVariants as kinds
 use Rattle.net_model.specs.declared.rows.FaceRow.{FaceRow}
 use Rattle.net_model.specs.declared.rows.LinkRow.{LinkRow}
 use Rattle.net_model.specs.declared.rows.Network.{Network}
+use Rattle.net_model.specs.Decided.{is_able_end, is_told}
 use Rattle.net_model.specs.Routing.{session_at, tail_end, head_end}
 use Rattle.net_model.specs.Forwarding.{IsHostOf}
 use Rattle.traffic_classes.specs.Classes.{AreClasses}
@@ -29,7 +30,6 @@ use Rattle.edit_list.specs.declared.edit_kinds.Edit.{Edit}
 use Rattle.edit_list.specs.Numbered.{placed}
 use Rattle.edit_list.specs.Prices.{weight}
 use Rattle.policy_encode.specs.Answers.{session_condition, route_condition, arc_lists, class_ends}
-use Rattle.policy_encode.specs.Ables.{is_able, is_told}
 
 -- whether the condition is that nothing holds
 abbrev pub is_never : Condition → Bool
@@ -37,6 +37,11 @@ is_never Never = true
 is_never Always = false
 is_never (If edit) = false
 is_never (Unless edit) = false
+
+-- whether the link between these two interfaces is able: both make it so
+abbrev pub is_able : Network → LinkRow → FaceRow → FaceRow → Bool
+is_able net link a b =
+    is_able_end net (session_at net link.a) a b && is_able_end net (session_at net link.b) b a
 
 -- the conditions for a route over an able link: the session at its end a, the session at its end b,
 -- and the route list at the arc's tail

@@ -2,7 +2,7 @@
 ghost use Rattle.std.specs.Prelude.{◌≡◌, ◌<◌, ◌^◌, List, length};
 ghost use Rattle.std.specs.Option.{option_copied};
 ghost use Rattle.edit_list.specs.declared.edit_kinds.Edit.{Edit as AnyEdit};
-ghost use Rattle.policy_encode.specs.Answers.{is_open, session_condition, route_answer};
+ghost use Rattle.policy_encode.specs.Answers.{session_condition, route_answer};
 ghost use Rattle.policy_encode.specs.Answers.{filter_condition, route_condition, packet_answer};
 ghost use Rattle.policy_encode.specs.Answers.{list_condition, inbound_condition};
 ghost use Rattle.policy_encode.specs.Answers.{outbound_condition, arc_lists, class_ends};
@@ -14,20 +14,7 @@ use condition_formula::{ArcLists, ClassEnds, Condition};
 use edit_list::Edit;
 use net_model::{Class, FaceRow, Network, SessionRow};
 
-/// Whether the interface is not passive, and no session of it is shut down.
-fn is_open(session: Option<&SessionRow>, face: &FaceRow) -> bool
-    ensures { result ≡ is_open (option_copied session.entry) face.now }
-{
-    if face.passive {
-        return false;
-    }
-    match session {
-        Some(session) => !session.down,
-        None => true,
-    }
-}
-
-/// When the interface talks to its neighbour.
+/// The condition under which the interface forms its adjacency or session.
 pub(crate) fn session_condition(
     net: &Network,
     index: &EditIndex,
@@ -38,7 +25,7 @@ pub(crate) fn session_condition(
     ensures { (list : List AnyEdit) → IsIndexOf list index.now →
         result ≡ session_condition net.now list face row.now }
 {
-    index.turned(Edit::Session(face), is_open(net.session_at(face), row))
+    index.turned(Edit::Session(face), row.is_open(net.session_at(face)))
 }
 
 fn route_answer(net: &Network, id: ListId, to: Prefix) -> bool

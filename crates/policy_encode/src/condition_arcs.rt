@@ -2,14 +2,12 @@
 ghost use Rattle.std.specs.Prelude.{◌≡◌, ◌<◌, ◌^◌, ◌++◌, ◌∷◌, [], not, filter, map, List, length};
 ghost use Rattle.std.specs.Prelude.{slice_get, Some, IfOk, OnOk};
 ghost use Rattle.std.specs.List.{list_any};
-ghost use Rattle.std.specs.Option.{option_copied};
 ghost use Rattle.edit_list.specs.declared.edit_kinds.Edit.{Edit as AnyEdit};
 ghost use Rattle.policy_encode.specs.Answers.{arc_lists};
-ghost use Rattle.policy_encode.specs.Questions.{is_never, routing_of, tail_row, head_row, arc_over};
+ghost use Rattle.policy_encode.specs.Questions.{is_able, is_never, routing_of, arc_over};
 ghost use Rattle.policy_encode.specs.Questions.{able_arcs, link_arcs, arcs_to};
 ghost use Rattle.policy_encode.specs.Finding.{IsIndexOf};
 
-use crate::able_links::{is_able, is_told};
 use crate::adding::push;
 use crate::answers::{arc_lists, route_condition, session_condition};
 use crate::edit_index::EditIndex;
@@ -29,6 +27,13 @@ fn is_never_routed(arc: &ConditionArc) -> bool
     ensures { result ≡ list_any is_never arc.now.routing }
 {
     arc.routing.slice().iter().any(|c| is_never(c))
+}
+
+/// Whether the link between these two interfaces is able.
+fn is_able(net: &Network, link: &LinkRow, a: &FaceRow, b: &FaceRow) -> bool
+    ensures { result ≡ is_able net.now link.now a.now b.now }
+{
+    net.is_able_end(net.session_at(link.a), a, b) && net.is_able_end(net.session_at(link.b), b, a)
 }
 
 /// The conditions for a route over an able link, in one of its directions.
@@ -184,7 +189,7 @@ pub(crate) fn arcs_to(
         arcs ≡ arcs_to net.now list to classes.now) }
 {
     let mut arcs = List::make(alloc);
-    if !is_told(net, to) {
+    if !net.is_told(to) {
         return Ok(arcs);
     }
     for (place, row) in net.links.slice().iter().enumerate() {

@@ -4,7 +4,6 @@
 //! `condition_formula`.
 #![tactic(auto)]
 
-mod able_links;
 mod adding;
 mod answers;
 mod condition_arcs;

@@ -10,4 +10,4 @@ loop-place-preserved c = λ list is.
 pub returns : goal.returns
 returns c = λ list is.
     let past : length c.args.net.now.links ≤ c.loop-place.place = omega (arith, c.loop-place-test.false, ap length c.slice-row-items.ensures.items) in
-    links_all c.args.net.now list c.args.to c.args.classes.now c.loop-place.arcs c.loop-place.place c.is_told.result c.is_told.ensures c.if-not-is_told.false past (c.loop-place.invariant list is)
+    links_all c.args.net.now list c.args.to c.args.classes.now c.loop-place.arcs c.loop-place.place c.is_told.result c.is_told.ensures.value c.if-not-is_told.false past (c.loop-place.invariant list is)

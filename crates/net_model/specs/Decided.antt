@@ -1,5 +1,6 @@
--- Which links are able, and which host networks are told. No edit changes that.
-use Rattle.std.specs.Prelude.{◌==◌, ◌&&◌, Bool, false, is_some, Option, slice_get}
+-- Whether interfaces are able and open, and tell a host network, as truth values, for definitions
+-- that compute with them. Each is true where the fact of `Routing` holds.
+use Rattle.std.specs.Prelude.{◌==◌, ◌&&◌, not, Bool, true, false, is_some, Option, slice_get}
 use Rattle.std.specs.List.{list_any}
 use Rattle.std.specs.Option.{option_map_or}
 use Rattle.arc_base.specs.declared.prefix.Prefix.{Prefix}
@@ -7,10 +8,7 @@ use Rattle.net_model.specs.declared.rows.Protocol.{Protocol}
 use Rattle.net_model.specs.declared.rows.Protocol.TheVariants.{Ospf, Bgp}
 use Rattle.net_model.specs.declared.rows.FaceRow.{FaceRow}
 use Rattle.net_model.specs.declared.rows.SessionRow.{SessionRow}
-use Rattle.net_model.specs.declared.rows.LinkRow.{LinkRow}
 use Rattle.net_model.specs.declared.rows.Network.{Network}
-use Rattle.net_model.specs.Routing.{session_at}
-use Rattle.edit_list.specs.EditLists.{is_same}
 
 -- whether the session names the far interface: its address, and the AS of its router
 abbrev pub names : Network → SessionRow → FaceRow → Bool
@@ -28,14 +26,16 @@ abbrev pub is_able_end : Network → Option SessionRow → FaceRow → FaceRow �
 is_able_end net session near far =
     near.up && is_some near.addr && takes_part net.protocol net session near far
 
--- whether the link between these two interfaces is able: both make it so
-abbrev pub is_able : Network → LinkRow → FaceRow → FaceRow → Bool
-is_able net link a b =
-    is_able_end net (session_at net link.a) a b && is_able_end net (session_at net link.b) b a
+-- whether the interface talks to its neighbour: it is not passive, and no session of it is shut
+-- down
+abbrev pub is_open : Option SessionRow → FaceRow → Bool
+is_open session face = not face.passive && option_map_or (λ s. not s.down) session true
 
 -- whether this is the interface's host network, is told, and the interface is up
 abbrev pub tells : Prefix → FaceRow → Bool
-tells to face = option_map_or (λ host. is_same host to) face.host false && face.told && face.up
+tells to face =
+    option_map_or (λ host. host.addr == to.addr && host.len == to.len) face.host false &&
+    face.told && face.up
 
 -- whether some interface tells the host network
 abbrev pub is_told : Network → Prefix → Bool
