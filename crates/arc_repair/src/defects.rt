@@ -9,7 +9,6 @@ ghost use Rattle.arc_repair.specs.Checks.{IsVerdictDefect, IsDefect, HasFlagsOf}
 ghost use Rattle.arc_repair.specs.Claims.{IsRightYes, IsRightClaim, claim_bound, least_bound};
 ghost use Rattle.arc_repair.specs.Claims.{needs_refutation};
 
-use crate::judging::is_yes;
 use arc_base::limits::PRICE_LIMIT;
 use arc_base::{CertKind, List, Memory};
 use edit_list::{Claim, Edit, price};
@@ -59,7 +58,7 @@ fn verdict_defect(net: &Network, policies: &[Policy], verdicts: &[Verdict]) -> O
         let Some(verdict) = verdicts.get(place) else {
             return Some(CertKind::Policy);
         };
-        if !is_yes(verdict) {
+        if !verdict.is_yes() {
             return Some(CertKind::NotYes);
         }
         if !accepts(net, policy, verdict) {

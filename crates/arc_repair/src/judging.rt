@@ -5,7 +5,6 @@ ghost use Rattle.net_model.specs.Forwarding.{HasEnds};
 ghost use Rattle.net_model.specs.Packets.{subject};
 ghost use Rattle.net_model.specs.Policies.{Meets, HasFewFailures};
 ghost use Rattle.net_model.specs.Validity.{IsValid};
-ghost use Rattle.net_model.specs.Witnesses.{is_yes};
 ghost use Rattle.edit_list.specs.Determined.{IsCountable};
 ghost use Rattle.edit_list.specs.EditLists.{AreEdits, HasFewClasses};
 ghost use Rattle.arc_repair.specs.Answers.{ShowsFew};
@@ -21,13 +20,6 @@ use net_model::{Document, Network, Policy, Verdict};
 use std::alloc::Global;
 use traffic_classes::Marks;
 use verdicts::{JudgeFault, judge_under};
-
-/// Whether the verdict is a yes.
-pub(crate) fn is_yes(verdict: &Verdict) -> bool
-    ensures { result ≡ is_yes verdict.now }
-{
-    matches!(verdict, Verdict::Closed(_) | Verdict::Paths(_))
-}
 
 /// The verdicts on the policies, if each is a yes.
 fn yeses(
@@ -50,7 +42,7 @@ fn yeses(
     for which in 0..policies.len() {
         match judge_under(alloc, net, policies, &marks, which) {
             Ok(verdict) => {
-                if !is_yes(&verdict) {
+                if !verdict.is_yes() {
                     return Ok(None);
                 }
                 verdicts.push(verdict)?;

@@ -88,13 +88,6 @@ fn alone_at(
     alone_given(alloc, &input.net, policy, &one.verdict)
 }
 
-/// Whether the verdict is a yes.
-fn is_yes(verdict: &Verdict) -> bool
-    ensures { result ≡ is_yes verdict.now }
-{
-    matches!(verdict, Verdict::Closed(_) | Verdict::Paths(_))
-}
-
 /// The status of these verdicts.
 fn status_of(rechecked: &[Rechecked]) -> u8
     ensures value { result ≡ rechecked_status rechecked.now }
@@ -107,7 +100,7 @@ fn status_of(rechecked: &[Rechecked]) -> u8
 fn are_all_yes(rechecked: &[Rechecked]) -> bool
     ensures { result ≡ list_all (λ r. is_yes r.verdict) rechecked.now }
 {
-    rechecked.iter().all(|one| is_yes(&one.verdict))
+    rechecked.iter().all(|one| one.verdict.is_yes())
 }
 
 /// Rechecks an old report over the document and the router files as they are now: keeps each

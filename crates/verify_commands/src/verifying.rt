@@ -38,18 +38,11 @@ fn judge_all(alloc: Global, input: &Input) -> Result<List<Verdict>, Memory>
     Ok(verdicts)
 }
 
-/// Whether the verdict is a yes.
-fn is_yes(verdict: &Verdict) -> bool
-    ensures { result ≡ is_yes verdict.now }
-{
-    matches!(verdict, Verdict::Closed(_) | Verdict::Paths(_))
-}
-
 /// Whether each verdict is a yes.
 fn are_all_yes(verdicts: &[Verdict]) -> bool
     ensures { result ≡ list_all is_yes verdicts.now }
 {
-    verdicts.iter().all(|verdict| is_yes(verdict))
+    verdicts.iter().all(|verdict| verdict.is_yes())
 }
 
 /// The status of these verdicts.
