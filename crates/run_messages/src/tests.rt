@@ -63,7 +63,10 @@ const COMMAND_LINES: &[(&str, &str)] = &[
         "verify d --quiet",
         "unexpected argument '--quiet' found; tip: to pass '--quiet' as a value, use '-- --quiet'",
     ),
-    ("lrat f --=1", "unexpected argument '--' found"),
+    (
+        "lrat f --=1",
+        "unexpected argument '--' found; tip: to pass '--' as a value, use '-- --'",
+    ),
     (
         "lrat f -x",
         "unexpected argument '-x' found; tip: to pass '-x' as a value, use '-- -x'",
@@ -76,7 +79,10 @@ const COMMAND_LINES: &[(&str, &str)] = &[
         "trace d --down",
         "a value is required for '--down <down>' but none was supplied",
     ),
-    ("trace d --down -1", "unexpected argument '-1' found"),
+    (
+        "trace d --down -1",
+        "unexpected argument '-1' found; tip: to pass '-1' as a value, use '-- -1'",
+    ),
     (
         "apply d e",
         "the following required arguments were not provided: --out <out>",
