@@ -12,7 +12,7 @@ def ask(network: Network, kind: str, count: int, seed: int, failures: int = 0) -
 
 
 def links_off(network: Network, count: int, seed: int) -> None:
-    """Hosts cut off: at so many routers all links but one are off, and a policy asks for two paths."""
+    """Hosts with one link left: at `count` routers all others are off, and a policy asks for two paths."""
     hosts = shapes.prefixes(network)
     for place in random.Random(seed).sample(range(len(hosts)), count):
         router = network.hosts[place][0]
@@ -23,7 +23,7 @@ def links_off(network: Network, count: int, seed: int) -> None:
 
 
 def ends_off(network: Network, count: int, seed: int) -> None:
-    """So many ends of links, drawn at random, are off."""
+    """Turns ends of links off, drawn at random."""
     ends = [end for link in network.links for end in (link.a, link.b)]
     for end in random.Random(seed).sample(ends, count):
         network.face(end).is_off = True

@@ -37,7 +37,7 @@ def by_valgrind(command: Command, folder: Path, seconds: int) -> str:
     return ", ".join(f"{short(name)} {float(part):.0f} %" for part, name in found[:SHOWN])
 
 
-def of(command: Command, folder: Path, seconds: int = 10) -> str:
+def of(command: Command, folder: Path, seconds: int = 6) -> str:
     """One line: the functions that take most; empty where nothing here can say."""
     for tool, profile in (("perf", by_perf), ("valgrind", by_valgrind)):
         if shutil.which(tool):

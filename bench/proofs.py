@@ -14,7 +14,7 @@ def ring(n: int) -> list[Clause]:
 
 
 def units(n: int, count: int) -> Proof:
-    """So many lemmas of one literal, each with two hints."""
+    """Lemmas of one literal, each with two hints."""
     ids, last, v = {1: 1}, n + 2, 1
     steps: list[Step] = []
     for at in range(count + n - 1 - count % n):
@@ -27,7 +27,7 @@ def units(n: int, count: int) -> Proof:
 
 
 def chains(n: int, length: int, count: int) -> Proof:
-    """So many lemmas of two literals, each with a chain of hints of this length."""
+    """Lemmas of two literals, each with a chain of hints of this length."""
     last = n + 2
     steps: list[Step] = []
     for k in range(count):
@@ -44,7 +44,7 @@ def one(n: int) -> Proof:
 
 
 def wide(n: int, length: int, count: int) -> Proof:
-    """So many lemmas of this length, each with one hint, and then the empty clause."""
+    """Lemmas of this length, each with one hint, and then the empty clause."""
     last = n + 2
     steps: list[Step] = []
     for k in range(count):

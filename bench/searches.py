@@ -10,6 +10,7 @@ from bench.networks import Network
 from bench.tables import Row, Table, seconds, times
 from bench.timing import Run, by_turns, quotient, run
 
+FEW_VARIABLES, CONFLICTS_A_SECOND = 72, 40_000
 SOLVE = ["solve", "f.cnf", "--proof", "f.lrat", "--conflicts", "200000"]
 REPAIR = ["repair", "net.json", "--out", ".new", "--proof", "cert", "--conflicts", "200000"]
 
@@ -62,19 +63,23 @@ def rate(count: int, took: float) -> str:
 def solved_row(bench: Bench, title: str, formula: formulas.Formula, folder: Path) -> Row:
     formulas.write(folder / "f.cnf", formula)
     other = {"minisat": ["minisat", "f.cnf"]} if beside.installed("minisat") else {}
-    runs = by_turns({"arcv": [bench.arcv, *SOLVE]} | other, folder, 2, bench.seconds)
+    runs = by_turns({"arcv": [bench.arcv, *SOLVE]} | other, folder, 2, 2 * bench.seconds)
     found = {answer(name, it) for name, it in runs.items()} - {"limit", "not done"}
     if len(found) > 1:
         wrong(f"solve: {title}: {found}")
-    log, ours = dropped(title, (folder / "f.lrat").read_text().splitlines()), answer("arcv", runs["arcv"])
+    written = folder / "f.lrat"  # not there where the run was cut off
+    log, ours = dropped(title, written.read_text().splitlines() if written.exists() else []), answer("arcv", runs["arcv"])
     if ours == "none" and run([bench.arcv, "lrat", "f.cnf", "f.lrat"], folder, 4 * bench.seconds).text != b"accepted\n":
         wrong(f"solve: the proof of {title}")
-    ratio = quotient(runs["arcv"], runs.get("minisat")) if ours in ("model", "none") else None
+    is_done = {answer(name, it) for name, it in runs.items()} <= {"model", "none"}
+    ratio = quotient(runs["arcv"], runs.get("minisat")) if is_done else None
     rates = [rate(len(log.added), runs["arcv"].seconds), "-"]
     if "minisat" in runs:
         rates[1] = rate(conflicts(runs["minisat"]), runs["minisat"].seconds)
     cells = [title, ours, seconds(runs["arcv"].seconds), seconds(runs["minisat"].seconds if "minisat" in runs else None), times(ratio), *rates, str(log.drops)]
     met = False if ours not in ("model", "none") else None if ratio is None else ratio <= 3 or runs["arcv"].seconds < 0.05
+    if formula[0] == FEW_VARIABLES and met:
+        met = len(log.added) >= CONFLICTS_A_SECOND * runs["arcv"].seconds
     return Row(cells, met, bench.profile(met, SOLVE, folder))
 
 

@@ -37,7 +37,7 @@ def ring(routers: int, chords: int, seed: int, bgp: bool = False) -> Network:
 
 
 def fat_tree(ports: int, bgp: bool = False) -> Network:
-    """Switches of so many ports in three layers: cores, and pods of aggregation and edge switches; hosts are at edges."""
+    """Switches with this number of ports in three layers: cores, and pods of aggregation and edge switches; hosts are at edges."""
     network, half = Network(bgp), ports // 2
     cores = [network.add_router(f"core{at}") for at in range(half * half)]
     for pod in range(ports):
@@ -93,7 +93,7 @@ def prefixes(network: Network) -> list[Prefix]:
 
 
 def pairs(network: Network, count: int, seed: int) -> list[tuple[Prefix, Prefix]]:
-    """So many different pairs of host networks, of which no policy speaks yet."""
+    """Different pairs of host networks, drawn at random, of which no policy speaks yet."""
     hosts = prefixes(network)
     asked = {(it.source, it.target) for it in network.policies}
     drawn = random.Random(seed).sample(range(len(hosts) * (len(hosts) - 1)), min(count + len(asked), len(hosts) * (len(hosts) - 1)))
@@ -103,6 +103,6 @@ def pairs(network: Network, count: int, seed: int) -> list[tuple[Prefix, Prefix]
 
 
 def mark_waypoints(network: Network, count: int, seed: int) -> None:
-    """Makes so many links waypoints, drawn at random."""
+    """Makes this number of links waypoints, drawn at random."""
     for at in random.Random(seed).sample(range(len(network.links)), count):
         network.links[at] = replace(network.links[at], is_waypoint=True)

@@ -31,7 +31,7 @@ def waypoints(network: Network, count: int) -> Network:
 
 
 def halves(whole: Prefix, count: int) -> list[Prefix]:
-    """So many parts of a prefix, each of which cuts one more in two."""
+    """`count` parts of a prefix, each of which cuts one more in two."""
     parts: list[Prefix] = [whole]
     found: list[Prefix] = []
     while len(found) < count:
@@ -70,7 +70,7 @@ def denials(count: int, first: int) -> list[Entry]:
 
 
 def listed(routers: int, lists: int, entries: int, kind: str) -> Network:
-    """A ring in which so many routers have a list of so many entries at their hosts and at a link."""
+    """A ring in which some routers have a long list at their hosts and at a link."""
     network = asked(shapes.ring(routers, routers // 2, 1), kind, 64, 1, 1)
     for router in range(lists):
         network.routers[router].lists["LONG"] = denials(entries, 0x0B000000 + (router << 16))
@@ -121,8 +121,3 @@ def long_files(folder: Path) -> None:
             size += len(text[-1])
             at += 1
         path.write_text("".join(text) + "end\n" + "!" * (MOST_BYTES - size - 1) + "\n")
-
-
-def heaviest() -> Network:
-    """A ring whose repair formula at price 512 comes near the limit of literals."""
-    return asked(shapes.ring(40, 20, 1), "reach", 20, 1, 1)
