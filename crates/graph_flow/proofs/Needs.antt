@@ -5,10 +5,10 @@ use Rattle.std.proofs.lemmas.Bool.{cases_eq, cases_Bool, eq-eqb, ne_eqb, false�
 use Rattle.std.proofs.lemmas.List.Elements.{All-contains, filter_passes}
 use Rattle.arc_base.specs.declared.place.Link.{Link}
 use Rattle.graph_flow.specs.declared.arcs.Arc.{Arc}
-use Rattle.graph_flow.specs.Paths.{Path, Leads, Digraph, IsGraph, links_of}
+use Rattle.graph_flow.specs.Paths.{Path, Leads, Digraph, IsGraph, Joins, links_of}
 use Rattle.graph_flow.specs.Flows.{Units, unit_at}
 use Rattle.graph_flow.specs.Residual.{reversed, residual, sent, turn}
-use Rattle.graph_flow.specs.Marks.{depth_of, mark_at, way_to, IsSpread}
+use Rattle.graph_flow.specs.Marks.{is_seen, depth_of, mark_at, way_to, IsSpread, IsSearch}
 use Rattle.graph_flow.specs.declared.search.Mark.{Mark}
 use Rattle.graph_flow.specs.Needed.{without, IsNeeded}
 use Rattle.graph_flow.proofs.Lists.{Contains-here, Contains-there, Contains-none, Contains-cases, AllPairs-head, AllPairs-tail, filter-member, filter-from}
@@ -16,8 +16,8 @@ use Rattle.graph_flow.proofs.Ways.{Path-snoc, Path-append, Path-over, stays_insi
 use Rattle.graph_flow.proofs.Turns.{OnArcs, OnArcs-set, OnArcs-sent, IsRoute, IsRoute-rest, place_left, sent-other, turn-none, turn-other, none≢some, some-inj}
 use Rattle.graph_flow.proofs.Residuals.{Source, residual-source, residual-free, route, same_link}
 use Rattle.graph_flow.proofs.Opened.{kept-arc}
-use Rattle.graph_flow.proofs.Searches.{Seen}
-use Rattle.graph_flow.proofs.Marked.{Reached, to-reached}
+use Rattle.graph_flow.proofs.Searches.{Seen, done}
+use Rattle.graph_flow.proofs.Marked.{Reached, to-reached, seen-leads, leads-seen}
 use Rattle.graph_flow.proofs.Cuts.{Closed, none_in, all_out, both, place_below}
 
 -- the arcs are of other links than the first of two
@@ -279,6 +279,26 @@ module _ (g : Digraph) (is : IsGraph g) (s t : ℕ) (carried needed : Units) (ar
           | inr ne ↦ w.of_link link a (sym (off_needed link ne) ∙ e)
         ];
       }
+
+-- the walk beside a search that has looked at all nodes to which the residual network leads
+module _ (g : Digraph) (is : IsGraph g) (s t : ℕ) (carried needed : Units) (marks : List Mark) (queue : List ℕ) (count : ℕ) (arc : Arc) (rest : List Arc)
+    (w : Walked g.arcs s t carried needed (arc ∷ rest)) (search : IsSearch (residual carried g.arcs) s marks queue count count) where
+  spread : IsSpread (residual carried g.arcs) s marks
+  spread = done (residual carried g.arcs) s marks queue count count search (omega arith)
+
+  pub tail_seen : Seen marks arc.tail
+  tail_seen = leads-seen (residual carried g.arcs) s marks spread arc.tail (subst (λ (n : ℕ). Leads (residual carried g.arcs) s n) (sym w.path.1) w.here)
+
+  pub head_node : arc.head < g.nodes
+  head_node = let joins : Joins g.nodes arc = All-contains (Joins g.nodes) g.arcs arc is.joined w.path.0 in joins.head_node
+
+  pub over_seen : Seen marks arc.head → Walked g.arcs s t carried needed rest
+  over_seen seen = skipped g is s t carried needed arc rest w (seen-leads (residual carried g.arcs) s marks spread arc.head seen)
+
+  pub over_unseen : IsFalse (is_seen (mark_at marks arc.head)) → length needed ≡ length carried →
+      Walked g.arcs s t (set carried arc.link.0 None) (set needed arc.link.0 (Some arc)) rest
+  over_unseen unseen size =
+      noted g is s t carried needed arc rest w (λ to. false≢true (sym unseen ∙ leads-seen (residual carried g.arcs) s marks spread arc.head to)) size
 
 -- at the end of the walk the links that were noted are those that are needed
 pub walked-all : (arcs : List Arc) (s t : ℕ) (carried needed : Units) → Walked arcs s t carried needed [] → (link : Link) → IsSome (unit_at needed link.0) ↔ IsNeeded arcs s t link

@@ -78,15 +78,15 @@ fn needed_units(
 }
 
 /// The links of arcs that are at the places of their links.
-fn links_of(alloc: Global, arcs: &[Option<Arc>]) -> Result<List<Link>, Memory>
-    requires { (link : ℕ) (arc : Arc) → unit_at arcs.now link ≡ Some arc → arc.link.0 ≡ link }
+fn links_of(alloc: Global, units: &[Option<Arc>]) -> Result<List<Link>, Memory>
+    requires { (link : ℕ) (arc : Arc) → unit_at units.now link ≡ Some arc → arc.link.0 ≡ link }
     ensures rising { IfOk result (AllPairs (λ k l. k.0 < l.0)) }
     ensures exact { IfOk result (λ links. (link : Link) →
-        Contains links link ↔ IsSome (unit_at arcs.now link.0)) }
+        Contains links link ↔ IsSome (unit_at units.now link.0)) }
 {
     let mut links = List::make(alloc);
-    for arc in arcs {
-        if let Some(arc) = arc {
+    for unit in units {
+        if let Some(arc) = unit {
             add(&mut links, arc.link)?;
         }
     }

@@ -17,6 +17,6 @@ loop-at-preserved c =
       within = seen-node c.args.marks.now c.in-After.arc.tail after.tail;
       arcs = c.loop-at.invariant.arcs
           ∙ arcs-step c.args.marks.now c.loop-at.at c.in-After.arc c.loop-at.back.items (way-step c.args.marks.now c.requires.steps c.loop-at.at c.in-After.arc c.in-After.field-1 mark)
-          ∙ ap (λ (as : List Arc). way_to c.args.marks.now c.in-After.arc.tail ++ reverse as) (sym c.in_ok-push.ensures.items);
+          ∙ ap (λ (xs : List Arc). way_to c.args.marks.now c.in-After.arc.tail ++ reverse xs) (sym c.in_ok-push.ensures.items);
       steps = omega (arith, after.step, depth, c.loop-at.invariant.steps, c.in_ok-push.ensures.len);
     }
