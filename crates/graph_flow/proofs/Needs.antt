@@ -231,12 +231,11 @@ module _ (g : Digraph) (is : IsGraph g) (s t : ℕ) (carried needed : Units) (ar
       (stays_inside (residual carried g.arcs) P closed s v to.0 to.1 (([], refl), ([], refl))).1
 
   -- the walk goes on over an arc whose link is needed
-  pub noted : (Leads (residual carried g.arcs) s arc.head → ⊥) → length needed ≡ length carried →
+  pub noted : (Leads (residual carried g.arcs) s arc.head → ⊥) → arc.link.0 < length needed →
       Walked g.arcs s t (set carried arc.link.0 None) (set needed arc.link.0 (Some arc)) rest
-  noted unseen size =
+  noted unseen room =
       let unit : unit_at carried arc.link.0 ≡ Some arc = w.full arc (Contains-here arc rest) in
       let place : arc.link.0 < length carried = place_below carried arc.link.0 arc unit in
-      let room : arc.link.0 < length needed = omega (arith, size, place) in
       let none_here : unit_at (set carried arc.link.0 None) arc.link.0 ≡ None = get_or-set_same carried arc.link.0 None None place in
       let some_here : unit_at (set needed arc.link.0 (Some arc)) arc.link.0 ≡ Some arc = get_or-set_same needed arc.link.0 (Some arc) None room in
       let off : (link : ℕ) → (arc.link.0 ≡ link → ⊥) → unit_at (set carried arc.link.0 None) link ≡ unit_at carried link =
@@ -295,10 +294,10 @@ module _ (g : Digraph) (is : IsGraph g) (s t : ℕ) (carried needed : Units) (ma
   pub over_seen : Seen marks arc.head → Walked g.arcs s t carried needed rest
   over_seen seen = skipped g is s t carried needed arc rest w (seen-leads (residual carried g.arcs) s marks spread arc.head seen)
 
-  pub over_unseen : IsFalse (is_seen (mark_at marks arc.head)) → length needed ≡ length carried →
+  pub over_unseen : IsFalse (is_seen (mark_at marks arc.head)) → arc.link.0 < length needed →
       Walked g.arcs s t (set carried arc.link.0 None) (set needed arc.link.0 (Some arc)) rest
-  over_unseen unseen size =
-      noted g is s t carried needed arc rest w (λ to. false≢true (sym unseen ∙ leads-seen (residual carried g.arcs) s marks spread arc.head to)) size
+  over_unseen unseen room =
+      noted g is s t carried needed arc rest w (λ to. false≢true (sym unseen ∙ leads-seen (residual carried g.arcs) s marks spread arc.head to)) room
 
 -- at the end of the walk the links that were noted are those that are needed
 pub walked-all : (arcs : List Arc) (s t : ℕ) (carried needed : Units) → Walked arcs s t carried needed [] → (link : Link) → IsSome (unit_at needed link.0) ↔ IsNeeded arcs s t link

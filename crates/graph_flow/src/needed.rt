@@ -1,6 +1,6 @@
 //! The links without which no path leads from one node to another.
-ghost use Rattle.std.specs.Prelude.{◌≡◌, ◌↔◌, ℕ, ◌<◌, IfOk, OnOk, IsTrue, IsSome, Some, AllPairs};
-ghost use Rattle.std.specs.Prelude.{Contains, vec_len, ◌++◌, ◌∷◌, [], ◌^◌};
+ghost use Rattle.std.specs.Prelude.{◌≡◌, ◌↔◌, ℕ, ◌<◌, IfOk, OnOk, IsTrue, IsSome, Some, None, AllPairs};
+ghost use Rattle.std.specs.Prelude.{Contains, vec_len, ◌++◌, ◌∷◌, [], ◌^◌, All, length};
 ghost use Rattle.graph_flow.specs.Paths.{IsGraph};
 ghost use Rattle.graph_flow.specs.Flows.{unit_at};
 ghost use Rattle.graph_flow.specs.Marks.{is_seen, mark_at, IsSpread};
@@ -29,7 +29,7 @@ pub fn needed_links(
     ensures { IfOk result (IsNeededAnswer g.now.arcs s t) }
 {
     let mut search = Search::make(alloc, g.nodes())?;
-    let _count = search.run(g, &[], s);
+    search.run(g, &[], s);
     if !search.is_seen(t) {
         return Ok(None);
     }
@@ -64,8 +64,8 @@ fn needed_units(
 {
     let mut search = search;
     let mut back = arcs_back(alloc, &search.marks, t)?;
-    let mut carried = vec![in alloc; None; g.links()]?;
-    let mut needed = vec![in alloc; None; g.links()]?;
+    let mut carried = no_units(alloc, g)?;
+    let mut needed = no_units(alloc, g)?;
     send(&mut carried, &search.marks, t);
     let mut count = search.run(g, &carried, s);
     while let Some(arc) = back.pop() {
@@ -75,6 +75,16 @@ fn needed_units(
         }
     }
     Ok(needed)
+}
+
+/// Room for a unit at each link of the graph, and no unit yet.
+fn no_units(alloc: Global, g: &Graph) -> Result<Vec<Option<Arc>>, Memory>
+    ensures none { IfOk result (λ units. (link : ℕ) → unit_at units.items link ≡ None) }
+    ensures room { IfOk result (λ units.
+        All (λ arc. arc.link.0 < length units.items) g.now.arcs) }
+{
+    let units = vec![in alloc; None; g.links()]?;
+    Ok(units)
 }
 
 /// The links of arcs that are at the places of their links.
