@@ -1,5 +1,5 @@
 -- A path is walked beside the residual network of its own unit: a node of it that the network does not lead to is behind a link that is needed.
-use Rattle.std.proofs.Common.{◌≡◌, ◌≢◌, ℕ, zero, suc, ◌+◌, ◌<◌, ◌≤◌, Bool, true, false, not, IsTrue, IsFalse, IsSome, ◌↔◌, List, [], ◌∷◌, ◌++◌, length, get_or, set, map, All, AllPairs, Contains, inl, inr, ◌⊎◌, refl, sym, ap, ◌∙◌, subst, arith, Some, None, Option, filter, get_or-set_same, get_or-set_other}
+use Rattle.std.proofs.Common.{◌≡◌, ℕ, ◌<◌, Bool, true, not, IsTrue, IsFalse, IsSome, ◌↔◌, List, [], ◌∷◌, ◌++◌, length, set, All, AllPairs, Contains, inl, inr, ◌⊎◌, refl, sym, ap, ◌∙◌, subst, arith, Some, None, Option, get_or-set_same, get_or-set_other}
 use Rattle.std.specs.Prelude.{◌==◌, is_some}
 use Rattle.std.proofs.lemmas.Bool.{cases_eq, cases_Bool, eq-eqb, ne_eqb, false≢true}
 use Rattle.std.proofs.lemmas.List.Elements.{All-contains, filter_passes}
@@ -7,7 +7,7 @@ use Rattle.arc_base.specs.declared.place.Link.{Link}
 use Rattle.graph_flow.specs.declared.arcs.Arc.{Arc}
 use Rattle.graph_flow.specs.Paths.{Path, Leads, Digraph, IsGraph, Joins, links_of}
 use Rattle.graph_flow.specs.Flows.{Units, unit_at}
-use Rattle.graph_flow.specs.Residual.{reversed, residual, sent, turn}
+use Rattle.graph_flow.specs.Residual.{residual, sent, turn}
 use Rattle.graph_flow.specs.Marks.{is_seen, depth_of, mark_at, way_to, IsSpread, IsSearch}
 use Rattle.graph_flow.specs.declared.search.Mark.{Mark}
 use Rattle.graph_flow.specs.Needed.{without, IsNeeded}
@@ -18,7 +18,7 @@ use Rattle.graph_flow.proofs.Residuals.{Source, residual-source, residual-free, 
 use Rattle.graph_flow.proofs.Opened.{kept-arc}
 use Rattle.graph_flow.proofs.Searches.{Seen, done}
 use Rattle.graph_flow.proofs.Marked.{Reached, to-reached, seen-leads, leads-seen}
-use Rattle.graph_flow.proofs.Cuts.{Closed, none_in, all_out, both, place_below}
+use Rattle.graph_flow.proofs.Cuts.{Closed, none_in, all_out, place_below}
 
 -- the arcs are of other links than the first of two
 abbrev pub Apart : Arc → Arc → Type 0

@@ -1,5 +1,5 @@
 -- A search that goes on once the unit of an arc was taken away.
-use Rattle.std.proofs.Common.{◌≡◌, ◌≢◌, ℕ, zero, suc, ◌+◌, ◌<◌, ◌≤◌, Bool, IsTrue, IsFalse, List, [], ◌∷◌, length, set, All, AllPairs, Contains, inl, inr, ◌⊎◌, refl, sym, ap, ◌∙◌, subst, arith, Some, None, Option, get_or-set_same, get_or-set_other}
+use Rattle.std.proofs.Common.{◌≡◌, ℕ, ◌+◌, ◌<◌, IsFalse, List, length, set, Contains, inl, inr, ◌⊎◌, refl, sym, ap, ◌∙◌, subst, arith, Some, None, get_or-set_same, get_or-set_other}
 use Rattle.std.proofs.lemmas.Bool.{cases_eq, false≢true}
 use Rattle.std.proofs.lemmas.List.Elements.{All-contains}
 use Rattle.graph_flow.specs.declared.arcs.Arc.{Arc}
@@ -7,7 +7,7 @@ use Rattle.graph_flow.specs.declared.search.Mark.{Mark}
 use Rattle.graph_flow.specs.declared.search.Mark.TheVariants.{After}
 use Rattle.graph_flow.specs.Paths.{Digraph, IsGraph, Joins, MayShare}
 use Rattle.graph_flow.specs.Flows.{Units, unit_at}
-use Rattle.graph_flow.specs.Residual.{reversed, residual}
+use Rattle.graph_flow.specs.Residual.{residual}
 use Rattle.graph_flow.specs.Marks.{is_seen, depth_of, mark_at, IsSearch, Follows}
 use Rattle.graph_flow.proofs.Lists.{AllPairs-members}
 use Rattle.graph_flow.proofs.Turns.{OnArcs, OnArcs-set, none≢some, some-inj}

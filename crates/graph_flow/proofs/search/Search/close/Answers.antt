@@ -1,6 +1,6 @@
-use Rattle.std.proofs.Common.{◌≡◌, ◌≤◌, ◌<◌, ℕ, arith, subst, sum_by}
+use Rattle.std.proofs.Common.{◌≡◌, ℕ, arith, subst}
 use Rattle.graph_flow.specs.Residual.{residual}
-use Rattle.graph_flow.specs.Marks.{IsSearch, seen_once}
+use Rattle.graph_flow.specs.Marks.{IsSearch}
 use Rattle.graph_flow.proofs.Searches.{count-fits}
 use Rattle.graph_flow.proofs.search.Search.close.Goals as goal
 

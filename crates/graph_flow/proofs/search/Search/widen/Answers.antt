@@ -1,4 +1,4 @@
-use Rattle.std.proofs.Common.{◌≡◌, ◌<◌, ℕ, List, None, length, refl, arith}
+use Rattle.std.proofs.Common.{None, refl, arith}
 use Rattle.graph_flow.proofs.Turns.{OnArcs, OnArcs-set, none≢some}
 use Rattle.graph_flow.proofs.Cuts.{place_below}
 use Rattle.graph_flow.proofs.Opened.{has_room, opened_as}
