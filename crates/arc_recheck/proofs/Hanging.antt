@@ -46,13 +46,13 @@ module _ (net : Network) (valid : IsValid net) (policy : Policy) (ends : Ends) (
       holds = (routes_decide_all_up net valid ends (subject policy) are clear passes).1 needed.route;
     };
     alone = record {
-      rising = rising_numbers links needed.needed.rising;
+      rising = rising_numbers links needed.rising;
       exact = λ link. (
         λ has. record {
-          of_network = ((needed.needed.exact link).0 has).0;
-          breaks = λ reaches. ((needed.needed.exact link).0 has).1 ((routes_decide net valid ends (subject policy) are clear passes (just link)).0 reaches);
+          of_network = ((needed.exact link).0 has).0;
+          breaks = λ reaches. ((needed.exact link).0 has).1 ((routes_decide net valid ends (subject policy) are clear passes (just link)).0 reaches);
         },
-        λ alone. (needed.needed.exact link).1 (
+        λ alone. (needed.exact link).1 (
           alone.of_network,
           λ route. alone.breaks ((routes_decide net valid ends (subject policy) are clear passes (just link)).1 route),
         ),

@@ -1,5 +1,4 @@
 pub mod Ways
-pub mod NeededLists
 pub mod Passing
 pub mod Hanging
 pub mod BlocksTaken

@@ -1,28 +1,30 @@
 -- Routes of the network and ways of its graphs.
-use Rattle.std.proofs.Common.{◌≡◌, ◌≢◌, ℕ, ◌↔◌, Bool, true, false, List, [], ◌∷◌, IsTrue, refl, sym, ap, ◌∙◌, subst, inl, inr}
-use Rattle.std.specs.Prelude.{Contains, IsFalse, ◌==◌, ◌||◌, not}
+use Rattle.std.proofs.Common.{◌≡◌, ◌≢◌, ℕ, ◌<◌, ◌↔◌, Bool, true, false, Option, Some, None, List, [], ◌∷◌, length, refl, sym, ap, ◌∙◌, subst}
+use Rattle.std.specs.Prelude.{Contains, IsFalse, ◌||◌, ◌==◌, not}
 use Rattle.std.specs.List.{AllByRecursion}
 use Rattle.std.proofs.lemmas.Bool.{false≢true, ne_eqb, eq-eqb}
-use Rattle.std.proofs.lemmas.Bool.Decides.{eqb_tells}
+use Rattle.std.proofs.lemmas.Option.{slice_get_within}
 use Rattle.arc_base.specs.declared.place.Link.{Link}
 use Rattle.arc_base.specs.declared.prefix.Prefix.{Prefix}
+use Rattle.arc_base.proofs.Items.{from_map}
+use Rattle.graph_flow.specs.declared.arcs.Arc as shown
 use Rattle.graph_flow.specs.Paths as graphs
+use Rattle.graph_flow.specs.Needed as needs
+use Rattle.graph_flow.proofs.Lists.{filter-from}
+use Rattle.graph_flow.proofs.Ways.{Path-members}
+use Rattle.graph_flow.proofs.Needs.{left, left-other, on-path}
 use Rattle.net_model.specs.declared.rows.Network.{Network}
 use Rattle.net_model.specs.Routing.{Arc, IsUsable, head_router}
 use Rattle.net_model.specs.Forwarding.{Ends, source_router, target_router}
-use Rattle.net_model.specs.Witnesses.{Path, links_of, among}
-use Rattle.class_graph.specs.Graphs.{IsGraphOf}
+use Rattle.net_model.specs.Witnesses.{Path}
+use Rattle.class_graph.specs.Graphs.{IsGraphOf, IsAnyArc, IsShown}
 use Rattle.class_graph.specs.Hosts.{IsHostPair}
 use Rattle.class_graph.specs.declared.hosts.HostPair.{HostPair}
 use Rattle.class_graph.specs.declared.hosts.End.{End}
 use Rattle.verdicts.proofs.Ways.{Arcs, arcs_of, shown_arc}
-use Rattle.class_graph.specs.Graphs.{IsAnyArc}
-use Rattle.net_model.specs.declared.verdicts.LinkPath.{LinkPath}
-use Rattle.net_model.specs.Witnesses.{IsPath}
-use Rattle.verdicts.proofs.Walks.{Found, found_path}
 use Rattle.net_laws.specs.Breaking.{no_link}
 use Rattle.net_laws.specs.Routes.{just, Route, HasRoute}
-use Rattle.arc_recheck.specs.Needed.{IsLeft}
+use Rattle.arc_recheck.specs.Needed.{AreNeeded, IsNeededAnswer}
 
 -- a path of arcs that are left is a route
 pub route_of_path : (net : Network) (to : Prefix) (failed : ℕ → Bool) (arcs : List Arc) (u v : ℕ) → Path net to u arcs v →
@@ -45,6 +47,10 @@ way_of_route net to failed P g is fits (arc ∷ arcs) u v route =
     }) in
     let rest : graphs.Leads g.arcs (head_router arc) v = way_of_route net to failed P g is fits arcs (head_router arc) v route.2 in
     (shown_arc net arc ∷ rest.0, (one, route.1, rest.1))
+
+-- the arc is left once this link has failed
+abbrev IsLeft : Link → Arc → Type 0
+IsLeft link arc = IsFalse (just link arc.link)
 
 -- the graph of the arcs that are left leads to the target exactly where a route is left
 pub leads_by_routes : (net : Network) (ends : Ends) (link : Link) (g : graphs.Digraph) → IsGraphOf net ends.to (IsLeft link) g →
@@ -74,46 +80,11 @@ just_is link m apart = ap (λ (b : Bool). b || false) (ne_eqb link.0 m apart)
 pub just_own : (link : Link) (m : ℕ) → link.0 ≡ m → just link m ≡ true
 just_own link m same = ap (λ (b : Bool). b || false) (eq-eqb link.0 m same)
 
-or_first : (a b : Bool) → (a || b) ≡ false → a ≡ false
-or_first true b none = none
-or_first false b none = refl
-
-or_rest : (a b : Bool) → (a || b) ≡ false → b ≡ false
-or_rest true b none = absurd (false≢true (sym none))
-or_rest false b none = none
-
-apart_of : (l m : ℕ) → (l == m) ≡ false → l ≢ m
-apart_of l m none same = false≢true (sym none ∙ eq-eqb l m same)
-
--- a path is left where the failed link is none of its own
-pub left_beside : (link : Link) (arcs : List Arc) → among (links_of arcs) link.0 ≡ false → AllByRecursion (λ arc. IsFalse (just link arc.link)) arcs
-left_beside link [] none = tt
-left_beside link (arc ∷ arcs) none = (
-  just_is link arc.link (λ same. apart_of arc.link link.0 (or_first (arc.link == link.0) (among (links_of arcs) link.0) none) (sym same)),
-  left_beside link arcs (or_rest (arc.link == link.0) (among (links_of arcs) link.0) none),
-)
-
-pub same_of : (l m : ℕ) → (l == m) ≡ true → l ≡ m
-same_of l m flag = elim (eqb_tells l m) [ inl at ↦ at.1 | inr off ↦ absurd (false≢true (sym off.0 ∙ flag)) ]
-
--- a path beside the failed link is a route
-pub route_beside : (net : Network) (ends : Ends) (path : LinkPath) → IsPath net ends path → (link : Link) → among path.links link.0 ≡ false → HasRoute net ends (just link)
-route_beside net ends path is link none = (
-  is.arcs,
-  route_of_path net ends.to (just link) is.arcs (source_router ends) (target_router ends) is.leads
-      (left_beside link is.arcs (ap (λ (ls : List Link). among ls link.0) is.links ∙ none)),
-)
-
 all_up : (arcs : List Arc) → AllByRecursion (λ arc. IsFalse (no_link arc.link)) arcs
 all_up [] = tt
 all_up (arc ∷ arcs) = (refl, all_up arcs)
 
--- with all links up each path is a route
-pub route_of : (net : Network) (ends : Ends) (path : LinkPath) → IsPath net ends path → HasRoute net ends no_link
-route_of net ends path is =
-    (is.arcs, route_of_path net ends.to no_link is.arcs (source_router ends) (target_router ends) is.leads (all_up is.arcs))
-
--- and the graph of all routed arcs leads to the target where there is a route
+-- the graph of all routed arcs leads to the target where there is a route
 pub leads_by_route : (net : Network) (ends : Ends) (pair : HostPair) → IsHostPair net ends pair → (g : graphs.Digraph) → IsGraphOf net pair.to IsAnyArc g →
     HasRoute net ends no_link → graphs.Leads g.arcs pair.source.router.0 pair.target.router.0
 leads_by_route net ends pair is g graph route =
@@ -124,15 +95,53 @@ leads_by_route net ends pair is g graph route =
     (subst (λ (t : ℕ). graphs.Leads g.arcs (source_router ends) t) (sym target)
     (way_of_route net ends.to no_link IsAnyArc g of_ends (λ arc usable. tt) route.0 (source_router ends) (target_router ends) route.1))
 
--- a path of that graph is one of the network
-pub path_at_pair : (net : Network) (ends : Ends) (pair : HostPair) → IsHostPair net ends pair → (g : graphs.Digraph) → IsGraphOf net pair.to IsAnyArc g →
-    (links : List Link) → graphs.IsPath g.arcs pair.source.router.0 links pair.target.router.0 → IsPath net ends (record { links = links })
-path_at_pair net ends pair is g graph links path =
-    let found : Found net ends IsAnyArc (record { links = links }) =
-    found_path net ends IsAnyArc g (subst (λ (to : Prefix). IsGraphOf net to IsAnyArc g) is.to graph) pair.source.router.0 pair.target.router.0
-    (ap (λ (e : End). e.router.0) is.source) (ap (λ (e : End). e.router.0) is.target) links path in
-    found.is_path
+-- the graph without the arcs of a link is that of the arcs that are left
+left_graph : (net : Network) (to : Prefix) (link : Link) (g : graphs.Digraph) → IsGraphOf net to IsAnyArc g → IsGraphOf net to (IsLeft link) (record { nodes = g.nodes; arcs = needs.without g.arcs link })
+left_graph net to link g graph = record {
+  nodes = graph.nodes;
+  arcs = λ a. (
+    λ m. let any : IsShown net to IsAnyArc a = (graph.arcs a).0 (filter-from (λ b. not (b.link.0 == link.0)) g.arcs a m) in
+        record {
+          arc = any.arc;
+          is_arc = any.is_arc;
+          routed = any.routed;
+          fits = just_is link any.arc.link (λ e. left-other g.arcs link a m (any.shows.link ∙ sym e));
+          shows = any.shows;
+        },
+    λ one. left g.arcs link a ((graph.arcs a).1 (record { arc = one.arc; is_arc = one.is_arc; routed = one.routed; fits = tt; shows = one.shows }))
+        (λ e. false≢true (sym one.fits ∙ just_own link one.arc.link (sym e ∙ one.shows.link))),
+  );
+}
 
-pub not_by : (b : Bool) (H : Type 0) → (IsTrue b ↔ H) → IsTrue (not b) ↔ (¬ H)
-not_by true H is = (λ f. absurd (false≢true f), λ none. absurd (none (is.0 refl)))
-not_by false H is = (λ t. λ h. false≢true (is.1 h), λ none. refl)
+module _ (net : Network) (ends : Ends) (pair : HostPair) (is : IsHostPair net ends pair) (g : graphs.Digraph) (graph : IsGraphOf net pair.to IsAnyArc g) where
+  -- a way of the graph is a route with all links up
+  route_of_way : graphs.Leads g.arcs pair.source.router.0 pair.target.router.0 → HasRoute net ends no_link
+  route_of_way led =
+      let source : pair.source.router.0 ≡ source_router ends = ap (λ (e : End). e.router.0) is.source in
+      let target : pair.target.router.0 ≡ target_router ends = ap (λ (e : End). e.router.0) is.target in
+      let way : graphs.Leads g.arcs (source_router ends) (target_router ends) =
+      subst (λ (s : ℕ). graphs.Leads g.arcs s (target_router ends)) source (subst (λ (t : ℕ). graphs.Leads g.arcs pair.source.router.0 t) target led) in
+      let found : Arcs net ends.to IsAnyArc (source_router ends) way.0 (target_router ends) =
+      arcs_of net ends.to IsAnyArc g (subst (λ (to : Prefix). IsGraphOf net to IsAnyArc g) is.to graph) way.0 (source_router ends) (target_router ends) way.1 in
+      (found.arcs, route_of_path net ends.to no_link found.arcs (source_router ends) (target_router ends) found.leads (all_up found.arcs))
+
+  -- a link of a way is one of the network
+  of_network : (link : Link) → graphs.Leads g.arcs pair.source.router.0 pair.target.router.0 → needs.IsNeeded g.arcs pair.source.router.0 pair.target.router.0 link → link.0 < length net.links
+  of_network link led needed =
+      let on = from_map (λ (a : shown.Arc). a.link) led.0 link (on-path g.arcs link pair.source.router.0 pair.target.router.0 led.0 led.1 needed) in
+      let any : IsShown net pair.to IsAnyArc on.0 =
+      (graph.arcs on.0).0 (Path-members g.arcs pair.source.router.0 pair.target.router.0 led.0 led.1 on.0 on.1) in
+      subst (λ (n : ℕ). n < length net.links) (sym any.shows.link ∙ ap (λ (k : Link). k.0) on.2) (slice_get_within net.links any.arc.link any.arc.row any.is_arc.link)
+
+  pub answered : (found : Option (List Link)) → needs.IsNeededAnswer g.arcs pair.source.router.0 pair.target.router.0 found → IsNeededAnswer net ends found
+  answered None none = λ route. none (leads_by_route net ends pair is g graph route)
+  answered (Some links) are = record {
+    route = route_of_way are.leads;
+    rising = are.rising;
+    exact = λ link.
+        let by_routes = leads_at_pair net ends pair is link (record { nodes = g.nodes; arcs = needs.without g.arcs link }) (left_graph net pair.to link g graph) in (
+          λ has. let needed : needs.IsNeeded g.arcs pair.source.router.0 pair.target.router.0 link = (are.exact link).0 has in
+              (of_network link are.leads needed, λ route. needed (by_routes.1 route)),
+          λ low. (are.exact link).1 (λ led. low.1 (by_routes.0 led)),
+        );
+  }

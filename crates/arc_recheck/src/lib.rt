@@ -4,7 +4,6 @@
 #![tactic(auto)]
 
 mod copying;
-mod detours;
 mod held;
 pub mod laws;
 mod needs;

@@ -12,3 +12,6 @@ pub mod Residuals
 pub mod Cuts
 pub mod Takes
 pub mod Menger
+pub mod Opened
+pub mod Needs
+pub mod Risings

@@ -160,11 +160,10 @@ way-none marks at never =
       ]
     ]
 
--- the links that are left and those gathered so far
-pub links-step : (marks : List Mark) (at : ℕ) (arc : Arc) (back : List Link) → way_to marks at ≡ way_to marks arc.tail ++ arc ∷ [] →
-    links_of (way_to marks at) ++ reverse back ≡ links_of (way_to marks arc.tail) ++ reverse (back ++ arc.link ∷ [])
-links-step marks at arc back step =
-    ap (λ (w : List Arc). links_of w ++ reverse back) step
-    ∙ ap (λ (ks : List Link). ks ++ reverse back) (map_push (λ (x : Arc). x.link) (way_to marks arc.tail) arc)
-    ∙ append_assoc (links_of (way_to marks arc.tail)) (arc.link ∷ []) (reverse back)
-    ∙ ap (λ (ks : List Link). links_of (way_to marks arc.tail) ++ ks) (sym (reverse-append back (arc.link ∷ [])))
+-- the arcs that are left and those gathered so far
+pub arcs-step : (marks : List Mark) (at : ℕ) (arc : Arc) (back : List Arc) → way_to marks at ≡ way_to marks arc.tail ++ arc ∷ [] →
+    way_to marks at ++ reverse back ≡ way_to marks arc.tail ++ reverse (back ++ arc ∷ [])
+arcs-step marks at arc back step =
+    ap (λ (w : List Arc). w ++ reverse back) step
+    ∙ append_assoc (way_to marks arc.tail) (arc ∷ []) (reverse back)
+    ∙ ap (λ (xs : List Arc). way_to marks arc.tail ++ xs) (sym (reverse-append back (arc ∷ [])))

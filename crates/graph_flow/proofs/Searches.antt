@@ -117,11 +117,12 @@ kept marks head node mark unseen seen =
 pub kept-seen : (marks : List Mark) (head node : ℕ) (mark : Mark) → IsFalse (is_seen (mark_at marks head)) → Seen marks node → Seen (set marks head mark) node
 kept-seen marks head node mark unseen seen = ap is_seen (kept marks head node mark unseen seen) ∙ seen
 
--- a search that finds one more node
-found : (arcs : List Arc) (s : ℕ) (marks : List Mark) (queue : List ℕ) (count looked : ℕ) (arc : Arc) → IsSearch arcs s marks queue count looked → looked ≤ count → count < length queue →
-    Contains arcs arc → arc.head < length marks → Seen marks arc.tail → IsFalse (is_seen (mark_at marks arc.head)) →
-    IsSearch arcs s (set marks arc.head (After arc (depth_of (mark_at marks arc.tail) + 1))) (set queue count arc.head) (count + 1) looked
-found arcs s marks queue count looked arc search few room m l tail unseen =
+-- a search that finds one more node over an arc of a list that has those which it looked at, and from seen nodes no others beside that arc
+pub found : (arcs more : List Arc) (s : ℕ) (marks : List Mark) (queue : List ℕ) (count looked : ℕ) (arc : Arc) → IsSearch arcs s marks queue count looked → looked ≤ count → count < length queue →
+    Contains more arc → arc.head < length marks → Seen marks arc.tail → IsFalse (is_seen (mark_at marks arc.head)) →
+    ((a : Arc) → Contains arcs a → Seen marks a.tail → Contains more a) → ((a : Arc) → Contains more a → Seen marks a.tail → Contains arcs a ⊎ (a ≡ arc)) →
+    IsSearch more s (set marks arc.head (After arc (depth_of (mark_at marks arc.tail) + 1))) (set queue count arc.head) (count + 1) looked
+found arcs more s marks queue count looked arc search few room m l tail unseen keeps adds =
     let new : List Mark = set marks arc.head (After arc (depth_of (mark_at marks arc.tail) + 1)) in
     let at : mark_at new arc.head ≡ After arc (depth_of (mark_at marks arc.tail) + 1) = get_or-set_same marks arc.head (After arc (depth_of (mark_at marks arc.tail) + 1)) Unseen l in
     let off : (node : ℕ) → (node ≡ arc.head → ⊥) → mark_at new node ≡ mark_at marks node =
@@ -155,8 +156,8 @@ found arcs s marks queue count looked arc search few room m l tail unseen =
       over = λ node a d e. elim (cases_eq node arc.head) [
         | inl same ↦
             let is : After arc (depth_of (mark_at marks arc.tail) + 1) ≡ After a d = sym at ∙ ap (λ (n : ℕ). mark_at new n) (sym same) ∙ e in
-            subst (λ (x : Arc). Contains arcs x) (after-arc arc a (depth_of (mark_at marks arc.tail) + 1) d is) m
-        | inr ne ↦ search.over node a d (sym (off node ne) ∙ e)
+            subst (λ (x : Arc). Contains more x) (after-arc arc a (depth_of (mark_at marks arc.tail) + 1) d is) m
+        | inr ne ↦ keeps a (search.over node a d (sym (off node ne) ∙ e)) (search.steps node a d (sym (off node ne) ∙ e)).tail
       ];
       shallow = λ node seen. elim (cases_eq node arc.head) [
         | inl same ↦
@@ -178,8 +179,13 @@ found arcs s marks queue count looked arc search few room m l tail unseen =
             ap (λ (n : ℕ). is_seen (mark_at new n)) (ap (λ (n : ℕ). slice_index (set queue count arc.head) n) is ∙ get_or-set_same queue count arc.head 0 room) ∙ ap is_seen at
       ];
       counted = omega (arith, search.counted, count-more marks arc.head (After arc (depth_of (mark_at marks arc.tail) + 1)) l unseen refl);
-      looked_at = λ k below a a_in from. kept-seen marks arc.head a.head (After arc (depth_of (mark_at marks arc.tail) + 1)) unseen
-          (search.looked_at k below a a_in (from ∙ places k (omega arith)));
+      looked_at = λ k below a a_in from.
+          let at_tail : a.tail ≡ slice_index queue k = from ∙ places k (omega arith) in
+          let was_seen : Seen marks a.tail = ap (λ (n : ℕ). is_seen (mark_at marks n)) at_tail ∙ search.reached k (omega arith) in
+          elim (adds a a_in was_seen) [
+            | inl before ↦ kept-seen marks arc.head a.head (After arc (depth_of (mark_at marks arc.tail) + 1)) unseen (search.looked_at k below a before at_tail)
+            | inr is ↦ ap (λ (x : Arc). is_seen (mark_at new x.head)) is ∙ ap is_seen at
+          ];
     }
 
 -- the search after it followed an arc: what it knew stays, and the head of the arc is seen if the arc leads from the node
@@ -206,7 +212,7 @@ followed arcs s marks queue count looked arc node new new_queue new_count search
     let marked : new ≡ set marks arc.head (After arc (depth_of (mark_at marks arc.tail) + 1)) = finds.marked ∙ ap (λ (x : Mark). set marks arc.head x) same in
     let step : IsFollowed arcs s marks queue count looked arc node (set marks arc.head (After arc (depth_of (mark_at marks arc.tail) + 1))) (set queue count arc.head) (count + 1) =
     record {
-      search = found arcs s marks queue count looked arc search few room m l tail finds.unseen;
+      search = found arcs arcs s marks queue count looked arc search few room m l tail finds.unseen (λ a a_in _. a_in) (λ a a_in _. inl a_in);
       more = omega arith;
       seen = λ x h. kept-seen marks arc.head x (After arc (depth_of (mark_at marks arc.tail) + 1)) finds.unseen h;
       places = λ k below. get_or-set_other queue count k arc.head 0 (λ e. omega arith);

@@ -86,7 +86,7 @@ pub record IsRoute (arcs : List Arc) (units : Units) (way : List Arc) : Type 0 w
   pub places : All (λ arc. arc.link.0 < length units) way
   pub apart : AllPairs (λ a b. b.link.0 ≡ a.link.0 → ⊥) way
 
-IsRoute-rest : (arcs : List Arc) (units : Units) (arc : Arc) (way : List Arc) → IsRoute arcs units (arc ∷ way) → IsRoute arcs units way
+pub IsRoute-rest : (arcs : List Arc) (units : Units) (arc : Arc) (way : List Arc) → IsRoute arcs units (arc ∷ way) → IsRoute arcs units way
 IsRoute-rest arcs units arc way r = record {
   room = All-tail (HasRoom arcs units) arc way r.room;
   places = All-tail (λ a. a.link.0 < length units) arc way r.places;

@@ -7,3 +7,4 @@ pub mod Marks
 pub mod Adjacency
 pub mod Kept
 pub mod Answers
+pub mod Needed

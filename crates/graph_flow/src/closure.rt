@@ -5,10 +5,10 @@ ghost use Rattle.graph_flow.specs.Paths.{Leads, IsPath, links_of};
 ghost use Rattle.graph_flow.specs.Marks.{AreSteps, depth_of, mark_at, way_to};
 ghost use Rattle.arc_base.specs.declared.place.Link.{Link};
 
-use crate::arcs::LinkRow2;
+use crate::arcs::{Arc, LinkRow2};
 use crate::graph::Graph;
 use crate::search::{Mark, Search};
-use arc_base::{Link, List, Memory};
+use arc_base::{List, Memory};
 use std::alloc::Global;
 use std::marker::Model;
 
@@ -70,36 +70,36 @@ impl Closure {
         requires reached { IsSome (slice_index_or self.now node None) }
         ensures { IfOk result (λ path. slice_index_or self.now node None ≡ Some path.links) }
     {
-        let back = links_back(alloc, &self.search.marks, node)?;
+        let back = arcs_back(alloc, &self.search.marks, node)?;
         turned_round(alloc, back)
     }
 }
 
-/// The links of the way by which a node was reached, the last one first.
-fn links_back(alloc: Global, marks: &[Mark], node: u32) -> Result<Vec<Link>, Memory>
+/// The arcs of the way by which a node was reached, the last one first.
+pub(crate) fn arcs_back(alloc: Global, marks: &[Mark], node: u32) -> Result<Vec<Arc>, Memory>
     requires node { node < length marks.now }
     requires steps { AreSteps marks.now }
     requires shallow { depth_of (mark_at marks.now node) < 2 ^ 32 }
-    ensures links { IfOk result (λ back. reverse back.items ≡ links_of (way_to marks.now node)) }
+    ensures arcs { IfOk result (λ back. reverse back.items ≡ way_to marks.now node) }
     ensures few { IfOk result (λ back. vec_len back < 2 ^ 32) }
 {
     let mut back = Vec::new(alloc);
     let mut at = node;
     while let Mark::After(arc, _) = marks[at as usize] {
-        back.push(arc.link)?;
+        back.push(arc)?;
         at = arc.tail;
     }
     Ok(back)
 }
 
-/// The links in the other order.
-fn turned_round(alloc: Global, mut back: Vec<Link>) -> Result<LinkRow2, Memory>
+/// The links of these arcs in the other order.
+fn turned_round(alloc: Global, mut back: Vec<Arc>) -> Result<LinkRow2, Memory>
     requires { vec_len back < 2 ^ 32 }
-    ensures { IfOk result (λ path. path.links ≡ reverse back.items) }
+    ensures { IfOk result (λ path. path.links ≡ links_of (reverse back.items)) }
 {
     let mut links = List::make(alloc);
-    while let Some(link) = back.pop() {
-        links.push(link)?;
+    while let Some(arc) = back.pop() {
+        links.push(arc.link)?;
     }
     Ok(LinkRow2 { links })
 }

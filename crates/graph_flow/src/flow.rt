@@ -95,7 +95,7 @@ impl Flow {
 
 /// Sends one more unit over the arcs by which a node was reached, from the last one back to the
 /// first.
-fn send(units: &mut [Option<Arc>], marks: &[Mark], node: u32)
+pub(crate) fn send(units: &mut [Option<Arc>], marks: &[Mark], node: u32)
     requires node { node < length marks.now }
     requires steps { AreSteps marks.now }
     requires links { (at : ℕ) (arc : Arc) (depth : ℕ) →

@@ -1,7 +1,8 @@
 //! Breadth-first search for what can be reached over links that have room, in time linear in nodes
 //! and arcs.
 ghost use Rattle.std.specs.Prelude.{◌≡◌, ◌≤◌, ◌<◌, ◌+◌, ◌^◌, length, IfOk, IsTrue, IsFalse};
-ghost use Rattle.std.specs.Prelude.{replicate, List, vec_len, ℕ, Contains, Some};
+ghost use Rattle.std.specs.Prelude.{replicate, List, vec_len, ℕ, Contains, Some, None, slice_set};
+ghost use Rattle.graph_flow.specs.Paths.{IsGraph};
 ghost use Rattle.graph_flow.specs.Flows.{unit_at};
 ghost use Rattle.graph_flow.specs.Residual.{residual};
 ghost use Rattle.graph_flow.specs.Marks.{is_seen, depth_of, mark_at, IsSpread, IsSearch, Follows};
@@ -49,24 +50,86 @@ impl Search {
         !matches!(self.marks[node as usize], Mark::Unseen)
     }
 
-    /// Looks for all nodes to which a way leads over arcs that have room for one more unit.
-    pub(crate) fn run(&mut self, g: &Graph, carried: &[Option<Arc>], from: u32)
+    /// Looks for all nodes to which a way leads over arcs that have room for one more unit, and
+    /// answers how many they are.
+    pub(crate) fn run(&mut self, g: &Graph, carried: &[Option<Arc>], from: u32) -> usize
         requires from { from < g.now.nodes }
         requires marks { vec_len self.old.marks ≡ g.now.nodes }
         requires queue { vec_len self.old.queue ≡ g.now.nodes }
         requires units { (link : ℕ) (arc : Arc) → unit_at carried.now link ≡ Some arc →
             Contains g.now.arcs arc }
         ensures spread { IsSpread (residual carried.now g.now.arcs) from self.new.marks.items }
+        ensures search { IsSearch (residual carried.now g.now.arcs) from self.new.marks.items
+            self.new.queue.items result result }
         ensures marks { vec_len self.new.marks ≡ vec_len self.old.marks }
         ensures queue { vec_len self.new.queue ≡ vec_len self.old.queue }
     {
         self.begin(from);
-        let mut count = 1;
-        let mut looked = 0;
+        self.close(g, carried, from, 0, 1)
+    }
+
+    /// Takes the unit of an arc away, which opens the arc from a node that is reached to one that
+    /// is not, and looks for all nodes to which a way leads now. It answers how many they are.
+    pub(crate) fn widen(
+        &mut self,
+        g: &Graph,
+        carried: &mut [Option<Arc>],
+        from: u32,
+        arc: Arc,
+        count: usize,
+    ) -> usize
+        requires graph { IsGraph g.now }
+        requires few { g.now.nodes < 2 ^ 32 }
+        requires marks { vec_len self.old.marks ≡ g.now.nodes }
+        requires queue { vec_len self.old.queue ≡ g.now.nodes }
+        requires units { (link : ℕ) (arc : Arc) → unit_at carried.old link ≡ Some arc →
+            Contains g.now.arcs arc }
+        requires of_link { (link : ℕ) (arc : Arc) → unit_at carried.old link ≡ Some arc →
+            arc.link.0 ≡ link }
+        requires arc { unit_at carried.old arc.link.0 ≡ Some arc }
+        requires tail { IsTrue (is_seen (mark_at self.old.marks.items arc.tail)) }
+        requires head { IsFalse (is_seen (mark_at self.old.marks.items arc.head)) }
+        requires search { IsSearch (residual carried.old g.now.arcs) from self.old.marks.items
+            self.old.queue.items count count }
+        ensures search { IsSearch (residual carried.new g.now.arcs) from self.new.marks.items
+            self.new.queue.items result result }
+        ensures carried { carried.new ≡ slice_set carried.old arc.link.0 None }
+        ensures marks { vec_len self.new.marks ≡ vec_len self.old.marks }
+        ensures queue { vec_len self.new.queue ≡ vec_len self.old.queue }
+    {
+        carried[arc.link.0 as usize] = None;
+        let more = self.follow(arc, arc.tail, count);
+        self.close(g, carried, from, count, more)
+    }
+
+    /// Looks at the nodes of the queue from a place on, and answers how many it has in the end.
+    fn close(
+        &mut self,
+        g: &Graph,
+        carried: &[Option<Arc>],
+        from: u32,
+        looked: usize,
+        count: usize,
+    ) -> usize
+        requires place { looked ≤ count }
+        requires marks { vec_len self.old.marks ≡ g.now.nodes }
+        requires queue { vec_len self.old.queue ≡ g.now.nodes }
+        requires units { (link : ℕ) (arc : Arc) → unit_at carried.now link ≡ Some arc →
+            Contains g.now.arcs arc }
+        requires search { IsSearch (residual carried.now g.now.arcs) from self.old.marks.items
+            self.old.queue.items count looked }
+        ensures search { IsSearch (residual carried.now g.now.arcs) from self.new.marks.items
+            self.new.queue.items result result }
+        ensures marks { vec_len self.new.marks ≡ vec_len self.old.marks }
+        ensures queue { vec_len self.new.queue ≡ vec_len self.old.queue }
+    {
+        let mut count = count;
+        let mut looked = looked;
         while looked < count {
             count = self.look(g, carried, from, looked, count);
             looked += 1;
         }
+        count
     }
 
     /// Forgets what was found, and begins at a node.

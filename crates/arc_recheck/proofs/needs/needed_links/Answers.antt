@@ -1,12 +1,18 @@
-use Rattle.std.proofs.Common.{subst}
-use Rattle.arc_recheck.specs.Needed.{IsRouteAnswer}
-use Rattle.arc_recheck.proofs.Ways.{route_of}
+use Rattle.std.proofs.lemmas.Result.{IfOk-weaker}
+use Rattle.arc_recheck.proofs.Ways.{answered}
+use Rattle.verdicts.proofs.Reached.{pair_source, pair_target}
 use Rattle.arc_recheck.proofs.needs.needed_links.Goals as goal
 
-pub returns-in_ok-needed_on-in-Some : goal.returns-in_ok-needed_on-in-Some
-returns-in_ok-needed_on-in-Some c = λ ends is.
-    let path = subst (IsRouteAnswer c.args.net.now ends) c.in-Some.is (c.in_ok-path.ensures ends is) in
-    record { route = route_of c.args.net.now ends c.in-Some.path path; needed = c.in_ok-needed_on-in-Some.ensures ends is path }
+pub needed_links-requires-clause-source : goal.needed_links-requires-clause-source
+needed_links-requires-clause-source c =
+    pair_source c.args.net.now c.requires.valid c.requires.pair.0 c.args.pair.now c.requires.pair.1 c.in_ok-graph.graph c.in_ok-graph.ensures.nodes
 
-pub returns-in-None : goal.returns-in-None
-returns-in-None c = λ ends is. subst (IsRouteAnswer c.args.net.now ends) c.in-None.is (c.in_ok-path.ensures ends is)
+pub needed_links-requires-clause-target : goal.needed_links-requires-clause-target
+needed_links-requires-clause-target c =
+    pair_target c.args.net.now c.requires.valid c.requires.pair.0 c.args.pair.now c.requires.pair.1 c.in_ok-graph.graph c.in_ok-graph.ensures.nodes
+
+pub returns : goal.returns
+returns c =
+    IfOk-weaker c.needed_links.result _ _
+    (λ found are ends is. answered c.args.net.now ends c.args.pair.now is c.in_ok-graph.graph c.in_ok-graph.ensures found are)
+    c.needed_links.ensures

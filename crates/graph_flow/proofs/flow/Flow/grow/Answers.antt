@@ -1,10 +1,10 @@
-use Rattle.std.proofs.Common.{◌≡◌, ℕ, ◌+◌, ◌<◌, List, All, length, IsTrue, IsFalse, true≢false, sym, ap, ◌∙◌, subst, refl, arith, Option}
+use Rattle.std.proofs.Common.{◌≡◌, ◌+◌, ◌<◌, List, All, length, true≢false, sym, ap, ◌∙◌, subst, refl, arith}
 use Rattle.std.proofs.lemmas.List.{with_items_is}
 use Rattle.graph_flow.specs.declared.arcs.Arc.{Arc}
 use Rattle.graph_flow.specs.declared.search.Mark.{Mark}
 use Rattle.graph_flow.specs.Flows.{Units, FlowState, IsFlow, IsGreatest, leaving}
 use Rattle.graph_flow.specs.Residual.{residual, sent}
-use Rattle.graph_flow.specs.Marks.{IsSpread, is_seen, mark_at, way_to}
+use Rattle.graph_flow.specs.Marks.{AreSteps, IsSpread, mark_at, way_to}
 use Rattle.graph_flow.proofs.Turns.{OnArcs}
 use Rattle.graph_flow.proofs.Grows.{ends-at, no-more, more-leave, grown-flow, not-greatest, marked-place}
 use Rattle.graph_flow.proofs.flow.Flow.grow.Goals as goal
@@ -23,6 +23,9 @@ returns-then-not-is_seen-clause-side c _ =
     let flow = subst (λ (f : FlowState). IsFlow c.args.g.now.arcs c.args.s c.args.t (leaving f.units c.args.s) f.units) same c.requires.flow in
     let spread = subst (λ (units : Units). IsSpread (residual units c.args.g.now.arcs) c.args.s c.run.new.self.marks.items) c.deref.ensures.value c.run.ensures.spread in
     ends-at c.args.g.now c.args.s c.args.t c.self.inside.units.items c.run.new.self.marks.items c.nodes.ensures.graph c.requires.source c.requires.target flow spread (sym c.if-not-is_seen.ensures)
+
+pub send-requires-clause-steps : goal.send-requires-clause-steps
+send-requires-clause-steps c = subst (λ (marks : List Mark). AreSteps marks) (sym c.deref-2.ensures.value) c.run.ensures.spread.steps
 
 pub send-requires-clause-links : goal.send-requires-clause-links
 send-requires-clause-links c at arc depth e =

@@ -1,18 +1,9 @@
-use Rattle.std.proofs.Common.{◌≡◌, ◌≤◌, ◌<◌, arith, sum_by}
-use Rattle.graph_flow.specs.Marks.{seen_once}
-use Rattle.graph_flow.proofs.Searches.{count-fits, done}
+use Rattle.std.proofs.Common.{arith}
+use Rattle.graph_flow.proofs.Searches.{done}
 use Rattle.graph_flow.proofs.search.Search.run.Goals as goal
 
-pub loop-looked-init : goal.loop-looked-init
-loop-looked-init c = record {
-  search = c.begin.ensures.search _;
-  within = omega arith;
-  marks = omega (arith, c.begin.ensures.marks, c.requires.marks);
-  queue = omega (arith, c.begin.ensures.queue, c.requires.queue);
-}
-
-pub loop-looked-smaller : goal.loop-looked-smaller
-loop-looked-smaller c = omega (arith, count-fits c.loop-looked.self.marks.items, c.loop-looked.invariant.search.counted, c.loop-looked.invariant.marks)
+pub close-requires-clause-search : goal.close-requires-clause-search
+close-requires-clause-search c = c.begin.ensures.search _
 
 pub returns-clause-spread : goal.returns-clause-spread
-returns-clause-spread c = done _ _ _ _ _ _ c.loop-looked.invariant.search c.loop-looked-test.false
+returns-clause-spread c = done _ _ _ _ _ _ c.close.ensures.search (omega arith)

@@ -1,7 +1,7 @@
 use Rattle.std.proofs.Common.{◌≡◌, ◌≤◌, ◌-◌, vec_len}
 use Rattle.graph_flow.specs.Residual.{residual}
 use Rattle.graph_flow.specs.Marks.{IsSearch}
-use Rattle.graph_flow.proofs.search.Search.run.Given as goal
+use Rattle.graph_flow.proofs.search.Search.close.Given as goal
 
 abbrev pub invariant-loop-looked : goal.invariant-loop-looked
 invariant-loop-looked l = record {

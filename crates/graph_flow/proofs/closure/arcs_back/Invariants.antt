@@ -1,12 +1,11 @@
 use Rattle.std.proofs.Common.{◌≡◌, ◌<◌, ◌+◌, ◌++◌, length, reverse, vec_len}
-use Rattle.graph_flow.specs.Paths.{links_of}
 use Rattle.graph_flow.specs.Marks.{depth_of, mark_at, way_to}
-use Rattle.graph_flow.proofs.closure.links_back.Given as goal
+use Rattle.graph_flow.proofs.closure.arcs_back.Given as goal
 
 abbrev pub invariant-loop-at : goal.invariant-loop-at
 invariant-loop-at l = record {
   within : l.at < length l.marks;
-  links : links_of (way_to l.marks l.node) ≡ links_of (way_to l.marks l.at) ++ reverse l.back.items;
+  arcs : way_to l.marks l.node ≡ way_to l.marks l.at ++ reverse l.back.items;
   steps : vec_len l.back + depth_of (mark_at l.marks l.at) ≡ depth_of (mark_at l.marks l.node);
 }
 
