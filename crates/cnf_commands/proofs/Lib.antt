@@ -1,4 +1,3 @@
-pub mod LineByLine
 pub mod FormulaVariables
 pub mod Numbering
 pub mod Searching

@@ -5,3 +5,4 @@ pub mod ReadPast
 pub mod RoutersRead
 pub mod Answering
 pub mod Stops
+pub mod LinesJudged

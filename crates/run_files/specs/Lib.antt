@@ -4,4 +4,5 @@ pub mod HandedOut
 pub mod Answers
 pub mod Reading
 pub mod ReadingLines
+pub mod LineJudges
 pub mod Judgements

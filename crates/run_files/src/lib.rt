@@ -8,6 +8,7 @@ mod files;
 mod judgements;
 pub mod laws;
 mod limits;
+mod line_judges;
 mod outcome;
 mod refusals;
 
@@ -15,5 +16,6 @@ pub use by_lines::{next_line, try_file};
 pub use files::{read_file, read_routers};
 pub use judgements::{Judgement, told};
 pub use limits::Limits;
+pub use line_judges::{LineJudge, judge_lines};
 pub use outcome::{Done, FileRefusal, Reason, Stop};
 pub use refusals::{line_of, refused};
