@@ -1,4 +1,4 @@
--- When one network may stand for another: what the other carries, it carries, too.
+-- When one network covers another: what the other delivers, it delivers too.
 use Rattle.std.specs.Prelude.{◌≡◌, ◌⊎◌, ℕ, IsTrue, Some, List, slice_get}
 use Rattle.net_model.specs.declared.lists.Packet.{Packet}
 use Rattle.net_model.specs.declared.policies.Class.{Class}

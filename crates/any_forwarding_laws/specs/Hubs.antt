@@ -47,7 +47,7 @@ pub record HasHub (copy net : Network) (class : Class) (hub : ℕ) : Type 0 wher
   pub links : (link : ℕ) (row : LinkRow) → slice_get net.links link ≡ Some row →
       IsKeptOrSpoked copy class hub row
 
--- the interface of the copy stands at the hub for one of the network: it is one of the hub, and the
+-- the copy's interface is at the hub in place of one of the network: it is the hub's, and the
 -- network's has a spoke that is no waypoint
 pub record StandsAtHub (copy : Network) (stand : FaceRow) (net : Network) (face : FaceRow)
     (class : Class) (hub : ℕ) : Type 0 where
@@ -56,12 +56,12 @@ pub record StandsAtHub (copy : Network) (stand : FaceRow) (net : Network) (face 
   pub spoke : HasSpoke copy class hub place ⊥
   pub at_hub : IsHubFace copy class hub stand
 
--- an interface of the copy stands for one of the network, as a wider one or at the hub
+-- the copy's interface covers the network's: it is wider, or it is at the hub
 abbrev pub StandsFor : Network → FaceRow → Network → FaceRow → Class → ℕ → Type 0
 StandsFor copy stand net face class hub =
     IsWiderFace copy stand net face class ⊎ StandsAtHub copy stand net face class hub
 
--- a copy with a hub in place of a LAN covers the network, where its ends stand for the network's
+-- a copy with a hub in place of a LAN covers the network if its ends cover the network's
 abbrev pub HubsCover : Type 0
 HubsCover =
     (copy net : Network) (copied ends : Ends) (class : Class) (hub : ℕ) →

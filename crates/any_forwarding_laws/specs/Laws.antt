@@ -1,5 +1,5 @@
--- Laws of any forwarding. In an open network closed sides stop every forwarding, and not only that
--- of the routing protocol; and a copy speaks of each network that it covers.
+-- Laws of any forwarding. In an open network closed sides stop every forwarding, not only that of
+-- the routing protocol; and a verdict on a copy holds for each network that the copy covers.
 use Rattle.std.specs.Prelude.{◌≡◌, ◌↔◌, ℕ, IsTrue, IsFalse, IsSome, Some, List, All}
 use Rattle.std.specs.Prelude.{slice_get}
 use Rattle.net_model.specs.declared.lists.Packet.{Packet}
@@ -79,8 +79,8 @@ pub record IsActive (face : FaceRow) : Type 0 where
   pub active : IsFalse face.passive
   pub addressed : IsSome face.addr
 
--- OSPF runs everywhere: at each link's end that is up, with no end passive, and each host network
--- is told
+-- OSPF runs everywhere: at each end of a link that is up, none of them passive, and each host
+-- network is advertised
 pub record RunsEverywhere (net : Network) : Type 0 where
   pub protocol : net.protocol ≡ Ospf
   pub ends : (place : ℕ) (face : FaceRow) → slice_get net.faces place ≡ Some face →

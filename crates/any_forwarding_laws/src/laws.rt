@@ -28,15 +28,15 @@ pub fn verdicts_decide_for_any_forwarding()
     ensures decide { RightVerdictsDecideAny }
 {}
 
-/// A valid network is open where OSPF runs at every end of a link that is up, none of these is
-/// passive, and every host network is told. So is the network of two routers and one link.
+/// A valid network is open if OSPF runs at every end of a link that is up, none of these is
+/// passive, and every host network is advertised. The network of two routers and one link is open.
 pub fn ospf_everywhere_is_open()
     ensures valid { (net : Network) → IsValid net → EverywhereIsOpen net }
     ensures example { ExampleIsOpen }
 {}
 
-/// What a network delivers by any forwarding, each copy that covers it delivers, too. So right
-/// closed sides of an open copy speak of every network that it covers.
+/// What a network delivers by any forwarding, each copy that covers it delivers too. So right
+/// closed sides of an open copy are true of every network that it covers.
 pub fn copies_speak_of_what_they_cover()
     ensures carried { CoveredDeliveriesAreCarried }
     ensures blocked { ClosedCopiesStop }
@@ -55,8 +55,8 @@ pub fn wider_copies_cover()
 {}
 
 /// A copy with a hub in place of a LAN covers the network: a router of its own, with one link to
-/// each gateway in place of links between each two of them. Hosts of the LAN may stand at the hub,
-/// whichever gateway they use. Three gateways have such a copy.
+/// each gateway in place of the links between each two gateways. Hosts of the LAN may be at the
+/// hub, whichever gateway they use. Three gateways have such a copy.
 pub fn hubs_stand_for_lans()
     ensures cover { HubsCover }
     ensures example { ExampleHasHub }

@@ -7,9 +7,9 @@ use Rattle.net_doc.specs.Documents.{IsWellFormed}
 use Rattle.net_build.specs.Networks.{IsBuiltWithin}
 use Rattle.edit_list.specs.declared.edit_kinds.Edit.{Edit}
 use Rattle.edit_list.specs.Prices.{chosen_of}
-use Rattle.edit_files.specs.EditFiles.{chosen_by, line_texts, AreEditLines}
-use Rattle.changed_files.specs.Changes.{Changes, IsEditable}
-use Rattle.changed_files.proofs.ReadAgain.{copies_named}
+use Rattle.edit_reader.specs.EditFiles.{chosen_by, line_texts, AreEditLines}
+use Rattle.file_copies.specs.Changes.{Changes, IsEditable}
+use Rattle.file_copies.proofs.ReadAgain.{copies_named}
 use Rattle.command_words.specs.declared.commands.ApplyWords.{ApplyWords}
 use Rattle.run_files.specs.declared.limits.Limits.TheVariants.{Editing}
 use Rattle.run_files.specs.declared.outcome.Done.{Done}
@@ -22,7 +22,7 @@ use Rattle.run_inputs.specs.declared.inputs.Sources.{Sources}
 use Rattle.run_inputs.specs.Inputs.{AreFit, HoldsDocument, ReadsSources}
 use Rattle.apply_commands.specs.declared.applying.Chosen.{Chosen}
 use Rattle.apply_commands.specs.declared.applying.Ready.{Ready}
-use Rattle.output_files.specs.Outputs.{IsCopyName}
+use Rattle.file_copies.specs.Outputs.{IsCopyName}
 use Rattle.apply_commands.specs.Applies.{edit_texts, named_edits, IsApplied, IsApplyRefusal, IsReadyRefusal, HasWrongLine, WritesCopies}
 use Rattle.apply_commands.specs.Steps.{Chooses, HoldsReady, IsChoice, IsWritten, ReadsReady}
 

@@ -8,9 +8,9 @@ use Rattle.net_model.specs.declared.rows.Network.{Network}
 use Rattle.net_model.specs.Validity.{IsValid}
 use Rattle.edit_list.specs.declared.edit_kinds.Edit.{Edit}
 use Rattle.edit_list.proofs.OneEditList.{edit_lists_are_one}
-use Rattle.edit_files.specs.EditFiles.{AreEditLines, IsWrongLine}
-use Rattle.changed_files.proofs.FewEdits.{few_or_limit}
-use Rattle.changed_files.proofs.OneRefusal.{as_input, held_or_refused, limit_refusal, one_limit}
+use Rattle.edit_reader.specs.EditFiles.{AreEditLines, IsWrongLine}
+use Rattle.file_copies.proofs.FewEdits.{few_or_limit}
+use Rattle.file_copies.proofs.OneRefusal.{as_input, held_or_refused, limit_refusal, one_limit}
 use Rattle.command_words.specs.declared.commands.ApplyWords.{ApplyWords}
 use Rattle.run_files.specs.declared.limits.Limits.TheVariants.{Editing}
 use Rattle.run_files.specs.declared.outcome.FileRefusal.{FileRefusal}

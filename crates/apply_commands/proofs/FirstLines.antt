@@ -7,7 +7,7 @@ use Rattle.std.proofs.lemmas.List.Elements.{filter-append}
 use Rattle.net_model.specs.declared.rows.Network.{Network}
 use Rattle.edit_list.specs.declared.edit_kinds.Edit.{Edit}
 use Rattle.policy_report.specs.Edits.{edit_of}
-use Rattle.edit_files.specs.EditFiles.{is_blank_line, named_by, AreEditLines, IsWrongLine}
+use Rattle.edit_reader.specs.EditFiles.{is_blank_line, named_by, AreEditLines, IsWrongLine}
 
 front_all : {X : Type 0} (P : X → Type 0) (xs ys : List X) → All P (xs ++ ys) → All P xs
 front_all P xs ys all = λ k d within. subst P (get_or_append_left xs ys d k within) (all k d (omega (arith, length-append xs ys, within)))

@@ -6,11 +6,11 @@ use Rattle.std.proofs.lemmas.Bool.{or_parts}
 use Rattle.arc_outside.specs.Files.{Files, with_files}
 use Rattle.edit_list.specs.declared.edit_kinds.Edit.{Edit}
 use Rattle.edit_space.proofs.SomeAfter.{after_is_there}
-use Rattle.edit_files.specs.EditFiles.{chosen_by}
-use Rattle.output_files.specs.Outputs.{clashes, copy_names}
-use Rattle.changed_files.specs.Changes.{AreLeftPatched}
-use Rattle.changed_files.proofs.Patched.{patches_have_the_network}
-use Rattle.changed_files.proofs.ReadAgain.{texts_left, unchanged_kept}
+use Rattle.edit_reader.specs.EditFiles.{chosen_by}
+use Rattle.file_copies.specs.Outputs.{clashes, copy_names}
+use Rattle.file_copies.specs.Changes.{AreLeftPatched}
+use Rattle.file_copies.proofs.Patched.{patches_have_the_network}
+use Rattle.file_copies.proofs.ReadAgain.{texts_left, unchanged_kept}
 use Rattle.command_words.specs.declared.commands.ApplyWords.{ApplyWords}
 use Rattle.run_files.specs.declared.outcome.Done.{Done}
 use Rattle.run_files.specs.declared.outcome.FileRefusal.{FileRefusal}

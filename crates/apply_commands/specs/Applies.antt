@@ -14,11 +14,11 @@ use Rattle.net_build.specs.Networks.{IsNetworkOf}
 use Rattle.edit_list.specs.declared.edit_kinds.Edit.{Edit}
 use Rattle.edit_list.specs.declared.edit_kinds.EditFault.TheVariants as faults
 use Rattle.edit_list.specs.After.{IsAfter}
-use Rattle.edit_list.specs.EditLists.{AreEdits, HasFewClasses, NamesLimit}
+use Rattle.edit_list.specs.EditLists.{AreEdits, DocumentHasFewClasses, NamesLimit}
 use Rattle.edit_list.specs.Prices.{chosen_of}
-use Rattle.edit_files.specs.EditFiles.{line_texts, chosen_by, AreEditLines, IsWrongLine}
-use Rattle.output_files.specs.Outputs.{clashes, copy_names, wrote_lines, IsCopyName}
-use Rattle.changed_files.specs.Changes.{changed_names, AreLeftPatched, Changes, IsEditable}
+use Rattle.edit_reader.specs.EditFiles.{line_texts, chosen_by, AreEditLines, IsWrongLine}
+use Rattle.file_copies.specs.Outputs.{clashes, copy_names, wrote_lines, IsCopyName}
+use Rattle.file_copies.specs.Changes.{changed_names, AreLeftPatched, Changes, IsEditable}
 use Rattle.command_words.specs.declared.commands.ApplyWords.{ApplyWords}
 use Rattle.run_files.specs.declared.limits.Limits.TheVariants.{Editing}
 use Rattle.run_files.specs.declared.outcome.Done.{Done}
@@ -81,7 +81,7 @@ pub record HasNetwork (words : ApplyWords) (files : Files) (doc : Document)
 pub record AreFewEdits (net : Network) (doc : Document) (list : List Edit) : Type 0 where
   pub are : AreEdits net doc list
   pub few : length list ≤ EDIT_LIMIT
-  pub few_classes : HasFewClasses net doc
+  pub few_classes : DocumentHasFewClasses net doc
 
 -- the network has too many classes or edits
 pub record PassesLimit (words : ApplyWords) (net : Network) (doc : Document)
@@ -131,15 +131,15 @@ IsApplyRefusal words files r =
     IsReadyRefusal words files r ⊎
     (RefusesSources words files r ⊎ (RefusesCounts words files r ⊎ RefusesLine words files r))
 
--- an answer of the command: status 0, and it writes copies of files, and tells their names
+-- an answer of the command: status 0, with copies of files written and their names printed
 pub record WritesCopies (words : ApplyWords) (done : Done) : Type 0 where
   pub status : done.status ≡ 0
   pub copies : All (λ write. IsCopyName words.suffix write.0) done.writes
   pub text : done.text ≡ wrote_lines done.writes
 
--- The answer: each line of the edit file names an edit of the network, no two the same; a copy of
--- each router file that these edits change is written, which is its patch; and a line tells the
--- name of each.
+-- The answer: each line of the edit file names an edit of the network, no edit twice; of each
+-- router file that these edits change a copy is written, which is its patch, and a line prints its
+-- name.
 pub record IsApplied (words : ApplyWords) (files : Files) (done : Done) : Type 0 where
   pub doc : Document
   pub built : Built
@@ -188,8 +188,8 @@ pub record CannotBeApplied (words : ApplyWords) (files : Files) : Type 0 where
   pub refusal : FileRefusal
   pub refused : IsApplyRefusal words files refusal
 
--- What the status tells, of the files before and after: 0 where the edits were applied, and 5 for
--- refused, with nothing written.
+-- What the status says of the files before and after: 0 if the edits were applied, and 5 if they
+-- were refused and nothing was written.
 pub record TellsApply (words : ApplyWords) (status : ℕ) (before after : Files) : Type 0 where
   pub applied_exactly : (status ≡ 0) ↔ CanBeApplied words before
   pub applied : status ≡ 0 → IsLeftApplied words before after

@@ -6,9 +6,9 @@ use Rattle.net_model.specs.declared.rows.Network.{Network}
 use Rattle.net_build.specs.declared.built.Built.{Built}
 use Rattle.edit_list.specs.declared.edit_kinds.Edit.{Edit}
 use Rattle.edit_list.specs.Determined.{IsCountable}
-use Rattle.edit_files.specs.EditFiles.{line_texts, chosen_by, AreEditLines}
-use Rattle.output_files.specs.Outputs.{wrote_lines}
-use Rattle.changed_files.specs.Changes.{Changes}
+use Rattle.edit_reader.specs.EditFiles.{line_texts, chosen_by, AreEditLines}
+use Rattle.file_copies.specs.Outputs.{wrote_lines}
+use Rattle.file_copies.specs.Changes.{Changes}
 use Rattle.command_words.specs.declared.commands.ApplyWords.{ApplyWords}
 use Rattle.run_files.specs.declared.outcome.Done.{Done}
 use Rattle.run_files.specs.declared.outcome.Stop.{Stop}
@@ -45,7 +45,7 @@ Chooses words net doc text (Err (stops.Refused r)) =
 Chooses words net doc text (Err stops.Memory) = Unit {0}
 Chooses words net doc text (Err stops.Failed) = ⊥
 
--- the copies of the changed files are written, and a line tells the name of each
+-- the copies of the changed files are written, and a line prints the name of each
 pub record IsWritten (suffix : List ℕ) (doc : Document) (built : Built) (olds : List (List ℕ))
     (chosen : List Edit) (done : Done) : Type 0 where
   pub changes : Changes suffix doc built olds chosen done.writes

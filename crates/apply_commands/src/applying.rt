@@ -17,12 +17,11 @@ use arc_base::limits::{
 };
 use arc_base::{Kind, List, Memory, Name};
 use arc_outside::Store;
-use changed_files::changes;
 use command_words::ApplyWords;
-use edit_files::{Named, named_edits};
 use edit_list::{Edit, EditFault, edits};
+use edit_reader::{Named, named_edits};
+use file_copies::{changes, clashes, copy_names, holds, push_wrote};
 use net_model::{Document, Network};
-use output_files::{clashes, copy_names, holds, push_wrote};
 use run_files::{Done, Limits, Stop, read_file, refused};
 use run_inputs::{Sources, read_document, read_sources};
 use std::alloc::Global;

@@ -7,7 +7,7 @@ ghost use Rattle.run_files.specs.declared.outcome.FileRefusal.{FileRefusal};
 ghost use Rattle.run_files.specs.Answers.{IsTold};
 ghost use Rattle.apply_commands.specs.Applies.{IsApplied, IsApplyRefusal, TellsApply};
 
-/// What the status of `apply` tells.
+/// What the status of `apply` says.
 pub fn apply_is_told()
     ensures { (words : ApplyWords) →
         IsTold (IsApplyRefusal words) (IsApplied words) (TellsApply words) }

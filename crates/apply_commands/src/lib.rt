@@ -1,6 +1,6 @@
-//! The command `apply`: an operator's list of edits is put into copies of the router files, byte
-//! for byte except for what the edits insert. Its spec file has the first refusal, the answer, and
-//! what the status tells.
+//! The command `apply`: it writes copies of the router files with an operator's list of edits in
+//! them, byte for byte the old files but for what the edits insert. Its spec file has the first
+//! refusal, the answer, and what the status says.
 #![tactic(auto)]
 
 mod applying;

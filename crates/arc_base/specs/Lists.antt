@@ -1,6 +1,6 @@
 -- Lists of any items.
 use Rattle.std.specs.Prelude.{◌≢◌, List, AllPairs}
 
--- no item stands twice
+-- no item occurs twice
 abbrev pub AreDistinct : {X : Type 0} → List X → Type 0
 AreDistinct xs = AllPairs (λ x y. x ≢ y) xs

@@ -9,7 +9,7 @@ use Rattle.std.specs.declared.cmp.Ordering.TheVariants.{Less}
 use Rattle.arc_base.specs.declared.limits.TheConstants.{NAME_LIMIT}
 use denote.Ref.{Bor}
 
--- whether a byte may stand in a name: a letter, a digit or one of - _ .
+-- whether a byte may occur in a name: a letter, a digit or one of - _ .
 abbrev pub is_name_byte : ℕ → Bool
 is_name_byte b =
     is_ascii_digit b || (nat_le 65 b && nat_le b 90) || (nat_le 97 b && nat_le b 122) || (b == 45)

@@ -1,7 +1,6 @@
--- How numbers, addresses and prefixes are written, and what a text of one stands for. A number is
--- written in decimal digits with no zero before another digit, an address as its four bytes with
--- dots between them, and a prefix as its first address and its length with a slash between them
--- (RFC 4632).
+-- How numbers, addresses and prefixes are written and read. A number is written in decimal digits
+-- with no zero before another digit, an address as its four bytes with dots between them, and a
+-- prefix as its first address and its length with a slash between them (RFC 4632).
 use Rattle.std.specs.Prelude.{◌≡◌, ℕ, ◌-◌, ◌%◌, ◌^◌, ◌==◌, ◌&&◌, nat_lt, nat_le, Bool, true, false}
 use Rattle.std.specs.Prelude.{List, [], ◌∷◌, ◌++◌, ◌⊎◌, ◌≤◌, slice_index, length, codes, decimal}
 use Rattle.std.specs.Prelude.{bytes_eq, Option, Some, None, if◌then◌else◌, ◌↔◌, refl}

@@ -4,7 +4,7 @@
 /// hyphens; `Memory` is never printed.
 #[derive(Clone, Copy, Debug, PartialEq, Eq)]
 pub enum CertKind {
-    /// The line is not of a form that may stand there.
+    /// The line is not of a form that is allowed there.
     Form,
     /// The text ends before its line `end`, or lines follow that line.
     NoEnd,

@@ -1,5 +1,5 @@
 //! The limits of the program: each count and size that an input may have, with its unit and its
-//! reason. A contract or a definition that speaks of a limit names it from here.
+//! reason. Contracts and definitions take their limits from here.
 
 /// Routers of a network. Tables over pairs of routers stay small, and a witness names a side by as
 /// many marks.
@@ -14,8 +14,8 @@ pub const LINK_LIMIT: u64 = 1_024;
 /// Policies of a document. Each is judged by itself, over the classes of its own.
 pub const POLICY_LIMIT: u64 = 256;
 
-/// Failed links or routers that a policy or a command speaks of. Reach under that many failures
-/// asks for one disjoint path more, each found by one search.
+/// Failed links or routers that a policy or a command may ask about. Reach under k failures asks
+/// for k + 1 disjoint paths, each found by one search.
 pub const FAILURE_LIMIT: u64 = 16;
 
 /// What an edit of one kind may cost at most: 32 of the greatest weight come to the highest price.
@@ -38,8 +38,7 @@ pub const EDIT_LIMIT: u64 = 8_192;
 /// Variables of a formula. A search keeps several words of each.
 pub const VARIABLE_LIMIT: u64 = 16_777_216;
 
-/// Literals of a formula, each counted as often as it stands there. A search keeps them all, in
-/// some 32 bytes each.
+/// Literals of a formula, each occurrence counted. A search keeps them all, in some 32 bytes each.
 pub const LITERAL_LIMIT: u64 = 32_000_000;
 
 /// Nodes of a network of conditions.
@@ -65,7 +64,7 @@ pub const CONFLICT_LIMIT: u64 = 200_000;
 /// Conflicts that a search may learn from where the words do not say it.
 pub const DEFAULT_CONFLICTS: u64 = 50_000;
 
-/// The fewest routers of a network that is generated: a ring and its chords want so many.
+/// The fewest routers of a generated network: with fewer, the ring has no chords.
 pub const FEWEST_GENERATED: u64 = 6;
 
 /// The most routers of a network that is generated.

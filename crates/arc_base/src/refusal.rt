@@ -10,16 +10,17 @@ pub enum Kind {
     /// A file has more bytes than its limit, or the router files up to this one have more than
     /// theirs.
     TooLong,
-    /// An indented line stands in no block.
+    /// An indented line belongs to no block.
     OrphanLine,
     /// No line form matches.
     UnknownLine,
     /// A word of a line is out of its form or range, missing, or one too many; or a banner is not
     /// closed.
     BadWord,
-    /// A mask or wildcard is an address, but its ones do not stand together.
+    /// A mask or wildcard is an address, but its ones are not contiguous.
     WildcardNotPrefix,
-    /// An interface, process or list block stands twice, or a list stands as lines and as a block.
+    /// An interface, process or list block occurs twice, or a list occurs both as lines and as a
+    /// block.
     DuplicateBlock,
     /// The numbers of a list's entries do not rise, or only some entries have one.
     SequenceNotRising,
@@ -43,7 +44,7 @@ pub enum Kind {
     LinkSubnets,
     /// An inbound packet list denies the routing protocol's own packets on a link.
     ListStopsSession,
-    /// The OSPF network types at a link's ends differ, or a router id stands twice.
+    /// The OSPF network types at a link's ends differ, or a router id occurs twice.
     AdjacencyForm,
     /// A prefix lies in no host network, or source and destination lie in the same one.
     Endpoint,
@@ -68,7 +69,7 @@ pub enum LimitKind {
     Links,
     /// The policies of a document: at most `POLICY_LIMIT`.
     Policies,
-    /// The failed links that a reach policy speaks of: at most `FAILURE_LIMIT`.
+    /// The failures that a reach policy allows: at most `FAILURE_LIMIT`.
     Failures,
     /// The entries of a list: at most `ENTRY_LIMIT`, or `EDITED_ENTRY_LIMIT` where files are to be
     /// changed.

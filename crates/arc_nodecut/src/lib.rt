@@ -1,8 +1,8 @@
-//! Reach under failed routers. With a router all links fail that end at it. A policy is met under
-//! so many failed routers where its ends share a router or a link, or where one path more than
-//! routers may fail leads from source to target, no two of them by one router; else a cut of so few
-//! routers parts the ends. The graph has two nodes for each router, so that paths over different
-//! links of it are paths by different routers.
+//! Reach under failed routers. When a router fails, all its links fail. A policy is met under K
+//! failed routers if its ends share a router or a link, or K + 1 paths lead from source to target,
+//! no two of them through one router; else a cut of at most K routers separates the ends. The graph
+//! has two nodes for each router, so that paths over different links of it are paths through
+//! different routers.
 #![tactic(auto)]
 
 mod acceptance;

@@ -14,9 +14,9 @@ use policy_report::{
 };
 use std::alloc::Global;
 
-/// The text of a verdict under at most so many failed routers: `arc-nodes 1`, the answer with the
-/// number of lines to come, the lines of the witness, and `end`. Links are counted from 1, and
-/// routers go by their names.
+/// The text of a verdict under at most K failed routers: `arc-nodes 1`, the answer with the number
+/// of lines to come, the lines of the witness, and `end`. Links are counted from 1, and routers
+/// have their names.
 pub fn nodes_text(
     alloc: Global,
     net: &Network,

@@ -1,9 +1,9 @@
--- Calls that are numbered from 1, of which those fail whose number stands in a list.
+-- Calls that are numbered from 1; those whose number is in a list fail.
 use Rattle.std.specs.Prelude.{◌≡◌, ◌↔◌, ℕ, ◌+◌, ◌-◌, ◌^◌, List, Contains, min, Result, IsErrOf}
 use Rattle.arc_outside.specs.declared.fault.Fault.{Fault}
 use Rattle.arc_outside.specs.declared.fault.Fault.TheVariants.{Failed}
 
--- the number of the call after so many calls, which ends at 2^64 - 1
+-- the number of the next call, which is 2^64 - 1 at most
 abbrev pub next_call : ℕ → ℕ
 next_call calls = min (calls + 1) (2 ^ 64 - 1)
 

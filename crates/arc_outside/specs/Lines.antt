@@ -12,8 +12,8 @@ pub record IsFirstLine (text line rest : List ℕ) : Type 0 where
   pub unbroken : IsUnbroken line
   pub split : (text ≡ line ++ 10 ∷ rest) ⊎ ((text ≡ line) × ((0 < length line) × (rest ≡ [])))
 
--- The front of a text is put at a line's end: up to its first line feed, or the whole of a text
--- without one.
+-- The front of a text is taken up to the end of its first line: up to its first line feed, or the
+-- whole of a text without one.
 abbrev pub TakesFront : List ℕ → List ℕ → List ℕ → List ℕ → Bool → Type 0
 TakesFront text line longer rest true =
     (front : List ℕ) × (IsUnbroken front × ((longer ≡ line ++ front) × (text ≡ front ++ 10 ∷ rest)))

@@ -7,8 +7,8 @@ use Rattle.arc_outside.specs.declared.reading.ReadAll.{ReadAll}
 use Rattle.arc_outside.specs.declared.reading.ReadAll.TheVariants.{Fault as fault, TooLong}
 use Rattle.arc_outside.specs.declared.pieces.Pieces.{Pieces}
 
--- What of a file, with these bytes or with none, stands in no line yet: what was read and not
--- handed out, and what was not read.
+-- What of a file, with these bytes or with none, is in no line yet: what was read and not returned,
+-- and what was not read.
 abbrev pub left : Pieces → Option (List ℕ) → List ℕ
 left p file = p.window ++ drop p.place (unwrap_or file [])
 
@@ -17,8 +17,8 @@ left p file = p.window ++ drop p.place (unwrap_or file [])
 abbrev pub ahead : Pieces → ℕ
 ahead p = p.limit - p.place + length p.window
 
--- What the reader may hand out is less by the bytes of the line, and by its line feed if it has one:
--- each byte that was read is handed out or stands in the window.
+-- What the reader may still return shrinks by the bytes of the line, and by its line feed if it has
+-- one: each byte that was read has been returned or is in the window.
 pub record HandsOut (before after : Pieces) : Type 0 where
   pub line : ahead after + length after.line.items ≤ ahead before
   pub feed : ahead before ≤ ahead after + length after.line.items + 1

@@ -1,4 +1,4 @@
-//! The trusted edge to the files of the system. Nothing is told of what they hold.
+//! The trusted edge to the files of the system. Its contracts say nothing of what the files hold.
 ghost use Rattle.std.specs.Prelude.{◌≡◌, ◌≢◌, ◌<◌, ◌≤◌, None, length, IfOk, IfErr};
 ghost use Rattle.std.specs.IoError.{error_kind};
 
@@ -48,18 +48,18 @@ struct Reading<F: Drop> {
 }
 
 /// The files of the system, named by paths in UTF-8. A file to be read that is not there is Missing
-/// and raises the count of absences. Want of memory is Memory, whether the program had none for a
-/// name or the system says that it had none. Every other error is Failed and raises the count of
-/// faults, also a name that is no path, and also want of memory while bytes are read, since what is
-/// then in the buffer is not known.
+/// and raises the count of absences. Running out of memory is Memory, in the program for a name or
+/// in the system. Every other error is Failed and raises the count of faults, also a name that is
+/// no path, and also running out of memory while bytes are read, since the content of the buffer is
+/// then unknown.
 ///
 /// A file stays open from its first piece to its last, so that one that is replaced meanwhile is
 /// read as it was, and a pipe can be read once: to read it from its start again is an error, and
 /// not the end of a file. A plain file is written beside its name, as NAME.part, and then renamed,
 /// so that it is whole or as it was; where no such file can be made, and at a link, a pipe or a
-/// device, the bytes are written in its place.
-/// Where there is no memory for the name NAME.part nothing is written. A plain file that was read is
-/// not written, by whatever name it is called: that is Failed, and nothing is lost.
+/// device, the bytes are written in its place. If there is no memory for the name NAME.part nothing
+/// is written. A plain file that was read is not written, by whatever name it is called: that is
+/// Failed, and nothing is lost.
 #[derive(Drop)]
 pub struct DiskStore<R: Files> {
     rt: R,
@@ -156,7 +156,7 @@ fn opened<R: Files>(
     })
 }
 
-/// The open file, where it stands at this place, and else the file opened there. What was emptied
+/// The open file, if its next byte is at this place, and else the file opened there. A drained pipe
 /// has nothing more to give.
 fn reading_at<R: Files>(
     rt: &R,
@@ -210,7 +210,7 @@ fn read_as<R: Files>(
     }
 }
 
-/// The error of a read that failed, as one that is no want of memory.
+/// The error of a read that failed other than for want of memory.
 fn failed_read(error: io::Error) -> io::Error
     ensures { error_kind result ≢ ErrorKind.OutOfMemory }
 {
@@ -220,8 +220,8 @@ fn failed_read(error: io::Error) -> io::Error
     error
 }
 
-/// Reads on where the file stands open at this place, and else opens it there. At its end it is
-/// closed. One that is no plain file and gave bytes is noted, since it does not give them again.
+/// Reads on where the file is open at this place, and else opens it there. At its end it is closed.
+/// A file that is not a plain one and gave bytes is noted, since it does not give them again.
 fn read_on<R: Files>(
     rt: &R,
     alloc: Global,
@@ -255,7 +255,7 @@ fn read_on<R: Files>(
     Ok(n)
 }
 
-/// Fills a new file, which has the permissions of the one that it will stand for.
+/// Fills a new file with the permissions of the file that it will replace.
 fn fill<F: Write + OpenFile>(
     file: &mut F,
     bytes: &[u8],

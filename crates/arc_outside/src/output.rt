@@ -1,4 +1,4 @@
-//! The trusted edge to the standard output. Nothing is told of what it shows.
+//! The trusted edge to the standard output. Its contracts say nothing of what it shows.
 ghost use Rattle.std.specs.Prelude.{◌≡◌, ◌<◌, ◌≤◌, None, length, IfOk};
 
 use crate::{Fault, Sink};

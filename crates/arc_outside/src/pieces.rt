@@ -47,7 +47,7 @@ impl Pieces {
     ghost use Rattle.arc_outside.specs.LinesRead.{ahead, left, HandsOut, ReadsLine};
     ghost use Rattle.arc_outside.specs.Reads.{OnlyReadsFile};
 
-    /// A reader at the start of a file that may have so many bytes. It takes no memory yet.
+    /// A reader at the start of a file of at most `limit` bytes. It takes no memory yet.
     pub fn make(alloc: Global, limit: u64) -> Pieces
         ensures left { (file : Option (List ℕ)) → left result file ≡ unwrap_or file [] }
         ensures limit { result.limit ≡ limit }
@@ -64,7 +64,7 @@ impl Pieces {
         }
     }
 
-    /// The line at which the reader stands, without its line feed.
+    /// The current line, without its line feed.
     pub fn line(&self) -> &[u8]
         ensures { result.now ≡ self.now.line.items }
     {

@@ -27,7 +27,7 @@ use Rattle.verdicts.proofs.Lists.{rising_numbers}
 use Rattle.net_laws.specs.Breaking.{no_link}
 use Rattle.net_laws.specs.Routes.{just, HasRoute}
 use Rattle.arc_recheck.specs.Needed.{AreNeeded, IsNeededAnswer}
-use Rattle.arc_recheck.specs.Singles.{HoldsBut, HoldsNot, IsAloneAnswer, HasFewClasses, is_reach, shows_routes}
+use Rattle.arc_recheck.specs.Singles.{HoldsBut, HoldsNot, IsAloneAnswer, PolicyHasFewClasses, is_reach, shows_routes}
 use Rattle.net_laws.proofs.LeftRoutes.{routes_decide}
 use Rattle.net_laws.proofs.AllUp.{routes_decide_all_up}
 use Rattle.arc_recheck.proofs.Passing.{passes_when_reached}
@@ -131,7 +131,7 @@ alone_of_needed net valid policy kind v right shows ends are passes class whole 
     (subst (λ (e : Ends). IsNeededAnswer net e found) from_pair (needed of_policy.ends of_policy.is_pair))
 
 -- the verdict was given of few classes, which are few as they are told, too
-pub few_of_fixed : (net : Network) (policies : List Policy) (policy : Policy) (v : Verdict) → IsFixed net policies policy v → HasFewClasses net policies policy
+pub few_of_fixed : (net : Network) (policies : List Policy) (policy : Policy) (v : Verdict) → IsFixed net policies policy v → PolicyHasFewClasses net policies policy
 few_of_fixed net policies policy v fixed = record {
   count = told (length fixed.classes);
   classes = record { classes = fixed.classes; are = fixed.are_classes; counted = refl };

@@ -27,7 +27,7 @@ abbrev pub is_head : Result Got CertFault → Bool
 is_head (Ok (Head Report)) = true
 is_head _ = false
 
--- what an answer of the reader tells of the blocks
+-- what an answer of the reader says of the blocks
 abbrev pub told_by : Result Got CertFault → Told
 told_by (Ok (Verdict which v)) = Block v
 told_by (Ok got) = Other

@@ -1,6 +1,6 @@
 -- An old report whose lines come one by one.
 use Rattle.std.specs.Prelude.{◌≡◌, ℕ, Bool, true, false, List, [], ◌++◌, Result}
-use Rattle.cnf_types.specs.Words.{lines}
+use Rattle.arc_base.specs.TextLines.{lines}
 use Rattle.net_model.specs.declared.policies.Document.{Document}
 use Rattle.net_model.specs.declared.rows.Network.{Network}
 use Rattle.net_model.specs.declared.verdicts.Verdict as verdicts
@@ -18,8 +18,8 @@ abbrev pub held_with : Bool → List verdicts.Verdict → List (Result Got CertF
 held_with false held told = held_verdicts told
 held_with true held told = held ++ verdicts_before told
 
--- the lines of the text came up to these: the blocks so far and those that these tell are all that
--- the text holds
+-- the lines of the text so far came to these: the blocks so far and those still to come are all
+-- that the text holds
 pub record HasComeTo (net : Network) (doc : Document) (text : List ℕ) (ls : List (List ℕ))
     (blocks : HeldBlocks) : Type 0 where
   pub none_before : blocks.begun ≡ false → blocks.held ≡ []

@@ -1,7 +1,7 @@
 //! The blocks that an old report holds.
 ghost use Rattle.std.specs.Prelude.{◌≡◌, ◌++◌, ◌∷◌, ℕ, [], List as Items, IfOk, IsTrue, OnOk};
 ghost use Rattle.std.specs.ControlFlow.{MatchControlFlow};
-ghost use Rattle.cnf_types.specs.Words.{lines};
+ghost use Rattle.arc_base.specs.TextLines.{lines};
 ghost use Rattle.policy_report.specs.Steps.{standing, start, step};
 ghost use Rattle.policy_report.specs.Rereading.{answers};
 ghost use Rattle.arc_recheck.specs.Held.{held_verdicts, is_head, told_by, IsTaken};
@@ -12,7 +12,7 @@ use policy_report::{CertForm, Got, Reader};
 use std::alloc::Global;
 use std::ops::ControlFlow;
 
-/// What a line tells of the blocks.
+/// What a line says of the blocks.
 #[derive(Drop)]
 enum Told {
     /// A block ends, with this verdict.
@@ -49,9 +49,9 @@ impl HeldBlocks {
         }
     }
 
-    /// Takes the next line, without its line feed: another may tell more, or these are all that are
-    /// held, whatever follows. The time is linear in the bytes, and for a `closed` or `side` line
-    /// in the routers.
+    /// Takes the next line, without its line feed. Another may say more, or these are all the
+    /// blocks that are held, whatever follows. The time is linear in the bytes, and for a `closed`
+    /// or `side` line in the routers.
     pub fn line(
         self,
         net: &Network,

@@ -1,6 +1,6 @@
-//! Rechecks an old report after a change. A verdict is kept where its witness is still right, which
-//! needs no search, and only the others are given anew. For a reach policy that holds it tells
-//! which links it hangs on: those whose failure alone breaks it.
+//! Rechecks an old report after a change. A verdict is kept if its witness is still right, which
+//! needs no search, and only the others are judged anew. For a reach policy that holds it lists the
+//! links whose failure alone breaks it.
 #![tactic(auto)]
 
 mod copying;

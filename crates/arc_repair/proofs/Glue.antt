@@ -7,7 +7,7 @@ use Rattle.edit_list.specs.declared.edit_kinds.Edit.{Edit}
 use Rattle.edit_list.specs.declared.edit_kinds.EditFault.{EditFault}
 use Rattle.edit_list.specs.declared.edit_kinds.EditFault.TheVariants.{Memory}
 use Rattle.edit_list.specs.Determined.{EditListsAreOne}
-use Rattle.edit_list.specs.EditLists.{AreEdits, HasFewClasses}
+use Rattle.edit_list.specs.EditLists.{AreEdits, DocumentHasFewClasses}
 use Rattle.policy_encode.specs.Formulas as encoded
 use Rattle.arc_repair.specs.declared.answer.Answer.{Answer}
 use Rattle.arc_repair.specs.Answers.{IsUntouched, IsRepairFault}
@@ -22,7 +22,7 @@ pub never_mended : (net : Network) (doc : Document) (list : List Edit) (none : L
 never_mended net doc list none answer is wrong mends = absurd (wrong (subst (λ (flags : List Bool). Mends net doc list flags) (sym is) mends))
 
 -- a fault of the formula comes after those of the classes and of the edits
-pub formula_fault : (net : Network) (doc : Document) (list : List Edit) → AreEdits net doc list → (bound : ℕ) (fault : EditFault) → HasFewClasses net doc → length list ≤ 8192 → encoded.IsFaultOf net doc list bound fault → IsRepairFault net doc bound fault
+pub formula_fault : (net : Network) (doc : Document) (list : List Edit) → AreEdits net doc list → (bound : ℕ) (fault : EditFault) → DocumentHasFewClasses net doc → length list ≤ 8192 → encoded.IsFaultOf net doc list bound fault → IsRepairFault net doc bound fault
 formula_fault net doc list are bound fault classes few wrong = inr (record { list = list; are = are; classes = classes; edits = few; formula = wrong })
 
 -- and one of memory may come at any time

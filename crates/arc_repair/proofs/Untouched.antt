@@ -13,8 +13,8 @@ use Rattle.edit_list.specs.declared.claims.Claim.TheVariants.{Repaired}
 use Rattle.edit_list.specs.declared.edit_kinds.Edit.{Edit}
 use Rattle.edit_list.specs.After.{IsAfter}
 use Rattle.edit_list.specs.Ordered.{IsInOrder}
-use Rattle.edit_laws.proofs.NoEdits.{none_change}
-use Rattle.edit_laws.specs.Laws.{NoEditsChangeNothing}
+use Rattle.network_edit_laws.proofs.NoEdits.{none_change}
+use Rattle.network_edit_laws.specs.Laws.{NoEditsChangeNothing}
 use Rattle.edit_list.specs.Prices.{chosen_of, price_of}
 use Rattle.policy_encode.specs.Formulas.{IsRepairFormula}
 use Rattle.arc_repair.specs.Claims.{Shows}

@@ -20,8 +20,8 @@ use Rattle.verdicts.specs.declared.fault.JudgeFault.TheVariants.{TooMany}
 use Rattle.verdicts.specs.Judged.{CountsMore}
 use Rattle.edit_list.specs.declared.edit_kinds.Edit.{Edit}
 use Rattle.edit_list.specs.After.{IsAfter}
-use Rattle.edit_list.specs.EditLists.{AreEdits, HasFewClasses}
-use Rattle.edit_laws.specs.Kept.{ClassesStay}
+use Rattle.edit_list.specs.EditLists.{AreEdits, DocumentHasFewClasses}
+use Rattle.network_edit_laws.specs.Kept.{ClassesStay}
 use Rattle.edit_list.specs.Prices.{chosen_of}
 use Rattle.arc_repair.specs.Claims.{IsRightYes}
 use Rattle.arc_repair.specs.Search.{HasFewClassesEach}
@@ -53,7 +53,7 @@ never_many net (q ∷ qs) place fault count few within is many =
     omega (arith, few policy (place, within, get_or_default (q ∷ qs) place policy q within) has.classes has.are, told, said.1)
 
 -- where the document has few classes, each policy has few after edits too
-pub few_after : ClassesStay → (net after : Network) (doc : Document) (list : List Edit) (flags : List Bool) → AreEdits net doc list → IsAfter net (chosen_of list flags) after → HasFewClasses net doc → HasFewClassesEach after doc.policies
+pub few_after : ClassesStay → (net after : Network) (doc : Document) (list : List Edit) (flags : List Bool) → AreEdits net doc list → IsAfter net (chosen_of list flags) after → DocumentHasFewClasses net doc → HasFewClassesEach after doc.policies
 few_after stay net after doc list flags edits is few policy one classes are =
     let before : AreClasses net doc.policies policy classes = (stay net after doc list flags edits is policy classes).1 are in
     let all = (have_one_list net doc.policies doc.policies).0 in

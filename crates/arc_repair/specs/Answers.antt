@@ -12,7 +12,7 @@ use Rattle.edit_list.specs.declared.claims.Claim.{Claim}
 use Rattle.edit_list.specs.declared.claims.Claim.TheVariants.{Repaired, NoRepair}
 use Rattle.edit_list.specs.declared.edit_kinds.Edit.{Edit}
 use Rattle.edit_list.specs.declared.edit_kinds.EditFault.{EditFault}
-use Rattle.edit_list.specs.EditLists.{AreEdits, HasFewClasses, NamesLimit}
+use Rattle.edit_list.specs.EditLists.{AreEdits, DocumentHasFewClasses, NamesLimit}
 use Rattle.policy_encode.specs.Formulas.{IsRepairFormula, IsWithin, IsFaultOf}
 use Rattle.proof_log.specs.declared.steps.Step.{Step}
 use Rattle.proof_log.specs.declared.steps.Step.TheVariants.{Add, Drop, Bound}
@@ -21,7 +21,7 @@ use Rattle.arc_repair.specs.declared.answer.Answer.TheVariants.{Done, Budget}
 use Rattle.arc_repair.specs.Repairs.{cost, Mends, none_of}
 use Rattle.arc_repair.specs.Claims.{claim_bound, IsTrueClaim, IsCertificate}
 
--- the claim is true and of the bound that was asked for, and the log makes it a certificate
+-- the claim is true and of the bound that was asked for, and with the log it is a certificate
 pub record IsDone (net : Network) (doc : Document) (list : List Edit) (bound : ℕ) (claim : Claim)
     (steps : List Step) : Type 0 where
   pub same_bound : claim_bound claim ≡ bound
@@ -35,8 +35,8 @@ pub record IsPriceOfRepair (net : Network) (doc : Document) (list : List Edit)
   pub mends : Mends net doc list flags
   pub costs : cost doc list flags ≡ price
 
--- a bound of the log is the one that was asked for, or one less than the price of edits that mend
--- the network
+-- a bound of the log is the one that was asked for, or one less than the price of edits after which
+-- the network meets the document
 abbrev pub IsKnownBound : Network → Document → List Edit → ℕ → Step → Type 0
 IsKnownBound net doc list most (Add id lits hints) = Unit {0}
 IsKnownBound net doc list most (Drop ids) = Unit {0}
@@ -89,7 +89,7 @@ AnswersFew (Budget log) = Unit {0}
 -- there are few classes and few edits, and the formula is within its limits
 pub record KeepsLimits (net : Network) (doc : Document) (list : List Edit)
     (bound : ℕ) : Type 0 where
-  pub classes : HasFewClasses net doc
+  pub classes : DocumentHasFewClasses net doc
   pub edits : length list ≤ EDIT_LIMIT
   pub formula : IsWithin net doc list bound
 
@@ -98,7 +98,7 @@ pub record PassesFormula (net : Network) (doc : Document) (bound : ℕ)
     (fault : EditFault) : Type 0 where
   pub list : List Edit
   pub are : AreEdits net doc list
-  pub classes : HasFewClasses net doc
+  pub classes : DocumentHasFewClasses net doc
   pub edits : length list ≤ EDIT_LIMIT
   pub formula : IsFaultOf net doc list bound fault
 

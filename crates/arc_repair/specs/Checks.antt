@@ -14,7 +14,7 @@ use Rattle.edit_list.specs.declared.claims.Claim.{Claim}
 use Rattle.edit_list.specs.declared.claims.Claim.TheVariants.{Repaired, NoRepair}
 use Rattle.edit_list.specs.declared.edit_kinds.Edit.{Edit}
 use Rattle.edit_list.specs.After.{IsAfter}
-use Rattle.edit_list.specs.EditLists.{AreEdits, HasFewClasses}
+use Rattle.edit_list.specs.EditLists.{AreEdits, DocumentHasFewClasses}
 use Rattle.edit_list.specs.Prices.{chosen_of}
 use Rattle.policy_encode.specs.Formulas.{IsRepairFormula, IsWithin}
 use Rattle.proof_check.specs.Knowledge.{Knowledge, start}
@@ -74,8 +74,8 @@ IsDefect net doc list (NoRepair bound) kind = (PRICE_LIMIT < bound) × (kind ≡
 abbrev pub knowledge : Check → Knowledge
 knowledge check = known check.checker
 
--- the check of this claim stands before its log: the claim is right, and what is known is its
--- repair formula with its least bound
+-- the check of this claim is before its log: the claim is right, and what is known is its repair
+-- formula with its least bound
 pub record IsBegun (net : Network) (doc : Document) (list : List Edit) (claim : Claim)
     (check : Check) : Type 0 where
   pub right : IsRightClaim net doc list claim
@@ -94,6 +94,6 @@ IsMade net doc list claim (Bad kind) = IsDefect net doc list claim kind
 -- formula is within its limits
 pub record ClaimKeepsLimits (net : Network) (doc : Document) (list : List Edit)
     (claim : Claim) : Type 0 where
-  pub classes : HasFewClasses net doc
+  pub classes : DocumentHasFewClasses net doc
   pub edits : length list ≤ EDIT_LIMIT
   pub formula : claim_bound claim ≤ PRICE_LIMIT → IsWithin net doc list (claim_bound claim)

@@ -28,8 +28,8 @@ CertificatesAreTrue =
 abbrev pub accepts : Check → Bool
 accepts check = not check.needs_refutation || (knowledge check).refuted
 
--- a check that has gone on from its beginning over a log that it accepts tells by its answer
--- whether the claim and the log are a certificate
+-- a check that has gone over a log that it accepts says by its answer whether the claim and the log
+-- are a certificate
 abbrev pub ChecksAreExact : Type 0
 ChecksAreExact =
     (net : Network) (doc : Document) (list : List Edit) (claim : Claim) (begun check : Check)
@@ -45,8 +45,7 @@ CertificatesPass =
     (steps : List Step) → IsValid net → IsBegun net doc list claim begun →
     IsCertificate net doc list claim steps → IsAccepted (knowledge begun) steps
 
--- a network whose names and lists stand in their order, and which meets the document, is mended by
--- no edits
+-- a network whose names and lists are in their order, and which meets the document, needs no edits
 abbrev pub MetNetworksNeedNoEdits : Type 0
 MetNetworksNeedNoEdits =
     (net : Network) (doc : Document) (list : List Edit) → IsValid net →

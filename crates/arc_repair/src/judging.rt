@@ -6,7 +6,7 @@ ghost use Rattle.net_model.specs.Packets.{subject};
 ghost use Rattle.net_model.specs.Policies.{Meets, HasFewFailures};
 ghost use Rattle.net_model.specs.Validity.{IsValid};
 ghost use Rattle.edit_list.specs.Determined.{IsCountable};
-ghost use Rattle.edit_list.specs.EditLists.{AreEdits, HasFewClasses};
+ghost use Rattle.edit_list.specs.EditLists.{AreEdits, DocumentHasFewClasses};
 ghost use Rattle.arc_repair.specs.Answers.{ShowsFew};
 ghost use Rattle.arc_repair.specs.Claims.{IsRightYes};
 ghost use Rattle.arc_repair.specs.Repairs.{Mends};
@@ -66,7 +66,7 @@ pub(crate) fn yeses_after(
     requires countable { IsCountable net.now }
     requires ends { All (λ policy. HasEnds net.now (subject policy)) doc.now.policies }
     requires failures { All (λ policy. HasFewFailures policy.kind) doc.now.policies }
-    requires classes { HasFewClasses net.now doc.now }
+    requires classes { DocumentHasFewClasses net.now doc.now }
     requires edits { AreEdits net.now doc.now list.now }
     requires flags { length chosen.now ≡ length list.now }
     ensures some { IfOk result (λ verdicts.

@@ -2,9 +2,9 @@
 ghost use Rattle.arc_repair.specs.Laws.{CertificatesAreTrue, ChecksAreExact, CertificatesPass};
 ghost use Rattle.arc_repair.specs.Laws.{MetNetworksNeedNoEdits};
 
-use edit_laws::no_edits_change_nothing;
 use edit_space::laws::networks_after_edits_are_valid;
 use net_laws::verdicts_are_right;
+use network_edit_laws::no_edits_change_nothing;
 use policy_encode::laws::{
     formulas_are_searchable, models_are_repairs, one_formula, one_model_serves,
 };

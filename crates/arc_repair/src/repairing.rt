@@ -7,7 +7,7 @@ ghost use Rattle.net_model.specs.Validity.{IsValid};
 ghost use Rattle.edit_list.specs.declared.claims.Claim.TheVariants.{Repaired};
 ghost use Rattle.edit_list.specs.declared.edit_kinds.Edit.{Edit as AnyEdit};
 ghost use Rattle.edit_list.specs.Determined.{IsCountable};
-ghost use Rattle.edit_list.specs.EditLists.{AreEdits, HasFewClasses};
+ghost use Rattle.edit_list.specs.EditLists.{AreEdits, DocumentHasFewClasses};
 ghost use Rattle.edit_list.specs.Ordered.{IsInOrder};
 ghost use Rattle.price_descent.specs.Outcomes.{found_steps};
 ghost use Rattle.proof_log.specs.Texts.{HasLine};
@@ -78,7 +78,7 @@ fn answer_of(
     requires countable { IsCountable net.now }
     requires ends { All (λ policy. HasEnds net.now (subject policy)) doc.now.policies }
     requires failures { All (λ policy. HasFewFailures policy.kind) doc.now.policies }
-    requires classes { HasFewClasses net.now doc.now }
+    requires classes { DocumentHasFewClasses net.now doc.now }
     requires edits { AreEdits net.now doc.now list.now }
     requires bound { bound ≤ PRICE_LIMIT }
     requires searched { IsSearched net.now doc.now list.now bound limit found }
@@ -113,7 +113,7 @@ fn answer_of(
 /// It gives up once the log adds `limit` clauses.
 ///
 /// The classes, the edits and the formula are counted against their limits first, in this order. A
-/// network that meets the document as it stands is answered without a search.
+/// network that meets the document already is answered without a search.
 pub fn repair(
     alloc: Global,
     net: &Network,
@@ -161,7 +161,7 @@ pub fn repair_of(
     requires few { length doc.now.policies ≤ POLICY_LIMIT }
     requires ends { All (λ policy. HasEnds net.now (subject policy)) doc.now.policies }
     requires failures { All (λ policy. HasFewFailures policy.kind) doc.now.policies }
-    requires classes { HasFewClasses net.now doc.now }
+    requires classes { DocumentHasFewClasses net.now doc.now }
     requires edits { AreEdits net.now doc.now list.now }
     requires few_edits { length list.now ≤ EDIT_LIMIT }
     requires bound { bound ≤ PRICE_LIMIT }

@@ -20,7 +20,7 @@ use Rattle.verify_commands.specs.Verifies.{TellsVerdicts}
 -- what this status of a command says of the files before and after
 abbrev pub Tells : Command → ℕ → Files → Files → Type 0
 -- `verify`: 0 exactly where the document and its router files have a network and stable forwarding
--- meets every policy in it under every set of failed links that the policy speaks of, 1 exactly
+-- meets every policy in it under every set of failed links that the policy allows for, 1 exactly
 -- where they have a network that breaks a policy or has a reach policy that is not clear, and 5
 -- exactly where they are refused.
 Tells (Verify document) status before after = TellsVerdicts document status before
@@ -66,8 +66,8 @@ Tells (Lrat cnf proof) status before after = TellsRefutation cnf proof status be
 -- what is made is too large to be repaired, and then nothing is written.
 Tells (Generate words) status before after = TellsGenerate words status before after
 -- `nodes`: 0 exactly where the document and its router files have a network with the prefixes in
--- which stable forwarding carries the packets from the one to the other whichever so many routers
--- fail beside those of the two host networks, 1 exactly where they have such a network and it does
+-- which stable forwarding carries the packets from the one to the other whichever K routers fail
+-- other than those of the two host networks, 1 exactly where they have such a network and it does
 -- not, or the policy is not clear, and 5 exactly where they are refused.
 Tells (Nodes words) status before after = TellsNodes words status before
 -- `prefers`: 0 exactly where they have a network with the prefixes and the routers in which, with

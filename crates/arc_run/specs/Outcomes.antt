@@ -87,9 +87,9 @@ status_of outcomes.Usage = 4
 status_of (outcomes.Refused r) = 5
 status_of (outcomes.Done d) = d.status
 
--- The defined outcomes: the usage line exactly where the words match no command, and else a
--- command's first refusal or one of its answers. Over a store that does not tell what it holds, any
--- refusal and any of the command's own answers.
+-- The defined outcomes: the usage line exactly if the words match no command, and else a command's
+-- first refusal or one of its answers. Over a store that does not say what it holds, any refusal
+-- and any of the command's own answers.
 abbrev pub IsDefined : Option Command → Option Files → Outcome → Type 0
 IsDefined None held outcomes.Usage = Unit {0}
 IsDefined None held (outcomes.Refused r) = ⊥
@@ -100,8 +100,8 @@ IsDefined (Some command) held (outcomes.Refused r) =
 IsDefined (Some command) held (outcomes.Done d) =
     IsOwn command d × IfSome held (λ files. IsAnswer command files d)
 
--- A missing file is refused only where the count of absences rose, and one that is too long only
--- where reads took so many bytes.
+-- A missing file is refused only if the count of absences rose, and one that is too long only if
+-- reads returned that many bytes.
 abbrev pub HasOutcomeCause : (absent long : Type 0) → Outcome → Type 0
 HasOutcomeCause absent long outcomes.Usage = Unit {0}
 HasOutcomeCause absent long (outcomes.Refused r) = HasRefusalCause absent long r

@@ -1,4 +1,4 @@
-//! The common ending of all commands: the files are written, and then the text is put.
+//! The common ending of all commands: the files are written, and then the text is printed.
 ghost use Rattle.std.specs.Prelude.{◌≡◌, ◌⊎◌, ◌<◌, ◌≤◌, ◌+◌, ◌++◌, take, drop, option_map, length};
 ghost use Rattle.std.specs.Prelude.{IfOk, IfErr, OnOk, OnErr, IsErrOf, ℕ};
 ghost use Rattle.arc_outside.specs.Causes.{HasCause, Rose, RoseWhere};

@@ -1,6 +1,6 @@
 //! The top call: from the words of the command line, a store and a sink to an exit status. Its
-//! contract is the product's: what each status says of the files that were read, what was put and
-//! written, and whose fault it is where there is no answer.
+//! contract is the product's: what each status says of the files that were read, what was printed
+//! and written, and whose fault it is if there is no answer.
 #![tactic(auto)]
 
 mod ending;

@@ -2,9 +2,9 @@
 
 use run_files::{Done, FileRefusal};
 
-/// The exit status of a run: 0 for yes, 1 for no, 2 where no assignment satisfies the formula, 3
-/// where a search reached its limit, 4 where the words match no command, 5 for a refusal, 6 and 7
-/// where the store or the sink failed, 8 for want of memory.
+/// The exit status of a run: 0 for yes, 1 for no, 2 if no assignment satisfies the formula, 3 if a
+/// search reached its limit, 4 if the words match no command, 5 for a refusal, 6 and 7 if the store
+/// or the sink failed, 8 for out of memory.
 #[derive(Clone, Copy, Debug, PartialEq, Eq)]
 pub struct Status {
     pub code: u8,

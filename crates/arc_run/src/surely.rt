@@ -11,7 +11,7 @@ use arc_base::Name;
 use arc_outside::{Sink, Store, SureSink, SureStore};
 use std::alloc::Global;
 
-/// Over a store and a sink that never fail, a run ends with the outcome or for want of memory.
+/// Over a store and a sink that never fail, a run ends with the outcome or out of memory.
 pub fn run_surely(
     alloc: Global,
     words: &[Name],

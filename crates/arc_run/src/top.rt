@@ -107,7 +107,7 @@ fn run_defined<S: Store, K: Sink>(
 }
 
 /// Does what the words say over the store and the sink, and answers the exit status. All text is
-/// put at the end, after all files are read and written.
+/// printed at the end, after all files are read and written.
 pub fn run<S: Store, K: Sink>(alloc: Global, words: &[Name], store: &mut S, out: &mut K) -> Status
     ensures runs { Runs (command_of words.now) (Rose (S.absences store.old) (S.absences store.new))
         (TookMore least_limit (S.taken store.old) (S.taken store.new))
@@ -124,9 +124,9 @@ pub fn run<S: Store, K: Sink>(alloc: Global, words: &[Name], store: &mut S, out:
     ensures usage { result.code ≡ 4 → command_of words.now ≡ None }
     ensures no_command { command_of words.now ≡ None → (result.code ≡ 4) ⊎ (7 ≤ result.code) }
 
-    // The headline: below status 6 the status of each command tells what `Tells` says of it, in the
-    // words of the subject, of the files before and after. It speaks of a store that tells what it
-    // holds (`S.held`). Over one that tells nothing of its content it says nothing, and of the
+    // The headline: below status 6 the status of each command means what `Tells` says of it, in the
+    // words of the subject, of the files before and after. It is about a store that says what it
+    // holds (`S.held`). Over one that says nothing of its content it claims nothing, and of the
     // clause `runs` only the causes of the statuses are left, and which command has which status.
     ensures told { (command : Command) → command_of words.now ≡ Some command → result.code < 6
         → IfSome (S.held store.old) (λ before.

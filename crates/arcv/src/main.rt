@@ -1,6 +1,6 @@
 //! The command `arcv`: `run` over the files of the system and its standard output, with the words
-//! that follow the program's name. The exit status is the run's. What more there is to say of a run
-//! goes to the standard error, and bears on neither.
+//! that follow the program's name. The exit status is the run's. Details of a failed run go to
+//! standard error; they change neither output nor status.
 #![tactic(auto)]
 
 mod messages;

@@ -22,7 +22,7 @@ pub fn say(rt: &HostRuntime, pieces: &[&[u8]]) -> io::Result<()> {
     err.write_all(b"\n")
 }
 
-/// Help is asked for: the forms of all commands, and what their words stand for.
+/// Prints the forms of all commands, and what their words mean.
 fn explain_commands(rt: &HostRuntime) -> io::Result<()> {
     for form in command_forms() {
         let usage = form.to_string(rt.alloc())?;

@@ -4,13 +4,13 @@ use Rattle.std.specs.Prelude.{All, Option, Some, Result, Ok, bytes_eq, codes, un
 use Rattle.arc_base.specs.declared.certificate.CertKind.TheVariants.{Form}
 use Rattle.arc_base.proofs.Items.{All-from}
 use Rattle.arc_outside.specs.Files.{Files}
-use Rattle.cnf_types.specs.Words.{lines}
+use Rattle.arc_base.specs.TextLines.{lines}
 use Rattle.net_model.specs.declared.policies.Document.{Document}
 use Rattle.net_model.specs.declared.rows.Network.{Network}
 use Rattle.net_model.specs.Validity.{IsValid}
 use Rattle.net_build.specs.declared.built.Built.{Built}
 use Rattle.net_build.specs.Networks.{IsNetworkOf, IsNetworkWithin}
-use Rattle.patched_settings.specs.Laws.{NetworksAreWritable}
+use Rattle.settings_edit_laws.specs.Laws.{NetworksAreWritable}
 use Rattle.edit_list.specs.declared.claims.Claim.{Claim}
 use Rattle.edit_list.specs.declared.claims.Claim.TheVariants.{Repaired, NoRepair}
 use Rattle.edit_list.specs.declared.edit_kinds.Edit.{Edit}
@@ -33,7 +33,7 @@ use Rattle.arc_repair.specs.declared.answer.Answer.TheVariants.{Done as Claimed}
 use Rattle.arc_repair.specs.Answers.{AnswersFew, ClaimsFew, IsAnswer, IsDone, answer_steps}
 use Rattle.arc_repair.specs.Claims.{claim_bound}
 use Rattle.repair_check.specs.Certifies.{Certifies, CertificatesNameTheirBound, CertifiedClaimsAreTrue, IsCertified, IsCounted, WrittenClaimsAreCertified, text_answers}
-use Rattle.changed_files.specs.Changes.{IsEditable}
+use Rattle.file_copies.specs.Changes.{IsEditable}
 use Rattle.run_files.specs.declared.limits.Limits.TheVariants.{Editing}
 use Rattle.run_files.specs.Limits.{proof_limit}
 use Rattle.run_files.specs.Refusals.{bytes_at}

@@ -6,10 +6,10 @@ use Rattle.std.proofs.lemmas.Bool.{false≢true, or_parts}
 use Rattle.arc_base.proofs.Items.{All-from, Contains-cases, Contains-head, Contains-none, Contains-tail}
 use Rattle.arc_outside.specs.Files.{Files, with_files}
 use Rattle.net_model.specs.declared.policies.Document.{Document}
-use Rattle.output_files.specs.Outputs.{clashes, copies, copy_name, copy_names}
-use Rattle.output_files.proofs.Copied.{texts_same}
-use Rattle.changed_files.proofs.OneMore.{IsFreeLast, free_last, other_kept, written_last}
-use Rattle.changed_files.proofs.ReadAgain.{unchanged_kept}
+use Rattle.file_copies.specs.Outputs.{clashes, copies, copy_name, copy_names}
+use Rattle.file_copies.proofs.Copied.{texts_same}
+use Rattle.file_copies.proofs.OneMore.{IsFreeLast, free_last, other_kept, written_last}
+use Rattle.file_copies.proofs.ReadAgain.{unchanged_kept}
 use Rattle.command_words.specs.declared.commands.RepairWords.{RepairWords}
 use Rattle.run_files.specs.declared.limits.Limits.TheVariants.{Editing}
 use Rattle.run_files.specs.declared.outcome.Done.{Done}

@@ -4,14 +4,14 @@ use Rattle.std.specs.Prelude.{All, Some, None}
 use Rattle.arc_outside.specs.Files.{Files, with_files}
 use Rattle.net_build.specs.Networks.{IsNetworkWithin}
 use Rattle.net_gen.specs.declared.generating.Generated.{Generated}
-use Rattle.generated_networks.specs.Laws.{IsGeneratedWithin}
+use Rattle.generated_network_laws.specs.Laws.{IsGeneratedWithin}
 use Rattle.net_gen.proofs.Lengths.{texts_short}
 use Rattle.edit_list.specs.declared.claims.Claim.{Claim}
 use Rattle.proof_log.specs.declared.steps.Log.{Log}
 use Rattle.policy_report.specs.Certificates.{certificate_text}
 use Rattle.arc_repair.specs.declared.answer.Answer.{Answer}
 use Rattle.arc_repair.specs.declared.answer.Answer.TheVariants.{Done as Claimed, Budget}
-use Rattle.changed_files.proofs.OneMore.{is_written}
+use Rattle.file_copies.proofs.OneMore.{is_written}
 use Rattle.command_words.specs.declared.commands.GenerateWords.{GenerateWords}
 use Rattle.run_files.specs.declared.limits.Limits.TheVariants.{Editing}
 use Rattle.run_files.specs.declared.outcome.Done.{Done}

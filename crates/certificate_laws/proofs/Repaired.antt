@@ -8,7 +8,7 @@ use Rattle.proof_log.specs.declared.steps.Log.{Log}
 use Rattle.policy_report.specs.Certificates.{certificate_text}
 use Rattle.arc_repair.specs.declared.answer.Answer.{Answer}
 use Rattle.arc_repair.specs.declared.answer.Answer.TheVariants.{Done as Claimed, Budget}
-use Rattle.changed_files.proofs.OneMore.{is_written, written_last}
+use Rattle.file_copies.proofs.OneMore.{is_written, written_last}
 use Rattle.command_words.specs.declared.commands.RepairWords.{RepairWords}
 use Rattle.run_files.specs.declared.limits.Limits.TheVariants.{Editing}
 use Rattle.run_files.specs.declared.outcome.Done.{Done}

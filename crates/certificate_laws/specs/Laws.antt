@@ -2,7 +2,7 @@
 use Rattle.std.specs.Prelude.{◌≡◌, ◌⊎◌, ℕ, List, map, Some}
 use Rattle.arc_outside.specs.Files.{Files, with_files}
 use Rattle.net_gen.specs.declared.generating.Generated.{Generated}
-use Rattle.generated_networks.specs.Laws.{IsGeneratedWithin}
+use Rattle.generated_network_laws.specs.Laws.{IsGeneratedWithin}
 use Rattle.command_words.specs.declared.commands.GenerateWords.{GenerateWords}
 use Rattle.command_words.specs.declared.commands.RepairWords.{RepairWords}
 use Rattle.run_files.specs.declared.outcome.Done.{Done}
@@ -35,8 +35,8 @@ pub record IsLaidOut (made : Generated) (document : List ℕ) (files : Files) : 
   pub routers_are : map files made.doc.routers ≡ map Some made.files
 
 -- the certificate that `generate` wrote, of a repair or of that there is none, is accepted under
--- each name that it is saved under, where what was made is laid out, whatever those files hold
--- besides
+-- each name that it is saved under, once the generated network is laid out as files, whatever else
+-- those files hold
 abbrev pub GeneratedIsAccepted : Type 0
 GeneratedIsAccepted =
     (words : GenerateWords) (made : Generated) (document certificate : List ℕ)

@@ -3,9 +3,9 @@ ghost use Rattle.certificate_laws.specs.Laws.{GeneratedIsAccepted, LeftIsAccepte
 ghost use Rattle.certificate_laws.specs.Laws.{RepairedIsAccepted};
 
 use net_build::laws::asking_more_changes_no_network;
-use patched_settings::laws::networks_are_writable;
 use policy_report::laws::{certificates_are_read_again, edits_are_told_apart};
 use repair_check::laws::{certified_claims_are_true, written_claims_are_certified};
+use settings_edit_laws::laws::networks_are_writable;
 
 /// The certificate that `repair` wrote with status 0 or 2 is accepted by `check`, under each name
 /// that it is saved under, where the document and its router files are still the same; so it is as

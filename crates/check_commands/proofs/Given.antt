@@ -10,7 +10,7 @@ use Rattle.edit_list.specs.declared.edit_kinds.Edit.{Edit}
 use Rattle.edit_list.specs.declared.edit_kinds.EditFault.{EditFault}
 use Rattle.edit_list.specs.declared.edit_kinds.EditFault.TheVariants as faults
 use Rattle.edit_list.specs.Determined.{IsCountable}
-use Rattle.edit_list.specs.EditLists.{AreEdits, HasFewClasses, NamesLimit}
+use Rattle.edit_list.specs.EditLists.{AreEdits, DocumentHasFewClasses, NamesLimit}
 use Rattle.policy_report.specs.Edits.{HasAddresses}
 use Rattle.report_check.specs.declared.outcome.Outcome.{Outcome}
 use Rattle.repair_check.specs.Certifies.{CertificatesAreAccepted, CertifiedClaimsAreTrue}
@@ -34,7 +34,7 @@ use Rattle.repair_commands.specs.Steps.{StopsFor}
 -- ---- the judgement over the network
 
 -- the edits of a document that can be judged over the network
-pub instance : (net : Network) (doc : Document) (list : List Edit) → AreFit doc net → length doc.policies ≤ POLICY_LIMIT → HasFewClasses net doc → AreEdits net doc list → length list ≤ EDIT_LIMIT → IsInstance net doc list
+pub instance : (net : Network) (doc : Document) (list : List Edit) → AreFit doc net → length doc.policies ≤ POLICY_LIMIT → DocumentHasFewClasses net doc → AreEdits net doc list → length list ≤ EDIT_LIMIT → IsInstance net doc list
 instance net doc list fit policies few_classes edits few = record {
   judgeable = record { valid = fit.valid; ends = fit.ends };
   policies = policies;

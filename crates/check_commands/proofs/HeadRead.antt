@@ -4,7 +4,7 @@ use Rattle.std.specs.Prelude.{Bool, Option, Some, None, IfSome, Ok, unwrap_or}
 use Rattle.arc_outside.specs.Files.{Files}
 use Rattle.arc_outside.specs.LinesRead.{left}
 use Rattle.arc_outside.specs.declared.pieces.Pieces.{Pieces}
-use Rattle.cnf_types.specs.Words.{lines}
+use Rattle.arc_base.specs.TextLines.{lines}
 use Rattle.run_files.specs.ReadingLines.{MovesOn}
 use Rattle.run_files.specs.Refusals.{bytes_at, read_refusal}
 use Rattle.run_files.proofs.LinesHanded.{lines_of_first}

@@ -7,7 +7,7 @@ use Rattle.edit_list.specs.declared.edit_kinds.Edit.{Edit}
 use Rattle.edit_list.specs.declared.edit_kinds.EditFault.TheVariants as faults
 use Rattle.edit_list.proofs.OneEditList.{edit_lists_are_one}
 use Rattle.report_check.specs.declared.outcome.Outcome.{Outcome}
-use Rattle.repair_check.specs.Outcomes.{HasOneOutcome, IsOutcome}
+use Rattle.repair_check.specs.Outcomes.{HasOneOutcome, IsRepairOutcome}
 use Rattle.run_files.specs.declared.limits.Limits.TheVariants.{Editing}
 use Rattle.run_files.specs.declared.outcome.Done.{Done}
 use Rattle.run_files.specs.declared.outcome.FileRefusal.{FileRefusal}
@@ -31,7 +31,7 @@ module _ (document certificate : List ℕ) (files : Files) where
       let text : List ℕ = bytes_at files certificate in
       let there : IsJudged t.net t.doc text s.outcome = moved document certificate files t.doc t.net t.input (λ d n. IsJudged n d text s.outcome) s.doc s.net s.input s.judged in
       let lists : t.judged.list ≡ there.list = edit_lists_are_one t.net t.doc t.judged.list there.list t.valid t.judged.edits there.edits in
-      let P : List Edit → Type 0 = λ l. IsOutcome t.net t.doc l text t.outcome in
+      let P : List Edit → Type 0 = λ l. IsRepairOutcome t.net t.doc l text t.outcome in
       let same : t.outcome ≡ s.outcome = one t.net t.doc there.list text t.outcome s.outcome t.valid t.judged.countable (subst P lists t.judged.outcome_is) there.outcome_is in
       same_done done other (t.text_is ∙ ap (λ (o : Outcome). judgement_text (judgement_of o)) same ∙ sym s.text_is) (t.writes ∙ sym s.writes) (t.status ∙ ap (λ (o : Outcome). judgement_status (judgement_of o)) same ∙ sym s.status)
 

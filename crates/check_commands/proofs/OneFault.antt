@@ -11,7 +11,7 @@ use Rattle.edit_list.specs.EditLists.{NamesLimit}
 use Rattle.edit_list.proofs.OneEditList.{edit_lists_are_one}
 use Rattle.repair_check.specs.Certifies.{IsCountFault, text_answers}
 use Rattle.repair_check.proofs.OneFault as formulas
-use Rattle.changed_files.proofs.FewEdits.{few_or_limit}
+use Rattle.file_copies.proofs.FewEdits.{few_or_limit}
 use Rattle.run_inputs.proofs.ClassCounts.{few_or_many, one_count}
 use Rattle.check_commands.specs.RepairChecks.{IsTextFault}
 

@@ -13,7 +13,7 @@ use Rattle.edit_list.proofs.OneEditList.{edit_lists_are_one}
 use Rattle.report_check.specs.declared.outcome.Outcome.{Outcome as Judgement}
 use Rattle.report_check.specs.declared.outcome.Outcome.TheVariants.{Accepted, Rejected}
 use Rattle.repair_check.specs.Certifies.{IsCertified, IsCounted, text_answers}
-use Rattle.changed_files.proofs.FewEdits.{few_or_limit}
+use Rattle.file_copies.proofs.FewEdits.{few_or_limit}
 use Rattle.run_files.specs.declared.limits.Limits.TheVariants.{Editing}
 use Rattle.run_files.specs.declared.outcome.Done.{Done}
 use Rattle.run_files.specs.declared.outcome.FileRefusal.{FileRefusal}

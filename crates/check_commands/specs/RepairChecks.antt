@@ -6,7 +6,7 @@ use Rattle.arc_base.specs.declared.limits.TheConstants.{EDIT_LIMIT}
 use Rattle.arc_base.specs.declared.refusal.Kind.TheVariants.{Limit}
 use Rattle.arc_base.specs.declared.refusal.LimitKind.{LimitKind}
 use Rattle.arc_outside.specs.Files.{Files}
-use Rattle.cnf_types.specs.Words.{lines}
+use Rattle.arc_base.specs.TextLines.{lines}
 use Rattle.net_model.specs.declared.policies.Document.{Document}
 use Rattle.net_model.specs.declared.rows.Network.{Network}
 use Rattle.net_model.specs.Validity.{IsValid}
@@ -15,13 +15,13 @@ use Rattle.edit_list.specs.declared.edit_kinds.Edit.{Edit}
 use Rattle.edit_list.specs.declared.edit_kinds.EditFault.{EditFault}
 use Rattle.edit_list.specs.declared.edit_kinds.EditFault.TheVariants as faults
 use Rattle.edit_list.specs.Determined.{IsCountable}
-use Rattle.edit_list.specs.EditLists.{AreEdits, HasFewClasses, NamesLimit}
+use Rattle.edit_list.specs.EditLists.{AreEdits, DocumentHasFewClasses, NamesLimit}
 use Rattle.report_check.specs.declared.outcome.Outcome.{Outcome}
 use Rattle.report_check.specs.declared.outcome.Outcome.TheVariants.{Accepted}
 use Rattle.arc_repair.specs.Claims.{IsTrueClaim}
 use Rattle.repair_check.specs.Certifies.{Certifies, IsCertified, IsCounted, IsCountFault}
 use Rattle.repair_check.specs.Certifies.{text_answers}
-use Rattle.repair_check.specs.Outcomes.{IsOutcome}
+use Rattle.repair_check.specs.Outcomes.{IsRepairOutcome}
 use Rattle.run_files.specs.declared.limits.Limits.TheVariants.{Editing}
 use Rattle.run_files.specs.declared.outcome.Done.{Done}
 use Rattle.run_files.specs.declared.outcome.FileRefusal.{FileRefusal}
@@ -47,7 +47,7 @@ pub record PassesCounted (net : Network) (doc : Document) (text : List ℕ)
     (fault : EditFault) : Type 0 where
   pub list : List Edit
   pub edits : AreEdits net doc list
-  pub classes : HasFewClasses net doc
+  pub classes : DocumentHasFewClasses net doc
   pub few : length list ≤ EDIT_LIMIT
   pub formula : IsCountFault net doc list (text_answers net doc list text) fault
 
@@ -85,16 +85,17 @@ pub record IsJudged (net : Network) (doc : Document) (text : List ℕ)
     (outcome : Outcome) : Type 0 where
   pub list : List Edit
   pub edits : AreEdits net doc list
-  pub classes : HasFewClasses net doc
+  pub classes : DocumentHasFewClasses net doc
   pub few : length list ≤ EDIT_LIMIT
   pub countable : IsCountable net
   pub counted : IsCounted net doc list (text_answers net doc list text)
-  pub outcome_is : IsOutcome net doc list text outcome
+  pub outcome_is : IsRepairOutcome net doc list text outcome
   pub accepted : (outcome ≡ Accepted) ↔ IsCertified net doc list text
   pub are_true : (claim : Claim) → Certifies net doc list claim text →
       IsTrueClaim net doc list claim
 
--- the text is judged so over the network of the document and its files, and that is told
+-- the text is judged so over the network of the document and its files, and the judgement is
+-- printed
 pub record IsRepairJudged (document text : List ℕ) (files : Files) (done : Done) : Type 0 where
   pub doc : Document
   pub net : Network

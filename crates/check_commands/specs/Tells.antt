@@ -1,4 +1,4 @@
--- What the status of `check` tells, of a certificate of either form.
+-- What the status of `check` says, of a certificate of either form.
 use Rattle.std.specs.Prelude.{◌≡◌, ◌↔◌, ◌⊎◌, ℕ, ◌≤◌, List, [], length}
 use Rattle.arc_base.specs.declared.limits.TheConstants.{EDIT_LIMIT}
 use Rattle.arc_outside.specs.Files.{Files}
@@ -6,7 +6,7 @@ use Rattle.net_model.specs.declared.policies.Document.{Document}
 use Rattle.net_model.specs.declared.rows.Network.{Network}
 use Rattle.edit_list.specs.declared.claims.Claim.{Claim}
 use Rattle.edit_list.specs.declared.edit_kinds.Edit.{Edit}
-use Rattle.edit_list.specs.EditLists.{AreEdits, HasFewClasses}
+use Rattle.edit_list.specs.EditLists.{AreEdits, DocumentHasFewClasses}
 use Rattle.arc_repair.specs.Claims.{IsTrueClaim}
 use Rattle.repair_check.specs.Certifies.{Certifies, IsCertified, IsCounted, text_answers}
 use Rattle.run_files.specs.declared.limits.Limits.TheVariants.{Editing}
@@ -24,7 +24,7 @@ pub record IsJudgeable (document certificate : List ℕ) (files : Files) (doc : 
   pub holds : HoldsRepair certificate files
   pub input : HoldsInput Editing [] document files doc net
   pub edits : AreEdits net doc list
-  pub classes : HasFewClasses net doc
+  pub classes : DocumentHasFewClasses net doc
   pub few : length list ≤ EDIT_LIMIT
   pub counted : IsCounted net doc list (text_answers net doc list (bytes_at files certificate))
 
@@ -64,7 +64,7 @@ pub record IsAnyUnchecked (document certificate : List ℕ) (files : Files) : Ty
   pub refusal : FileRefusal
   pub refused : IsAnyRefusal document certificate files refusal
 
--- Which of the three it is, the status tells: 0 for accepted, 1 for rejected, and 5 for refused.
+-- The status says which of the three it is: 0 for accepted, 1 for rejected, and 5 for refused.
 pub record TellsCheck (document certificate : List ℕ) (status : ℕ) (files : Files) : Type 0 where
   pub accepted_exactly : (status ≡ 0) ↔ IsAnyAccepted document certificate files
   pub rejected_exactly : (status ≡ 1) ↔ IsAnyRejected document certificate files

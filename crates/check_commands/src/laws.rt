@@ -9,7 +9,7 @@ ghost use Rattle.check_commands.specs.Tells.{TellsCheck};
 
 use repair_check::laws::outcome_is_unique;
 
-/// What the status of `check` tells, of a certificate of either form.
+/// What the status of `check` says, of a certificate of either form.
 pub fn any_check_is_told()
     ensures { (document certificate : List ℕ) →
         IsTold (IsAnyRefusal document certificate) (IsAnyChecked document certificate)

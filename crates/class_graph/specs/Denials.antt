@@ -21,7 +21,7 @@ pub record IsDeniedOn (net : Network) (to : Prefix) (class : Class) (link : ℕ)
 abbrev pub IsDeniedNowhere : Network → Prefix → Class → Type 0
 IsDeniedNowhere net to class = (link : ℕ) → ¬ IsDeniedOn net to class link
 
--- the first classes, so many, are denied over no link
+-- the first n classes are denied over no link
 abbrev pub HasNoDenial : Network → Prefix → List Class → ℕ → Type 0
 HasNoDenial net to classes n =
     (k : ℕ) (c : Class) → k < n → slice_get classes k ≡ Some c → IsDeniedNowhere net to c

@@ -9,8 +9,8 @@ use Rattle.class_graph.specs.declared.first_denials.Denial.{Denial}
 use Rattle.class_graph.specs.Denials.{IsDeniedOn, HasNoDenial}
 use Rattle.class_graph.specs.Passing.{IsFirstAfter}
 
--- of the first classes, so many, the denial's is the first that its link denies, and no lower link
--- denies any
+-- of the first n classes, the denial's is the first that its link denies, and no lower link denies
+-- any
 pub record IsLowestDenial (net : Network) (to : Prefix) (classes : List Class) (n : ℕ)
     (d : Denial) : Type 0 where
   pub is_first : IsFirstAfter (λ c. ¬ IsDeniedOn net to c d.link.0) classes d.class

@@ -27,7 +27,7 @@ abbrev pub Admits : Network → End → Packet → Type 0
 Admits net end p = IsTrue end.up × ListPermits net end.list p
 
 -- the pair is that of these ends, which are interfaces of the network: packets enter at the source
--- and leave at the target, and it tells which arcs are routed
+-- and leave at the target, and its table says which arcs are routed
 pub record IsHostPair (net : Network) (ends : Ends) (pair : HostPair) : Type 0 where
   pub from_here : Contains net.faces ends.source
   pub to_there : Contains net.faces ends.target

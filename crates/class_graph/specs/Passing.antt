@@ -17,12 +17,12 @@ pub record IsFirstAfter (Before : Class → Type 0) (classes : List Class)
 abbrev pub EachPasses : Network → Ends → Class → Type 0
 EachPasses net ends class = (p : Packet) → IsOf class p → Enters net ends p × Leaves net ends p
 
--- each packet of the first classes, so many, enters and leaves
+-- each packet of the first n classes enters and leaves
 abbrev pub AllPass : Network → Ends → List Class → ℕ → Type 0
 AllPass net ends classes n =
     (k : ℕ) (c : Class) → k < n → slice_get classes k ≡ Some c → EachPasses net ends c
 
--- the class is the first of which not each packet enters and leaves
+-- the class is the first with a packet that does not enter or does not leave
 pub record IsFirstKeptOut (net : Network) (ends : Ends) (classes : List Class)
     (class : Class) : Type 0 where
   pub is_first : IsFirstAfter (EachPasses net ends) classes class

@@ -62,7 +62,7 @@ impl HostPair {
         self.admits(net, class.first_packet())
     }
 
-    /// The first class of which not each packet enters and leaves.
+    /// The first class with a packet that does not enter or does not leave.
     pub fn first_kept_out(&self, net: &Network, classes: &List<Class>) -> Option<Class>
         requires { AreAllUniform net.now classes.now }
         ensures found { IfSome result (λ class. (ends : Ends) → IsHostPair net.now ends self.now →

@@ -1,6 +1,6 @@
 //! The graph of a traffic class: its nodes are the routers, and its arcs those of the network over
-//! which the class's packets may go, whichever links fail. Lists are answered once for each class,
-//! and which arcs are routed is found once for all classes between two host networks.
+//! which the class's packets may go, whichever links fail. Lists are asked once for each class, and
+//! which arcs are routed is found once for all classes between two host networks.
 #![tactic(auto)]
 
 mod answers;

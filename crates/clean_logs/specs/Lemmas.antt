@@ -8,7 +8,7 @@ use Rattle.proof_check.specs.Propagation.{same, is_among}
 use Rattle.sat_core.specs.Trails.{IsUnset}
 use Rattle.sat_core.specs.Rest.{RestsOn}
 
--- no variable stands in the clause twice
+-- no variable occurs in the clause twice
 abbrev pub HasDifferentVariables : List Lit → Type 0
 HasDifferentVariables lits = AllPairs (λ l m. variable l ≢ variable m) lits
 

@@ -10,8 +10,8 @@ use Rattle.cnf_types.specs.declared.clauses.Formula.{Formula}
 use Rattle.cnf_types.specs.declared.faults.CnfFault.{CnfFault}
 use Rattle.cnf_types.specs.declared.header.Header.{Header}
 use Rattle.cnf_types.specs.Literals.{variable}
-use Rattle.cnf_types.specs.Numbers.{is_natural, minus, natural, number, value_after}
-use Rattle.cnf_types.specs.Words.{lines}
+use Rattle.arc_base.specs.WordNumbers.{is_natural, minus, natural, number, value_after}
+use Rattle.arc_base.specs.TextLines.{lines}
 use Rattle.cnf_types.specs.Dimacs.{after_header, closed, content, counted, ends_closed, first_bad, from_header, header, is_zero, judged, line_numbers, line_words, literal_of, numbers, pieces, reading}
 use Rattle.clean_logs.specs.Laws.{IsWithin, HasItsVariables}
 

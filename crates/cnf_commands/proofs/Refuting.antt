@@ -5,7 +5,7 @@ use Rattle.arc_outside.specs.Files.{Files}
 use Rattle.cnf_types.specs.declared.clauses.Formula.{Formula}
 use Rattle.cnf_types.specs.declared.faults.CnfFault.{CnfFault}
 use Rattle.cnf_types.specs.Dimacs.{reading}
-use Rattle.cnf_types.specs.Words.{lines}
+use Rattle.arc_base.specs.TextLines.{lines}
 use Rattle.proof_check.specs.declared.checker.Checker.{Checker}
 use Rattle.proof_check.specs.Knowledge.{Knowledge, start}
 use Rattle.proof_check.specs.View.{known}

@@ -9,7 +9,7 @@ use Rattle.arc_outside.specs.Files.{Files, with_file, with_files}
 use Rattle.cnf_types.specs.declared.clauses.Formula.{Formula}
 use Rattle.cnf_types.specs.Dimacs.{reading}
 use Rattle.cnf_types.specs.Formulas.{Satisfies, value_at}
-use Rattle.cnf_types.specs.Words.{lines}
+use Rattle.arc_base.specs.TextLines.{lines}
 use Rattle.proof_log.specs.declared.steps.Step.{Step}
 use Rattle.proof_log.specs.Reading.{reading as step_reading}
 use Rattle.proof_log.specs.Texts.{log_text}
@@ -23,7 +23,7 @@ use Rattle.run_files.specs.declared.outcome.Done.{Done}
 use Rattle.run_files.specs.declared.outcome.FileRefusal.{FileRefusal}
 use Rattle.run_files.specs.Answers.{IsTold}
 use Rattle.cnf_commands.specs.Formulas.{cnf_limit, cnf_refusal, formula_refusal}
-use Rattle.cnf_commands.specs.Solves.{IsSatisfiable, IsUnsatisfiable, IsSolveRefused, HoldsLog, HoldsSpentLog, TellsSolution, SolvedIsRefuted}
+use Rattle.cnf_commands.specs.Solves.{IsSatisfiable, IsUnsatisfiable, IsSolveRefused, HoldsLog, HoldsSpentProof, TellsSolution, SolvedIsRefuted}
 use Rattle.cnf_commands.specs.Lrats.{IsRefuted}
 use Rattle.cnf_commands.specs.Lrats.{lrat_refusal}
 use Rattle.run_files.specs.Limits.{proof_limit}
@@ -139,7 +139,7 @@ module _ (words : SolveWords) (files : Files) (d : Done) (done : IsSolved words 
         unsatisfiable = found.1;
       }
 
-  spent : done.found ≡ Budget → HoldsSpentLog words (with_files d.writes files)
+  spent : done.found ≡ Budget → HoldsSpentProof words (with_files d.writes files)
   unfolding after
   spent is =
       let found = found_is Budget is in

@@ -21,7 +21,7 @@ use Rattle.arc_base.specs.declared.limits.TheConstants.{FORMULA_FILE_LIMIT}
 abbrev pub cnf_limit : ℕ
 cnf_limit = FORMULA_FILE_LIMIT
 
--- the refusal of a text that has this fault; want of memory is no fault of the text
+-- the refusal of a text that has this fault; out of memory is no fault of the text
 abbrev pub faulty : List ℕ → CnfFault → Option FileRefusal
 faulty cnf (faults.BadHeader line) =
     Some (record { name = cnf; number = line; reason = reasons.BadHeader })

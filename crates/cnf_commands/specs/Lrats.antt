@@ -6,7 +6,7 @@ use Rattle.arc_outside.specs.Files.{Files}
 use Rattle.cnf_types.specs.declared.clauses.Formula.{Formula}
 use Rattle.cnf_types.specs.Dimacs.{reading}
 use Rattle.cnf_types.specs.Formulas.{Satisfies}
-use Rattle.cnf_types.specs.Words.{lines}
+use Rattle.arc_base.specs.TextLines.{lines}
 use Rattle.proof_check.specs.declared.rejections.Rejection.{Rejection}
 use Rattle.proof_check.specs.declared.rejections.Rejection.TheVariants as rejections
 use Rattle.proof_check.specs.declared.rejections.Outcome.{Outcome}
@@ -79,7 +79,7 @@ pub record IsLratRefused (cnf proof : List ℕ) (files : Files) : Type 0 where
   pub refusal : FileRefusal
   pub refused : lrat_refusal cnf proof files ≡ Some refusal
 
--- Which of the three it is, the status tells: 0 for accepted, 1 for rejected, and 5 for refused.
+-- The status says which of the three it is: 0 for accepted, 1 for rejected, and 5 for refused.
 pub record TellsRefutation (cnf proof : List ℕ) (status : ℕ) (files : Files) : Type 0 where
   pub accepted_exactly : (status ≡ 0) ↔ IsRefuted cnf proof files
   pub rejected_exactly : (status ≡ 1) ↔ IsNotRefuted cnf proof files

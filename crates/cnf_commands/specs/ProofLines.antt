@@ -1,7 +1,7 @@
 -- What judging the lines of a proof answers.
 use Rattle.std.specs.Prelude.{◌≡◌, ℕ, List, Some, Result}
 use Rattle.arc_outside.specs.Files.{Files}
-use Rattle.cnf_types.specs.Words.{lines}
+use Rattle.arc_base.specs.TextLines.{lines}
 use Rattle.proof_check.specs.declared.rejections.Outcome.{Outcome}
 use Rattle.proof_check.specs.Knowledge.{Knowledge}
 use Rattle.proof_check.specs.Outcomes.{log_outcome}

@@ -8,7 +8,7 @@ use Rattle.arc_outside.specs.Files.{Files, with_files}
 use Rattle.cnf_types.specs.declared.clauses.Formula.{Formula}
 use Rattle.cnf_types.specs.Dimacs.{reading}
 use Rattle.cnf_types.specs.Formulas.{Satisfies, value_at}
-use Rattle.cnf_types.specs.Words.{lines}
+use Rattle.arc_base.specs.TextLines.{lines}
 use Rattle.proof_log.specs.declared.steps.Log.{Log}
 use Rattle.proof_log.specs.declared.steps.Step.{Step}
 use Rattle.proof_log.specs.Texts.{before_spaces, log_text, HasLine}
@@ -49,13 +49,13 @@ value_text var value = if value then decimal var else 45 ∷ decimal var
 abbrev pub values_text : List Bool → List ℕ
 values_text values = before_spaces (map (λ p. value_text p.0 p.1) (enumerate_from 1 values))
 
--- the lines that tell what a search found
+-- the lines that print what a search found
 abbrev pub found_text : Found → List ℕ
 found_text (Model values) = codes "s SATISFIABLE\nv " ++ values_text values ++ codes "0\n"
 found_text Refuted = codes "s UNSATISFIABLE\n"
 found_text Budget = codes "s UNKNOWN\n"
 
--- the status that tells it
+-- the status of what a search found
 abbrev pub found_status : Found → ℕ
 found_status (Model values) = 0
 found_status Refuted = 2
@@ -126,7 +126,7 @@ pub record IsSolveRefused (words : SolveWords) (files : Files) : Type 0 where
 -- the formula is held, and so is the text of a log that is spent for it: the log is accepted, adds
 -- just as many clauses as the words allow, and each of them is new and none empty. Such a log is
 -- too short for a formula of few variables.
-pub record HoldsSpentLog (words : SolveWords) (files : Files) : Type 0 where
+pub record HoldsSpentProof (words : SolveWords) (files : Files) : Type 0 where
   pub formula : Formula
   pub formula_is : reading (bytes_at files words.formula) ≡ Ok formula
   pub steps : List Step
@@ -144,15 +144,15 @@ pub record HoldsLog (words : SolveWords) (before after : Files) : Type 0 where
   pub few : additions log.steps ≤ words.conflicts
   pub written : after words.proof ≡ Some (log_text log)
 
--- What the status tells, of the files before and after: 0 for satisfiable, 2 for unsatisfiable, and
--- then `lrat` accepts what was written, 3 in place of either where what was written is a spent log,
+-- What the status says of the files before and after: 0 for satisfiable, 2 for unsatisfiable, and
+-- then `lrat` accepts what was written, 3 in place of either if what was written is a spent log,
 -- and 5 for refused, with nothing written. The proof is written in all other cases, and all names
 -- but its own hold what they held.
 pub record TellsSolution (words : SolveWords) (status : ℕ) (before after : Files) : Type 0 where
   pub satisfiable : status ≡ 0 → IsSatisfiable words before
   pub unsatisfiable : status ≡ 2 →
       IsUnsatisfiable words before × IsRefuted words.formula words.proof after
-  pub undecided : status ≡ 3 → HoldsSpentLog words after
+  pub undecided : status ≡ 3 → HoldsSpentProof words after
   pub written : ¬ (status ≡ 5) → HoldsLog words before after
   pub kept : (name : List ℕ) → ¬ (name ≡ words.proof) → after name ≡ before name
   pub refused_exactly : (status ≡ 5) ↔ IsSolveRefused words before

@@ -6,13 +6,13 @@ ghost use Rattle.cnf_commands.specs.Lrats.{IsJudged, IsLratRefusal, TellsRefutat
 ghost use Rattle.cnf_commands.specs.Solves.{IsSolved, IsSolveRefusal, SolvedIsRefuted};
 ghost use Rattle.cnf_commands.specs.Solves.{TellsSolution};
 
-/// What the status of `lrat` tells.
+/// What the status of `lrat` says.
 pub fn lrat_is_told()
     ensures { (cnf proof : List ℕ) → IsTold (IsLratRefusal cnf proof) (IsJudged cnf proof)
         (λ status before after. TellsRefutation cnf proof status before) }
 {}
 
-/// What the status of `solve` tells.
+/// What the status of `solve` says.
 pub fn solve_is_told()
     ensures { (words : SolveWords) →
         IsTold (IsSolveRefusal words) (IsSolved words) (TellsSolution words) }

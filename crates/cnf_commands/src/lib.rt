@@ -1,6 +1,6 @@
 //! The commands over formulas: `solve` searches for an assignment that satisfies one and writes the
 //! log of its search, and `lrat` judges whether such a log shows that there is none. Each has a
-//! spec file with its first refusal, its answer, and what its status tells.
+//! spec file with its first refusal, its answer, and what its status says.
 #![tactic(auto)]
 
 mod formulas;

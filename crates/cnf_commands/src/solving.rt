@@ -40,7 +40,7 @@ fn search_formula(alloc: Global, formula: &Formula, limit: u64) -> Result<(Found
     Ok((found, log))
 }
 
-/// The text of a log. Want of memory stands for one that is longer than a proof may be.
+/// The text of a log. `Memory` also if it is longer than a proof may be.
 fn proof_text(alloc: Global, log: &Log) -> Result<Vec<u8>, Memory>
     ensures text { IfOk result (λ bytes. bytes.items ≡ log_text log.now) }
     ensures short { IfOk result (λ bytes. length bytes.items ≤ proof_limit) }
@@ -76,7 +76,7 @@ fn push_values(text: &mut String, values: &[bool]) -> Result<(), Memory>
     Ok(())
 }
 
-/// The lines that tell an assignment.
+/// The lines that print an assignment.
 fn model_text(alloc: Global, values: &[bool]) -> Result<Vec<u8>, Memory>
     ensures { IfOk result (λ text. text.items ≡ found_text (Found.Model values.now)) }
 {
@@ -86,7 +86,7 @@ fn model_text(alloc: Global, values: &[bool]) -> Result<Vec<u8>, Memory>
     Ok(text.into_bytes())
 }
 
-/// The lines that tell what was found.
+/// The lines that print what was found.
 fn found_text(alloc: Global, found: &Found) -> Result<Vec<u8>, Memory>
     ensures { IfOk result (λ text. text.items ≡ found_text found.now) }
 {
@@ -108,7 +108,7 @@ fn found_status(found: &Found) -> u8
     }
 }
 
-/// The answer that tells what was found, and writes the log.
+/// The answer that prints what was found, and writes the log.
 fn answer(alloc: Global, proof: &Name, found: &Found, log: &Log) -> Result<Done, Memory>
     ensures text { IfOk result (λ done. done.text ≡ found_text found.now) }
     ensures writes { IfOk result (λ done. done.writes ≡ (proof.now, log_text log.now) ∷ []) }

@@ -2,8 +2,8 @@
 use Rattle.std.proofs.Common.{◌≡◌, ℕ, ◌+◌, ℤ, true, false, cond, List, [], ◌∷◌, ◌++◌, refl, ap, sym, ◌∙◌, append_assoc, Some, IsFalse, ◌||◌}
 use Rattle.std.specs.List.{list_any}
 use Rattle.std.proofs.lemmas.List.Elements.{filter_map-append}
-use Rattle.cnf_types.specs.Numbers.{number}
-use Rattle.cnf_types.specs.Words.{without_return}
+use Rattle.arc_base.specs.WordNumbers.{number}
+use Rattle.arc_base.specs.TextLines.{without_return}
 use Rattle.arc_base.specs.Words.{words}
 use Rattle.cnf_types.specs.Dimacs.{content, is_comment, line_words, line_numbers, numbers, first_bad, is_bad, pieces}
 use Rattle.cnf_types.specs.declared.literal.Lit.{Lit}

@@ -1,5 +1,3 @@
 pub mod Content
-pub mod Digits
 pub mod Growing
-pub mod Pieces
 pub mod Reading

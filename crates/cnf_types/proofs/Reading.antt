@@ -9,7 +9,7 @@ use Rattle.cnf_types.specs.declared.clauses.Formula.{Formula}
 use Rattle.cnf_types.specs.declared.faults.CnfFault.{CnfFault}
 use Rattle.cnf_types.specs.declared.faults.CnfFault.TheVariants.{BadHeader, BadNumber, Count, TooLarge, Memory}
 use Rattle.cnf_types.specs.declared.header.Header.{Header}
-use Rattle.cnf_types.specs.Words.{lines}
+use Rattle.arc_base.specs.TextLines.{lines}
 use Rattle.cnf_types.specs.Dimacs.{closed, ends_closed, counted, sized, judged, after_header, from_header, reading, content, first_bad, numbers, pieces, IsFaultOf}
 use Rattle.cnf_types.specs.Progress.{pieces_after, IsFirstBad}
 

@@ -16,16 +16,16 @@ use Rattle.cnf_types.specs.declared.faults.CnfFault.TheVariants.{BadHeader, BadN
 use Rattle.cnf_types.specs.declared.faults.CnfFault.TheVariants.{TooLarge, Memory}
 use Rattle.cnf_types.specs.declared.header.Header.{Header}
 use Rattle.cnf_types.specs.Literals.{literal}
-use Rattle.cnf_types.specs.Words.{lines, without_return}
+use Rattle.arc_base.specs.TextLines.{lines, without_return}
 use Rattle.arc_base.specs.Words.{words}
-use Rattle.cnf_types.specs.Numbers.{natural, number}
+use Rattle.arc_base.specs.WordNumbers.{natural, number}
 
 -- a line that begins with the letter c is a comment
 abbrev pub is_comment : List ℕ → Bool
 is_comment [] = false
 is_comment (b ∷ bytes) = b == 99
 
--- the lines that are no comments, each with its number, where `before` lines stand before them
+-- the lines that are no comments, each with its number, after `before` earlier lines
 abbrev pub content : ℕ → List (List ℕ) → List (ℕ × List ℕ)
 content before ls = filter (λ l. not (is_comment l.1)) (enumerate_from (before + 1) ls)
 
@@ -61,7 +61,7 @@ line_numbers vars ws = filter_map (number vars) ws
 abbrev pub numbers : ℕ → List (ℕ × List ℕ) → List ℤ
 numbers vars ls = flat_map (λ l. line_numbers vars (line_words l.1)) ls
 
--- a positive number stands for its variable, a negative one for the variable's negation
+-- a positive number is its variable, a negative one the variable's negation
 abbrev pub literal_of : ℤ → Lit
 literal_of (pos n) = literal n true
 literal_of (negsuc n) = literal (suc n) false
@@ -80,7 +80,7 @@ closed [] = []
 closed (p ∷ []) = []
 closed (p ∷ q ∷ ps) = record { lits = p } ∷ closed (q ∷ ps)
 
--- whether no literal stands after the last 0
+-- whether no literal follows the last 0
 abbrev pub ends_closed : List (List Lit) → Bool
 ends_closed [] = true
 ends_closed ([] ∷ []) = true
@@ -104,7 +104,7 @@ abbrev pub judged : Header → ℕ → Option (ℕ × List ℕ) → List (List L
 judged h last None ps = counted h last ps
 judged h last (Some line) ps = Err (BadNumber line.0)
 
--- what stands after the header, in a text of `last` lines
+-- what follows the header, in a text of `last` lines
 abbrev pub after_header : ℕ → List (ℕ × List ℕ) → Header → Result Formula CnfFault
 after_header last ls h =
     if nat_lt VARIABLE_LIMIT h.vars then Err (TooLarge Variables h.vars)
@@ -120,7 +120,7 @@ from_header last (l ∷ ls) =
 unfoldable pub reading : List ℕ → Result Formula CnfFault
 reading text = from_header (length (lines text)) (content 0 (lines text))
 
--- the fault is that of the text, or want of memory
+-- the fault is that of the text, or out of memory
 abbrev pub IsFaultOf : List ℕ → CnfFault → Type 0
 IsFaultOf text Memory = Unit {0}
 IsFaultOf text (BadHeader n) = reading text ≡ Err (BadHeader n)

@@ -19,6 +19,6 @@ clause_value assignment lits = list_any (value assignment) lits
 abbrev pub Satisfies : (ℕ → Bool) → Formula → Type 0
 Satisfies assignment f = All (λ c. IsTrue (clause_value assignment c.lits)) f.clauses
 
--- the value of a variable by a list of values, where that of variable v stands at place v - 1
+-- the value of a variable by a list of values, in which that of variable v is at place v - 1
 abbrev pub value_at : List Bool → ℕ → Bool
 value_at values var = slice_index_or values (var - 1) false

@@ -16,7 +16,7 @@ onto front (p ∷ ps) = (front ++ p) ∷ ps
 abbrev pub pieces_after : List Clause → List Lit → List ℤ → List (List Lit)
 pieces_after clauses front more = map (λ c. c.lits) clauses ++ onto front (pieces more)
 
--- the fault is that of the first bad line, or want of memory
+-- the fault is that of the first bad line, or out of memory
 abbrev pub IsFirstBad : CnfFault → Option (ℕ × List ℕ) → Type 0
 IsFirstBad (BadNumber n) bad = IsSomeAnd bad (λ l. l.0 ≡ n)
 IsFirstBad Memory bad = Unit {0}

@@ -3,19 +3,17 @@ ghost use Rattle.std.specs.Prelude.{◌≡◌, ◌+◌, ◌-◌, ◌<◌, ◌≤
 ghost use Rattle.std.specs.Prelude.{List as Items, length, IsFalse, IsTrue, IfOk, IfErr, IsSomeAnd};
 ghost use Rattle.std.specs.Prelude.{IsErrOf, OnOk, None, unsigned_abs};
 ghost use Rattle.std.specs.List.{list_any};
-ghost use Rattle.cnf_types.specs.Words.{lines};
+ghost use Rattle.arc_base.specs.TextLines.{lines};
 ghost use Rattle.arc_base.specs.Words.{words};
-ghost use Rattle.cnf_types.specs.Numbers.{number};
+ghost use Rattle.arc_base.specs.WordNumbers.{number};
 ghost use Rattle.cnf_types.specs.Dimacs.{is_bad, line_numbers, first_bad, content, numbers, pieces};
 ghost use Rattle.cnf_types.specs.Progress.{pieces_after, IsFirstBad};
 
 use crate::faults::CnfFault;
 use crate::header::is_comment;
 use crate::literal::Lit;
-use crate::numbers::number;
 use crate::sinks::ClauseSink;
-use crate::words::{first_line, next_word, without_return};
-use arc_base::Memory;
+use arc_base::{Memory, first_line, next_word, number, without_return};
 use std::alloc::Global;
 
 /// Why a word is not taken.
@@ -110,7 +108,7 @@ impl<S: ClauseSink + Drop> Body<S> {
 }
 
 /// Hands the clauses in the lines of a text that follow the header to a sink, and gives the number
-/// of the last line. `before` lines stand before them.
+/// of the last line. `before` lines precede them.
 pub(crate) fn read_lines<S: ClauseSink + Drop>(
     alloc: Global,
     vars: u64,

@@ -1,7 +1,7 @@
 //! Formulas from the text of a DIMACS file.
 ghost use Rattle.std.specs.Prelude.{◌≡◌, ◌+◌, ◌<◌, ◌≤◌, ◌^◌, [], length, IfOk, IfErr, Err, Ok};
 ghost use Rattle.std.specs.Prelude.{IsTrue, ◌↔◌};
-ghost use Rattle.cnf_types.specs.Words.{lines};
+ghost use Rattle.arc_base.specs.TextLines.{lines};
 ghost use Rattle.cnf_types.specs.Dimacs.{content, from_header, after_header, counted, reading};
 ghost use Rattle.cnf_types.specs.Dimacs.{IsFaultOf};
 ghost use Rattle.cnf_types.specs.Progress.{pieces_after};
@@ -11,9 +11,8 @@ use crate::clauses::Formula;
 use crate::faults::CnfFault;
 use crate::header::{Header, header_of, is_comment};
 use crate::sinks::ClauseSink;
-use crate::words::{first_line, without_return};
 use arc_base::limits::{LITERAL_LIMIT, VARIABLE_LIMIT};
-use arc_base::{LimitKind, List};
+use arc_base::{LimitKind, List, first_line, without_return};
 use std::alloc::Global;
 
 /// The header of a text, the number of its line, and what follows that.
@@ -44,7 +43,7 @@ fn read_header(text: &[u8]) -> Result<(Header, u32, &[u8]), CnfFault>
     Err(CnfFault::BadHeader(line))
 }
 
-/// Whether so many clauses were taken, and none is not closed.
+/// Whether `clauses` clauses were taken, and each of them is closed.
 fn is_whole<S: ClauseSink>(body: &Body<S>, clauses: u64) -> bool
     ensures { IsTrue result ↔
         ((length (S.taken body.now.sink) ≡ clauses) × (body.now.unclosed.items ≡ [])) }

@@ -1,12 +1,11 @@
 //! The header of a DIMACS text.
 ghost use Rattle.std.specs.Prelude.{◌≡◌, ◌+◌, ◌<◌, ◌≤◌, ◌^◌, ℕ, [], ◌∷◌, length, IfOk, IfErr, Some};
 ghost use Rattle.std.specs.Prelude.{None};
-ghost use Rattle.cnf_types.specs.Words.{lines};
+ghost use Rattle.arc_base.specs.TextLines.{lines};
 ghost use Rattle.arc_base.specs.Words.{words};
 ghost use Rattle.cnf_types.specs.Dimacs.{count, header, content, is_comment, line_words};
 
-use crate::numbers::natural;
-use crate::words::next_word;
+use arc_base::{natural, next_word};
 
 /// What a header says.
 #[derive(Clone, Copy, Debug, PartialEq, Eq)]

@@ -1,7 +1,6 @@
 //! Formulas in conjunctive normal form, and how they are read from a DIMACS text: literals, clauses
-//! and formulas, what takes the clauses as they are read, the lines and words of a text, and the
-//! numbers that words write. Contracts see a formula as its clauses, and an assignment as a truth
-//! value for each variable.
+//! and formulas, and what takes the clauses as they are read. Contracts see a formula as its
+//! clauses, and an assignment as a truth value for each variable.
 #![tactic(auto)]
 
 mod body;
@@ -10,15 +9,11 @@ mod dimacs;
 mod faults;
 mod header;
 mod literal;
-mod numbers;
 mod sinks;
-mod words;
 
 pub use clauses::{Clause, Formula};
 pub use dimacs::{formula, read_clauses};
 pub use faults::CnfFault;
 pub use header::is_comment;
 pub use literal::Lit;
-pub use numbers::{natural, number};
 pub use sinks::ClauseSink;
-pub use words::{first_line, next_word, without_return};

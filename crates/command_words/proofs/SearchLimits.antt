@@ -4,7 +4,7 @@ use Rattle.std.specs.List.{list_all}
 use Rattle.std.specs.Str.{is_utf8}
 use Rattle.std.proofs.lemmas.Bool.{and_parts, leb-true}
 use Rattle.arc_base.specs.PrefixText.{prefix_of}
-use Rattle.cnf_types.specs.Numbers.{is_natural, value_after}
+use Rattle.arc_base.specs.WordNumbers.{is_natural, value_after}
 use Rattle.command_words.specs.Commands.{Form, HasLimit, Look, argument_of, command_by, command_in, command_of, form_named, is_whole, links_or_none, number_or, options_of}
 use Rattle.command_words.specs.Values.{number_within, router_names}
 use Rattle.command_words.specs.Words.{Given, arguments_of}

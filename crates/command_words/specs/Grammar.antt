@@ -1,4 +1,4 @@
--- The command line as `clap` is told it.
+-- The command line as `clap` has it.
 use Rattle.std.specs.Prelude.{Bool, true, false, Some, codes, fold}
 use Rattle.clap.specs.Walk.{Rule, Text}
 use Rattle.clap.specs.Simple.{App, new_app, new_rule, with_rule, with_subcommand}

@@ -3,17 +3,17 @@ use Rattle.std.specs.Prelude.{◌≡◌, ◌⊎◌, ℕ, true, ◌==◌, List, [
 use Rattle.std.specs.List.{list_any}
 use Rattle.command_words.specs.Words.{Given, names_one, option, positional}
 
--- a word that may stand for itself: it is `-`, or does not begin with a hyphen
+-- a word that may be a value by itself: it is `-`, or does not begin with a hyphen
 abbrev pub IsText : List ℕ → Type 0
 IsText word = (word ≡ codes "-") ⊎ ((rest : List ℕ) → word ≡ codes "-" ++ rest → ⊥)
 
--- a name that can be told from a value after it
+-- a name that can be separated from a value after it
 abbrev pub has_equals : List ℕ → Type 0
 has_equals name = list_any (λ byte. byte == 61) name ≡ true
 
 -- the words give this to a command with options of these names
 pub data Gives : List (List ℕ) → List (List ℕ) → List Given → Type 0 where
-  -- no words give nothing
+  -- the rows of a list of clauses: those of the clauses come after one that has none
   no_words : {options : List (List ℕ)} → Gives options [] []
   -- a text is a positional word
   stands : {options : List (List ℕ)} {word : List ℕ} {words : List (List ℕ)} {given : List Given} →

@@ -7,7 +7,7 @@ use Rattle.arc_base.specs.Cuts.{cut_at}
 use Rattle.arc_base.specs.Options.{◌>>=◌}
 use Rattle.arc_base.specs.NameForms.{is_name}
 use Rattle.arc_base.specs.PrefixText.{address_of, number_of}
-use Rattle.cnf_types.specs.Numbers.{natural}
+use Rattle.arc_base.specs.WordNumbers.{natural}
 use Rattle.command_words.specs.declared.values.Fault.{Fault}
 use Rattle.command_words.specs.declared.values.Fault.TheVariants.{NotPrefix, PastBits}
 use Rattle.command_words.specs.declared.values.TheConstants.{LAST_LINK}

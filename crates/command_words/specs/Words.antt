@@ -1,6 +1,5 @@
--- What the words that follow a command's name give it. Options may stand before, between and after
--- the positional words.
--- An option is written `--NAME=VALUE` or `--NAME VALUE`.
+-- What the words that follow a command's name give it. Options may come before, between and after
+-- the positional words. An option is written `--NAME=VALUE` or `--NAME VALUE`.
 use Rattle.std.specs.Prelude.{ℕ, Bool, true, not, ◌==◌, ◌&&◌, List, [], ◌∷◌, map, Option, Some}
 use Rattle.std.specs.Prelude.{None, is_some, option_map, option_and_then, bytes_eq, if◌then◌else◌}
 use Rattle.std.specs.List.{list_any, before_first, after_first}
@@ -46,7 +45,7 @@ pub data Given : Type 0 where
 abbrev pub then_more : Given → Option (List Given) → Option (List Given)
 then_more given more = option_map (λ later. given ∷ later) more
 
--- the option has a name of the command's, and its value stands beside it, or is the next word
+-- the option has a name of the command's, and its value is in the same word, or is the next word
 abbrev pub option_gives : Bool → List ℕ → Option (List ℕ) →
     (Option (List ℕ) → Option (List Given)) → Option (List Given)
 option_gives known name (Some value) more =
@@ -94,7 +93,7 @@ value_of name (positional word ∷ rest) = value_of name rest
 value_of name (option other value ∷ rest) =
     if bytes_eq other name then Some value else value_of name rest
 
--- no option stands twice
+-- no option occurs twice
 abbrev pub is_once : List Given → Bool
 is_once [] = true
 is_once (positional word ∷ rest) = is_once rest

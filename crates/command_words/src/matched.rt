@@ -141,7 +141,7 @@ fn number_or(
     }
 }
 
-/// How many conflicts a search may learn from.
+/// Adds a lemma to the core under the next id, and to the log. Answers whether it is empty.
 fn conflicts(found: &ArgMatches<'_>) -> Read<u64>
     ensures { result_ok result ≡ number_or DEFAULT_CONFLICTS 1 CONFLICT_LIMIT
         (first_of (codes "conflicts") (rows_of (found_of found.now))) }

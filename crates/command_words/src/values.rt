@@ -16,9 +16,8 @@ ghost use Rattle.command_words.specs.Values.{
 
 use arc_base::limits::ROUTER_LIMIT;
 use arc_base::{
-    List, Memory, Name, Prefix, cut_at, is_name, read_address, read_number, read_prefix,
+    List, Memory, Name, Prefix, cut_at, is_name, natural, read_address, read_number, read_prefix,
 };
-use cnf_types::natural;
 use std::alloc::Global;
 
 /// The highest number of a link.

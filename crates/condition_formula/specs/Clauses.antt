@@ -63,7 +63,7 @@ abbrev pub literal_of : Part → Option Lit
 literal_of (Fixed truth) = None
 literal_of (Literal variable positive) = Some (literal variable positive)
 
--- the literals with one more at the end, unless it stands there already
+-- the literals with one more at the end, unless it is there already
 abbrev pub with_literal : List Lit → Lit → List Lit
 with_literal lits lit = if list_any (λ l. l.code == lit.code) lits then lits else lits ++ lit ∷ []
 

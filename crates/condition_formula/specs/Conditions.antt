@@ -23,7 +23,7 @@ holds chosen Never = false
 holds chosen (If edit) = chosen edit
 holds chosen (Unless edit) = not (chosen edit)
 
--- the edit that the condition speaks of is one of so many
+-- the condition's edit is one of the first `edits`
 abbrev pub IsOf : ℕ → Condition → Type 0
 IsOf edits Always = Unit {0}
 IsOf edits Never = Unit {0}
@@ -93,8 +93,8 @@ pub record IsClear (chosen : ℕ → Bool) (class : ℕ) (arc : ConditionArc) : 
   pub outbound : IsTrue (holds chosen (lists_of arc class).outbound)
   pub inbound : IsTrue (holds chosen (lists_of arc class).inbound)
 
--- all packets enter and leave; and where the two nodes differ, every routed arc is clear, and so
--- many paths share no link
+-- all packets enter and leave; and where the two nodes differ, every routed arc is clear, and
+-- `many` paths share no link
 pub record AreReached (chosen : ℕ → Bool) (q : Question) (many : ℕ) : Type 0 where
   pub ends : (class : ℕ) → class < length q.classes → Passes chosen q class
   pub clear : q.source ≢ q.target → (class : ℕ) → class < length q.classes →
@@ -112,7 +112,7 @@ MeetsDemand chosen q (Reach many) = AreReached chosen q many
 abbrev pub IsMet : (ℕ → Bool) → Question → Type 0
 IsMet chosen q = MeetsDemand chosen q q.demand
 
--- the conditions of the arc speak of so many edits
+-- the conditions of the arc are about the first `edits` edits
 pub record HasEdits (edits : ℕ) (arc : ConditionArc) : Type 0 where
   pub routing : All (IsOf edits) arc.routing
   pub lists : (class : ℕ) →

@@ -108,7 +108,7 @@ pub record PricesAreCounted : Type 0 where
       assignment (above edit number) ≡ costs_more chosen weights edit number) →
       Fulfils assignment (price_parts weights bound above)
 
--- the variable of the literal is one of so many
+-- the variable of the literal is one of the first `vars`
 pub record IsVariableOf (vars : ℕ) (lit : Lit) : Type 0 where
   pub least : 1 ≤ variable lit
   pub most : variable lit ≤ vars

@@ -18,23 +18,24 @@ pub record IsSmallNet (net : ConditionNet) : Type 0 where
   pub arcs : All (λ q. length q.arcs ≤ ARC_LIMIT) net.questions
   pub questions : length net.questions ≤ QUESTION_LIMIT
 
--- the formula has at most so many variables and literals
+-- the formula is within the limits on variables and literals
 pub record IsWithinLimits (net : ConditionNet) (bound : ℕ) : Type 0 where
   pub variables : variable_count net bound ≤ VARIABLE_LIMIT
   pub literals : literal_count (all_parts net bound) ≤ LITERAL_LIMIT
 
--- there are too many variables, and so many
+-- there are too many variables, this many
 pub record HasTooManyVariables (net : ConditionNet) (bound count : ℕ) : Type 0 where
   pub many : VARIABLE_LIMIT < count
   pub exact : count ≡ variable_count net bound
 
--- there are not, but there are too many literals, and so many, or the most that can be counted
+-- the variables are few enough, but there are too many literals, this many, or the most that can be
+-- counted
 pub record HasTooManyLiterals (net : ConditionNet) (bound count : ℕ) : Type 0 where
   pub variables : variable_count net bound ≤ VARIABLE_LIMIT
   pub many : LITERAL_LIMIT < literal_count (all_parts net bound)
   pub exact : count ≡ min (literal_count (all_parts net bound)) (2 ^ 64 - 1)
 
--- the fault is that of the network, or want of memory
+-- the fault is that of the network, or out of memory
 abbrev pub IsFaultOf : ConditionNet → ℕ → EncodeFault → Type 0
 IsFaultOf net bound Memory = Unit {0}
 IsFaultOf net bound (Limit Variables count) = HasTooManyVariables net bound count

@@ -10,7 +10,7 @@ use Rattle.condition_formula.specs.Clauses.{yes, no, edit_variable}
 abbrev pub share : (ℕ → Bool) → List ℕ → ℕ → ℕ
 share chosen weights edit = if chosen edit then slice_index_or weights edit 0 else 0
 
--- the sum of the weights of the chosen edits among the first so many
+-- the sum of the weights of the chosen edits among the first `many`
 abbrev pub price_of_first : (ℕ → Bool) → List ℕ → ℕ → ℕ
 price_of_first chosen weights many = sum_by (share chosen weights) (upto many)
 

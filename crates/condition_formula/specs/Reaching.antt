@@ -9,7 +9,7 @@ use Rattle.condition_formula.specs.Conditions.{lists_of, ends_of}
 use Rattle.condition_formula.specs.declared.part.Part.{Part}
 use Rattle.condition_formula.specs.Clauses.{yes, no, affirmed, denied}
 
--- what stands in the place of an arc where there is none
+-- what is used in the place of an arc if there is none
 abbrev pub no_arc : ConditionArc
 no_arc = record {
   link = record { 0 = 0 };
@@ -92,7 +92,7 @@ clear_parts class arc =
     (map denied arc.routing ++ affirmed (lists_of arc class).outbound ∷ [])
     ∷ (map denied arc.routing ++ affirmed (lists_of arc class).inbound ∷ []) ∷ []
 
--- so many paths that share no link lead over routed arcs, all of which are clear
+-- paths that share no link lead over routed arcs, all of which are clear
 abbrev pub paths_parts : Question → ℕ → ℕ → ℕ → (ℕ → ℕ → ℕ) → List (List Part)
 paths_parts q nodes links many used =
     flat_map (λ class. flat_map (clear_parts class) q.arcs) (upto (length q.classes))

@@ -49,7 +49,7 @@ rows_of q pick count = map (λ number. record { places = picked q pick number })
 abbrev pub row_at : List Row → ℕ → List ℕ
 row_at rows number = (slice_index_or rows number (record { places = [] })).places
 
--- so many rows without places
+-- rows without places
 abbrev pub empty_rows : ℕ → List Row
 empty_rows count = map (λ number. record { places = [] }) (upto count)
 

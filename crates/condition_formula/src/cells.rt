@@ -1,4 +1,4 @@
-//! Where a variable stands in a table.
+//! Where a variable is in a table.
 ghost use Rattle.std.specs.Prelude.{◌≡◌, ◌<◌, ◌^◌};
 ghost use Rattle.condition_formula.specs.Formulas.{cell};
 

@@ -141,7 +141,7 @@ fn is_true(parts: &[Part]) -> bool
     false
 }
 
-/// Whether the literal stands among the others.
+/// Whether the literal is among the others.
 fn contains(lits: &[Lit], lit: Lit) -> bool
     ensures { result ≡ list_any (λ l. l.code == lit.code) lits.now }
 {
@@ -153,7 +153,7 @@ fn contains(lits: &[Lit], lit: Lit) -> bool
     false
 }
 
-/// Adds a literal, unless it stands there already.
+/// Adds a literal, unless it is there already.
 fn add(lits: &mut List<Lit>, lit: Lit) -> Result<(), Memory>
     ensures { OnOk result (lits.new ≡ with_literal lits.old lit) }
 {
@@ -177,7 +177,7 @@ pub(crate) fn literal(variable: u64, positive: bool) -> Lit
     }
 }
 
-/// Adds the literal of a part, where it is one, unless it stands there already.
+/// Adds the literal of a part, if it is one, unless it is there already.
 fn add_part(lits: &mut List<Lit>, part: Part) -> Result<(), Memory>
     requires { IsSmall part }
     ensures { OnOk result

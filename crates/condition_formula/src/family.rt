@@ -111,7 +111,7 @@ fn goes_on(
     Ok(())
 }
 
-/// The same where the node is neither source nor target, and nothing at those.
+/// Flow conservation at an inner node: nothing at source and target.
 fn goes_on_between(
     alloc: Global,
     out: &mut Writer,
@@ -133,7 +133,7 @@ fn goes_on_between(
     goes_on(alloc, out, q, index, used, family, node)
 }
 
-/// The same for each node.
+/// Flow conservation at every inner node.
 fn all_go_on(
     alloc: Global,
     out: &mut Writer,
@@ -176,7 +176,7 @@ fn once(
     Ok(())
 }
 
-/// The same for each node.
+/// Flow conservation at every inner node.
 fn all_once(
     alloc: Global,
     out: &mut Writer,

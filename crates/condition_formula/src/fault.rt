@@ -1,4 +1,4 @@
-//! Why there is no formula: too large, or want of memory.
+//! Why there is no formula: too large, or out of memory.
 
 use arc_base::{LimitKind, Memory};
 use thiserror::Error;

@@ -4,8 +4,8 @@ ghost use Rattle.condition_formula.specs.Clauses.{affirmed, denied};
 
 use crate::condition::Condition;
 
-/// A part of a clause: a truth value, or a variable, which counts from 1, and whether it stands
-/// without a negation.
+/// A part of a clause: a truth value, or a variable, which counts from 1, and whether it is not
+/// negated.
 #[derive(Clone, Copy, Debug, PartialEq, Eq)]
 pub enum Part {
     Fixed(bool),

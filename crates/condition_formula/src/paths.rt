@@ -1,4 +1,4 @@
-//! Clauses of reach: so many families of arcs that share no link, over routed arcs that are clear.
+//! Clauses of reach: families of arcs that share no link, over routed arcs that are clear.
 ghost use Rattle.std.specs.Prelude.{◌≡◌, ◌==◌, ◌<◌, ◌^◌, [], ◌∷◌, ◌++◌, if◌then◌else◌, length, map};
 ghost use Rattle.std.specs.Prelude.{flat_map, OnOk, IfOk};
 ghost use Rattle.condition_formula.specs.Lists.{upto};
@@ -42,7 +42,7 @@ fn ends(alloc: Global, out: &mut Writer, q: &Question, class: u32) -> Result<(),
     Ok(())
 }
 
-/// The same for each class.
+/// That the packets of each class enter and leave.
 fn all_ends(alloc: Global, out: &mut Writer, q: &Question) -> Result<(), Memory>
     ensures { OnOk result
         (Adds out.old out.new (flat_map (ends_parts q.now) (upto (length q.now.classes)))) }
@@ -79,7 +79,7 @@ fn clear(alloc: Global, out: &mut Writer, class: u32, arc: &ConditionArc) -> Res
     Ok(())
 }
 
-/// The same for each arc.
+/// That each arc is clear if it is routed.
 fn arcs_clear(alloc: Global, out: &mut Writer, q: &Question, class: u32) -> Result<(), Memory>
     ensures { OnOk result (Adds out.old out.new (flat_map (clear_parts class) q.now.arcs)) }
 {
@@ -89,7 +89,7 @@ fn arcs_clear(alloc: Global, out: &mut Writer, q: &Question, class: u32) -> Resu
     Ok(())
 }
 
-/// The same for each class.
+/// That the packets of each class enter and leave.
 fn all_clear(alloc: Global, out: &mut Writer, q: &Question) -> Result<(), Memory>
     ensures { OnOk result
         (Adds out.old out.new (flat_map (λ class. flat_map (clear_parts class) q.now.arcs)
@@ -177,7 +177,7 @@ fn own_link(
     Ok(())
 }
 
-/// The same for each link.
+/// That each link is in at most one family.
 fn own_links(
     alloc: Global,
     out: &mut Writer,
@@ -218,7 +218,7 @@ fn paths(
     Ok(())
 }
 
-/// The same where source and target differ, and nothing where they are one.
+/// The path clauses; none if source and target are one node.
 fn paths_between(
     alloc: Global,
     out: &mut Writer,

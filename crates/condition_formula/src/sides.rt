@@ -73,7 +73,7 @@ fn step(
     out.put(alloc, &draft)
 }
 
-/// The same for an arc that counts, and nothing for another.
+/// The clauses of a step over an arc that counts; none for another arc.
 fn counted_step(
     alloc: Global,
     out: &mut Writer,
@@ -91,7 +91,7 @@ fn counted_step(
     step(alloc, out, reached, class, arc)
 }
 
-/// The same for each arc that counts.
+/// The clauses of a step over each arc that counts.
 fn steps(
     alloc: Global,
     out: &mut Writer,

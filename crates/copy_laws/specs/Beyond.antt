@@ -60,7 +60,7 @@ pub record SendsOn (net : Network) (sends : NextHops) (p : Packet) (u : ℕ) : T
   pub some : (arc : Arc) × (tail_router arc ≡ u) × IsTrue (sends arc)
   pub all : (arc : Arc) → tail_router arc ≡ u → IsTrue (sends arc) → ArcPermits net arc p
 
--- the packet is sure to arrive from the router over at most so many arcs, whichever it is sent
+-- the packet is sure to arrive from the router over at most this many arcs, whichever it is sent
 -- over: it is at its target and leaves, or it is sent on, and is then sure to arrive over one arc
 -- less
 abbrev pub IsSureFrom : Network → Ends → NextHops → Packet → ℕ → ℕ → Type 0

@@ -63,7 +63,7 @@ QuietIsDown = HasFewerLinks quiet two_routers every_link
 abbrev pub two_cables : Cabling
 two_cables = record { cables = 2; of_link = λ link. cond (link == 0) 0 (cond (link == 2) 0 1) }
 
--- two links over a cable
+-- Reads the destination ports, if the protocol has ports and words of them come here.
 abbrev pub TwoByTwo : Type 0
 TwoByTwo = CarriesAtMost square two_cables 2
 

@@ -44,7 +44,7 @@ HoldsBy net ends sends p (Reach k) = IsSure net ends sends p
 
 -- the network does with the packet as the policy asks by all next hops that agree with the model
 -- and are of this sort: its class has ends, for which this holds under each failure set that the
--- policy speaks of
+-- policy allows for
 pub record MeetsBy (net : Network) (policy : Policy) (p : Packet)
     (AreOfSort : Ends → DistanceMap → NextHops → Type 0) : Type 0 where
   pub ends : Ends

@@ -51,7 +51,7 @@ pub fn entries_change()
 {}
 
 /// Links that are up in the copy and down in the network count as failed: blocked and through stay,
-/// and reach survives so many failures less; also where the lists of the copy differ. A link whose
+/// and reach survives that many failures fewer; also if the lists of the copy differ. A link whose
 /// ends are passive is down.
 pub fn links_are_down()
     ensures stable { DownIsFailed }

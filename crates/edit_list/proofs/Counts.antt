@@ -23,7 +23,7 @@ use Rattle.edit_list.specs.declared.edit_kinds.Edit.{Edit}
 use Rattle.edit_list.specs.declared.sites.Site.{Site}
 use Rattle.edit_list.specs.EditLists.{link_edits, route_edit, packet_edit, all_edits, writable_classes}
 use Rattle.edit_list.specs.Listing.{KnowsSessions}
-use Rattle.edit_list.specs.Numbered.{placed, of_number, by_number, Tells}
+use Rattle.arc_base.specs.Numbered.{placed, of_number, by_number, IsTableOf}
 use Rattle.edit_list.specs.Writable.{is_writable}
 use Rattle.edit_list.specs.Sites.{route_list_site, neighbor_site, packet_list_site, face_site, route_sites, packet_sites}
 
@@ -158,7 +158,7 @@ some_session (s ∷ sessions) k = by (s.face.0 == k) (some_session sessions k)
     by true e = refl
     by false e = e
 
-pub knows_sessions : (net : Network) (count : ℕ) (faces : List ℕ) (flags : List Bool) → faces ≡ map (λ s. s.face.0) net.sessions → Tells count (λ k. list_any (λ n. n == k) faces) flags → KnowsSessions net flags
+pub knows_sessions : (net : Network) (count : ℕ) (faces : List ℕ) (flags : List Bool) → faces ≡ map (λ s. s.face.0) net.sessions → IsTableOf count (λ k. list_any (λ n. n == k) faces) flags → KnowsSessions net flags
 knows_sessions net count faces flags are told face within =
     let counted : face.0 < count = omega (arith, within, ap length told, length-map-range_with_len (λ k. list_any (λ n. n == k) faces) 0 count) in
     slice_get-get_or flags face.0 false within ∙

@@ -1,4 +1,3 @@
-pub mod Numbers
 mod HostNetworks
 pub mod Counts
 pub mod PriceSteps

@@ -16,7 +16,7 @@ use Rattle.edit_list.specs.declared.list_kinds.NewList.{NewList}
 use Rattle.edit_list.specs.declared.list_kinds.NewList.TheVariants.{Route, Packet}
 use Rattle.edit_list.specs.Changes.{new_prefixes, new_classes}
 use Rattle.edit_list.specs.NewLists.{new_route_list, new_packet_list, new_lists}
-use Rattle.edit_list.specs.Numbered.{placed, is_empty}
+use Rattle.arc_base.specs.Numbered.{placed, is_empty}
 use Rattle.edit_list.proofs.Placing.{placed_length, placed_at}
 
 -- what is picked was picked of some item

@@ -3,8 +3,8 @@ use Rattle.std.proofs.Common.{◌≡◌, ℕ, ◌+◌, ◌<◌, ◌≤◌, Optio
 use Rattle.std.specs.List.{filter_map, cons_option, range_with_len}
 use Rattle.std.proofs.lemmas.List.{append-nil, take_all, map_more}
 use Rattle.std.proofs.lemmas.List.FromFn.{length-range_with_len, get_or-range_with_len}
-use Rattle.edit_list.specs.Numbered.{placed}
-use Rattle.edit_list.proofs.Numbers.{picked_more}
+use Rattle.arc_base.specs.Numbered.{placed}
+use Rattle.arc_base.proofs.Grouped.{picked_more}
 use Rattle.edit_list.proofs.PriceSteps.{pair_at, pairs_length}
 
 pub placed_length : {X : Type 0} (xs : List X) → length (placed xs) ≡ length xs

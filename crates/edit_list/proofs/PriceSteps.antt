@@ -6,7 +6,7 @@ use Rattle.std.proofs.lemmas.List.Sums.{sum_by-append}
 use Rattle.net_model.specs.declared.policies.Weights.{Weights}
 use Rattle.edit_list.specs.declared.edit_kinds.Edit.{Edit}
 use Rattle.edit_list.specs.Prices.{if_chosen, chosen_of, weight, cost_of, price_of}
-use Rattle.edit_list.proofs.Numbers.{picked_more}
+use Rattle.arc_base.proofs.Grouped.{picked_more}
 
 pub pair_at : {X Y : Type 0} (xs : List X) (ys : List Y) (i : ℕ) (d : X) (e : Y) → i < length xs → i < length ys → get_or (zip xs ys) i (d, e) ≡ (get_or xs i d, get_or ys i e)
 pair_at [] ys i d e l m = absurd (omega (arith, l))

@@ -4,7 +4,7 @@ use Rattle.std.specs.Prelude.{All, AllPairs, slice_get, count_by}
 use Rattle.std.proofs.lemmas.List.{get_or-map, length-map, same_lists}
 use Rattle.std.proofs.lemmas.List.Sums.{sum_by-cons}
 use Rattle.std.proofs.lemmas.Option.{slice_get_within, slice_get-get_or, get_or_from_slice_get, same_Some}
-use Rattle.edit_list.specs.Numbered.{EachRow}
+use Rattle.arc_base.specs.Numbered.{EachRow}
 use Rattle.std.proofs.lemmas.Bool.{cases_lt}
 
 -- an item has one place where no two are the same

@@ -22,7 +22,7 @@ use Rattle.net_model.specs.Packets.{first_packet}
 use Rattle.net_model.specs.Services.{whole_service}
 use Rattle.edit_list.specs.declared.edit_kinds.Edit.{Edit}
 use Rattle.edit_list.specs.declared.list_kinds.NewList.TheVariants.{Route, Packet}
-use Rattle.edit_list.specs.Numbered.{is_empty, EachRow}
+use Rattle.arc_base.specs.Numbered.{is_empty, EachRow}
 use Rattle.edit_list.specs.Changes.{turns_session, list_prefixes, new_prefixes, list_classes}
 use Rattle.edit_list.specs.Changes.{new_classes}
 use Rattle.edit_list.specs.NewLists.{new_names_of, IsNewList}
@@ -76,12 +76,12 @@ every_packet = record { permit = true; from = any; to = any; service = whole_ser
 abbrev pub new_packet_entries : List Class → List PacketEntry
 new_packet_entries classes = map (class_entry false) classes ++ every_packet ∷ []
 
--- the route list that was at this place, with the entries that the edits put at its front
+-- the route list that was at this place, with the entries of the edits at its front
 abbrev pub edited_route_list : List Edit → ℕ → RouteList → RouteList
 edited_route_list chosen place list =
     record list { entries = with_prefixes list.entries (list_prefixes chosen place) }
 
--- the packet list that was at this place, with the entries that the edits put at its front
+-- the packet list that was at this place, with the entries of the edits at its front
 abbrev pub edited_packet_list : List Edit → ℕ → PacketList → PacketList
 edited_packet_list chosen place list =
     record list { entries = with_classes list.entries (list_classes chosen place) }
@@ -113,7 +113,7 @@ IsPacketListAfter net chosen list =
     (list ≡ edited_packet_list chosen place was)) ⊎
     ((face : Face) × IsNewPacketList net chosen face list)
 
--- where the edited list stands after the edits that stood at this place
+-- where the edited list is after the edits, if it was at this place before them
 abbrev pub RouteListMoves : Network → List Edit → Network → ListId → ListId → Type 0
 RouteListMoves net chosen after was now =
     IsSomeAnd (slice_get net.route_lists was.0) (λ list.
@@ -124,7 +124,7 @@ PacketListMoves net chosen after was now =
     IsSomeAnd (slice_get net.packet_lists was.0) (λ list.
     slice_get after.packet_lists now.0 ≡ Some (edited_packet_list chosen was.0 list))
 
--- what was bound stays bound: no list, or the one that there was, where it stands now
+-- what was bound stays bound: no list, or the one that was bound, at its new place
 abbrev pub StaysBound : (ListId → ListId → Type 0) → Option ListId → Option ListId → Type 0
 StaysBound Moves None now = now ≡ None
 StaysBound Moves (Some was) now = IsSomeAnd now (Moves was)

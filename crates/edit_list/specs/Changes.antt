@@ -5,7 +5,7 @@ use Rattle.arc_base.specs.declared.prefix.Prefix.{Prefix}
 use Rattle.net_model.specs.declared.policies.Class.{Class}
 use Rattle.edit_list.specs.declared.edit_kinds.Edit.{Edit}
 use Rattle.edit_list.specs.declared.edit_kinds.Edit.TheVariants as edits
-use Rattle.edit_list.specs.Numbered.{of_number}
+use Rattle.arc_base.specs.Numbered.{of_number}
 
 -- the interface whose session the edit turns
 abbrev pub session_change : Edit → Option ℕ
@@ -36,7 +36,7 @@ new_packet_change other = None
 abbrev pub turns_session : List Edit → ℕ → Bool
 turns_session chosen face = list_any (λ place. place == face) (filter_map session_change chosen)
 
--- the prefixes of the entries that the edits put in front of the route list at this place
+-- the prefixes of the entries that the edits add at the front of the route list at this place
 abbrev pub list_prefixes : List Edit → ℕ → List Prefix
 list_prefixes chosen list = of_number list (filter_map route_list_change chosen)
 
@@ -44,7 +44,7 @@ list_prefixes chosen list = of_number list (filter_map route_list_change chosen)
 abbrev pub new_prefixes : List Edit → ℕ → List Prefix
 new_prefixes chosen face = of_number face (filter_map new_route_change chosen)
 
--- the classes of the entries that the edits put in front of the packet list at this place
+-- the classes of the entries that the edits add at the front of the packet list at this place
 abbrev pub list_classes : List Edit → ℕ → List Class
 list_classes chosen list = of_number list (filter_map packet_list_change chosen)
 

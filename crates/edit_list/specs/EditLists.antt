@@ -43,12 +43,12 @@ edits_at net face = if has_session net.protocol net face then edits.Session face
 abbrev pub link_edits : Network → LinkRow → List Edit
 link_edits net link = edits_at net link.a ++ edits_at net link.b
 
--- the edit that puts an entry for the prefix at the site
+-- the edit that adds an entry for the prefix at the site
 abbrev pub route_edit : Site → Prefix → Edit
 route_edit (Bound list) prefix = edits.RouteList list prefix
 route_edit (New face) prefix = edits.RouteNew face prefix
 
--- the edit that puts an entry for the class at the site
+-- the edit that adds an entry for the class at the site
 abbrev pub packet_edit : Site → Class → Edit
 packet_edit (Bound list) class = edits.PacketList list class
 packet_edit (New face) class = edits.PacketNew face class
@@ -79,7 +79,7 @@ with_prefix prefixes prefix =
     if list_any (is_same prefix) prefixes then prefixes else prefixes ++ prefix ∷ []
 
 -- the destinations of the policies: the host networks in which their destinations lie, each once,
--- where it stands first
+-- at its first occurrence
 pub record AreDestinations (net : Network) (policies : List Policy)
     (destinations : List Prefix) : Type 0 where
   pub hosts : List Prefix
@@ -94,15 +94,15 @@ pub record AreEdits (net : Network) (doc : Document) (list : List Edit) : Type 0
   pub classes_are : AreAllClasses net doc.policies doc.policies classes
   pub all : list ≡ all_edits net destinations classes
 
--- the network has so many edits for the document
+-- the network has this many edits for the document
 pub record HasEdits (net : Network) (doc : Document) (count : ℕ) : Type 0 where
   pub list : List Edit
   pub are : AreEdits net doc list
   pub counted : length list ≡ count
 
 -- the document has at most CLASS_LIMIT classes in the network
-abbrev pub HasFewClasses : Network → Document → Type 0
-HasFewClasses net doc =
+abbrev pub DocumentHasFewClasses : Network → Document → Type 0
+DocumentHasFewClasses net doc =
     (classes : List Class) → AreAllClasses net doc.policies doc.policies classes →
     length classes ≤ CLASS_LIMIT
 
@@ -117,6 +117,6 @@ abbrev pub NamesLimit : Network → Document → EditFault → Type 0
 NamesLimit net doc (Limit limits.Classes count) =
     FirstHaveMore net doc.policies count × (CLASS_LIMIT < count)
 NamesLimit net doc (Limit limits.Edits count) =
-    HasFewClasses net doc × HasEdits net doc count × (EDIT_LIMIT < count)
+    DocumentHasFewClasses net doc × HasEdits net doc count × (EDIT_LIMIT < count)
 NamesLimit net doc (Limit other count) = ⊥
 NamesLimit net doc Memory = Unit {0}

@@ -1,4 +1,3 @@
-pub mod Numbered
 pub mod Sites
 pub mod Writable
 pub mod EditLists

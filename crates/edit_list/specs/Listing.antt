@@ -4,7 +4,7 @@ use Rattle.arc_base.specs.declared.place.Face.{Face}
 use Rattle.net_model.specs.declared.rows.Network.{Network}
 use Rattle.net_model.specs.Routing.{session_at}
 
--- the flags tell, for each interface within them, whether a session stands at it
+-- the flags say, for each interface within them, whether it has a session
 abbrev pub KnowsSessions : Network → List Bool → Type 0
 KnowsSessions net flags =
     (face : Face) → face.0 < length flags →

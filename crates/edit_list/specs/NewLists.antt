@@ -10,7 +10,7 @@ use Rattle.net_model.specs.declared.rows.Network.{Network}
 use Rattle.edit_list.specs.declared.edit_kinds.Edit.{Edit}
 use Rattle.edit_list.specs.declared.list_kinds.NewList.{NewList}
 use Rattle.edit_list.specs.declared.list_kinds.NewList.TheVariants.{Route, Packet}
-use Rattle.edit_list.specs.Numbered.{placed, of_number, is_empty}
+use Rattle.arc_base.specs.Numbered.{placed, of_number, is_empty}
 use Rattle.edit_list.specs.Changes.{new_prefixes, new_classes}
 
 -- the n-th name for new lists
@@ -21,8 +21,8 @@ new_name n = codes "ARC-" ++ decimal n
 abbrev pub is_among : List (List ℕ) → List ℕ → Bool
 is_among names name = list_any (bytes_eq name) names
 
--- the first of the names ARC-1, ARC-2 and so on that are none of these, so many as are counted;
--- they are found among the first names, so many as these and the counted ones together
+-- the first `count` of the names ARC-1, ARC-2 and so on that are none of these; they are found
+-- among the first names, as many as these and the counted ones together
 abbrev pub free_names : List (List ℕ) → ℕ → List (List ℕ)
 free_names names count =
     take count (filter (λ name. not (is_among names name))
@@ -65,7 +65,7 @@ abbrev pub named_lists : Network → List Edit → ℕ → List (NewList × List
 named_lists net chosen router =
     zip (new_lists_of net chosen router) (new_names_of net chosen router)
 
--- this is a new list of the router, and this is its name: they stand at the same place
+-- this is a new list of the router, and this is its name: they are at the same place
 pub record IsNewList (net : Network) (chosen : List Edit) (router : ℕ) (list : NewList)
     (name : List ℕ) : Type 0 where
   pub place : ℕ

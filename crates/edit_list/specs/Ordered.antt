@@ -11,7 +11,7 @@ Key = ℕ × List ℕ
 abbrev pub IsKeyBefore : Key → Key → Type 0
 IsKeyBefore x y = (x.0 < y.0) ⊎ ((x.0 ≡ y.0) × IsNameBefore x.1 y.1)
 
--- the names of each router stand in byte order, and so do the lists by router and name
+-- the names of each router are in byte order, and so are the lists by router and name
 pub record IsInOrder (net : Network) : Type 0 where
   pub names : All (λ router. AllPairs IsNameBefore router.names) net.routers
   pub packet_lists :

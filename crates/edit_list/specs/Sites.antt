@@ -1,5 +1,5 @@
--- Where entries can be put: in the lists that stand, and in new lists where none is bound. First
--- those of the first router, then those of the second, and so on.
+-- Where entries can be added: in existing lists, and in new lists where none is bound. First those
+-- of the first router, then those of the second, and so on.
 use Rattle.std.specs.Prelude.{ℕ, Bool, ◌&&◌, not, is_some, Option, Some, None, option_map, List}
 use Rattle.std.specs.Prelude.{◌++◌, map, length, slice_get, if◌then◌else◌}
 use Rattle.std.specs.List.{filter_map}
@@ -10,7 +10,7 @@ use Rattle.net_model.specs.declared.rows.SessionRow.{SessionRow}
 use Rattle.net_model.specs.declared.rows.Network.{Network}
 use Rattle.edit_list.specs.declared.sites.Site.{Site}
 use Rattle.edit_list.specs.declared.sites.Site.TheVariants.{Bound, New}
-use Rattle.edit_list.specs.Numbered.{placed, by_number}
+use Rattle.arc_base.specs.Numbered.{placed, by_number}
 
 -- the route list at this place, with its router
 abbrev pub route_list_site : ℕ × RouteList → ℕ × Site

@@ -24,7 +24,7 @@ pub enum Edit {
 /// Why there is no list of edits.
 #[derive(Clone, Copy, Debug, PartialEq, Eq, Error)]
 pub enum EditFault {
-    /// There are so many classes, more than `CLASS_LIMIT`, or so many edits, more than
+    /// There are this many classes, more than `CLASS_LIMIT`, or this many edits, more than
     /// `EDIT_LIMIT`.
     #[error("{1} pass the limit of {0:?}")]
     Limit(LimitKind, u64),

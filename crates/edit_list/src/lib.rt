@@ -1,6 +1,6 @@
-//! The modelled edits of a network: sessions that are turned, and entries that are put at the front
-//! of lists that stand or into new ones. It lists the edits of a network for a document in their
-//! one order, and tells what a set of them costs. What the network after them is, is defined here;
+//! The modelled edits of a network: sessions that are turned, and entries that are added at the
+//! front of existing lists or of new ones. It lists the edits of a network for a document in their
+//! one order, and prices a set of them. What the network after them is, is defined here;
 //! `edit_space` makes it.
 #![tactic(auto)]
 
@@ -11,7 +11,6 @@ mod edit_kinds;
 pub mod laws;
 mod list_kinds;
 mod listing;
-mod numbered;
 mod prices;
 mod sites;
 mod writable;
@@ -20,6 +19,5 @@ pub use claims::Claim;
 pub use edit_kinds::{Edit, EditFault};
 pub use list_kinds::NewList;
 pub use listing::edits;
-pub use numbered::{Group, add, append, empty_groups, grouped, is_filled, marked, things_at};
 pub use prices::{chosen_edits, price, weight};
 pub use sites::Site;

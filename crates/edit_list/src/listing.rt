@@ -7,15 +7,16 @@ ghost use Rattle.net_model.specs.Packets.{subject};
 ghost use Rattle.net_model.specs.Validity.{IsValid};
 ghost use Rattle.edit_list.specs.Determined.{IsCountable};
 ghost use Rattle.edit_list.specs.EditLists.{has_session, edits_at, link_edits, route_edit};
-ghost use Rattle.edit_list.specs.EditLists.{packet_edit, AreEdits, NamesLimit, HasFewClasses};
+ghost use Rattle.edit_list.specs.EditLists.{packet_edit, AreEdits, NamesLimit};
+ghost use Rattle.edit_list.specs.EditLists.{DocumentHasFewClasses};
 ghost use Rattle.edit_list.specs.Listing.{KnowsSessions};
 
 use crate::countable::count_rows;
 use crate::destinations::destinations;
 use crate::edit_kinds::{Edit, EditFault};
-use crate::numbered::{append, marked};
 use crate::sites::{Site, packet_sites, route_sites};
 use crate::writable::writable_classes;
+use arc_base::groups::{append, marked};
 use arc_base::limits::{EDIT_LIMIT, POLICY_LIMIT};
 use arc_base::{Face, LimitKind, List, Memory, Prefix};
 use net_model::{Class, Document, Network, Protocol};
@@ -169,7 +170,7 @@ pub fn edits(alloc: Global, net: &Network, doc: &Document) -> Result<List<Edit>,
     requires ends { All (λ policy. HasEnds net.now (subject policy)) doc.now.policies }
     ensures edits { IfOk result (AreEdits net.now doc.now) }
     ensures few { IfOk result (λ list. length list ≤ EDIT_LIMIT) }
-    ensures few_classes { IfOk result (λ list. HasFewClasses net.now doc.now) }
+    ensures few_classes { IfOk result (λ list. DocumentHasFewClasses net.now doc.now) }
     ensures limit { IfErr result (NamesLimit net.now doc.now) }
     ensures countable { IfOk result (λ list. IsCountable net.now) }
 {

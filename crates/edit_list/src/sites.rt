@@ -1,16 +1,16 @@
-//! Where entries can be put.
+//! Where entries can be added.
 ghost use Rattle.std.specs.Prelude.{◌≡◌, ◌<◌, ◌^◌, ◌++◌, length, map, IfOk};
 ghost use Rattle.std.specs.List.{filter_map};
-ghost use Rattle.edit_list.specs.Numbered.{placed};
+ghost use Rattle.arc_base.specs.Numbered.{placed};
 ghost use Rattle.edit_list.specs.Sites.{route_list_site, neighbor_site, packet_list_site};
 ghost use Rattle.edit_list.specs.Sites.{face_site, route_sites, packet_sites};
 
-use crate::numbered::{append, by_number};
+use arc_base::groups::{append, by_number};
 use arc_base::{Face, ListId, Memory};
 use net_model::{FaceRow, Network, PacketList, RouteList, SessionRow};
 use std::alloc::Global;
 
-/// Where an entry can be put: in a list that stands, or in a new one at an interface or at its
+/// Where an entry can be added: in an existing list, or in a new one at an interface or at its
 /// neighbour.
 #[derive(Clone, Copy, Debug, PartialEq, Eq)]
 pub enum Site {

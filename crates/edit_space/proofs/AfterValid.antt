@@ -25,7 +25,7 @@ use Rattle.edit_list.specs.declared.list_kinds.NewList.{NewList}
 use Rattle.edit_list.specs.Changes.{new_classes, new_prefixes}
 use Rattle.edit_list.specs.After.{edited_packet_list, edited_route_list, IsNewPacketList, IsNewRouteList, IsPacketListAfter, IsRouteListAfter, StaysBound, IsRouterAfter, IsFaceAfter, IsSessionAfter, passive_after, IsAfter}
 use Rattle.edit_list.specs.NewLists.{new_names_of, IsNewList}
-use Rattle.edit_list.specs.Numbered.{is_empty}
+use Rattle.arc_base.specs.Numbered.{is_empty}
 use Rattle.edit_list.specs.Ordered.{IsKeyBefore}
 use Rattle.edit_space.proofs.Keys.{not_before_itself}
 use Rattle.edit_list.proofs.RowFacts.{row_was, row_now, rows_all, rows_pairs, rows_map, count_numbers}

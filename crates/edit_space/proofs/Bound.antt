@@ -20,7 +20,7 @@ use Rattle.edit_space.specs.declared.order.Places.{Places}
 use Rattle.edit_list.specs.After.{IsNewPacketList, IsNewRouteList, PacketListMoves, RouteListMoves, StaysBound, IsFaceAfter, IsSessionAfter}
 use Rattle.edit_list.specs.Changes.{new_classes, new_prefixes}
 use Rattle.edit_list.specs.NewLists.{new_lists, new_lists_of, new_names_of, new_packet_list, new_route_list, IsNewList}
-use Rattle.edit_list.specs.Numbered.{placed, if_number, is_empty, EachRow}
+use Rattle.arc_base.specs.Numbered.{placed, if_number, is_empty, EachRow}
 use Rattle.edit_space.specs.Working.{AreNewNames, AreNamed, moved, bound_at, face_after, session_after}
 use Rattle.edit_space.proofs.NamedFacts.{names_at}
 use Rattle.edit_list.proofs.NewListFacts.{picks, placed_there, new_list_within}

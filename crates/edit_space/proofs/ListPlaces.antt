@@ -19,7 +19,7 @@ use Rattle.edit_space.specs.declared.order.Places.{Places}
 use Rattle.edit_list.specs.declared.sites.Site.TheVariants.{Bound, New}
 use Rattle.edit_list.specs.After.{StaysBound}
 use Rattle.edit_list.specs.NewLists.{names_of, IsNewList}
-use Rattle.edit_list.specs.Numbered.{placed, EachRow}
+use Rattle.arc_base.specs.Numbered.{placed, EachRow}
 use Rattle.edit_list.specs.Ordered.{Key, IsKeyBefore}
 use Rattle.edit_space.specs.Working.{key_of, old_key, new_key, new_key_by, IsWithin, ArePlaces, AreMade, list_at, moved, bound_at}
 use Rattle.edit_space.proofs.ListKinds.{ListsOfKind, IsListAfter, one_router, made_for, of_some}

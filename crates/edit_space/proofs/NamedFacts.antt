@@ -16,10 +16,10 @@ use Rattle.edit_list.specs.declared.list_kinds.NewList.{NewList}
 use Rattle.edit_list.specs.declared.list_kinds.NewList.TheVariants.{Route, Packet}
 use Rattle.edit_space.specs.declared.new_lists.Named.{Named}
 use Rattle.edit_list.specs.NewLists.{free_names, names_of, new_lists, new_lists_of, new_names_of, IsNewList}
-use Rattle.edit_list.specs.Numbered.{if_number, of_number, is_empty}
+use Rattle.arc_base.specs.Numbered.{if_number, of_number, is_empty}
 use Rattle.edit_space.specs.Working.{AreNewNames, IsNamed, AreNamed}
 use Rattle.edit_list.proofs.Counts.{few_picked}
-use Rattle.edit_list.proofs.Numbers.{told_at}
+use Rattle.arc_base.proofs.Grouped.{told_at}
 use Rattle.edit_space.proofs.FreeNames.{free_names_apart, free_name_is_new}
 use Rattle.edit_list.proofs.NewListFacts.{picked_from, pairs_picked, new_list_from, new_list_within, new_lists_apart}
 use Rattle.edit_list.proofs.RowFacts.{one_place, one_item}

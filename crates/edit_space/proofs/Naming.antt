@@ -14,9 +14,9 @@ use Rattle.net_model.proofs.Grown.{holds_of_more}
 use Rattle.edit_list.specs.declared.list_kinds.NewList.{NewList}
 use Rattle.edit_space.specs.declared.new_lists.Named.{Named}
 use Rattle.edit_list.specs.NewLists.{free_names, names_of}
-use Rattle.edit_list.specs.Numbered.{if_number, of_number, Tells, EachRow}
+use Rattle.arc_base.specs.Numbered.{if_number, of_number, IsTableOf, EachRow}
 use Rattle.edit_space.specs.Working.{AreNewNames, IsNamed, HasNext}
-use Rattle.edit_list.proofs.Numbers.{picked_more, told_set, told_at}
+use Rattle.arc_base.proofs.Grouped.{picked_more, told_set, told_at}
 
 -- the things with the number of one of them: those before it, it, and those behind
 pub of_its_number : {X : Type 0} (things : List (ℕ × X)) (i : ℕ) (x : ℕ × X) → i < length things → x ≡ get_or things i x →
@@ -166,5 +166,5 @@ few_more net i router within is few was r low =
     ]
 
 -- the new lists of a router, as the table of them has them
-pub group_of : (lists : List (ℕ × NewList)) (groups : List (List NewList)) (n i : ℕ) (things : List NewList) → Tells n (λ k. of_number k lists) groups → i < n → things ≡ unwrap_or (slice_get groups i) [] → things ≡ of_number i lists
+pub group_of : (lists : List (ℕ × NewList)) (groups : List (List NewList)) (n i : ℕ) (things : List NewList) → IsTableOf n (λ k. of_number k lists) groups → i < n → things ≡ unwrap_or (slice_get groups i) [] → things ≡ of_number i lists
 group_of lists groups n i things told within is = is ∙ ap (λ o. unwrap_or o []) (told_at (λ k. of_number k lists) n i groups told within)

@@ -21,7 +21,7 @@ use Rattle.edit_list.specs.After.{edited_packet_list, edited_route_list, IsNewPa
 use Rattle.edit_list.specs.Changes.{new_classes, new_prefixes}
 use Rattle.edit_list.specs.Determined.{IsCountable, AfterIsOne}
 use Rattle.edit_list.specs.NewLists.{IsNewList}
-use Rattle.edit_list.specs.Numbered.{is_empty, EachRow}
+use Rattle.arc_base.specs.Numbered.{is_empty, EachRow}
 use Rattle.edit_list.specs.Ordered.{Key, IsKeyBefore}
 use Rattle.arc_base.specs.NameForms.{IsNameBefore}
 use Rattle.edit_space.proofs.Keys.{not_before_itself}

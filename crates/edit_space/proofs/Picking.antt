@@ -6,11 +6,11 @@ use Rattle.std.proofs.lemmas.List.{append-nil, append_assoc}
 use Rattle.arc_base.specs.declared.place.Face.{Face}
 use Rattle.edit_list.specs.declared.list_kinds.NewList.{NewList}
 use Rattle.edit_list.specs.declared.sites.Site.TheVariants.{New}
-use Rattle.edit_list.specs.Numbered.{placed}
+use Rattle.arc_base.specs.Numbered.{placed}
 use Rattle.edit_space.specs.declared.new_lists.Named.{Named}
 use Rattle.edit_space.specs.declared.order.Keyed.{Keyed}
 use Rattle.edit_space.specs.Working.{old_key, new_key, new_key_by}
-use Rattle.edit_list.proofs.Numbers.{picked_more}
+use Rattle.arc_base.proofs.Grouped.{picked_more}
 use Rattle.edit_list.proofs.Placing.{placed_mapped, placed_all_mapped}
 
 -- those of lists that there were

@@ -25,7 +25,7 @@ use Rattle.edit_list.specs.After.{turned_if, passive_after, StaysBound, IsRouter
 use Rattle.edit_list.specs.Changes.{turns_session, new_classes, new_prefixes}
 use Rattle.edit_list.specs.Determined.{IsCountable, AfterIsThere}
 use Rattle.edit_list.specs.NewLists.{new_names_of, IsNewList}
-use Rattle.edit_list.specs.Numbered.{is_empty, EachRow}
+use Rattle.arc_base.specs.Numbered.{is_empty, EachRow}
 use Rattle.edit_list.specs.Ordered.{IsKeyBefore}
 use Rattle.edit_space.specs.Working.{AreMade, key_of, compare_keys, list_at}
 use Rattle.edit_space.proofs.Bound.{first_of, packet_name, route_name}

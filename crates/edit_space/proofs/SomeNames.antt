@@ -14,7 +14,7 @@ use Rattle.edit_list.specs.declared.list_kinds.NewList.TheVariants.{Packet}
 use Rattle.edit_space.specs.declared.new_lists.Named.{Named}
 use Rattle.edit_list.specs.Determined.{IsCountable, AfterIsValid}
 use Rattle.edit_list.specs.NewLists.{free_names, names_of, new_lists, new_route_list, new_packet_list, IsNewList}
-use Rattle.edit_list.specs.Numbered.{placed, if_number, of_number, EachRow}
+use Rattle.arc_base.specs.Numbered.{placed, if_number, of_number, EachRow}
 use Rattle.edit_space.specs.Working.{AreMade, AreNewNames, IsNamed, HasNext}
 use Rattle.edit_space.proofs.AfterValid.{is_valid}
 use Rattle.edit_list.proofs.Counts.{few_picked, few_new_lists}
@@ -22,7 +22,7 @@ use Rattle.edit_space.proofs.FreeNames.{free_names_found}
 use Rattle.edit_space.proofs.NamedFacts.{router_within, name_is_new}
 use Rattle.edit_space.proofs.Naming.{counts, has_next, is_named, rows_more, no_rows, all_rows}
 use Rattle.edit_list.proofs.NewListFacts.{new_list_within}
-use Rattle.edit_list.proofs.Numbers.{told_or}
+use Rattle.arc_base.proofs.Grouped.{told_or}
 use Rattle.edit_list.proofs.RowFacts.{item_of}
 
 module _ (net : Network) (valid : IsValid net) (countable : IsCountable net) (chosen : List Edit) where

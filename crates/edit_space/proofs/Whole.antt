@@ -12,7 +12,7 @@ use Rattle.net_model.specs.declared.rows.FaceRow.{FaceRow}
 use Rattle.net_model.specs.declared.rows.SessionRow.{SessionRow}
 use Rattle.edit_list.specs.After.{IsRouterAfter, IsFaceAfter, IsSessionAfter, IsAfter}
 use Rattle.edit_list.specs.NewLists.{IsNewList}
-use Rattle.edit_list.specs.Numbered.{placed, EachRow}
+use Rattle.arc_base.specs.Numbered.{placed, EachRow}
 use Rattle.edit_space.specs.Working.{AreMade, AreInPlace, packet_keys, route_keys, IsPacketListFor, IsRouteListFor, face_after, session_after}
 use Rattle.edit_space.proofs.AfterValid.{is_valid}
 use Rattle.edit_space.proofs.NamedFacts.{router_within, name_is_new}

@@ -26,7 +26,7 @@ use Rattle.edit_space.specs.declared.order.Keyed.{Keyed}
 use Rattle.edit_space.specs.declared.order.Places.{Places}
 use Rattle.edit_list.specs.declared.sites.Site.{Site}
 use Rattle.edit_list.specs.declared.sites.Site.TheVariants.{Bound, New}
-use Rattle.edit_list.specs.Numbered.{placed, of_number, is_empty, Tells, EachRow}
+use Rattle.arc_base.specs.Numbered.{placed, of_number, is_empty, IsTableOf, EachRow}
 use Rattle.edit_list.specs.Changes.{turns_session, list_prefixes, new_prefixes, list_classes}
 use Rattle.edit_list.specs.Changes.{new_classes}
 use Rattle.edit_list.specs.NewLists.{free_names, names_of, new_lists}
@@ -34,24 +34,26 @@ use Rattle.edit_list.specs.After.{with_prefixes, with_classes, new_route_entries
 use Rattle.edit_list.specs.After.{new_packet_entries, turned_if, passive_after}
 use Rattle.edit_list.specs.Ordered.{Key, IsKeyBefore}
 
--- the tables tell what the edits change in the network
+-- the tables say what the edits change in the network
 pub record AreChanges (net : Network) (changes : Changes) : Type 0 where
-  pub turned : Tells (length net.faces) (turns_session changes.edits.items) changes.turned.items
+  pub turned : IsTableOf (length net.faces) (turns_session changes.edits.items) changes.turned.items
   pub route_lists :
-      Tells (length net.route_lists) (list_prefixes changes.edits.items) changes.route_lists.items
+      IsTableOf (length net.route_lists) (list_prefixes changes.edits.items)
+      changes.route_lists.items
   pub new_routes :
-      Tells (length net.faces) (new_prefixes changes.edits.items) changes.new_routes.items
+      IsTableOf (length net.faces) (new_prefixes changes.edits.items) changes.new_routes.items
   pub packet_lists :
-      Tells (length net.packet_lists) (list_classes changes.edits.items) changes.packet_lists.items
+      IsTableOf (length net.packet_lists) (list_classes changes.edits.items)
+      changes.packet_lists.items
   pub new_packets :
-      Tells (length net.faces) (new_classes changes.edits.items) changes.new_packets.items
+      IsTableOf (length net.faces) (new_classes changes.edits.items) changes.new_packets.items
 
 -- the names of the one list, or of the other
 abbrev pub AreJoined : List (List ℕ) → List (List ℕ) → List (List ℕ) → Type 0
 AreJoined names more joined =
     (name : List ℕ) → Contains joined name ↔ (Contains names name ⊎ Contains more name)
 
--- of the names of each router so many are used, and the router has one more
+-- this many of the names of each router are used, and the router has one more
 pub record HasNext (names : List (List (List ℕ))) (used : List ℕ) (router : ℕ) : Type 0 where
   pub within : router < length used
   pub named : router < length names
@@ -65,17 +67,17 @@ key_of list = (list.router, list.name)
 abbrev pub compare_keys : Key → Key → Ordering
 compare_keys x y = ordering_then (nat_cmp x.0 y.0) (slice_cmp nat_cmp x.1 y.1)
 
--- the names of the new lists of each router, of which there are as many as it has new lists, and
--- whose own names are less than 2^32
+-- the names of the new lists of each router, one for each of its new lists, and whose own names are
+-- less than 2^32
 pub record AreNewNames (net : Network) (lists : List (ℕ × NewList))
     (names : List (List (List ℕ))) : Type 0 where
-  pub told : Tells (length net.routers)
+  pub told : IsTableOf (length net.routers)
       (λ router. free_names (names_of net router) (length (of_number router lists))) names
   pub counted : (router : ℕ) → router < length net.routers →
       length (slice_index_or names router []) ≡ length (of_number router lists)
   pub few : (router : ℕ) → router < length net.routers → length (names_of net router) < 2 ^ 32
 
--- this is a new list with its router and name: both stand at one place among those of the router
+-- this is a new list with its router and name: both are at one place among those of the router
 pub record IsNamed (lists : List (ℕ × NewList)) (names : List (List (List ℕ))) (list : ℕ × NewList)
     (named : Named) : Type 0 where
   pub same_router : named.router ≡ list.0
@@ -95,7 +97,7 @@ pub record AreMade (net : Network) (chosen : List Edit) (names : List (List (Lis
   pub are_named : AreNamed (new_lists net chosen) names named
   pub few : length (new_lists net chosen) < 2 ^ 33
 
--- the list that stood at this place, with its router and name, as it is put in order
+-- the list that was at this place, with its router and name, as its key in the order
 abbrev pub old_key : ℕ → ℕ → List ℕ → Keyed
 old_key place router name =
     record { router = router; name = name; site = Bound (record { 0 = place }) }
@@ -110,43 +112,43 @@ abbrev pub route_face : NewList → Option Face
 route_face (Packet face) = None
 route_face (Route face) = Some face
 
--- the new list of this interface, as it is put in order
+-- the new list of this interface, as its key in the order
 abbrev pub new_key : Named → Face → Keyed
 new_key named face = record { router = named.router; name = named.name; site = New face }
 
--- the new list, as it is put in order, where it is of the kind with this interface
+-- the new list, as its key in the order, if it is of the kind with this interface
 abbrev pub new_key_by : (NewList → Option Face) → Named → Option Keyed
 new_key_by face named = option_map (new_key named) (face named.list)
 
--- all packet lists after the edits, before they are put in order
+-- all packet lists after the edits, before they are sorted
 abbrev pub packet_keys : Network → List Named → List Keyed
 packet_keys net named =
     map (λ list. old_key list.0 list.1.router.0 list.1.name) (placed net.packet_lists) ++
     filter_map (new_key_by packet_face) named
 
--- all route lists after the edits, before they are put in order
+-- all route lists after the edits, before they are sorted
 abbrev pub route_keys : Network → List Named → List Keyed
 route_keys net named =
     map (λ list. old_key list.0 list.1.router.0 list.1.name) (placed net.route_lists) ++
     filter_map (new_key_by route_face) named
 
--- the site is one of so many lists that there were, or one of so many interfaces
+-- the site is one of the old lists, or one of the interfaces
 abbrev pub IsWithin : ℕ → ℕ → Site → Type 0
 IsWithin lists faces (Bound id) = id.0 < lists
 IsWithin lists faces (New face) = face.0 < faces
 
--- the tables tell that the list of this site stands at this place
+-- the tables say that the list of this site is at this place
 abbrev pub PlacesTell : Places → Site → ℕ → Type 0
 PlacesTell places (Bound id) place = slice_get places.bound.items id.0 ≡ Some place
 PlacesTell places (New face) place = slice_get places.new.items face.0 ≡ Some place
 
--- the tables tell where each of the lists stands
+-- the tables say where each of the lists is
 abbrev pub ArePlaces : List Keyed → Places → Type 0
 ArePlaces lists places =
     (place : ℕ) (list : Keyed) → slice_get lists place ≡ Some list →
     PlacesTell places list.site place
 
--- the lists in the order of their keys, and where each of them stands
+-- the lists in the order of their keys, and where each of them is
 pub record AreInPlace (lists sorted : List Keyed) (places : Places) : Type 0 where
   pub order : AllPairs (λ x y. IsKeyBefore (key_of x) (key_of y)) sorted
   pub same : (x : Keyed) → Contains sorted x ↔ Contains lists x
@@ -170,14 +172,14 @@ HasPacketEntries net chosen (Bound id) extended entries =
 HasPacketEntries net chosen (New face) extended entries =
     IsTrue extended × (entries ≡ new_packet_entries (new_classes chosen face.0))
 
--- the route list after the edits that stands where this one is to stand
+-- the route list after the edits for this key
 pub record IsRouteListFor (net : Network) (chosen : List Edit) (keyed : Keyed)
     (list : RouteList) : Type 0 where
   pub router : list.router.0 ≡ keyed.router
   pub name : list.name ≡ keyed.name
   pub entries : HasRouteEntries net chosen keyed.site list.entries
 
--- the packet list after the edits that stands where this one is to stand
+-- the packet list after the edits for this key
 pub record IsPacketListFor (net : Network) (chosen : List Edit) (keyed : Keyed)
     (list : PacketList) : Type 0 where
   pub router : list.router.0 ≡ keyed.router
@@ -188,18 +190,17 @@ pub record IsPacketListFor (net : Network) (chosen : List Edit) (keyed : Keyed)
 abbrev pub list_at : ℕ → ListId
 list_at place = record { 0 = place }
 
--- where the list stands that was bound
+-- where the list is now that was bound
 abbrev pub moved : Places → Option ListId → Option ListId
 moved places list =
     option_and_then (λ id. option_map list_at (slice_get places.bound.items id.0)) list
 
--- where the list stands that is bound at the interface: a new one, or the one that was bound
+-- where the list is that is bound at the interface: a new one, or the one that was bound
 abbrev pub bound_at : Places → Bool → ℕ → Option ListId → Option ListId
 bound_at places new face list =
     if new then option_map list_at (slice_get places.new.items face) else moved places list
 
--- the row of the interface at this place after the edits, where the packet lists stand at these
--- places
+-- the row of the interface at this place after the edits, with the packet lists at these places
 abbrev pub face_after : Protocol → List Edit → Places → ℕ × FaceRow → FaceRow
 face_after protocol chosen places face = record face.1 {
   passive = passive_after protocol chosen face.0 face.1.passive;
@@ -208,7 +209,7 @@ face_after protocol chosen places face = record face.1 {
   list_out = moved places face.1.list_out;
 }
 
--- the row of a session after the edits, where the route lists stand at these places
+-- the row of a session after the edits, with the route lists at these places
 abbrev pub session_after : List Edit → Places → SessionRow → SessionRow
 session_after chosen places session = record session {
   down = turned_if (turns_session chosen session.face.0) session.down;

@@ -4,11 +4,12 @@ ghost use Rattle.std.specs.List.{filter_map};
 ghost use Rattle.edit_list.specs.Changes.{session_change, route_list_change, new_route_change};
 ghost use Rattle.edit_list.specs.Changes.{packet_list_change, new_packet_change, turns_session};
 ghost use Rattle.edit_list.specs.Changes.{list_prefixes, new_prefixes, list_classes, new_classes};
-ghost use Rattle.edit_list.specs.Numbered.{Tells};
+ghost use Rattle.arc_base.specs.Numbered.{IsTableOf};
 ghost use Rattle.edit_space.specs.Working.{AreChanges};
 
+use arc_base::groups::{Group, grouped, marked};
 use arc_base::{Memory, Prefix};
-use edit_list::{Edit, Group, grouped, marked};
+use edit_list::Edit;
 use net_model::{Class, Network};
 use std::alloc::Global;
 
@@ -131,7 +132,7 @@ fn new_packet_changes(alloc: Global, edits: &[Edit]) -> Result<Vec<(u32, Class)>
 /// For each interface whether its session is turned.
 fn turned_sessions(alloc: Global, net: &Network, edits: &[Edit]) -> Result<Vec<bool>, Memory>
     ensures { IfOk result (λ flags.
-        Tells (length net.now.faces) (turns_session edits.now) flags.items) }
+        IsTableOf (length net.now.faces) (turns_session edits.now) flags.items) }
 {
     let faces = session_changes(alloc, edits)?;
     marked(alloc, net.faces.len(), &faces)
@@ -144,7 +145,7 @@ fn route_list_entries(
     edits: &[Edit],
 ) -> Result<Vec<Group<Prefix>>, Memory>
     ensures { IfOk result (λ groups.
-        Tells (length net.now.route_lists) (list_prefixes edits.now) groups.items) }
+        IsTableOf (length net.now.route_lists) (list_prefixes edits.now) groups.items) }
 {
     let changes = route_list_changes(alloc, edits)?;
     grouped(alloc, net.route_lists.len(), &changes)
@@ -157,7 +158,7 @@ fn new_route_entries(
     edits: &[Edit],
 ) -> Result<Vec<Group<Prefix>>, Memory>
     ensures { IfOk result (λ groups.
-        Tells (length net.now.faces) (new_prefixes edits.now) groups.items) }
+        IsTableOf (length net.now.faces) (new_prefixes edits.now) groups.items) }
 {
     let changes = new_route_changes(alloc, edits)?;
     grouped(alloc, net.faces.len(), &changes)
@@ -170,7 +171,7 @@ fn packet_list_entries(
     edits: &[Edit],
 ) -> Result<Vec<Group<Class>>, Memory>
     ensures { IfOk result (λ groups.
-        Tells (length net.now.packet_lists) (list_classes edits.now) groups.items) }
+        IsTableOf (length net.now.packet_lists) (list_classes edits.now) groups.items) }
 {
     let changes = packet_list_changes(alloc, edits)?;
     grouped(alloc, net.packet_lists.len(), &changes)
@@ -183,7 +184,7 @@ fn new_packet_entries(
     edits: &[Edit],
 ) -> Result<Vec<Group<Class>>, Memory>
     ensures { IfOk result (λ groups.
-        Tells (length net.now.faces) (new_classes edits.now) groups.items) }
+        IsTableOf (length net.now.faces) (new_classes edits.now) groups.items) }
 {
     let changes = new_packet_changes(alloc, edits)?;
     grouped(alloc, net.faces.len(), &changes)

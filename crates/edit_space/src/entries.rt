@@ -4,8 +4,8 @@ ghost use Rattle.edit_list.specs.After.{any, exact_entry, class_entry, opposite_
 ghost use Rattle.edit_list.specs.After.{opposite_packet_entry, with_prefixes, with_classes};
 ghost use Rattle.edit_list.specs.After.{new_route_entries, new_packet_entries};
 
+use arc_base::groups::append;
 use arc_base::{List, Memory, Prefix};
-use edit_list::append;
 use net_model::{Class, PacketEntry, PacketList, RouteEntry, RouteList, Service};
 use std::alloc::Global;
 

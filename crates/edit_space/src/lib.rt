@@ -1,7 +1,6 @@
-//! The network after edits. What the edits change is put together once, interface by interface and
-//! list by list; new lists get the first names that are free at their routers, and the lists that
-//! stand and the new ones are sorted by router and name. The list of edits and their price are
-//! those of `edit_list`, and are handed on.
+//! The network after edits. What the edits change is gathered once, interface by interface and list
+//! by list; new lists get the first names that are free at their routers, and the old and the new
+//! lists are sorted by router and name. The list of edits and their price are those of `edit_list`.
 #![tactic(auto)]
 
 mod changes;

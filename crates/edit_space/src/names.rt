@@ -32,7 +32,7 @@ fn new_name(alloc: Global, n: u64) -> Result<Name, Memory>
     Ok(Name::of(text))
 }
 
-/// The first names for new lists, so many.
+/// The first `count` names for new lists.
 fn first_names(alloc: Global, count: u64) -> Result<Vec<Name>, Memory>
     requires { count < 2 ^ 34 }
     ensures { IfOk result (λ names. names.items ≡ map new_name (range_with_len 1 count)) }
@@ -44,7 +44,7 @@ fn first_names(alloc: Global, count: u64) -> Result<Vec<Name>, Memory>
     Ok(names)
 }
 
-/// The first of the candidates that are none of these names, so many as are counted.
+/// The first `count` candidates that are not among `names`.
 fn first_free<'a>(
     alloc: Global,
     names: &'a List<Name>,
@@ -68,7 +68,7 @@ fn first_free<'a>(
     List::of(free)
 }
 
-/// The first names for new lists that are none of these, so many as are counted.
+/// The first `count` names for new lists that are not among `names`.
 pub fn free_names(alloc: Global, names: &List<Name>, count: usize) -> Result<List<Name>, Memory>
     requires { count < 2 ^ 33 }
     ensures names { IfOk result (λ free. free ≡ free_names names.now count) }

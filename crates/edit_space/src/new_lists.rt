@@ -3,15 +3,16 @@ ghost use Rattle.std.specs.Prelude.{◌≡◌, ◌<◌, ◌+◌, ◌^◌, [], So
 ghost use Rattle.std.specs.Prelude.{slice_set, slice_index, slice_index_or, IfOk, OnOk};
 ghost use Rattle.std.specs.List.{filter_map};
 ghost use Rattle.edit_list.specs.NewLists.{new_route_list, new_packet_list, new_lists};
-ghost use Rattle.edit_list.specs.Numbered.{placed};
+ghost use Rattle.arc_base.specs.Numbered.{placed};
 ghost use Rattle.edit_space.specs.Working.{AreChanges, AreNewNames, AreNamed, HasNext};
 ghost use Rattle.edit_space.specs.Working.{AreMade};
 ghost use Rattle.net_model.specs.Validity.{IsValid};
 
 use crate::changes::Changes;
 use crate::names::free_names;
+use arc_base::groups::{append, grouped, is_filled, things_at};
 use arc_base::{Face, List, Memory, Name};
-use edit_list::{NewList, append, grouped, is_filled, things_at};
+use edit_list::NewList;
 use net_model::{FaceRow, Network, SessionRow};
 use std::alloc::Global;
 
@@ -125,7 +126,7 @@ pub fn new_names(
     Ok(names)
 }
 
-/// The name of the next new list of a router, after so many.
+/// The name of the router's new list with this number.
 fn name_at(alloc: Global, names: &[List<Name>], router: u32, next: u32) -> Result<Name, Memory>
     requires router { router < length names.now }
     requires next { next < length (slice_index_or names.now router []) }

@@ -10,7 +10,7 @@ use edit_list::Site;
 use std::alloc::Global;
 use std::cmp::Ordering;
 
-/// A list that is to stand among the others, by the place of its router and its name.
+/// A list and its key in the order: the place of its router, and its name.
 #[derive(Debug, Drop)]
 pub struct Keyed {
     pub router: u32,
@@ -39,7 +39,7 @@ fn in_order(lists: Vec<Keyed>) -> Result<List<Keyed>, Memory>
     List::of(sorted)
 }
 
-/// Where lists stand in their order.
+/// Where lists are in their order.
 #[derive(Debug, Drop)]
 pub struct Places {
     /// For each list that there was.
@@ -48,7 +48,7 @@ pub struct Places {
     pub new: Vec<u32>,
 }
 
-/// Where these lists stand, of so many lists that there were and so many interfaces.
+/// Where these lists are: a table by old list, and one by interface.
 fn find_places(alloc: Global, bound: u32, faces: u32, lists: &[Keyed]) -> Result<Places, Memory>
     requires within { All (λ list. IsWithin bound faces list.site) lists.now }
     requires apart { AllPairs (λ x y. x.site ≢ y.site) lists.now }
@@ -68,7 +68,7 @@ fn find_places(alloc: Global, bound: u32, faces: u32, lists: &[Keyed]) -> Result
     Ok(places)
 }
 
-/// Puts in where the list with this number stands.
+/// Notes the place of the list with this number.
 fn put(places: &mut Vec<u32>, at: u32, place: u32)
     requires { at < length places.old.items }
     ensures { places.new.items ≡ slice_set places.old.items at place }
@@ -76,8 +76,7 @@ fn put(places: &mut Vec<u32>, at: u32, place: u32)
     places[at as usize] = place;
 }
 
-/// The lists in their order, and where they stand, of so many lists that there were and so many
-/// interfaces.
+/// The lists in their order, and where they are: a table by old list, and one by interface.
 pub fn placed_lists(
     alloc: Global,
     bound: u32,

@@ -1,7 +1,7 @@
 //! The packet lists after edits.
 ghost use Rattle.std.specs.Prelude.{◌≡◌, ◌++◌, All, length, map, IfOk, OnOk};
 ghost use Rattle.std.specs.List.{filter_map};
-ghost use Rattle.edit_list.specs.Numbered.{EachRow};
+ghost use Rattle.arc_base.specs.Numbered.{EachRow};
 ghost use Rattle.edit_space.specs.Working.{AreChanges, IsWithin, packet_keys, new_key_by};
 ghost use Rattle.edit_space.specs.Working.{packet_face, IsPacketListFor};
 
@@ -9,8 +9,9 @@ use crate::changes::Changes;
 use crate::entries::{new_packet_entries, with_classes};
 use crate::new_lists::Named;
 use crate::order::Keyed;
+use arc_base::groups::things_at;
 use arc_base::{List, ListId, Memory, Name, Router};
-use edit_list::{NewList, Site, things_at};
+use edit_list::{NewList, Site};
 use net_model::{Network, PacketList};
 use std::alloc::Global;
 
@@ -55,7 +56,7 @@ fn add_new_packet_lists(
     Ok(())
 }
 
-/// The packet list after the edits that is to stand here.
+/// The edited or new packet list for this key.
 fn packet_list_after(
     alloc: Global,
     net: &Network,

@@ -1,7 +1,7 @@
 //! The route lists after edits.
 ghost use Rattle.std.specs.Prelude.{◌≡◌, ◌++◌, All, length, map, IfOk, OnOk};
 ghost use Rattle.std.specs.List.{filter_map};
-ghost use Rattle.edit_list.specs.Numbered.{EachRow};
+ghost use Rattle.arc_base.specs.Numbered.{EachRow};
 ghost use Rattle.edit_space.specs.Working.{AreChanges, IsWithin, route_keys, new_key_by};
 ghost use Rattle.edit_space.specs.Working.{route_face, IsRouteListFor};
 
@@ -9,8 +9,9 @@ use crate::changes::Changes;
 use crate::entries::{new_route_entries, with_prefixes};
 use crate::new_lists::Named;
 use crate::order::Keyed;
+use arc_base::groups::things_at;
 use arc_base::{List, ListId, Memory, Name, Router};
-use edit_list::{NewList, Site, things_at};
+use edit_list::{NewList, Site};
 use net_model::{Network, RouteList};
 use std::alloc::Global;
 
@@ -50,7 +51,7 @@ fn add_new_route_lists(alloc: Global, keyed: &mut Vec<Keyed>, named: &[Named]) -
     Ok(())
 }
 
-/// The route list after the edits that is to stand here.
+/// The edited or new route list for this key.
 fn route_list_after(
     alloc: Global,
     net: &Network,

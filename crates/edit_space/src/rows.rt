@@ -3,15 +3,15 @@ ghost use Rattle.std.specs.Prelude.{◌≡◌, ◌<◌, length, map, not, All, I
 ghost use Rattle.edit_list.specs.After.{IsRouterAfter, turned_if, passive_after};
 ghost use Rattle.edit_list.specs.Changes.{turns_session, new_classes, new_prefixes};
 ghost use Rattle.edit_list.specs.NewLists.{new_names_of};
-ghost use Rattle.edit_list.specs.Numbered.{placed, is_empty, Tells, EachRow};
+ghost use Rattle.arc_base.specs.Numbered.{placed, is_empty, IsTableOf, EachRow};
 ghost use Rattle.edit_space.specs.Working.{AreChanges, moved, bound_at, face_after};
 ghost use Rattle.edit_space.specs.Working.{session_after};
 
 use crate::changes::Changes;
 use crate::names::joined_names;
 use crate::order::Places;
+use arc_base::groups::is_filled;
 use arc_base::{Face, List, ListId, Memory, Name};
-use edit_list::is_filled;
 use net_model::{FaceRow, LinkRow, Network, Protocol, RouterRow, SessionRow};
 use std::alloc::Global;
 
@@ -22,7 +22,7 @@ pub fn routers_after(
     changes: &Changes,
     names: &[List<Name>],
 ) -> Result<List<RouterRow>, Memory>
-    requires { Tells (length net.now.routers)
+    requires { IsTableOf (length net.now.routers)
         (new_names_of net.now changes.now.edits.items) names.now }
     ensures { IfOk result
         (EachRow (IsRouterAfter net.now changes.now.edits.items) net.now.routers) }
@@ -38,7 +38,7 @@ pub fn routers_after(
     List::of(routers)
 }
 
-/// Where the list stands that was bound.
+/// Where the list is now that was bound.
 fn moved(places: &Places, list: Option<ListId>) -> Option<ListId>
     ensures { result ≡ moved places.now list }
 {
@@ -48,7 +48,7 @@ fn moved(places: &Places, list: Option<ListId>) -> Option<ListId>
     }
 }
 
-/// Where the list stands that is bound at the interface: the new one, or the one that was bound.
+/// Where the list is that is bound at the interface: the new one, or the one that was bound.
 fn bound_at(places: &Places, new: bool, face: Face, list: Option<ListId>) -> Option<ListId>
     ensures { result ≡ bound_at places.now new face.0 list }
 {

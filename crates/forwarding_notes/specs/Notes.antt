@@ -7,7 +7,7 @@ use Rattle.edit_list.specs.declared.edit_kinds.Edit.{Edit}
 use Rattle.edit_list.specs.After.{IsAfter}
 use Rattle.edit_list.specs.EditLists.{AreEdits}
 use Rattle.edit_list.specs.Prices.{chosen_of}
-use Rattle.edit_files.specs.EditFiles.{line_texts, chosen_by, AreEditLines}
+use Rattle.edit_reader.specs.EditFiles.{line_texts, chosen_by, AreEditLines}
 use Rattle.run_files.specs.declared.limits.Limits.TheVariants.{Judging, Editing}
 use Rattle.run_inputs.specs.Inputs.{HoldsInput}
 use Rattle.any_forwarding_laws.specs.Forwardings.{IsOpenNetwork}

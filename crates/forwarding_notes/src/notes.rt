@@ -7,8 +7,8 @@ ghost use Rattle.forwarding_notes.specs.Notes.{SaysOfAny, IsAfterLines, AreClose
 use arc_base::limits::POLICY_LIMIT;
 use arc_base::{Memory, Name};
 use arc_outside::Store;
-use edit_files::{Named, named_edits};
 use edit_list::{EditFault, edits};
+use edit_reader::{Named, named_edits};
 use edit_space::after;
 use net_model::{Document, Network};
 use open_networks::runs_everywhere;

@@ -17,7 +17,7 @@ use Rattle.edit_list.specs.declared.edit_kinds.Edit.{Edit}
 use Rattle.edit_list.specs.declared.edit_kinds.EditFault.{EditFault}
 use Rattle.edit_list.specs.declared.edit_kinds.EditFault.TheVariants as faults
 use Rattle.edit_list.specs.Determined.{AfterIsValid, IsCountable}
-use Rattle.edit_list.specs.EditLists.{HasFewClasses}
+use Rattle.edit_list.specs.EditLists.{DocumentHasFewClasses}
 use Rattle.edit_list.specs.Prices.{chosen_of}
 use Rattle.traffic_classes.proofs.EachPolicy.{no_more}
 use Rattle.traffic_classes.proofs.Unions.{have_one_list}
@@ -32,8 +32,8 @@ use Rattle.run_files.specs.declared.outcome.Stop.{Stop}
 use Rattle.run_files.specs.declared.outcome.Stop.TheVariants as stops
 use Rattle.run_files.specs.Answers.{Answers, Gives, HasStopCause}
 use Rattle.run_files.specs.Limits.{proof_limit}
-use Rattle.output_files.specs.Outputs.{wrote_lines}
-use Rattle.changed_files.specs.Changes.{IsEditable}
+use Rattle.file_copies.specs.Outputs.{wrote_lines}
+use Rattle.file_copies.specs.Changes.{IsEditable}
 use Rattle.net_build.specs.declared.built.Built.{Built}
 use Rattle.net_gen.specs.declared.generating.Generated.{Generated}
 use Rattle.repair_commands.specs.Repairs.{IsAnswered}
@@ -127,7 +127,7 @@ any_cause failed absent long (Err stops.Failed) h = absurd h
 -- ---- few classes
 
 -- where the document has few classes, each policy has few
-pub few_each : (net : Network) (doc : Document) → HasFewClasses net doc → HasFewClassesEach net doc.policies
+pub few_each : (net : Network) (doc : Document) → DocumentHasFewClasses net doc → HasFewClassesEach net doc.policies
 few_each net doc few policy one classes are =
     let all = (have_one_list net doc.policies doc.policies).0 in
     omega (arith, no_more net doc.policies policy classes all.0 one are all.1, few all.0 all.1)

@@ -15,7 +15,7 @@ use Rattle.net_gen.specs.Plans.{numbers}
 use Rattle.net_gen.specs.RouterFiles.{file_name}
 use Rattle.net_gen.specs.Generated.{Asked, asked, asked_around, Asks, IsGenerated}
 use Rattle.net_gen.specs.declared.generating.Generated.{Generated}
-use Rattle.generated_networks.specs.Laws.{IsGeneratedWithin}
+use Rattle.generated_network_laws.specs.Laws.{IsGeneratedWithin}
 
 -- ---- few failures
 

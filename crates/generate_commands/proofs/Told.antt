@@ -17,9 +17,9 @@ use Rattle.proof_log.specs.declared.steps.Log.{Log}
 use Rattle.arc_repair.specs.declared.answer.Answer.{Answer}
 use Rattle.arc_repair.specs.declared.answer.Answer.TheVariants.{Done as Claimed, Budget}
 use Rattle.arc_repair.specs.Answers.{IsRepairFault}
-use Rattle.changed_files.proofs.OneMore.{is_written, other_kept}
-use Rattle.changed_files.proofs.OneRefusal.{limit_refusal}
-use Rattle.changed_files.proofs.SomePatches.{patches_are_there}
+use Rattle.file_copies.proofs.OneMore.{is_written, other_kept}
+use Rattle.file_copies.proofs.OneRefusal.{limit_refusal}
+use Rattle.file_copies.proofs.SomePatches.{patches_are_there}
 use Rattle.command_words.specs.declared.commands.GenerateWords.{GenerateWords}
 use Rattle.run_files.specs.declared.outcome.Done.{Done}
 use Rattle.run_files.specs.declared.outcome.FileRefusal.{FileRefusal}
@@ -29,7 +29,7 @@ use Rattle.repair_commands.specs.Repairs.{IsAnswered}
 use Rattle.repair_commands.proofs.Counted.{kept_or_passed, one_fault}
 use Rattle.repair_commands.proofs.Outcomes.{can_be, has_repair, not_both, shows_cheapest, shows_none, shows_spent, tells_cheapest, tells_none, tells_refused, tells_spent}
 use Rattle.generate_commands.specs.Generates.{IsGenerateRefusal, IsMade, IsSummary, certificate_of, default_bound, default_conflicts, document_name, status_of}
-use Rattle.generate_commands.specs.Tells.{CanBeRepaired, CannotBeRepaired, HasCheapest, HasNone, HoldsSpentLog, IsGenerateRefused, TellsGenerate}
+use Rattle.generate_commands.specs.Tells.{CanBeRepaired, CannotBeRepaired, HasCheapest, HasNone, GeneratesSpentCertificate, IsGenerateRefused, TellsGenerate}
 use Rattle.generate_commands.proofs.OneMade.{one_made}
 
 module _ (words : GenerateWords) where
@@ -111,7 +111,7 @@ module _ (words : GenerateWords) where
     told_spent : (log : Log) → Gave (Budget log) → TellsGenerate words d.status files now
     told_spent log (answered, written, three) =
         let shown = shows_spent default_bound default_conflicts done.made.doc done.built done.made.files done.list done.editable log (now words.proof) answered written in
-        let spent : HoldsSpentLog words files now = record { made = done.made; built = done.built; is_made = done.is_made; shown = shown; kept = kept } in
+        let spent : GeneratesSpentCertificate words files now = record { made = done.made; built = done.built; is_made = done.is_made; shown = shown; kept = kept } in
         tells_spent files now d.status three spent never
 
     told_as : (answer : Answer) → Gave answer → TellsGenerate words d.status files now

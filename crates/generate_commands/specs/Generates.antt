@@ -20,9 +20,9 @@ use Rattle.policy_report.specs.Certificates.{budget_text, certificate_text}
 use Rattle.arc_repair.specs.declared.answer.Answer.{Answer}
 use Rattle.arc_repair.specs.declared.answer.Answer.TheVariants.{Done as Claimed, Budget}
 use Rattle.arc_repair.specs.Answers.{IsRepairFault}
-use Rattle.changed_files.specs.Changes.{IsEditable}
+use Rattle.file_copies.specs.Changes.{IsEditable}
 use Rattle.command_words.specs.declared.commands.GenerateWords.{GenerateWords}
-use Rattle.output_files.specs.Outputs.{wrote_lines}
+use Rattle.file_copies.specs.Outputs.{wrote_lines}
 use Rattle.run_files.specs.declared.outcome.Done.{Done}
 use Rattle.run_files.specs.declared.outcome.FileRefusal.{FileRefusal}
 use Rattle.run_files.specs.Limits.{proof_limit}
@@ -45,7 +45,7 @@ default_conflicts = DEFAULT_CONFLICTS
 abbrev pub document_name : List ℕ
 document_name = codes "net.json"
 
--- the document and the router files of a network of so many routers, and what is built of them
+-- the document and the router files of a network of this many routers, and what is built of them
 pub record IsMade (words : GenerateWords) (made : Generated) (built : Built) : Type 0 where
   pub generated : IsGenerated words.number made
   pub is_built : IsBuiltWithin [] EDITED_ENTRY_LIMIT made.doc made.files built

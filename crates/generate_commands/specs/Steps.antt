@@ -4,7 +4,7 @@ use Rattle.arc_base.specs.declared.limits.TheConstants.{EDIT_LIMIT}
 use Rattle.net_model.specs.declared.policies.Document.{Document}
 use Rattle.net_model.specs.declared.rows.Network.{Network}
 use Rattle.net_gen.specs.declared.generating.Generated.{Generated}
-use Rattle.generated_networks.specs.Laws.{IsGeneratedWithin}
+use Rattle.generated_network_laws.specs.Laws.{IsGeneratedWithin}
 use Rattle.edit_list.specs.declared.edit_kinds.Edit.{Edit}
 use Rattle.edit_list.specs.Determined.{IsCountable}
 use Rattle.arc_repair.specs.declared.answer.Answer.{Answer}

@@ -12,7 +12,7 @@ use Rattle.net_model.specs.Policies.{IsClear, Meets}
 use Rattle.net_model.specs.Witnesses.{is_yes, is_no}
 use Rattle.generate_commands.specs.declared.tallies.Tally.{Tally}
 
--- so many of the items have the property, and none of the others has
+-- n of the items have the property, and none of the others has
 abbrev pub HasSoMany : {X : Type 0} → (X → Type 0) → List X → ℕ → Type 0
 HasSoMany P [] n = n ≡ 0
 HasSoMany P (x ∷ xs) n =
@@ -30,7 +30,7 @@ pub record IsUnclear (net : Network) (policy : Policy) : Type 0 where
 abbrev pub IsBroken : Network → Policy → Type 0
 IsBroken net policy = (¬ Meets net policy) × (¬ IsUnclear net policy)
 
--- the network meets so many of the policies, breaks so many, and so many are not clear in it
+-- the numbers of the policies that the network meets, that it breaks, and that are not clear in it
 pub record IsTally (net : Network) (policies : List Policy) (tally : Tally) : Type 0 where
   pub yes : HasSoMany (Meets net) policies tally.yes
   pub no : HasSoMany (IsBroken net) policies tally.no

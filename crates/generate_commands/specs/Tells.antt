@@ -1,4 +1,4 @@
--- What the status of `generate` tells.
+-- What the status of `generate` says.
 use Rattle.std.specs.Prelude.{ℕ}
 use Rattle.arc_outside.specs.Files.{Files}
 use Rattle.net_build.specs.declared.built.Built.{Built}
@@ -28,7 +28,7 @@ pub record HasNone (words : GenerateWords) (before after : Files) : Type 0 where
   pub kept : KeepsOthers words.proof before after
 
 -- a spent log was written, and nothing else
-pub record HoldsSpentLog (words : GenerateWords) (before after : Files) : Type 0 where
+pub record GeneratesSpentCertificate (words : GenerateWords) (before after : Files) : Type 0 where
   pub made : Generated
   pub built : Built
   pub is_made : IsMade words made built
@@ -54,9 +54,9 @@ pub record IsGenerateRefused (words : GenerateWords) : Type 0 where
   pub refusal : FileRefusal
   pub refused : IsGenerateRefusal words refusal
 
--- what the status tells, of the files before and after
+-- what the status says of the files before and after
 abbrev pub TellsGenerate : GenerateWords → ℕ → Files → Files → Type 0
 TellsGenerate words status before after =
     TellsOutcome (HasCheapest words before after) (HasNone words before after)
-    (HoldsSpentLog words before after) (IsGenerateRefused words)
+    (GeneratesSpentCertificate words before after) (IsGenerateRefused words)
     (CanBeRepaired words) (CannotBeRepaired words) status before after

@@ -1,6 +1,6 @@
 //! What the command prints and writes.
 ghost use Rattle.std.specs.Prelude.{◌≡◌, ◌∷◌, [], ◌++◌, ◌≤◌, length, IfOk, codes};
-ghost use Rattle.output_files.specs.Outputs.{wrote_lines};
+ghost use Rattle.file_copies.specs.Outputs.{wrote_lines};
 ghost use Rattle.repair_commands.specs.Steps.{IsWholeAnswer};
 ghost use Rattle.run_files.specs.Limits.{proof_limit};
 ghost use Rattle.generate_commands.specs.Generates.{certificate_of, default_bound};
@@ -15,8 +15,8 @@ use arc_base::{List, Memory, Name};
 use arc_repair::Answer;
 use command_words::GenerateWords;
 use edit_list::{Claim, Edit};
+use file_copies::push_wrote;
 use net_model::{Document, Network, Verdict};
-use output_files::push_wrote;
 use policy_report::{budget, certificate};
 use run_files::Done;
 use std::alloc::Global;
@@ -68,8 +68,8 @@ fn summary(
     Ok(text)
 }
 
-/// What is told of the answer, and the certificate that is written. Want of memory stands for a
-/// certificate that is longer than one may be.
+/// What is printed of the answer, and the certificate that is written. `Memory` also if the
+/// certificate is longer than one may be.
 pub fn answer_done(
     alloc: Global,
     words: &GenerateWords,

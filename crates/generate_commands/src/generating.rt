@@ -20,7 +20,7 @@ use arc_repair::Answer;
 use command_words::GenerateWords;
 use edit_list::{Edit, EditFault, edits};
 use edit_space::laws::networks_after_edits_are_valid;
-use generated_networks::laws::generated_files_are_not_refused;
+use generated_network_laws::laws::generated_files_are_not_refused;
 use net_build::{Built, network_within};
 use net_doc::NetFault;
 use net_gen::Generated;
@@ -81,9 +81,9 @@ fn fault_stop(alloc: Global, fault: EditFault) -> Stop
     }
 }
 
-/// Makes the network of so many routers, judges its policies, and repairs it with the highest price
-/// and the most conflicts that `repair` has where none are named. It reads nothing, and the
-/// certificate is all that is to be written. The time is that of the search.
+/// Makes the network of this many routers, judges its policies, and repairs it with the highest
+/// price and the most conflicts that `repair` uses where none are named. It reads nothing, and
+/// writes only the certificate. The time is that of the search.
 pub fn generate(alloc: Global, words: &GenerateWords) -> Result<Done, Stop>
     requires some { FEWEST_GENERATED ≤ words.now.number }
     requires few { words.now.number ≤ MOST_GENERATED }

@@ -7,7 +7,7 @@ ghost use Rattle.run_files.specs.declared.outcome.FileRefusal.{FileRefusal};
 ghost use Rattle.generate_commands.specs.Generates.{IsGenerateRefusal, IsSummary};
 ghost use Rattle.generate_commands.specs.Tells.{TellsGenerate};
 
-/// What the status of `generate` tells.
+/// What the status of `generate` says.
 pub fn generate_is_told()
     ensures { (words : GenerateWords) →
         IsTold (λ files. IsGenerateRefusal words) (λ files. IsSummary words) (TellsGenerate words) }

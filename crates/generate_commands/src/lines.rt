@@ -23,7 +23,7 @@ fn push_field(alloc: Global, text: &mut Vec<u8>, word: &[u8], count: u64) -> Res
     push_count(alloc, text, count)
 }
 
-/// The line of what was made of so many routers.
+/// The line that says what was made.
 pub fn push_made(alloc: Global, text: &mut Vec<u8>, number: u32) -> Result<(), Memory>
     requires { number ≤ MOST_GENERATED }
     ensures { OnOk result (text.new.items ≡ text.old.items ++ made_line number) }

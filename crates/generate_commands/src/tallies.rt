@@ -2,7 +2,7 @@
 ghost use Rattle.std.specs.Prelude.{◌≡◌, ◌+◌, ◌<◌, ◌^◌, length, IfOk};
 ghost use Rattle.std.specs.List.{AllZip};
 ghost use Rattle.net_model.specs.Witnesses.{IsRight};
-ghost use Rattle.edit_list.specs.EditLists.{HasFewClasses};
+ghost use Rattle.edit_list.specs.EditLists.{DocumentHasFewClasses};
 ghost use Rattle.run_inputs.specs.Inputs.{AreFit};
 ghost use Rattle.generate_commands.specs.Tallies.{one_more, tally_of};
 
@@ -56,7 +56,7 @@ pub fn counted(verdicts: &[Verdict]) -> Tally
 /// The verdict on each policy of the document, in order.
 pub fn judge_all(alloc: Global, net: &Network, doc: &Document) -> Result<List<Verdict>, Memory>
     requires fit { AreFit doc.now net.now }
-    requires classes { HasFewClasses net.now doc.now }
+    requires classes { DocumentHasFewClasses net.now doc.now }
     ensures { IfOk result (AllZip (IsRight net.now) doc.now.policies) }
 {
     let marks = Marks::of(alloc, net, &doc.policies)?;

@@ -5,7 +5,7 @@ use Rattle.graph_flow.specs.declared.graph.Graph.TheInside.{Inside}
 use Rattle.graph_flow.specs.Paths.{Digraph, IsGraph}
 use Rattle.graph_flow.specs.Residual.{touching}
 
--- the graph that the fields stand for
+-- the graph that the fields mean
 abbrev pub digraph_of : Inside → Digraph
 digraph_of g = record { nodes = length g.rows.items; arcs = g.arcs.items }
 

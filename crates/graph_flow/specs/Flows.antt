@@ -33,12 +33,12 @@ leaving units node = sum_by (unit_from node) units
 abbrev pub entering : Units → ℕ → ℕ
 entering units node = sum_by (unit_to node) units
 
--- so many at the one node, and nothing elsewhere
+-- this many at the one node, and nothing elsewhere
 abbrev pub only_at : ℕ → ℕ → ℕ → ℕ
 only_at many place node = if node == place then many else 0
 
--- each unit goes over an arc of its link, and at each node as many leave as enter,
--- but that so many more leave the source and so many more enter the target
+-- each unit goes over an arc of its link, and at each node as many leave as enter, except that
+-- `many` more leave the source and `many` more enter the target
 pub record IsFlow (arcs : List Arc) (s t many : ℕ) (units : Units) : Type 0 where
   pub is_arc : (link : ℕ) (arc : Arc) → unit_at units link ≡ Some arc → Contains arcs arc
   pub of_link : (link : ℕ) (arc : Arc) → unit_at units link ≡ Some arc → arc.link.0 ≡ link
@@ -72,8 +72,7 @@ out_link side (Some arc) = if side arc.tail && not (side arc.head) then Some arc
 abbrev pub links_out : Units → (ℕ → Bool) → List Link
 links_out units side = filter_map (out_link side) units
 
--- the flagged nodes are the least side, and it is left over the links of the units that lead out of
--- it, so many
+-- the flagged nodes are the least side, and `many` units lead out of it, over as many links
 pub record EndsAt (arcs : List Arc) (s t many : ℕ) (units : Units)
     (flags : List Bool) : Type 0 where
   pub least_side : IsLeastSide arcs s t (flagged flags) (links_out units (flagged flags))

@@ -5,7 +5,7 @@ use Rattle.graph_flow.specs.declared.arcs.Arc.{Arc}
 use Rattle.graph_flow.specs.Paths.{Digraph, IsGraph, Leads, AreDisjointPaths}
 use Rattle.graph_flow.specs.Sides.{Separates, AreLeftOver, IsLeastSide}
 
--- so many link-disjoint paths lead from s to t
+-- this many link-disjoint paths lead from s to t
 abbrev pub HavePaths : List Arc → ℕ → ℕ → ℕ → Type 0
 HavePaths arcs s t want = (paths : List (List Link)) × AreDisjointPaths arcs s t want paths
 
@@ -17,7 +17,7 @@ pub record HaveSmallCut (arcs : List Arc) (s t want : ℕ) : Type 0 where
   pub left_over : AreLeftOver arcs side links
   pub few : length links < want
 
--- there are so many link-disjoint paths or there is a smaller cut
+-- there are that many link-disjoint paths or there is a smaller cut
 abbrev pub PathsOrCut : Type 0
 PathsOrCut = (g : Digraph) → IsGraph g → (s t want : ℕ) → s < g.nodes → t < g.nodes → s ≢ t →
     HavePaths g.arcs s t want ⊎ HaveSmallCut g.arcs s t want

@@ -25,7 +25,7 @@ depth_of (After arc depth) = depth
 abbrev pub mark_at : List Mark → ℕ → Mark
 mark_at marks node = slice_index_or marks node Unseen
 
--- the arcs by which the node was reached, of which there are so many
+-- the arcs by which the node was reached, this many
 abbrev pub way_by : List Mark → ℕ → Mark → List Arc
 way_by marks zero mark = []
 way_by marks (suc depth) Unseen = []
@@ -51,7 +51,7 @@ pub record IsAfter (marks : List Mark) (node : ℕ) (arc : Arc) (depth : ℕ) : 
   pub tail : IsTrue (is_seen (mark_at marks arc.tail))
   pub step : depth ≡ depth_of (mark_at marks arc.tail) + 1
 
--- each mark tells of the step before it
+-- each mark records the step before it
 abbrev pub AreSteps : List Mark → Type 0
 AreSteps marks =
     (node : ℕ) (arc : Arc) (depth : ℕ) → mark_at marks node ≡ After arc depth →
@@ -73,7 +73,7 @@ pub record IsSpread (arcs : List Arc) (s : ℕ) (marks : List Mark) : Type 0 whe
 abbrev pub seen_once : Mark → ℕ
 seen_once mark = if is_seen mark then 1 else 0
 
--- a search that has reached so many nodes, which stand in the queue, and has looked at the arcs of
+-- a search that has reached this many nodes, which are in the queue, and has looked at the arcs of
 -- the first few of them
 pub record IsSearch (arcs : List Arc) (s : ℕ) (marks : List Mark) (queue : List ℕ)
     (count looked : ℕ) : Type 0 where
@@ -100,7 +100,7 @@ pub record Stays (marks : List Mark) (queue : List ℕ) (count : ℕ) (arc : Arc
   pub same_queue : new_queue ≡ queue
   pub same_count : new_count ≡ count
 
--- the arc leads to a node that was not seen, which is marked and put into the queue
+-- the arc leads to a node that was not seen, which is marked and added to the queue
 pub record Finds (marks : List Mark) (queue : List ℕ) (count : ℕ) (arc : Arc) (node : ℕ)
     (new_marks : List Mark) (new_queue : List ℕ) (new_count : ℕ) : Type 0 where
   pub tail : arc.tail ≡ node
@@ -110,7 +110,7 @@ pub record Finds (marks : List Mark) (queue : List ℕ) (count : ℕ) (arc : Arc
   pub one_more : new_count ≡ count + 1
 
 -- what a search does with an arc: nothing if it does not lead from the node or its head is seen
--- already, or else it marks the head and puts it into the queue
+-- already, or else it marks the head and adds it to the queue
 abbrev pub Follows : List Mark → List ℕ → ℕ → Arc → ℕ → List Mark → List ℕ → ℕ → Type 0
 Follows marks queue count arc node new_marks new_queue new_count =
     Stays marks queue count arc node new_marks new_queue new_count ⊎

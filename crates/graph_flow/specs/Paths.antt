@@ -54,8 +54,8 @@ pub record IsPath (arcs : List Arc) (u : ℕ) (links : List Link) (v : ℕ) : Ty
 abbrev pub all_links : List (List Link) → List Link
 all_links paths = flat_map (λ path. path) paths
 
--- so many paths from s to t that pass no node twice, and no link stands in two of them, nor twice
--- in one
+-- `many` paths from s to t that pass no node twice, and no link occurs in two of them, nor twice in
+-- one
 pub record AreDisjointPaths (arcs : List Arc) (s t many : ℕ)
     (paths : List (List Link)) : Type 0 where
   pub count : length paths ≡ many

@@ -43,7 +43,7 @@ pub fn disjoint(alloc: Global, g: &Graph, s: u32, t: u32, want: u32) -> Result<F
     }
 }
 
-/// Grows a flow until it has so many units, and answers whether it has.
+/// Grows a flow until it has `want` units, and answers whether it has.
 fn fill(flow: &mut Flow, g: &Graph, s: u32, t: u32, want: u32) -> bool
     requires source { s < g.now.nodes }
     requires target { t < g.now.nodes }

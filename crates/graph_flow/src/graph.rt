@@ -32,7 +32,7 @@ impl Model for Graph {
 }
 
 impl Graph {
-    /// The graph of so many nodes, numbered from 0, without arcs.
+    /// The graph of `nodes` nodes, numbered from 0, without arcs.
     pub fn make(alloc: Global, nodes: u32) -> Result<Graph, Memory>
         ensures { IfOk result (λ g. g ≡ record { nodes = nodes; arcs = [] }) }
     {
@@ -117,7 +117,7 @@ fn add(rows: &mut [Row], arc: Arc) -> Result<(), Memory>
     }
 }
 
-/// Whether an arc leads from one of so many nodes to another.
+/// Whether the arc's ends are nodes of the graph.
 fn joins(nodes: usize, arc: &Arc) -> bool
     ensures { IsTrue result ↔ Joins nodes arc.now }
 {
@@ -125,7 +125,7 @@ fn joins(nodes: usize, arc: &Arc) -> bool
     tail < nodes && head < nodes && tail != head
 }
 
-/// Whether an arc may stand beside each of the others.
+/// Whether an arc may be beside each of the others.
 fn may_share_all(others: &[Arc], arc: &Arc) -> bool
     ensures { IsTrue result ↔ All (λ other. MayShare other arc.now) others.now }
 {

@@ -1,9 +1,9 @@
 //! Laws over the definitions alone: each is the contract of a function that does nothing.
 ghost use Rattle.graph_flow.specs.Laws.{PathsOrCut, NotBoth, ReachedAreListed, HasOneLeastSide};
 
-/// Either so many link-disjoint paths lead from one node of a graph to another, or some set of
-/// nodes with the one and without the other is left by arcs of fewer links. This is the theorem of
-/// Menger, for links.
+/// Either k link-disjoint paths lead from one node of a graph to another, or some set of nodes with
+/// the one and without the other is left by arcs of fewer links. This is the theorem of Menger, for
+/// links.
 pub fn paths_or_cut()
     ensures either { PathsOrCut }
     ensures not_both { NotBoth }

@@ -1,4 +1,4 @@
--- A line that is put at the end of a block.
+-- A line that is added at the end of a block.
 use Rattle.std.specs.Prelude.{◌≡◌, ◌≢◌, ℕ, ◌+◌, ◌≤◌, List, [], ◌∷◌, ◌++◌, map, Contains}
 use Rattle.ios_lines.specs.declared.line.Lines.{Lines}
 use Rattle.ios_lines.specs.Texts.{text_lines}
@@ -32,8 +32,7 @@ pub record HasBlock (commands : List FileCommand) (head last : FileCommand)
   pub latest : (d : FileCommand) → Contains commands d →
       part_of d ≡ Block head.line → d.line ≤ last.line
 
--- the line belongs to a block, and is read in one of this kind as a command that stands in its
--- block
+-- the line belongs to a block, and is read in one of this kind as a command of its block
 pub record IsLineOf (line : List ℕ) (within : BlockKind) (block : ℕ)
     (command : Command) : Type 0 where
   pub inner : IsInner line
@@ -52,7 +51,7 @@ pub record HasAppended (new : List ℕ) (more : Lines) (commands : List FileComm
       (map bare (members commands (Block head.line)) ++
       record { line = 0; block = 0; command = command } ∷ [])
 
--- a line that is put after the last command line of a block is its last command
+-- a line that is added after the last command line of a block is its last command
 abbrev pub ALineIsAppended : Type 0
 ALineIsAppended =
     (old new : List ℕ) (lines more : Lines) (commands : List FileCommand) (head last : FileCommand)

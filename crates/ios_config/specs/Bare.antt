@@ -103,8 +103,8 @@ ACommandJoinsOneGroup =
     (part : Part) → part_of c ≡ part_moved place part → StandsBeside part front back →
     HasJoined front c back part (between place front c back)
 
--- the settings of a file of which one group of commands is another: what the other groups set
--- stands before and after what this one sets
+-- the settings of a file of which one group of commands is another: what the other groups set comes
+-- before and after what this one sets
 pub record HasOneOther (old new : Config) (group other : List FileCommand) : Type 0 where
   pub faces_before : List FaceText
   pub faces_after : List FaceText
@@ -128,7 +128,7 @@ OneGroupSetsOther =
     (bare_config (config_of (between place front c back))) (map bare (members (front ++ back) part))
     (map bare (members front part) ++ bare c ∷ map bare (members back part))
 
--- a command of a new part adds what it sets alone: nothing stands for the group before
+-- a command of a new part adds only what it sets: the part had no commands before
 abbrev pub ANewGroupSetsItsOwn : Type 0
 ANewGroupSetsItsOwn =
     (place : ℕ) (front : List FileCommand) (c : FileCommand) (back : List FileCommand) →

@@ -42,11 +42,11 @@ pub record Opens (text : List ℕ) (lines : Lines) (number : ℕ) (kind : BlockK
   pub reads : Reads text head kinds.Top command
   pub opens : kind ≡ opened_by command
 
--- a line that heads a block or stands in none is a top line
+-- a line that heads a block or belongs to none is a top line
 abbrev pub is_top : Line → Bool
 is_top line = line.head || (line.block == 0)
 
--- the line stands at the top, or in a block of this kind
+-- the line is at the top, or in a block of this kind
 abbrev pub IsWithin : List ℕ → Lines → Line → BlockKind → Type 0
 IsWithin text lines line kind =
     MatchBool (is_top line) (kind ≡ kinds.Top) (Opens text lines line.block kind)
@@ -82,7 +82,7 @@ pub record IsFirstFault (text : List ℕ) (lines : Lines) (number : ℕ) (kind :
   pub stands : IsWithin text lines line within
   pub fault : IsNoCommand text line within kind
 
--- the fault is the first of the file's lines, or want of memory
+-- the fault is the first of the file's lines, or out of memory
 abbrev pub IsFaultOf : List ℕ → Lines → ConfigFault → Type 0
 IsFaultOf text lines (Refused number kind) = IsFirstFault text lines number kind
 IsFaultOf text lines Memory = Unit {0}

@@ -12,7 +12,7 @@ use Rattle.ios_config.specs.Texts.{config_of}
 use Rattle.ios_config.specs.Twice.{StandOnce, IsFirstDuplicate}
 use Rattle.ios_config.specs.Rising.{NumbersRise, IsFirstNotRising}
 
--- each line is a command, no block or list stands twice, the numbers of entries rise, and the
+-- each line is a command, no block or list occurs twice, the numbers of entries rise, and the
 -- commands set this
 pub record IsConfigOf (text : List ℕ) (lines : Lines) (config : Config) : Type 0 where
   pub commands : List FileCommand
@@ -21,13 +21,13 @@ pub record IsConfigOf (text : List ℕ) (lines : Lines) (config : Config) : Type
   pub rising : NumbersRise config.lists
   pub set : config ≡ config_of commands
 
--- each line is a command, and this is the first line at which a block or list stands a second time
+-- each line is a command, and this is the first line at which a block or list occurs a second time
 pub record HasDuplicate (text : List ℕ) (lines : Lines) (line : ℕ) : Type 0 where
   pub commands : List FileCommand
   pub read : AreCommandsOf text lines commands
   pub duplicate : IsFirstDuplicate commands line
 
--- no block or list stands twice, and this is the first line of an entry whose number does not rise
+-- no block or list occurs twice, and this is the first line of an entry whose number does not rise
 pub record HasNumberNotRising (text : List ℕ) (lines : Lines) (line : ℕ) : Type 0 where
   pub commands : List FileCommand
   pub read : AreCommandsOf text lines commands
@@ -41,8 +41,7 @@ IsRefused text lines line kind =
     (((kind ≡ DuplicateBlock) × HasDuplicate text lines line) ⊎
     ((kind ≡ SequenceNotRising) × HasNumberNotRising text lines line))
 
--- the answer is the settings of the file, or its first refusal; want of memory may come in place of
--- either
+-- the answer is the settings of the file, or its first refusal, or out of memory
 abbrev pub Configures : List ℕ → Lines → Result Config ConfigFault → Type 0
 Configures text lines (Ok config) = IsConfigOf text lines config
 Configures text lines (Err (Refused line kind)) = IsRefused text lines line kind

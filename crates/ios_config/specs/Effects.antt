@@ -1,4 +1,4 @@
--- What one command more does to the settings of its group, and that nothing stands twice and all
+-- What one command more does to the settings of its group, and that nothing occurs twice and all
 -- numbers rise.
 use Rattle.std.specs.Prelude.{◌≡◌, ℕ, ◌+◌, ◌*◌, ◌<◌, ◌≤◌, true, List, [], ◌∷◌, ◌++◌, map, slice_get}
 use Rattle.std.specs.Prelude.{Option, Some, None, Contains, is_some}
@@ -94,7 +94,7 @@ AFirstEntryIsTheLists =
     entries (head ∷ front) ≡ [] → is_entry c.command ≡ true →
     list_of (head ∷ (front ++ c ∷ back)) ≡ map (list_with c) (list_of (head ∷ (front ++ back)))
 
--- and so is one before the first of a list that stands as lines
+-- and so is one before the first of a list that is written as lines
 abbrev pub AFirstListLineIsTheLists : Type 0
 AFirstListLineIsTheLists =
     (line block number other : ℕ) (name : List ℕ) (one two : PacketText) (rest : List FileCommand) →
@@ -113,7 +113,7 @@ AFirstPrefixLineIsTheLists =
     (list_of
     (record { line = number; block = other; command = commands.PrefixLine name n two } ∷ rest))
 
--- nothing stands twice where the new command clashes with none
+-- nothing occurs twice where the new command clashes with none
 abbrev pub StillStandsOnce : Type 0
 StillStandsOnce =
     (place : ℕ) (front : List FileCommand) (c : FileCommand) (back : List FileCommand) →
@@ -122,7 +122,7 @@ StillStandsOnce =
     ((d : FileCommand) → Contains back d → ¬ Clash c.command d.command) →
     StandOnce (between place front c back)
 
--- a command that makes nothing stand, and excludes nothing, clashes with none
+-- a command that begins nothing that may occur only once, and excludes nothing, clashes with none
 abbrev pub SilentCommandsClashWithNone : Type 0
 SilentCommandsClashWithNone =
     (c d : Command) → stand_of c ≡ None → excluded c ≡ [] → (¬ Clash c d) × (¬ Clash d c)

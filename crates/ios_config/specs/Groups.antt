@@ -4,8 +4,8 @@ use Rattle.ios_words.specs.declared.commands.Command.{Command}
 use Rattle.ios_words.specs.declared.commands.Command.TheVariants.{ListLine, PrefixLine}
 use Rattle.ios_config.specs.declared.commands.FileCommand.{FileCommand}
 
--- where a command belongs: to the block of this head, or to the list of this name that stands as
--- lines
+-- where a command belongs: to the block of this head, or to the list of this name that is written
+-- as lines
 pub data Part : Type 0 where
   Block : ℕ → Part
   Lines : List ℕ → Part

@@ -35,7 +35,7 @@ pub record MarkOpens (marks : List Mark) (number : ℕ) (kind : BlockKind) : Typ
   pub reads : ReadBy false head.words (rows kinds.Top) command
   pub opens : kind ≡ opened_by command
 
--- a row that heads a block or stands in none is a top line's
+-- a row that heads a block or belongs to none is a top line's
 abbrev pub is_top_mark : Mark → Bool
 is_top_mark m = m.head || (m.block == 0)
 
@@ -55,7 +55,7 @@ pub record IsMarkRead (marks : List Mark) (l : ℕ × Mark) (c : FileCommand) : 
 abbrev pub AreMarksRead : List Mark → List FileCommand → Type 0
 AreMarksRead marks commands = AllZip (IsMarkRead marks) (command_marks marks) commands
 
--- the command with its numbers moved, where one line is inserted after so many
+-- the command with its numbers moved, where one line is inserted after `place` lines
 abbrev pub command_moved : ℕ → FileCommand → FileCommand
 command_moved place c =
     record { line = moved place c.line; block = moved place c.block; command = c.command }
@@ -97,7 +97,7 @@ AnInsertedLineAddsItsCommand =
 abbrev pub command_at : ℕ → ℕ → Command → FileCommand
 command_at line block command = record { line = line; block = block; command = command }
 
--- a line is put where it may stand
+-- a line is inserted where it is allowed
 pub record IsPut (old new : List ℕ) (place : ℕ) (line : List ℕ) : Type 0 where
   pub may : MayStandAt (text_lines old) place line
   pub new_lines : text_lines new ≡ inserted place line (text_lines old)

@@ -1,4 +1,4 @@
--- The groups of a file's commands where one command more stands among them.
+-- The groups of a file's commands with one command more among them.
 use Rattle.std.specs.Prelude.{◌≡◌, ◌⊎◌, ℕ, Bool, true, false, List, [], ◌∷◌, ◌++◌}
 use Rattle.std.specs.Prelude.{map}
 use Rattle.std.specs.List.{list_any}

@@ -74,7 +74,7 @@ AClosingLineIsIn =
     AreCommandsIn lines commands → MayStandAt lines place line → IsClosing line →
     AreCommandsIn (inserted place line lines) (map (command_moved place) commands)
 
--- the line may stand at the end of the block, its command is the block's last, and it changes what
+-- the line is allowed at the end of the block, its command is the block's last, and it changes what
 -- the block sets and nothing else
 pub record IsAppendedIn (lines : List (List ℕ)) (commands : List FileCommand)
     (head last : FileCommand) (line : List ℕ) (command : Command) : Type 0 where
@@ -94,7 +94,7 @@ ALineIsAppendedIn =
     HasBlock commands head last within → IsLineOf line within head.line command →
     IsAppendedIn lines commands head last line command
 
--- the line may stand at its place, its command stands between those of earlier lines and those of
+-- the line is allowed at its place, its command comes between those of earlier lines and those of
 -- later ones, and it changes what its part sets and nothing else
 pub record IsPutIn (lines : List (List ℕ)) (commands : List FileCommand) (place : ℕ) (line : List ℕ)
     (block : ℕ) (part : Part) (command : Command) : Type 0 where
@@ -117,7 +117,7 @@ ALineIsPutBeforeIn =
     IsInBlock commands head next within → IsLineOf line within head.line command →
     next.line ≡ place + 1 → IsPutIn lines commands place line head.line (Block head.line) command
 
--- a line of a list that stands as lines, before another of it
+-- a line of a list that is written as lines, before another of it
 abbrev pub ASingleLineIsPutBeforeIn : Type 0
 ASingleLineIsPutBeforeIn =
     (lines : List (List ℕ)) (commands : List FileCommand) (next : FileCommand) (place : ℕ)

@@ -1,4 +1,4 @@
--- A line that is put before another.
+-- A line that is added before another.
 use Rattle.std.specs.Prelude.{◌≡◌, ◌≢◌, ℕ, ◌+◌, ◌<◌, List, ◌∷◌, ◌++◌, map, Contains}
 use Rattle.ios_lines.specs.declared.line.Lines.{Lines}
 use Rattle.ios_lines.specs.Texts.{text_lines}
@@ -29,7 +29,7 @@ pub record IsInBlock (commands : List FileCommand) (head next : FileCommand)
   pub next_block : next.block ≡ head.line
   pub later : head.line < next.line
 
--- the new command stands between those of earlier lines and those of later ones, and changes what
+-- the new command comes between those of earlier lines and those of later ones, and changes what
 -- its part sets and nothing else
 pub record HasPrepended (new : List ℕ) (more : Lines) (commands : List FileCommand)
     (place block : ℕ) (part : Part) (command : Command) : Type 0 where
@@ -43,7 +43,7 @@ pub record HasPrepended (new : List ℕ) (more : Lines) (commands : List FileCom
       (map bare (members split.front part) ++ record { line = 0; block = 0; command = command } ∷
       map bare (members split.back part))
 
--- a line of a block that is put before another of it is a command of it
+-- a line of a block that is added before another of it is a command of it
 abbrev pub ALineIsPutBefore : Type 0
 ALineIsPutBefore =
     (old new : List ℕ) (lines more : Lines) (commands : List FileCommand) (head next : FileCommand)

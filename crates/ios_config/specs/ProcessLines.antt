@@ -1,4 +1,4 @@
--- Lines that are put one after another at the end of a process.
+-- Lines that are added one after another at the end of a process.
 use Rattle.ios_lines.specs.Changes.{Change, Insert, lines_after_all, MayAllCome}
 use Rattle.std.specs.Prelude.{◌≡◌, ℕ, ◌+◌, ◌⊎◌, List, [], ◌∷◌, ◌++◌, map, take, drop, None}
 use Rattle.std.specs.Prelude.{Contains}
@@ -18,7 +18,7 @@ use Rattle.ios_config.specs.Texts.{config_of}
 use Rattle.ios_config.specs.Twice.{stand_of, excluded, StandOnce}
 use Rattle.ios_config.specs.Values.{hostname as says_hostname}
 
--- a command that makes nothing stand, excludes nothing and gives no name
+-- a command that begins nothing that may occur only once, excludes nothing and gives no name
 pub record IsQuiet (command : Command) : Type 0 where
   pub stands : stand_of command ≡ None
   pub excludes : excluded command ≡ []
@@ -38,7 +38,7 @@ IsProcessKind within = (within ≡ kinds.Ospf) ⊎ (within ≡ kinds.Bgp)
 abbrev pub inserted_all : {A : Type 0} → ℕ → List A → List A → List A
 inserted_all place items xs = take place xs ++ (items ++ drop place xs)
 
--- the changes that put lines one after another, from a place on
+-- the changes that add lines one after another, from a place on
 abbrev pub insertions : ℕ → List (List ℕ) → List Change
 insertions place [] = []
 insertions place (line ∷ lines) = Insert place line ∷ insertions (place + 1) lines
@@ -75,7 +75,7 @@ pub record AreAppendedIn (lines : List (List ℕ)) (commands : List FileCommand)
   pub longer : HasLonger (bare_config (config_of commands)) (bare_config (config_of all)) more
   pub once : StandOnce commands → StandOnce all
 
--- lines that are put after the last command line of the file's one process are lines of it
+-- lines that are added after the last command line of the file's one process are lines of it
 abbrev pub ProcessLinesAreAppended : Type 0
 ProcessLinesAreAppended =
     (lines : List (List ℕ)) (commands : List FileCommand) (head last : FileCommand)

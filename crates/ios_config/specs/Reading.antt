@@ -14,7 +14,7 @@ use Rattle.ios_config.specs.declared.fault.ConfigFault.TheVariants as faults
 use Rattle.ios_config.specs.declared.commands.FileCommand.{FileCommand}
 use Rattle.ios_config.specs.Commands.{is_top, opened_by, IsNoCommand}
 
--- the kind of block that a line stands in, where this is the kind of the open one
+-- the kind of block that a line is in, where this is the kind of the open one
 abbrev pub standing : Line → BlockKind → BlockKind
 standing line current = if is_top line then kinds.Top else current
 

@@ -22,8 +22,8 @@ pub record HasOtherWords (old new : List ℕ) (lines more : Lines) (place : ℕ)
   pub says : m.inert ≡ false
   pub no_head : m.head ≡ false
 
--- the command of the line stands among the others; where the new words are read as another one,
--- that stands in its place
+-- the command of the line is among the others; if the new words are read as another one, that takes
+-- its place
 pub record HasOtherCommand (old new : List ℕ) (lines more : Lines) (place : ℕ) (m : Mark)
     (ws : List (List ℕ)) (commands : List FileCommand) : Type 0 where
   pub front : List FileCommand

@@ -11,8 +11,8 @@ use Rattle.ios_config.specs.declared.commands.FileCommand.{FileCommand}
 use Rattle.ios_config.specs.Inserted.{IsMarkWithin, command_at}
 use Rattle.ios_config.specs.LineLists.{marks_in, AreCommandsIn}
 
--- the command of the line stands among the others; where the new line is read as another one, that
--- stands in its place
+-- the command of the line is among the others; if the new line is read as another one, that takes
+-- its place
 pub record IsReplacedIn (lines : List (List ℕ)) (commands : List FileCommand) (place : ℕ) (m : Mark)
     (line : List ℕ) : Type 0 where
   pub front : List FileCommand

@@ -1,4 +1,4 @@
--- What the references of the code stand for.
+-- What the references of the code mean.
 use Rattle.std.specs.Prelude.{List, map, Vec}
 use Rattle.std.specs.declared.alloc.Global.{Global}
 use denote.Ref.{Bor}
@@ -23,7 +23,7 @@ commands_seen commands = map (λ c. c.now) commands
 abbrev pub group_list : List (Vec (Bor FileCommand) Global) → List (List FileCommand)
 group_list groups = map (λ group. commands_seen group.items) groups
 
--- what a command makes stand
+-- what a command begins that may occur only once
 abbrev pub stand_seen : stands.Stand → Stand
 stand_seen (ways.Interface name) = Interface name.now
 stand_seen (ways.Ospf number) = Ospf number

@@ -1,10 +1,10 @@
--- Blocks and lists that stand twice.
+-- Blocks and lists that occur twice.
 use Rattle.std.specs.Prelude.{◌≡◌, ℕ, List, [], ◌∷◌, ◌++◌, Option, Some, None, AllPairs, Any}
 use Rattle.ios_words.specs.declared.commands.Command.{Command}
 use Rattle.ios_words.specs.declared.commands.Command.TheVariants as commands
 use Rattle.ios_config.specs.declared.commands.FileCommand.{FileCommand}
 
--- what may stand but once in a file: an interface, a process, a list as a block, and a list as
+-- what may occur only once in a file: an interface, a process, a list as a block, and a list as
 -- lines
 pub data Stand : Type 0 where
   Interface : List ℕ → Stand
@@ -13,7 +13,7 @@ pub data Stand : Type 0 where
   ListBlock : List ℕ → Stand
   ListLines : List ℕ → Stand
 
--- what a command makes stand
+-- what a command begins that may occur only once
 abbrev pub stand_of : Command → Option Stand
 stand_of (commands.Interface name) = Some (Interface name)
 stand_of (commands.RouterOspf number) = Some (Ospf number)
@@ -22,7 +22,7 @@ stand_of (commands.ListBlock extended name) = Some (ListBlock name)
 stand_of (commands.ListLine name entry) = Some (ListLines name)
 stand_of _ = None
 
--- What may not stand already where a command comes. Many lines make one list, but not beside a
+-- What may not be there already where a command comes. Many lines make one list, but not beside a
 -- block of its name.
 abbrev pub excluded : Command → List Stand
 excluded (commands.Interface name) = Interface name ∷ []
@@ -32,7 +32,7 @@ excluded (commands.ListBlock extended name) = ListBlock name ∷ ListLines name 
 excluded (commands.ListLine name entry) = ListBlock name ∷ []
 excluded _ = []
 
--- the earlier command makes stand what may not stand already where the later one comes
+-- the earlier command begins what may not be there already where the later one comes
 abbrev pub Clash : Command → Command → Type 0
 Clash earlier later = Any (λ stand. stand_of earlier ≡ Some stand) (excluded later)
 

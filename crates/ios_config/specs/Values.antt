@@ -1,4 +1,4 @@
--- The value of a setting: what the last command that speaks of it gives.
+-- The value of a setting: what the last command about it gives.
 use Rattle.std.specs.Prelude.{ℕ, Bool, true, false, List, find, reverse, Option, Some, None}
 use Rattle.std.specs.Prelude.{option_and_then, is_some}
 use Rattle.ios_words.specs.declared.commands.AreaText.{AreaText}

@@ -11,8 +11,8 @@ use ios_lines::{Line, Lines};
 use ios_words::{BlockKind, Command, WordFault, command};
 use std::alloc::Global;
 
-/// A command of a file, with its line and the line that heads its block, which is 0 where it stands
-/// in none.
+/// A command of a file, with its line and the line that heads its block, which is 0 if it is in
+/// none.
 #[derive(Debug, Drop)]
 pub struct FileCommand {
     pub line: u32,
@@ -34,7 +34,7 @@ pub fn opened_by(command: &Command) -> BlockKind
     }
 }
 
-/// The kind of block that a line stands in, where this is the kind of the open block.
+/// The kind of block that a line is in, where this is the kind of the open block.
 fn standing(line: &Line, current: BlockKind) -> BlockKind
     ensures { result ≡ standing line.now current }
 {
@@ -68,7 +68,7 @@ fn refused(number: u32, fault: WordFault) -> ConfigFault
     }
 }
 
-/// The command of the line of this number, which stands in a block of this kind.
+/// The command of the line of this number, which is in a block of this kind.
 fn read(
     alloc: Global,
     text: &[u8],

@@ -96,7 +96,7 @@ fn config_of(alloc: Global, commands: &[FileCommand]) -> Result<Config, Memory>
 
 /// The settings of a router file, given its lines; or the first refusal. These come in this order:
 /// the first line that is unknown or has a bad word or wildcard, the first block or list that
-/// stands twice, and the first entry of a list whose number does not rise.
+/// occurs twice, and the first entry of a list whose number does not rise.
 pub fn config(alloc: Global, text: &[u8], lines: &Lines) -> Result<Config, ConfigFault>
     requires { AreLinesOf text.now lines.now }
     ensures { Configures text.now lines.now result }

@@ -37,7 +37,7 @@ pub fn commands_are_of_marks()
     ensures { CommandsAreOfMarks }
 {}
 
-/// A line that is inserted where it may stand adds its command to those of the file, in the block
+/// A line that is inserted where it is allowed adds its command to those of the file, in the block
 /// that is open there, and leaves the others, except for their numbers.
 pub fn an_inserted_line_adds_its_command()
     ensures inner { AnInnerLineAddsItsCommand }
@@ -46,7 +46,8 @@ pub fn an_inserted_line_adds_its_command()
     ensures closing { AClosingLineAddsNone }
 {}
 
-/// Commands fall into those before a place and those after it, and one more stands between them.
+/// Commands are split into those before a place and those after it, and one more comes between
+/// them.
 pub fn commands_are_split()
     ensures { CommandsAreSplit }
 {}
@@ -76,7 +77,7 @@ pub fn one_command_sets_its_own()
     ensures prefix_line { AFirstPrefixLineIsTheLists }
 {}
 
-/// One command more is not refused: nothing stands twice, and the numbers of entries rise that are
+/// One command more is not refused: nothing occurs twice, and the numbers of entries rise that are
 /// numbered by their places.
 pub fn one_command_is_not_refused()
     ensures once { StillStandsOnce }
@@ -91,20 +92,20 @@ pub fn a_replaced_line_has_another_command()
     ensures { AReplacedLineHasAnotherCommand }
 {}
 
-/// A line that is put after the last command line of a block is that block's last command: the new
-/// text can be cut, its commands are the old ones and this one, and what it changes is what the
+/// A line that is added after the last command line of a block is that block's last command: the
+/// new text can be cut, its commands are the old ones and this one, and what it changes is what the
 /// block sets.
 pub fn a_line_is_appended()
     ensures { ALineIsAppended }
 {}
 
-/// A line of a block that is put before another line of it is a command of that block, and changes
-/// what the block sets and nothing else.
+/// A line of a block that is added before another line of it is a command of that block, and
+/// changes what the block sets and nothing else.
 pub fn a_line_is_put_before()
     ensures { ALineIsPutBefore }
 {}
 
-/// The same over lists of lines, by which several lines are put into a text one after another.
+/// As above over lists of lines, by which several lines are added to a text one after another.
 pub fn lines_are_put_one_by_one()
     ensures commands { CommandsAreOfLines }
     ensures inner { AnInnerLineIsIn }
@@ -117,14 +118,14 @@ pub fn lines_are_put_one_by_one()
     ensures replaced { AReplacedLineIsIn }
 {}
 
-/// Lines that are put one after another at the end of the file's one process are its last lines, in
-/// their order; nothing else that the file sets is another, and nothing stands twice that did not.
+/// Lines that are added one after another at the end of the file's one process are its last lines,
+/// in their order; nothing else that the file sets changes, and nothing occurs twice that did not.
 pub fn process_lines_are_appended()
     ensures appended { ProcessLinesAreAppended }
     ensures blocks { ProcessesHaveBlocks }
 {}
 
-/// A command that heads a block which is read stands in the block of its own number.
+/// A command that heads a block which is read is in the block of its own number.
 pub fn heads_stand_in_their_blocks()
     ensures { HeadsStandInTheirBlocks }
 {}

@@ -10,8 +10,8 @@ use indexmap::IndexSet;
 use ios_words::Command;
 use std::alloc::Global;
 
-/// Where a command belongs: to the block of this head, or to the list of this name that stands as
-/// lines.
+/// Where a command belongs: to the block of this head, or to the list of this name that is written
+/// as lines.
 #[derive(Clone, Copy, Debug, PartialEq, Eq, Hash)]
 pub enum Part<'a> {
     Block(u32),

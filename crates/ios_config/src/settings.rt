@@ -29,8 +29,8 @@ pub struct Config {
     pub process: List<ProcessText>,
 }
 
-/// What an interface block sets. A setting is `None` where no line of the block gives it a value,
-/// or where the last line that speaks of it takes its value away.
+/// What an interface block sets. A setting is `None` if no line of the block gives it a value, or
+/// if the last line about it takes its value away.
 #[derive(Debug, Drop)]
 pub struct FaceText {
     pub name: Name,
@@ -76,7 +76,7 @@ pub enum ListKind {
     Prefix,
 }
 
-/// How a list stands in its file.
+/// How a list is written in its file.
 #[derive(Clone, Copy, Debug, PartialEq, Eq)]
 pub enum ListForm {
     /// As `access-list` lines.

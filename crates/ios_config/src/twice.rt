@@ -1,4 +1,4 @@
-//! Blocks and lists that stand twice.
+//! Blocks and lists that occur twice.
 ghost use Rattle.std.specs.Prelude.{◌≡◌, ◌↔◌, Any, Contains, IfOk, IsTrue, MatchOption, map};
 ghost use Rattle.std.specs.Prelude.{option_map};
 ghost use Rattle.ios_config.specs.Seen.{stand_seen};
@@ -10,7 +10,7 @@ use indexmap::IndexSet;
 use ios_words::Command;
 use std::alloc::Global;
 
-/// What may stand but once in a file: an interface, a process, a list as a block, and a list as
+/// What may occur only once in a file: an interface, a process, a list as a block, and a list as
 /// lines.
 #[derive(Clone, Copy, Debug, PartialEq, Eq, Hash)]
 pub enum Stand<'a> {
@@ -21,7 +21,7 @@ pub enum Stand<'a> {
     Lines(&'a [u8]),
 }
 
-/// What a command makes stand.
+/// What a command begins that may occur only once.
 fn stand_of(command: &Command) -> Option<Stand<'_>>
     ensures { option_map stand_seen result ≡ stand_of command.now }
 {
@@ -35,14 +35,14 @@ fn stand_of(command: &Command) -> Option<Stand<'_>>
     }
 }
 
-/// Whether this stands already.
+/// Whether this is there already.
 fn stands_as(stands: &IndexSet<Stand<'_>>, stand: Stand<'_>) -> bool
     ensures { IsTrue result ↔ Contains (map stand_seen stands.now.keys) (stand_seen stand.entry) }
 {
     stands.contains(&stand)
 }
 
-/// Whether something stands already that may not where this command comes.
+/// Whether something is there already that may not be where this command comes.
 fn is_excluded(stands: &IndexSet<Stand<'_>>, command: &Command) -> bool
     ensures { IsTrue result ↔
         Any (λ stand. Contains (map stand_seen stands.now.keys) stand) (excluded command.now) }
@@ -60,7 +60,7 @@ fn is_excluded(stands: &IndexSet<Stand<'_>>, command: &Command) -> bool
     }
 }
 
-/// The first line at which a block or list stands a second time, if there is one.
+/// The first line at which a block or list occurs a second time, if there is one.
 pub fn first_duplicate(alloc: Global, commands: &[FileCommand]) -> Result<Option<u32>, Memory>
     ensures { IfOk result (λ found.
         MatchOption found (StandOnce commands.now) (IsFirstDuplicate commands.now)) }

@@ -19,11 +19,11 @@ after_word line = skip (λ b. not (is_blank b)) (skip is_blank line)
 abbrev pub banner_text : List ℕ → List ℕ
 banner_text line = skip is_blank (after_word (after_word line))
 
--- ^ and C stand in the line, the one right before the other
+-- ^ and C occur in the line, the one right before the other
 abbrev pub has_pair : List ℕ → Bool
 has_pair line = list_any (λ both. (both.0 == 94) && (both.1 == 67)) (zip line (drop 1 line))
 
--- the delimiter stands in the line
+-- the delimiter occurs in the line
 abbrev pub stands : Delimiter → List ℕ → Bool
 stands Pair line = has_pair line
 stands (Byte b) line = list_any (λ c. c == b) line

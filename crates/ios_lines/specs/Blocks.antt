@@ -5,13 +5,13 @@ use Rattle.ios_lines.specs.declared.kind.Kind.{Kind}
 use Rattle.ios_lines.specs.declared.kind.Kind.TheVariants.{Inner, Head}
 use Rattle.ios_lines.specs.Kinds.{kind_at, closes, open_banner}
 
--- a line opens a block, and no line after it, of the first so many, closes it
+-- a line opens a block, and no later line of the first `count` closes it
 pub record Heads (kinds : ℕ → Kind) (count head : ℕ) : Type 0 where
   pub before : head < count
   pub opens : kinds head ≡ Head
   pub unclosed : (place : ℕ) → head < place → place < count → IsFalse (closes (kinds place))
 
--- the block that is open after the first so many lines is that of the line of this number, or there
+-- the block that is open after the first `count` lines is that of the line of this number, or there
 -- is none and the number is 0
 abbrev pub IsOpen : (ℕ → Kind) → ℕ → ℕ → Type 0
 IsOpen kinds count zero = (head : ℕ) → ¬ Heads kinds count head
@@ -30,7 +30,7 @@ IsFirstOrphan lines (suc place) =
     IsOrphan lines place × ((earlier : ℕ) → earlier < place → ¬ IsOrphan lines earlier)
 
 -- the line at a place begins a banner that is open after it and after each later one of the first
--- so many lines
+-- `count` lines
 pub record Unclosed (lines : List (List ℕ)) (count place : ℕ) : Type 0 where
   pub within : place < count
   pub new : open_banner (take place lines) ≡ None

@@ -51,22 +51,22 @@ pub record IsPlaceOf (lines : List (List ℕ)) (place : ℕ) (m : Mark) : Type 0
   pub inner : m.head ≡ false → (m.block ≡ 0 → ⊥) → open_block (take place lines) ≡ m.block
   pub own : m.head ≡ true → m.block ≡ place + 1
 
--- the row of a line tells what is open before it and after it
+-- the row of a line says what is open before it and after it
 abbrev pub RowsTellPlaces : Type 0
 RowsTellPlaces =
     (text : List ℕ) (lines : Lines) (place : ℕ) (m : Mark) → AreLinesOf text lines → CanBeCut text →
     slice_get (marks_of text lines) place ≡ Some m → m.inert ≡ false →
     IsPlaceOf (text_lines text) place m
 
--- the new text has the rows of the old one and the inserted line's between them, which stands in
--- the block that is open there; the numbers of the other lines' blocks are moved
+-- the new text has the rows of the old one and the inserted line's between them, which is in the
+-- block that is open there; the numbers of the other lines' blocks are moved
 pub record HasInserted (old new : List ℕ) (place : ℕ) (line : List ℕ) : Type 0 where
   pub cut : CanBeCut new
   pub rows : (lines more : Lines) → AreLinesOf old lines → AreLinesOf new more →
       marks_of new more ≡ inserted place (mark_seen (seen_there (text_lines old) place line))
       (map (mark_moved place) (marks_of old lines))
 
--- a line that is inserted where it may stand leaves the others
+-- a line that is inserted where it is allowed leaves the others
 abbrev pub AnInsertedLineStands : Type 0
 AnInsertedLineStands =
     (old new : List ℕ) (place : ℕ) (line : List ℕ) → MayStandAt (text_lines old) place line →
@@ -99,7 +99,7 @@ SeveralChangesStand =
     text_lines new ≡ lines_after_all changes (text_lines old) → CanBeCut old →
     HasChanged old new changes
 
--- lines that are ended stand before others so
+-- lines that are ended come before others so
 abbrev pub EndedLinesJoin : Type 0
 EndedLinesJoin =
     (front back : List Ended) → AllByRecursion IsEnded front → AreEnded back →
@@ -111,14 +111,14 @@ EndedLinesPart =
     (front : List Ended) (line : Ended) (back : List Ended) → AreEnded (front ++ line ∷ back) →
     AllByRecursion IsEnded front × AreEnded (line ∷ back)
 
--- a line of a block may stand where one is open
+-- a line of a block is allowed where one is open
 abbrev pub InnerLinesMayStand : Type 0
 InnerLinesMayStand =
     (lines : List (List ℕ)) (place : ℕ) (line : List ℕ) → place ≤ length lines →
     open_banner (take place lines) ≡ None → open_block (take place lines) ≢ 0 → IsInner line →
     MayStandAt lines place line
 
--- a top line or a closing one may stand before one that closes blocks, and at the end
+-- a top line or a closing one is allowed before one that closes blocks, and at the end
 abbrev pub TopLinesMayStand : Type 0
 TopLinesMayStand =
     (lines : List (List ℕ)) (place : ℕ) (line : List ℕ) → place ≤ length lines →
@@ -134,7 +134,7 @@ pub record HasHead (marks : List Mark) (block : ℕ) : Type 0 where
   pub at_place : slice_get marks place ≡ Some head
   pub heads : head.head ≡ true
 
--- each row that stands in a block has the row that heads it
+-- each row in a block has the row that heads it
 abbrev pub BlocksHaveHeads : Type 0
 BlocksHaveHeads =
     (text : List ℕ) (lines : Lines) (place : ℕ) (m : Mark) → AreLinesOf text lines →

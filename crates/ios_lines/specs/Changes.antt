@@ -6,11 +6,12 @@ use Rattle.ios_lines.specs.Kinds.{closes, kind, kind_at, open_banner}
 use Rattle.arc_base.specs.Words.{words}
 use Rattle.ios_lines.specs.Views.{mark_seen, Seen, Mark, open_block, seen_in}
 
--- the list with an item put before the item at a place, or at its end
+-- the list with an item inserted before the item at a place, or at its end
 abbrev pub inserted : {A : Type 0} → ℕ → A → List A → List A
 inserted place item items = take place items ++ item ∷ drop place items
 
--- the number of a line of the old text in the new one, where one line is inserted after so many
+-- the number of a line of the old text in the new one, where one line is inserted after `place`
+-- lines
 abbrev pub moved : ℕ → ℕ → ℕ
 moved place number = if nat_le number place then number else number + 1
 
@@ -22,9 +23,9 @@ abbrev pub mark_moved : ℕ → Mark → Mark
 mark_moved place m =
     record { words = m.words; block = moved place m.block; head = m.head; inert = m.inert }
 
--- A line may be put between lines, at a place that is in no banner. It is no banner line itself.
--- Where it closes the open block, so does the line that it is put before, if there is one; where it
--- belongs to a block, one is open.
+-- A line may be inserted between lines, at a place that is in no banner. It is no banner line
+-- itself. Where it closes the open block, so does the line that it is inserted before, if there is
+-- one; where it belongs to a block, one is open.
 pub record MayStandAt (lines : List (List ℕ)) (place : ℕ) (line : List ℕ) : Type 0 where
   pub within : place ≤ length lines
   pub outside : open_banner (take place lines) ≡ None
@@ -61,7 +62,7 @@ seen_written bytes s = record { bytes = bytes; kind = s.kind; block = s.block }
 abbrev pub mark_worded : List (List ℕ) → Mark → Mark
 mark_worded words m = record { words = words; block = m.block; head = m.head; inert = m.inert }
 
--- a change of one line: a line is put before the line at a place, or takes its place
+-- a change of one line: a line is inserted before the line at a place, or replaces it
 pub data Change : Type 0 where
   Insert : (place : ℕ) (line : List ℕ) → Change
   Write : (place : ℕ) (line : List ℕ) → Change

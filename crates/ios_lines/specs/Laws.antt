@@ -18,7 +18,7 @@ LinesJoin =
     (text : List ℕ) (lines : Lines) → AreLinesOf text lines →
     flat_map (λ line. slice_range text line.span.from (line.span.to + line.end)) lines.rows ≡ text
 
--- the line at a place, which is in no banner itself, begins one of this delimiter, which stands in
+-- the line at a place, which is in no banner itself, begins one of this delimiter, which occurs in
 -- none of the lines after it and before another place
 pub record Begins (lines : List (List ℕ)) (place : ℕ) (delimiter : Delimiter)
     (first : ℕ) : Type 0 where
@@ -29,8 +29,8 @@ pub record Begins (lines : List (List ℕ)) (place : ℕ) (delimiter : Delimiter
   pub apart : (between : ℕ) → first < between → between < place →
       IsFalse (stands delimiter (slice_index_or lines between []))
 
--- a banner is open before a place exactly where one begins before that and its delimiter does not
--- stand again
+-- a banner is open before a place exactly if one begins before that and its delimiter does not
+-- occur again
 abbrev pub BannersEndAtTheirDelimiter : Type 0
 BannersEndAtTheirDelimiter =
     (lines : List (List ℕ)) (place : ℕ) (delimiter : Delimiter) → place ≤ length lines →

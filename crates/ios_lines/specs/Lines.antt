@@ -35,7 +35,7 @@ HasOrphanAt text number = IsFirstOrphan (text_lines text) number
 abbrev pub HasOpenBannerAt : List ℕ → ℕ → Type 0
 HasOpenBannerAt text number = IsUnclosed (text_lines text) (length (text_lines text)) number
 
--- the fault is the first of the text, or want of memory
+-- the fault is the first of the text, or out of memory
 abbrev pub IsFaultOf : List ℕ → LineFault → Type 0
 IsFaultOf text (Orphan number) = HasOrphanAt text number
 IsFaultOf text (OpenBanner number) =

@@ -32,7 +32,7 @@ pub record IsRewritten (text : List ℕ) (place : ℕ) (row : Line) (k : ℕ) (s
   pub free : IsFree (rewritten text row span other)
   pub no_return : HasNoReturn (part text row.span) → HasNoReturn (rewritten text row span other)
 
--- a plain word may stand in the place of another
+-- a plain word may replace another
 abbrev pub AWordMayBeReplaced : Type 0
 AWordMayBeReplaced =
     (text : List ℕ) (lines : Lines) (place : ℕ) (row : Line) (k : ℕ) (span : Span)

@@ -21,7 +21,7 @@ HasWordsIn text line = All (LiesIn text) line.words
 abbrev pub HasNoFeed : List ℕ → ℕ → ℕ → Type 0
 HasNoFeed text from to = (place : ℕ) → from ≤ place → place < to → slice_index text place ≢ 10
 
--- a line's end, of so many bytes: none at the end of the text, a line feed with no carriage return
+-- a line's end of this many bytes: none at the end of the text, a line feed with no carriage return
 -- of the line before it, or both
 abbrev pub IsEnd : List ℕ → ℕ → ℕ → ℕ → Type 0
 IsEnd text from to zero = (to ≡ length text) × (from < to)
@@ -31,7 +31,7 @@ IsEnd text from to (suc (suc zero)) =
     (to + 1 < length text) × (slice_index text to ≡ 13) × (slice_index text (to + 1) ≡ 10)
 IsEnd text from to (suc (suc (suc more))) = ⊥
 
--- a line of the text stands between two places, with so many bytes of its end after it
+-- a line of the text lies between two places, with an end of this many bytes after it
 pub record IsLine (text : List ℕ) (from to end : ℕ) : Type 0 where
   pub ordered : from ≤ to
   pub no_feed : HasNoFeed text from to

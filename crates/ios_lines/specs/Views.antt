@@ -21,7 +21,7 @@ abbrev pub seen_in : ℕ → List ℕ → Kind → ℕ → Seen
 seen_in number line kind block =
     record { bytes = line; kind = kind; block = block_after kind number block }
 
--- the lines after so many others, where this banner is open before them, and this block
+-- the lines after `count` others, where this banner is open before them, and this block
 abbrev pub seen_from : ℕ → Option Delimiter → ℕ → List (List ℕ) → List Seen
 seen_from count banner block [] = []
 seen_from count banner block (line ∷ lines) =
@@ -33,7 +33,7 @@ seen_from count banner block (line ∷ lines) =
 abbrev pub seen : List (List ℕ) → List Seen
 seen lines = seen_from 0 None 0 lines
 
--- the number of the block that is open after these lines, where so many and this banner and this
+-- the number of the block that is open after these lines, where `count` lines, this banner and this
 -- block come before them
 abbrev pub open_from : ℕ → Option Delimiter → ℕ → List (List ℕ) → ℕ
 open_from count banner block [] = block
@@ -45,8 +45,8 @@ open_from count banner block (line ∷ lines) =
 abbrev pub open_block : List (List ℕ) → ℕ
 open_block lines = open_from 0 None 0 lines
 
--- what a line says, wherever it stands in its text: its words, its block, and whether it heads one
--- or is inert
+-- what a line says, wherever it is in its text: its words, its block, and whether it heads one or
+-- is inert
 pub record Mark : Type 0 where
   pub words : List (List ℕ)
   pub block : ℕ

@@ -15,7 +15,7 @@ pub(crate) enum Delimiter {
     Missing,
 }
 
-/// Whether `^` and `C` stand in a line, the one right before the other.
+/// Whether `^` and `C` occur in a line, the one right before the other.
 fn has_pair(line: &[u8]) -> bool
     ensures { result ≡ has_pair line.now }
 {
@@ -24,7 +24,7 @@ fn has_pair(line: &[u8]) -> bool
         .any(|(one, two)| *one == b'^' && *two == b'C')
 }
 
-/// Whether a delimiter stands in a line.
+/// Whether a delimiter occurs in a line.
 pub(crate) fn stands(delimiter: Delimiter, line: &[u8]) -> bool
     ensures { result ≡ stands delimiter line.now }
 {

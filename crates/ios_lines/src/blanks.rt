@@ -5,7 +5,7 @@ ghost use Rattle.ios_lines.specs.Banners.{after_word, skip};
 ghost use Rattle.ios_lines.specs.Kinds.{is_indented, is_mark};
 ghost use Rattle.arc_base.specs.Words.{is_blank, words};
 
-/// Whether a byte stands between words.
+/// Whether a byte separates words.
 pub(crate) fn is_blank(byte: u8) -> bool
     ensures { result ≡ is_blank byte }
 {

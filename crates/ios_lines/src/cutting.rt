@@ -7,7 +7,7 @@ use crate::reading::{Open, next_line};
 use arc_base::{List, Memory};
 use std::alloc::Global;
 
-/// Why a text has no lines: the number of the first such line, or want of memory.
+/// Why a text has no lines: the number of the first such line, or out of memory.
 #[derive(Clone, Copy, Debug, PartialEq, Eq)]
 pub enum LineFault {
     /// A line that begins with a blank and is neither blank nor a comment, where no block is open.
@@ -28,7 +28,7 @@ impl From<Memory> for LineFault {
     }
 }
 
-/// The lines of a router file, or the first line that stands in no block and ought to, or else the
+/// The lines of a router file, or the first line that belongs to no block and ought to, or else the
 /// banner that does not end.
 pub fn cut(alloc: Global, bytes: &[u8]) -> Result<Lines, LineFault>
     requires { length bytes.now < 2 ^ 32 }

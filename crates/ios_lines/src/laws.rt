@@ -19,7 +19,7 @@ pub fn lines_join()
     ensures { LinesJoin }
 {}
 
-/// A banner is open exactly from its first line to the next line in which its delimiter stands.
+/// A banner is open exactly from its first line to the next line in which its delimiter occurs.
 pub fn banners_end_at_their_delimiter()
     ensures { BannersEndAtTheirDelimiter }
 {}
@@ -38,13 +38,13 @@ pub fn ended_lines_make_texts()
     ensures part { EndedLinesPart }
 {}
 
-/// The row of a line that says something tells that no banner is open at its place, and which block
+/// The row of a line that says something shows that no banner is open at its place, and which block
 /// is.
 pub fn rows_tell_places()
     ensures { RowsTellPlaces }
 {}
 
-/// A text with one line more, at a place where it may stand, can be cut, and its rows are the old
+/// A text with one line more, at a place where it is allowed, can be cut, and its rows are the old
 /// ones and the new line's, with the numbers of blocks moved.
 pub fn an_inserted_line_stands()
     ensures { AnInsertedLineStands }
@@ -56,7 +56,7 @@ pub fn a_replaced_line_stands()
     ensures { AReplacedLineStands }
 {}
 
-/// The same of several changes, each of the lines that those before it leave.
+/// As above for several changes, each of the lines that those before it leave.
 pub fn several_changes_stand()
     ensures { SeveralChangesStand }
 {}
@@ -70,19 +70,19 @@ pub fn written_lines_are_read()
     ensures kind { TopLinesHaveTheirKind }
 {}
 
-/// Where a line may stand that belongs to a block, and one that stands outside or ends one.
+/// Where a line is allowed that belongs to a block, and one that is outside or ends one.
 pub fn lines_may_stand()
     ensures inner { InnerLinesMayStand }
     ensures top { TopLinesMayStand }
 {}
 
-/// A plain word may stand in the place of another: the line has the other words as before, and may
-/// take the old one's place.
+/// A plain word may replace another: the line has the other words as before, and may replace the
+/// old one.
 pub fn a_word_may_be_replaced()
     ensures { AWordMayBeReplaced }
 {}
 
-/// Each row that stands in a block has the row that heads it.
+/// Each row in a block has the row that heads it.
 pub fn blocks_have_heads()
     ensures { BlocksHaveHeads }
 {}

@@ -1,6 +1,6 @@
 //! The lines of a router file, with their words and blocks. A file is cut in one pass, and its text
-//! is lent and never copied. The first line that stands in no block and ought to, or a banner that
-//! does not end, is told by its number.
+//! is lent and never copied. The first line that belongs to no block and ought to, or a banner that
+//! does not end, is answered by its number.
 #![tactic(auto)]
 
 mod banner;

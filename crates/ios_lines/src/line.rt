@@ -11,9 +11,9 @@ pub struct Line {
     /// The number of bytes of its end: 1 for a line feed, 2 for a carriage return before that, and
     /// 0 for none.
     pub end: u8,
-    /// The number of the line that heads its block, or 0 where it stands in none. The lines of a
-    /// banner, comments that close a block and top lines that open none stand in none. A head
-    /// stands in its own block.
+    /// The number of the line that heads its block, or 0 if it is in none. The lines of a banner,
+    /// comments that close a block and top lines that open none are in none. A head is in its own
+    /// block.
     pub block: u32,
     /// Whether the line heads a block.
     pub head: bool,

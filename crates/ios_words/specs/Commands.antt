@@ -27,7 +27,7 @@ completes extended words rule =
     if matches words rule then is_ok (read extended words rule) else false
 
 -- some row matches the words with every word, and the first such row gives the command; inert rows
--- stand first where another row matches too
+-- come first where another row matches too
 pub record ReadBy (extended : Bool) (words : List (List ℕ)) (rules : List Rule)
     (command : Command) : Type 0 where
   pub rule : Rule
@@ -80,7 +80,7 @@ HasBadWildcard text line within =
     FaultyBy (is_extended_block within) (line_words text line) (rows within)
     faults.WildcardNotPrefix
 
--- what a line says in a block of this kind, or why it says nothing; want of memory tells nothing of
+-- what a line says in a block of this kind, or why it says nothing; out of memory says nothing of
 -- it
 abbrev pub IsAnswer : List ℕ → Line → BlockKind → Result Command WordFault → Type 0
 IsAnswer text line within (Ok command) = Reads text line within command

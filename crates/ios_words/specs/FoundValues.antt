@@ -1,4 +1,4 @@
--- What the program's record of a line's values stands for.
+-- What the program's record of a line's values means.
 use Rattle.std.specs.Prelude.{Result, Ok, Err}
 use Rattle.ios_words.specs.declared.found.Found.{Found}
 use Rattle.ios_words.specs.declared.kinds.Flaw.{Flaw}

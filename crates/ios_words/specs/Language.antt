@@ -1,6 +1,6 @@
--- The language of router files: its rows, block by block. Inert rows stand first in a block, since
--- they count where another row matches too. The other rows stand in the order in which a faulty
--- line is judged: by the first that matches it.
+-- The language of router files: its rows, block by block. Inert rows come first in a block, since
+-- they count where another row matches too. The other rows are in the order in which a faulty line
+-- is judged: by the first that matches it.
 use Rattle.std.specs.Prelude.{ℕ, ◌==◌, List, [], ◌∷◌, ◌++◌, map, codes}
 use Rattle.std.specs.List.{slice_split}
 use Rattle.ios_words.specs.declared.kinds.BlockKind.{BlockKind}
@@ -126,7 +126,7 @@ inert_bgp =
     row (fixed (codes "neighbor") ++ Place Address ∷ [] ++ fixed (codes "version") ++ Anything ∷ [])
     means.Inert ∷ []
 
--- the other lines of a BGP process; without a mask the address of a network tells its length
+-- the other lines of a BGP process; without a mask the address of a network gives its length
 abbrev pub read_bgp : List Rule
 read_bgp =
     row (fixed (codes "neighbor") ++ Place Address ∷ [] ++ fixed (codes "remote-as")

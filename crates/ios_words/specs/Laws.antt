@@ -19,7 +19,7 @@ abbrev pub Completes : List ℕ → Line → BlockKind → Rule → Type 0
 Completes text line within rule =
     IsTrue (completes (is_extended_block within) (line_words text line) rule)
 
--- this is what a line says in a block of this kind, or why it says nothing, and not want of memory
+-- this is what a line says in a block of this kind, or why it says nothing, and not out of memory
 pub record HasAnswer (text : List ℕ) (line : Line) (within : BlockKind)
     (answer : Result Command WordFault) : Type 0 where
   pub told : IsAnswer text line within answer

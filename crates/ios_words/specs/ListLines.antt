@@ -1,4 +1,4 @@
--- The lines of lists that stand as lines.
+-- The lines of lists that are written as lines.
 use Rattle.std.specs.Prelude.{◌≡◌, ◌≢◌, ℕ, Bool, true, false, Option, List, codes, IsTrue}
 use Rattle.ios_lines.specs.Kinds.{opens_block}
 use Rattle.ios_words.specs.declared.commands.Command.{Command}
@@ -9,7 +9,7 @@ use Rattle.ios_words.specs.declared.kinds.BlockKind.TheVariants as kinds
 use Rattle.ios_words.specs.Commands.{ReadBy, is_extended_block}
 use Rattle.ios_words.specs.Language.{rows}
 
--- whether the command is a line of a list that stands as lines
+-- whether the command is a line of a list that is written as lines
 abbrev pub is_list_line : Command → Bool
 is_list_line (commands.ListLine name entry) = true
 is_list_line (commands.PrefixLine name order entry) = true

@@ -1,4 +1,4 @@
--- What the program's tables of names stand for.
+-- What the program's tables of names mean.
 use Rattle.std.specs.Prelude.{ℕ, ◌==◌, List, Option, find}
 use Rattle.std.specs.Option.{option_map}
 use Rattle.ios_words.specs.declared.protocols.Named.{Named}

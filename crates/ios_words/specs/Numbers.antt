@@ -20,7 +20,7 @@ ranged low high (Some n) = if is_from low high n then Some n else None
 abbrev pub number_in : ℕ → ℕ → List ℕ → Option ℕ
 number_in low high word = ranged low high (number_of word)
 
--- so many ones and then zeros, of 32 bits
+-- `ones` ones and then zeros, of 32 bits
 abbrev pub mask : ℕ → ℕ
 mask ones = 2 ^ 32 - 2 ^ (32 - ones)
 
@@ -42,7 +42,7 @@ abbrev pub mask_of_address : ℕ → Option ℕ → Result ℕ Flaw
 mask_of_address least None = Err Amiss
 mask_of_address least (Some addr) = length_from least (mask_ones addr)
 
--- the number of ones of the mask that a word writes, at least so many
+-- the number of ones of the mask that a word writes, at least `least`
 abbrev pub mask_length : ℕ → List ℕ → Result ℕ Flaw
 mask_length least word = mask_of_address least (address_of word)
 

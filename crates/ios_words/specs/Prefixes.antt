@@ -4,7 +4,7 @@ use Rattle.std.proofs.Common.{arith, subst}
 use Rattle.std.proofs.Math.Nat.{mul-mod_left, div-mul-le_self}
 use Rattle.arc_base.specs.declared.prefix.Prefix.{Prefix}
 
--- the address with so many of its last bits cleared
+-- the address with its last `rest` bits cleared
 abbrev pub cleared : ℕ → ℕ → ℕ
 cleared rest addr = addr % 2 ^ 32 / 2 ^ rest * 2 ^ rest
 

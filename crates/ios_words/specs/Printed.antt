@@ -36,7 +36,7 @@ abbrev pub neighbor_words : ℕ → Bool → List (List ℕ)
 neighbor_words peer down =
     unless down (codes "neighbor" ∷ address_text peer ∷ codes "shutdown" ∷ [])
 
--- the list that filters what the neighbour tells
+-- the list that filters what the neighbour advertises
 abbrev pub neighbor_list_words : ℕ → List ℕ → List (List ℕ)
 neighbor_list_words peer name =
     codes "neighbor" ∷ address_text peer ∷ codes "prefix-list" ∷ name ∷ codes "in" ∷ []
@@ -102,7 +102,7 @@ abbrev pub top_line : List (List ℕ) → List ℕ
 top_line [] = []
 top_line (word ∷ words) = word ++ spaced words
 
--- an indented line of these words stands in a block, and is read there as the command
+-- an indented line of these words is in a block, and is read there as the command
 pub record IsInnerLine (within : BlockKind) (ws : List (List ℕ)) (command : Command) : Type 0 where
   pub written : IsWritten (spaced ws) ws
   pub kind : IsInner (spaced ws)

@@ -82,7 +82,7 @@ next_word give taken (word ∷ words) = after_word (taken + 1) words (give word)
 abbrev pub place : Form → State → Result State WordFault
 place form s = next_word (values_with form s.values) s.taken s.words
 
--- the state after this word, or another one that is amiss
+-- the state after this word, or another, malformed one
 abbrev pub this_word : List ℕ → State → Result State WordFault
 this_word word s =
     next_word (λ w. if bytes_eq w word then Ok s.values else Err Amiss) s.taken s.words
@@ -112,17 +112,16 @@ abbrev pub stands_alone : List (List ℕ) → Bool
 stands_alone [] = true
 stands_alone (word ∷ words) = bytes_eq word (codes "log")
 
--- the state where the address that was read stands for itself alone
+-- the state where the address that was read is one host
 abbrev pub alone : State → State
 alone s = record s { values = record s.values { to = holding s.values.address 32 } }
 
--- the state after the word that stands for all addresses
+-- the state after the word for all addresses
 abbrev pub any : State → State
 any s = record s
     { taken = s.taken + 1; words = drop 1 s.words; values = record s.values { to = whole } }
 
--- the state after the wildcard of an address; in a standard list the address may stand alone for
--- one host
+-- the state after the wildcard of an address; in a standard list an address alone is one host
 abbrev pub width : Bool → State → Result State WordFault
 width extended s = if not extended && stands_alone s.words then Ok (alone s) else place Wildcard s
 
@@ -136,7 +135,7 @@ side extended s =
 abbrev pub as_source : State → Result State WordFault
 as_source s = Ok (record s { values = record s.values { from = s.values.to; to = whole } })
 
--- the state after eq and a port, or range and two ports, if one of these words stands here
+-- the state after eq and a port, or range and two ports, if one of these words comes here
 abbrev pub ports : State → Result State WordFault
 ports s =
     if begins (codes "eq") s.words then place Port (passed s)

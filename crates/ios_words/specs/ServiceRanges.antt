@@ -27,7 +27,7 @@ of_ports number first last = between (number * 65536 + first) (number * 65536 + 
 abbrev pub of_protocol : ℕ → Services
 of_protocol number = of_ports number 0 65535
 
--- the services that the word of a protocol stands for
+-- the services of a protocol's word
 abbrev pub services_of : List ℕ → Option Services
 services_of word =
     if bytes_eq word (codes "ip") then Some all else option_map of_protocol (protocol_of word)

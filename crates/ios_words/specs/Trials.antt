@@ -23,7 +23,7 @@ trial_of None = None
 trial_of (Some result) = Some (line_values result)
 
 -- what is said after a trial: the row's command, or what the rows after it say; the first fault
--- stands
+-- stays
 abbrev pub choose : Meaning → (Option WordFault → Result Command WordFault) → Option WordFault →
     Option (Result Values WordFault) → Result Command WordFault
 choose meaning go fault None = go fault

@@ -6,7 +6,7 @@ use Rattle.std.specs.Option.{option_map_or}
 use Rattle.ios_words.specs.declared.names.Before.{Before}
 use Rattle.ios_words.specs.declared.names.Before.TheVariants.{Start, Zero, Digit}
 
--- what stands before the next byte, where this one may stand here
+-- the state after this byte, if it is allowed here
 abbrev pub next : Before → ℕ → Option Before
 next Start b = if b == 48 then Some Zero else (if is_ascii_digit b then Some Digit else None)
 next Zero b = if b == 47 then Some Start else None

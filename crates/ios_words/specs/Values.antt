@@ -45,7 +45,7 @@ abbrev pub with_value : {A : Type 0} → (A → Values) → Option A → Result 
 with_value set None = Err Amiss
 with_value set (Some a) = Ok (set a)
 
--- what is made of a value, or the flaw that stands in its place
+-- what is made of a value, or the flaw in its place
 abbrev pub with_result : {A : Type 0} → (A → Values) → Result A Flaw → Result Values Flaw
 with_result set (Err flaw) = Err flaw
 with_result set (Ok a) = Ok (set a)
@@ -55,7 +55,7 @@ abbrev pub tested : Bool → List ℕ → Option (List ℕ)
 tested true word = Some word
 tested false word = None
 
--- the prefix of an address whose first byte tells its length
+-- the prefix of an address whose first byte gives its length
 abbrev pub class_prefix : Option ℕ → Option Prefix
 class_prefix None = None
 class_prefix (Some addr) = of_length (class_length (addr / 2 ^ 24))
@@ -123,7 +123,7 @@ values_with LastPort v word =
     with_value (λ n. with_ports v (port v.services.low) n)
     (ranged (port v.services.low) 65535 (port_in v word))
 
--- what is known before the first word: whether the line stands in the block of an extended list
+-- what is known before the first word: whether the line is in the block of an extended list
 abbrev pub no_values : Bool → Values
 no_values extended = record {
   text = [];

@@ -1,4 +1,4 @@
--- What the program's values stand for.
+-- What the program's values mean.
 use Rattle.std.specs.Prelude.{ℕ, List, Result, Ok, Err}
 use Rattle.ios_words.specs.declared.kinds.WordFault.{WordFault}
 use Rattle.ios_words.specs.declared.found.Found.{Found}

@@ -47,11 +47,11 @@ pub enum Command {
     RemoteAs(u32, u32),
     /// A neighbour's address, and whether it is shut down.
     NeighborDown(u32, bool),
-    /// A neighbour's address, and the prefix list that filters what it tells.
+    /// A neighbour's address, and the prefix list that filters what it advertises.
     NeighborList(u32, Name),
-    /// A network that BGP tells of.
+    /// A network that BGP advertises.
     Tells(Prefix),
-    /// An entry of the list whose block it stands in, with the number before it.
+    /// An entry of the list whose block it is in, with the number before it.
     Entry(Option<u32>, PacketText),
     Inert,
 }

@@ -40,8 +40,7 @@ impl<'a> Found<'a> {
     ghost use Rattle.ios_words.specs.FoundValues.{values_of, word_values};
     ghost use Rattle.ios_words.specs.Values.{values_with, with_length, with_ports, no_values};
 
-    /// What is known before the first word: whether the line stands in the block of an extended
-    /// list.
+    /// What is known before the first word: whether the line is in the block of an extended list.
     pub(crate) fn nothing(extended: bool) -> Found<'a>
         ensures { values_of result ≡ no_values extended }
     {

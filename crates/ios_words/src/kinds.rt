@@ -1,6 +1,6 @@
-//! Where a line stands, and why it says nothing.
+//! Where a line is, and why it says nothing.
 
-/// The block that a line stands in; its rows are those of the language that may stand there. A line
+/// The block that a line is in; its rows are those of the language that are allowed there. A line
 /// that heads a block is itself a top line.
 #[derive(Clone, Copy, Debug, PartialEq, Eq)]
 pub enum BlockKind {

@@ -77,8 +77,8 @@ pub fn returns_say_nothing()
     ensures heads { HeadsHaveNoReturn }
 {}
 
-/// The lines of lists that stand as lines are read outside blocks alone, and open none; and no
-/// prefix list has the name of a line that says nothing.
+/// The lines of lists that are written as lines are read outside blocks alone, and open none; and
+/// no prefix list has the name of a line that says nothing.
 pub fn list_lines_are_top_lines()
     ensures top { ListLinesAreTopLines }
     ensures names { PrefixListsHaveOtherNames }

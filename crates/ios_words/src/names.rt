@@ -52,7 +52,7 @@ fn is_of_kind(word: &[u8], kind: &[u8]) -> bool
     front == kind && is_unit(unit)
 }
 
-/// What stands before a byte of numbers joined by slashes.
+/// What comes before a byte of numbers joined by slashes.
 #[derive(Clone, Copy, Debug, PartialEq, Eq)]
 enum Before {
     /// Nothing, or a slash.
@@ -77,7 +77,7 @@ fn is_unit(text: &[u8]) -> bool
     ends(before)
 }
 
-/// What stands before the next byte, where this one may stand here.
+/// The state after this byte, if it is allowed here.
 fn next(before: Before, byte: u8) -> Option<Before>
     ensures { result ≡ next before byte }
 {

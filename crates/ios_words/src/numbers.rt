@@ -78,7 +78,7 @@ fn mask_ones(address: u32) -> Option<usize>
     MASKS.iter().position(|mask| *mask == address)
 }
 
-/// A number of ones that is at least so many; an address without one is no mask.
+/// A number of ones that is at least `least`; an address without one is no mask.
 fn length_from(least: u8, ones: Option<usize>) -> Result<u8, Flaw>
     requires { IfSome ones (λ ones. ones ≤ 32) }
     ensures length { result ≡ length_from least ones }
@@ -96,7 +96,7 @@ fn length_from(least: u8, ones: Option<usize>) -> Result<u8, Flaw>
     }
 }
 
-/// The number of ones, at least so many, of the mask that a word writes: ones and then zeros.
+/// The number of ones, at least `least`, of the mask that a word writes: ones and then zeros.
 pub(crate) fn mask_length(word: &[u8], least: u8) -> Result<u8, Flaw>
     ensures length { result ≡ mask_length least word.now }
     ensures few { IfOk result (λ length. length ≤ 32) }

@@ -17,7 +17,7 @@ pub(crate) fn holding(address: u32, len: u8) -> Prefix
     }
 }
 
-/// An address with so many of its last bits cleared.
+/// An address with its last `rest` bits cleared.
 fn cleared(address: u32, rest: u8) -> u32
     requires { rest ≤ 32 }
     ensures { result ≡ cleared rest address }
@@ -26,7 +26,7 @@ fn cleared(address: u32, rest: u8) -> u32
     (u64::from(address) / size * size) as u32
 }
 
-/// The prefix of a network whose first byte tells its length.
+/// The prefix of a network whose first byte gives its length.
 pub(crate) fn class_prefix(address: Option<u32>) -> Option<Prefix>
     ensures { result ≡ class_prefix address }
 {

@@ -1,5 +1,5 @@
-//! Lines of router files, put at the end of a text without their ends. Those of blocks begin with
-//! one space.
+//! Lines of router files, appended to a text without their ends. Those of blocks begin with one
+//! space.
 ghost use Rattle.std.specs.Prelude.{◌≡◌, ◌≤◌, ◌-◌, ◌^◌, ◌∷◌, ◌++◌, [], decimal, OnOk};
 ghost use Rattle.arc_base.specs.PrefixText.{address_text, prefix_text};
 ghost use Rattle.ios_lines.specs.Written.{spaced};
@@ -77,7 +77,7 @@ pub fn push_neighbor(alloc: Global, text: &mut Vec<u8>, peer: u32, down: bool) -
     push_word(text, b"shutdown")
 }
 
-/// The list that filters what a neighbour tells, in a BGP process.
+/// The list that filters what a neighbour advertises, in a BGP process.
 pub fn push_neighbor_list(
     alloc: Global,
     text: &mut Vec<u8>,

@@ -142,7 +142,7 @@ pub(crate) fn port_of(number: u32, word: &[u8]) -> Option<u32>
     }
 }
 
-/// The services that the word of a protocol stands for: `ip` stands for all.
+/// The services of a protocol's word: `ip` is all.
 pub(crate) fn services_of(word: &[u8]) -> Option<Services>
     ensures { result ≡ services_of word.now }
 {

@@ -112,7 +112,7 @@ impl<'a> Reader<'a> {
         }
     }
 
-    /// Reads a word and one of the form after it, where the word stands here.
+    /// Reads a word and one of the form after it, if the word comes here.
     fn option(self, word: &[u8], form: Form) -> Result<Reader<'a>, WordFault>
         requires { self.taken ≤ 1000 }
         ensures state { next_state result ≡ step (Bracket word.now form) (state_of self.entry) }
@@ -125,7 +125,7 @@ impl<'a> Reader<'a> {
         }
     }
 
-    /// Passes over this word, where it stands here.
+    /// Passes over this word, if it comes here.
     fn flag(self, word: &[u8]) -> Reader<'a>
         requires { self.taken ≤ 1000 }
         ensures state { Ok (state_of result) ≡ step (Flag word.now) (state_of self.entry) }
@@ -241,7 +241,7 @@ impl<'a> Reader<'a> {
         }
     }
 
-    /// Reads the destination ports, where the protocol has ports and words of them stand here.
+    /// Reads the destination ports, if the protocol has ports and words of them come here.
     fn ports(self) -> Result<Reader<'a>, WordFault>
         requires { self.taken ≤ 1000 }
         ensures state { next_state result ≡ step Ports (state_of self.entry) }
@@ -296,7 +296,7 @@ impl<'a> Reader<'a> {
         }
     }
 
-    /// Passes over the word that stands for all addresses.
+    /// Passes over the word for all addresses.
     fn any(self) -> Reader<'a>
         requires { self.taken ≤ 1000 }
         ensures state { state_of result ≡ any (state_of self.entry) }
@@ -312,7 +312,7 @@ impl<'a> Reader<'a> {
         }
     }
 
-    /// Reads the wildcard of an address, or takes it for one host where it may stand alone.
+    /// Reads the wildcard of an address, or takes the address for one host where that is allowed.
     fn width(self, extended: bool) -> Result<Reader<'a>, WordFault>
         requires { self.taken ≤ 1001 }
         ensures state { next_state result ≡ width extended (state_of self.entry) }
@@ -334,7 +334,7 @@ impl<'a> Reader<'a> {
         }
     }
 
-    /// The address stands for itself alone.
+    /// The address is one host.
     fn alone(self) -> Reader<'a>
         ensures state { state_of result ≡ alone (state_of self.entry) }
         ensures taken { result.taken ≡ self.entry.taken }

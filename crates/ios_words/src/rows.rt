@@ -8,16 +8,16 @@ pub(crate) enum Form {
     /// A number from the first to the second.
     Number(u32, u32),
     Address,
-    /// An address that stands for itself alone.
+    /// An address that is one host.
     Host,
-    /// An address whose first byte tells how long its network's prefix is.
+    /// An address whose first byte gives the length of its network's prefix.
     Network,
-    /// A mask of at least so many ones.
+    /// A mask of at least this many ones.
     Mask(u8),
     Wildcard,
     /// An area, as a number or as an address.
     Area,
-    /// The number of a packet list, which tells its kind.
+    /// The number of a packet list, which gives its kind.
     ListNumber,
     /// The number of an entry, from 1 to this.
     Order(u32),

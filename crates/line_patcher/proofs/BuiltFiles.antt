@@ -11,7 +11,7 @@ use Rattle.ios_lines.specs.Lines.{AreLinesOf}
 use Rattle.net_build.specs.declared.built.Built.{Built}
 use Rattle.net_build.specs.Networks.{IsBuilt, Says}
 use Rattle.net_build.specs.Places.{places_of}
-use Rattle.net_rows.specs.Rows.{IsRouterRow}
+use Rattle.net_rules.specs.Rows.{IsRouterRow}
 
 -- the network has the router of this place, and the lines and the places of its file
 pub record IsFileOf (built : Built) (router : ℕ) (text : List ℕ) : Type 0 where

@@ -5,7 +5,7 @@ use Rattle.std.specs.Prelude.{Option, Some, None}
 use Rattle.std.proofs.lemmas.List.{append-nil, take_more, take_all, map-append}
 use Rattle.std.proofs.lemmas.List.Concat.{flat_map-append}
 use Rattle.std.proofs.Common.{Bool, true, false, not}
-use Rattle.edit_list.proofs.Numbers.{picked_more}
+use Rattle.arc_base.proofs.Grouped.{picked_more}
 use Rattle.edit_list.proofs.PriceSteps.{pair_at, pairs_length}
 
 -- what a list has after what it had before, with a piece more

@@ -13,7 +13,7 @@ use Rattle.edit_list.specs.declared.list_kinds.NewList.{NewList}
 use Rattle.edit_list.specs.declared.list_kinds.NewList.TheVariants.{Route, Packet}
 use Rattle.edit_list.specs.Changes.{new_prefixes, new_classes}
 use Rattle.edit_list.specs.NewLists.{new_route_list, new_packet_list, new_lists, new_lists_of, new_names_of, named_lists}
-use Rattle.edit_list.specs.Numbered.{placed, if_number, is_empty}
+use Rattle.arc_base.specs.Numbered.{placed, if_number, is_empty}
 use Rattle.edit_list.proofs.NewListFacts.{picked_from, placed_is}
 use Rattle.line_patcher.specs.Working.{face_of}
 

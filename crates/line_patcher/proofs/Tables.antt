@@ -10,12 +10,12 @@ use Rattle.net_model.specs.declared.rows.Network.{Network}
 use Rattle.net_build.specs.declared.built.ListPlace.{ListPlace}
 use Rattle.ios_lines.specs.declared.line.Line.{Line}
 use Rattle.edit_list.specs.declared.edit_kinds.Edit.{Edit}
-use Rattle.edit_list.specs.Numbered.{if_number, of_number, is_empty, placed, Tells}
+use Rattle.arc_base.specs.Numbered.{if_number, of_number, is_empty, placed, IsTableOf}
 use Rattle.edit_list.specs.Prices.{if_chosen, chosen_of}
 use Rattle.edit_list.proofs.Counts.{few_picked}
 use Rattle.edit_list.specs.NewLists.{new_lists, new_lists_of, new_names_of}
 use Rattle.edit_space.specs.Working.{AreNewNames}
-use Rattle.edit_list.proofs.Numbers.{things_told, told_at, picked_unless_empty}
+use Rattle.arc_base.proofs.Grouped.{things_told, told_at, picked_unless_empty}
 use Rattle.edit_list.proofs.Placing.{placed_picked, placed_not_picked}
 use Rattle.edit_list.proofs.PriceSteps.{pairs_length}
 use Rattle.line_patcher.specs.declared.additions.NewNumber.{NewNumber}
@@ -33,12 +33,12 @@ pub few_chosen : (edits : List Edit) (flags : List Bool) → length flags ≡ le
 few_chosen edits flags same few = omega (arith, few_picked if_chosen (zip edits flags), pairs_length edits flags same, few)
 
 -- the things at a number, as the table has them
-pub at_number : {X : Type 0} (f : ℕ → List X) (count number : ℕ) (groups table : List (List X)) (things : List X) → Tells count f table → groups ≡ table → number < count → things ≡ unwrap_or (slice_get groups number) [] → things ≡ f number
+pub at_number : {X : Type 0} (f : ℕ → List X) (count number : ℕ) (groups table : List (List X)) (things : List X) → IsTableOf count f table → groups ≡ table → number < count → things ≡ unwrap_or (slice_get groups number) [] → things ≡ f number
 at_number f count number groups table things told same low is = things_told groups f count number things (same ∙ told) low is
 
 -- what edits put into a list
 module _ {L X : Type 0} (lists : List L) (change : Edit → Option (ℕ × X)) (chosen : List Edit) (id : ℕ) (list : L) (groups table : List (List X)) (things : List X) (is : Some list ≡ slice_get lists id)
-    (told : Tells (length lists) (λ k. of_number k (filter_map change chosen)) table) (same : groups ≡ table) (are : things ≡ unwrap_or (slice_get groups id) []) where
+    (told : IsTableOf (length lists) (λ k. of_number k (filter_map change chosen)) table) (same : groups ≡ table) (are : things ≡ unwrap_or (slice_get groups id) []) where
   things_are : things ≡ of_number id (filter_map change chosen)
   things_are = at_number (λ k. of_number k (filter_map change chosen)) (length lists) id groups table things told same (slice_get_within lists id list (sym is)) are
 
@@ -56,7 +56,7 @@ module _ {L X : Type 0} (lists : List L) (change : Edit → Option (ℕ × X)) (
 
 -- the lists that edits put things into, one after another
 module _ {L X : Type 0} (router : L → ℕ) (f : ℕ → List X) (whole lists : List L) (i : ℕ) (list : L) (groups table : List (List X)) (now : List (ℕ × ℕ)) (all : lists ≡ whole) (within : i < length lists) (is : list ≡ get_or lists i list)
-    (told : Tells (length whole) f table) (same : groups ≡ table) where
+    (told : IsTableOf (length whole) f table) (same : groups ≡ table) where
   abbrev edited : ℕ × L → Option (ℕ × ℕ)
   edited l = if is_empty (f l.0) then None else Some (router l.1, l.0)
 
@@ -71,8 +71,8 @@ module _ {L X : Type 0} (router : L → ℕ) (f : ℕ → List X) (whole lists :
   not_edited_more filled says test was = placed_not_picked edited lists i list within is now (sym (picks filled false says test)) was
 
 -- what stands around a row, as the table tells it
-pub around : (text end : List ℕ) (table : Table) (count : ℕ) (before after : List (ℕ × List ℕ)) (numbers : List (ℕ × NewNumber)) (number : ℕ) (row : Line) → Tells count (λ k. of_number k before) table.before.items →
-    Tells count (λ k. of_number k numbers) table.numbers.items → Tells count (λ k. of_number k after) table.after.items → number < count → row_around text end table number row ≡ patched_row text end before numbers after (number, row)
+pub around : (text end : List ℕ) (table : Table) (count : ℕ) (before after : List (ℕ × List ℕ)) (numbers : List (ℕ × NewNumber)) (number : ℕ) (row : Line) → IsTableOf count (λ k. of_number k before) table.before.items →
+    IsTableOf count (λ k. of_number k numbers) table.numbers.items → IsTableOf count (λ k. of_number k after) table.after.items → number < count → row_around text end table number row ≡ patched_row text end before numbers after (number, row)
 around text end table count before after numbers number row b n a low =
     let eb = things_told table.before.items (λ k. of_number k before) count number (unwrap_or (slice_get table.before.items number) []) b low (λ i. unwrap_or (slice_get table.before.items number) []) in
     let en = things_told table.numbers.items (λ k. of_number k numbers) count number (unwrap_or (slice_get table.numbers.items number) []) n low (λ i. unwrap_or (slice_get table.numbers.items number) []) in
@@ -80,11 +80,11 @@ around text end table count before after numbers number row b n a low =
     λ i. ended end (eb i) ++ row_bytes text row (en i) ++ end_of text row ++ following end row.end (ea i)
 
 -- a table of groups, by the things that it was made of
-pub grouped_are : {X : Type 0} (count number : ℕ) (things all : List (ℕ × X)) (groups : List (List X)) → count ≡ number → things ≡ all → Tells count (λ k. of_number k things) groups → Tells number (λ k. of_number k all) groups
+pub grouped_are : {X : Type 0} (count number : ℕ) (things all : List (ℕ × X)) (groups : List (List X)) → count ≡ number → things ≡ all → IsTableOf count (λ k. of_number k things) groups → IsTableOf number (λ k. of_number k all) groups
 grouped_are count number things all groups same are told = told ∙ (λ i. map (λ (k : ℕ). of_number k (are i)) (range_with_len 0 (same i)))
 
 -- a table has an item for each number below its count
-pub told_length : {X : Type 0} (count : ℕ) (f : ℕ → X) (xs : List X) → Tells count f xs → length xs ≡ count
+pub told_length : {X : Type 0} (count : ℕ) (f : ℕ → X) (xs : List X) → IsTableOf count f xs → length xs ≡ count
 told_length count f xs told = ap length told ∙ length-map-range_with_len f 0 count
 
 module _ (net : Network) (chosen : List Edit) (router : ℕ) (names : List (List (List ℕ))) (own : List (List ℕ)) (are : AreNewNames net (new_lists net chosen) names) (low : router < length net.routers) (is : own ≡ get_or names router own) where

@@ -1,4 +1,4 @@
--- The lines of entries that edits put at the front of lists, and the new numbers of the old
+-- The lines of entries that edits add at the front of lists, and the new numbers of the old
 -- entries.
 use Rattle.std.specs.Prelude.{ℕ, ◌+◌, ◌*◌, ◌&&◌, not, Bool, true, false, Option, Some, None, List}
 use Rattle.std.specs.Prelude.{[], map, find, length, bytes_eq, slice_get, slice_index}
@@ -17,11 +17,11 @@ use Rattle.ios_config.specs.declared.settings.ListForm.{ListForm}
 use Rattle.ios_config.specs.declared.settings.ListForm.TheVariants.{Block, Lines, PrefixLines}
 use Rattle.net_build.specs.declared.built.Places.{Places}
 use Rattle.net_build.specs.declared.built.ListPlace.{ListPlace}
-use Rattle.net_rows.specs.Lists.{packet_text}
+use Rattle.net_rules.specs.Lists.{packet_text}
 use Rattle.edit_list.specs.declared.edit_kinds.Edit.{Edit}
 use Rattle.edit_list.specs.After.{opposite_packet_entry, opposite_route_entry}
 use Rattle.edit_list.specs.Changes.{list_prefixes, list_classes}
-use Rattle.edit_list.specs.Numbered.{of_number, placed, is_empty}
+use Rattle.arc_base.specs.Numbered.{of_number, placed, is_empty}
 use Rattle.line_patcher.specs.declared.additions.NewNumber.{NewNumber}
 
 -- the number of the entry at a place of its list, counted from 1, where the list has numbers that
@@ -29,7 +29,7 @@ use Rattle.line_patcher.specs.declared.additions.NewNumber.{NewNumber}
 abbrev pub order_at : ListPlace → ℕ → ℕ → Option ℕ
 order_at place step at = if place.numbered then Some (step * at) else None
 
--- the line of an entry of a packet list that stands in this form
+-- the line of an entry of a packet list that is written in this form
 abbrev pub packet_line : ListForm → List ℕ → Option ℕ → PacketEntry → List ℕ
 packet_line Block name order entry = spaced (entry_words order (packet_text entry))
 packet_line Lines name order entry = top_line (list_line_words name (packet_text entry))
@@ -75,12 +75,12 @@ route_place own name =
 abbrev pub first_line : ListPlace → ℕ
 first_line place = slice_index place.entries 0
 
--- each of the lines, to stand before the first entry of a list
+-- each of the lines, to be added before the first entry of a list
 abbrev pub at_front : ListPlace → List (List ℕ) → List (ℕ × List ℕ)
 at_front place lines = map (λ line. (first_line place, line)) lines
 
--- the new number of the entry at this line and this place of its list, where so many entries are
--- new: the word of the line that it stands in, and the number
+-- the new number of the entry at this line and this place of its list, after this many new entries:
+-- the word of its line, and the number
 abbrev pub new_number : ℕ → ℕ → ℕ → ℕ × ℕ → ℕ × NewNumber
 new_number word step count entry =
     (entry.1, record { word = word; number = step * (count + entry.0) })
@@ -90,22 +90,22 @@ abbrev pub new_numbers : ListPlace → ℕ → ℕ → ℕ → List (ℕ × NewN
 new_numbers place word step count =
     if place.numbered then map (new_number word step count) (enumerate_from 1 place.entries) else []
 
--- the packet list at this place, with its router, if edits put entries into it
+-- the packet list at this place, with its router, if edits add entries to it
 abbrev pub edited_packet_list : List Edit → ℕ × PacketList → Option (ℕ × ℕ)
 edited_packet_list chosen list =
     if is_empty (list_classes chosen list.0) then None else Some (list.1.router.0, list.0)
 
--- the route list at this place, with its router, if edits put entries into it
+-- the route list at this place, with its router, if edits add entries to it
 abbrev pub edited_route_list : List Edit → ℕ × RouteList → Option (ℕ × ℕ)
 edited_route_list chosen list =
     if is_empty (list_prefixes chosen list.0) then None else Some (list.1.router.0, list.0)
 
--- the packet lists of a router that edits put entries into
+-- the packet lists of a router to which edits add entries
 abbrev pub edited_packet_lists : Network → List Edit → ℕ → List ℕ
 edited_packet_lists net chosen router =
     of_number router (filter_map (edited_packet_list chosen) (placed net.packet_lists))
 
--- the route lists of a router that edits put entries into
+-- the route lists of a router to which edits add entries
 abbrev pub edited_route_lists : Network → List Edit → ℕ → List ℕ
 edited_route_lists net chosen router =
     of_number router (filter_map (edited_route_list chosen) (placed net.route_lists))
@@ -144,7 +144,7 @@ packet_list_numbers net own chosen id =
     for_packet_list net own
     (λ list place. new_numbers place 0 10 (length (list_classes chosen id))) id
 
--- and those of the route list's, which stand after seq and rise by 5
+-- and those of the route list's, which follow seq and rise by 5
 abbrev pub route_list_numbers : Network → Places → List Edit → ℕ → List (ℕ × NewNumber)
 route_list_numbers net own chosen id =
     for_route_list net own

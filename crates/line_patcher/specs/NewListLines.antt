@@ -7,7 +7,7 @@ use Rattle.net_model.specs.declared.policies.Class.{Class}
 use Rattle.net_model.specs.declared.rows.Network.{Network}
 use Rattle.net_model.specs.Routing.{session_at}
 use Rattle.ios_lines.specs.Written.{spaced}
-use Rattle.net_rows.specs.Lists.{packet_text}
+use Rattle.net_rules.specs.Lists.{packet_text}
 use Rattle.edit_list.specs.After.{class_entry, every_packet}
 use Rattle.ios_words.specs.Printed.{prefix_line_words, permit_all_words, list_head_words}
 use Rattle.ios_words.specs.Printed.{entry_words, neighbor_list_words, group_words, top_line}
@@ -71,7 +71,7 @@ group_line_among faces (Route face) name = None
 group_line_among faces (Packet face) name =
     option_map (λ place. (place.last, spaced (group_words name))) (slice_get faces face.0)
 
--- the lines that bind the new packet lists of a router, each with the line after which it stands
+-- the lines that bind the new packet lists of a router, each with the line that it follows
 abbrev pub group_lines : Network → List Places → List Edit → ℕ → List (ℕ × List ℕ)
 group_lines net places chosen router =
     filter_map (λ named. group_line_among (face_places places) named.0 named.1)

@@ -1,6 +1,6 @@
--- The patch of a router file: its lines stand in the new file in order, and inserted lines between
+-- The patch of a router file: its lines are in the new file in order, and inserted lines between
 -- them. Each old line keeps its bytes, except for the digits of a number that is another, and a
--- last line without an end that gains one where a line follows.
+-- last line without an end that gains one if a line follows.
 use Rattle.std.specs.Prelude.{◌≡◌, ℕ, ◌+◌, ◌==◌, IsSomeAnd, List, [], ◌∷◌, ◌++◌, flat_map, decimal}
 use Rattle.std.specs.Prelude.{slice_get, slice_range, if◌then◌else◌}
 use Rattle.std.specs.List.{enumerate_from}
@@ -12,7 +12,7 @@ use Rattle.ios_lines.specs.Rewritten.{rewritten}
 use Rattle.net_build.specs.declared.built.Built.{Built}
 use Rattle.net_build.specs.declared.built.Places.{Places}
 use Rattle.edit_list.specs.declared.edit_kinds.Edit.{Edit}
-use Rattle.edit_list.specs.Numbered.{of_number, EachRow}
+use Rattle.arc_base.specs.Numbered.{of_number, EachRow}
 use Rattle.line_patcher.specs.declared.additions.NewNumber.{NewNumber}
 use Rattle.line_patcher.specs.Additions.{lines_before, lines_after, numbers_at}
 
@@ -36,11 +36,11 @@ row_bytes text row (new ∷ more) =
 abbrev pub ended : List ℕ → List (List ℕ) → List ℕ
 ended end lines = flat_map (λ line. line ++ end) lines
 
--- lines after a row: each is ended, or, after a row that has no end, each stands after one
+-- lines after a row: each is ended, or, after a row that has no end, each comes after one
 abbrev pub following : List ℕ → ℕ → List (List ℕ) → List ℕ
 following end len lines = if len == 0 then flat_map (λ line. end ++ line) lines else ended end lines
 
--- a row of the new file, of this number, with the lines that are put before it and after it
+-- a row of the new file, of this number, with the lines that are added before it and after it
 abbrev pub patched_row : List ℕ → List ℕ → List (ℕ × List ℕ) → List (ℕ × NewNumber) →
     List (ℕ × List ℕ) → ℕ × Line → List ℕ
 patched_row text end before numbers after row =
@@ -49,8 +49,8 @@ patched_row text end before numbers after row =
     end_of text row.1 ++
     following end row.1.end (of_number row.0 after)
 
--- the new file, of which these lines are the old one's, with what is put before lines and after
--- them and with new numbers
+-- the new file, of which these lines are the old one's, with the lines added before and after them
+-- and with new numbers
 abbrev pub patched_text : List ℕ → Lines → List (ℕ × List ℕ) → List (ℕ × NewNumber) →
     List (ℕ × List ℕ) → List ℕ
 patched_text text lines before numbers after =

@@ -1,4 +1,4 @@
--- The lines that edits put into the process of a router: those that turn sessions.
+-- The lines that edits add to the process of a router: those that turn sessions.
 use Rattle.std.specs.Prelude.{ℕ, not, Option, Some, List, option_map, option_and_then, slice_get}
 use Rattle.std.specs.List.{filter_map}
 use Rattle.net_model.specs.declared.rows.Protocol.{Protocol}
@@ -11,7 +11,7 @@ use Rattle.ios_lines.specs.Written.{spaced}
 use Rattle.ios_words.specs.Printed.{passive_words, neighbor_words}
 use Rattle.edit_list.specs.declared.edit_kinds.Edit.{Edit}
 use Rattle.edit_list.specs.Changes.{session_change}
-use Rattle.edit_list.specs.Numbered.{of_number}
+use Rattle.arc_base.specs.Numbered.{of_number}
 
 -- the line that turns the session of an interface: under OSPF it makes it passive or active, under
 -- eBGP it shuts its neighbour down or up

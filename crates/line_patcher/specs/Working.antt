@@ -7,7 +7,7 @@ use Rattle.net_build.specs.declared.built.Built.{Built}
 use Rattle.edit_list.specs.declared.list_kinds.NewList.{NewList}
 use Rattle.edit_list.specs.declared.list_kinds.NewList.TheVariants.{Route, Packet}
 use Rattle.edit_list.specs.NewLists.{new_lists, new_lists_of}
-use Rattle.edit_list.specs.Numbered.{Tells}
+use Rattle.arc_base.specs.Numbered.{IsTableOf}
 use Rattle.edit_space.specs.Working.{AreChanges, AreNewNames}
 use Rattle.line_patcher.specs.declared.plans.Plan.{Plan}
 use Rattle.line_patcher.specs.declared.texts.Table.{Table}
@@ -21,18 +21,18 @@ abbrev pub face_of : NewList → Face
 face_of (Route face) = face
 face_of (Packet face) = face
 
--- the plan tells what its edits do to each router
+-- the plan says what its edits do to each router
 pub record IsPlan (built : Built) (plan : Plan) : Type 0 where
   pub changes : AreChanges built.net plan.changes
   pub faces : plan.faces.items ≡ face_places built.places
-  pub turned : Tells (length built.net.routers)
+  pub turned : IsTableOf (length built.net.routers)
       (turned_faces built.net plan.changes.edits.items) plan.turned.items
-  pub lists : Tells (length built.net.routers)
+  pub lists : IsTableOf (length built.net.routers)
       (new_lists_of built.net plan.changes.edits.items) plan.new_lists.items
   pub names : AreNewNames built.net (new_lists built.net plan.changes.edits.items) plan.names.items
-  pub packet_lists : Tells (length built.net.routers)
+  pub packet_lists : IsTableOf (length built.net.routers)
       (edited_packet_lists built.net plan.changes.edits.items) plan.packet_lists.items
-  pub route_lists : Tells (length built.net.routers)
+  pub route_lists : IsTableOf (length built.net.routers)
       (edited_route_lists built.net plan.changes.edits.items) plan.route_lists.items
 
 -- the word of a row lies in it
@@ -47,7 +47,7 @@ pub record LiesWithin (text : List ℕ) (row : Line) : Type 0 where
   pub ends : row.span.to + row.end ≤ length text
   pub words : (k : ℕ) (word : Span) → slice_get row.words k ≡ Some word → LiesInRow row word
 
--- a row with what the table puts at its number
+-- a row with what the table adds at its number
 abbrev pub row_around : List ℕ → List ℕ → Table → ℕ → Line → List ℕ
 row_around text end table number row =
     ended end (unwrap_or (slice_get table.before.items number) []) ++

@@ -1,4 +1,4 @@
-//! What is put into one file, each thing with the number of a line.
+//! What is added to one file, each item with the number of a line.
 ghost use Rattle.std.specs.Prelude.{◌≡◌, ◌≤◌, ◌<◌, length, IfOk};
 ghost use Rattle.line_patcher.specs.Additions.{all_at, lines_before, lines_after, numbers_at};
 ghost use Rattle.edit_list.specs.NewLists.{named_lists};
@@ -10,13 +10,13 @@ use crate::new_lists::{
 };
 use crate::plans::Plan;
 use crate::sessions::push_session_lines;
+use arc_base::groups::things_at;
 use arc_base::limits::EDIT_LIMIT;
 use arc_base::{Memory, Name};
-use edit_list::things_at;
 use net_build::{Built, Places};
 use std::alloc::Global;
 
-/// A number that stands in a line in place of another.
+/// A number that replaces another in a line.
 #[derive(Clone, Copy, Debug)]
 pub struct NewNumber {
     /// The word that it is, counted from 0.
@@ -24,18 +24,18 @@ pub struct NewNumber {
     pub number: u64,
 }
 
-/// What is put into one file.
+/// What is added to one file.
 #[derive(Debug, Drop)]
 pub struct Additions {
-    /// Lines, each with the number of the line that it stands before.
+    /// Lines, each with the number of the line that it comes before.
     pub before: Vec<(u32, Name)>,
     /// New numbers, each with the number of its line.
     pub numbers: Vec<(u32, NewNumber)>,
-    /// Lines, each with the number of the line that it stands after.
+    /// Lines, each with the number of the line that it comes after.
     pub after: Vec<(u32, Name)>,
 }
 
-/// Each of the lines, with the number of the line that it stands at.
+/// Each of the lines, with the number of the line that it is added at.
 fn all_at(alloc: Global, number: u32, lines: &[Name]) -> Result<Vec<(u32, Name)>, Memory>
     ensures { IfOk result (λ all. all.items ≡ all_at number lines.now) }
 {
@@ -46,7 +46,7 @@ fn all_at(alloc: Global, number: u32, lines: &[Name]) -> Result<Vec<(u32, Name)>
     Ok(all)
 }
 
-/// The lines that stand before others in the file of a router.
+/// The lines that come before others in the file of a router.
 fn lines_before(
     alloc: Global,
     built: &Built,
@@ -72,7 +72,7 @@ fn lines_before(
     Ok(lines)
 }
 
-/// The lines that stand after others in the file of a router.
+/// The lines that come after others in the file of a router.
 fn lines_after(
     alloc: Global,
     built: &Built,
@@ -97,7 +97,7 @@ fn lines_after(
 }
 
 impl Additions {
-    /// What the plan puts into the file of a router.
+    /// What the plan adds to the file of a router.
     pub fn of(
         alloc: Global,
         built: &Built,

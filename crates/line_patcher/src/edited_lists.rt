@@ -1,4 +1,4 @@
-//! What is put into the lists of a file that edits put entries into.
+//! What is added to the lists of a file by edits.
 ghost use Rattle.std.specs.Prelude.{◌≡◌, ◌≤◌, ◌++◌, flat_map, length, IfOk, OnOk};
 ghost use Rattle.edit_space.specs.Working.{AreChanges};
 ghost use Rattle.line_patcher.specs.EntryLines.{packet_list_entries, route_list_entries};
@@ -8,9 +8,9 @@ use crate::additions::NewNumber;
 use crate::entries::{
     packet_place, push_class_lines, push_numbers, push_prefix_lines, route_place,
 };
+use arc_base::groups::things_at;
 use arc_base::limits::EDIT_LIMIT;
 use arc_base::{Memory, Name};
-use edit_list::things_at;
 use edit_space::Changes;
 use net_build::Places;
 use net_model::Network;

@@ -1,7 +1,7 @@
 //! The lines of entries at the front of lists, and the new numbers of the old ones.
 ghost use Rattle.std.specs.Prelude.{◌≡◌, ◌<◌, ◌≤◌, ◌+◌, ◌*◌, ◌^◌, ◌++◌, length, IfOk, OnOk};
 ghost use Rattle.std.specs.Option.{option_copied};
-ghost use Rattle.net_rows.specs.Lists.{packet_text};
+ghost use Rattle.net_rules.specs.Lists.{packet_text};
 ghost use Rattle.line_patcher.specs.EntryLines.{order_at, packet_line, class_line, prefix_line};
 ghost use Rattle.line_patcher.specs.EntryLines.{class_lines, prefix_lines, is_packet_form};
 ghost use Rattle.line_patcher.specs.EntryLines.{packet_place, route_place, first_line, at_front};
@@ -43,7 +43,7 @@ pub fn packet_text(entry: &PacketEntry) -> PacketText
     }
 }
 
-/// The line of an entry of a packet list that stands in a form.
+/// The line of an entry of a packet list that is written in a form.
 fn packet_line(
     alloc: Global,
     form: ListForm,

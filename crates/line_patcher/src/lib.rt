@@ -1,6 +1,6 @@
-//! The router files after edits: each file with lines put between its own, which keep their bytes.
-//! An operator gets his files back as he wrote them, with what the edits add at the places where he
-//! would have written it himself.
+//! The router files after edits: each file with lines added between its own, which keep their
+//! bytes. An operator gets his files back as he wrote them, with what the edits add at the places
+//! where he would have written it himself.
 #![tactic(auto)]
 
 mod additions;

@@ -5,7 +5,7 @@ ghost use Rattle.std.specs.List.{filter_map, zip, enumerate_from};
 ghost use Rattle.net_model.specs.Routing.{session_at};
 ghost use Rattle.ios_lines.specs.Written.{spaced};
 ghost use Rattle.ios_words.specs.Printed.{permit_all_words, list_head_words, entry_words, top_line};
-ghost use Rattle.net_rows.specs.Lists.{packet_text};
+ghost use Rattle.net_rules.specs.Lists.{packet_text};
 ghost use Rattle.edit_list.specs.After.{class_entry, every_packet};
 ghost use Rattle.edit_space.specs.Working.{AreChanges};
 ghost use Rattle.line_patcher.specs.NewListLines.{deny_line, new_route_lines, deny_class_line};
@@ -14,9 +14,10 @@ ghost use Rattle.line_patcher.specs.NewListLines.{group_line_among};
 ghost use Rattle.line_patcher.specs.Working.{face_of};
 
 use crate::entries::packet_text;
+use arc_base::groups::things_at;
 use arc_base::limits::EDIT_LIMIT;
 use arc_base::{Memory, Name, Prefix};
-use edit_list::{NewList, things_at};
+use edit_list::NewList;
 use edit_space::{Changes, any};
 use ios_words::printing::{
     push_entry, push_group, push_list_head, push_neighbor_list, push_permit_all, push_prefix_line,

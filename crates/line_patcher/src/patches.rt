@@ -43,8 +43,8 @@ fn patched_file(
 }
 
 /// The router files after the chosen edits, in the order of the document. A file that no chosen
-/// edit concerns is given as it is. The time is linear in the bytes of the files and in what is put
-/// into them.
+/// edit concerns is given as it is. The time is linear in the bytes of the files and in what is
+/// added to them.
 pub fn patch(
     alloc: Global,
     doc: &Document,

@@ -1,15 +1,16 @@
 //! What the chosen edits do to each router, found once for all files.
 ghost use Rattle.std.specs.Prelude.{◌≡◌, ◌++◌, IfOk, OnOk};
 ghost use Rattle.std.specs.List.{filter_map};
-ghost use Rattle.edit_list.specs.Numbered.{placed};
+ghost use Rattle.arc_base.specs.Numbered.{placed};
 ghost use Rattle.edit_space.specs.Working.{AreChanges};
 ghost use Rattle.line_patcher.specs.SessionLines.{turned_face};
 ghost use Rattle.line_patcher.specs.NewListLines.{face_places};
 ghost use Rattle.line_patcher.specs.EntryLines.{edited_packet_list, edited_route_list};
 ghost use Rattle.line_patcher.specs.Working.{IsPlan};
 
+use arc_base::groups::{Group, grouped, is_filled};
 use arc_base::{List, Memory, Name};
-use edit_list::{Edit, Group, NewList, grouped, is_filled};
+use edit_list::{Edit, NewList};
 use edit_space::{Changes, lists_made, new_names};
 use net_build::{Built, FacePlace, Places};
 use net_model::Network;

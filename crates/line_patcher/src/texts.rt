@@ -1,22 +1,22 @@
-//! The text of a file with what is put into it.
+//! The text of a file with what is added to it.
 ghost use Rattle.std.specs.Prelude.{◌≡◌, ◌<◌, ◌-◌, ◌^◌, ◌++◌, ◌∷◌, [], flat_map, length, All, IfOk};
 ghost use Rattle.std.specs.Prelude.{OnOk};
 ghost use Rattle.ios_lines.specs.Lines.{AreLinesOf};
-ghost use Rattle.edit_list.specs.Numbered.{of_number, Tells};
+ghost use Rattle.arc_base.specs.Numbered.{of_number, IsTableOf};
 ghost use Rattle.line_patcher.specs.Patches.{end_of, line_end, row_bytes, ended, following};
 ghost use Rattle.line_patcher.specs.Patches.{patched_text};
 ghost use Rattle.line_patcher.specs.Working.{LiesWithin, row_around};
 
 use crate::additions::{Additions, NewNumber};
+use arc_base::groups::{Group, add, empty_groups, grouped, things_at};
 use arc_base::{Memory, Name, push_number};
-use edit_list::{Group, add, empty_groups, grouped, things_at};
 use ios_lines::{Line, Lines};
 use std::alloc::Global;
 
 /// The lines at each place below the count.
 fn lines_at(alloc: Global, count: u32, lines: &[(u32, Name)]) -> Result<Vec<Group<Name>>, Memory>
     ensures { IfOk result (λ groups.
-        Tells count (λ number. of_number number lines.now) groups.items) }
+        IsTableOf count (λ number. of_number number lines.now) groups.items) }
 {
     let mut groups = empty_groups(alloc, count)?;
     for (number, line) in lines {
@@ -56,7 +56,7 @@ fn push_ended(text: &mut Vec<u8>, end: &[u8], lines: &[Name]) -> Result<(), Memo
     Ok(())
 }
 
-/// Adds lines that each stand after an end.
+/// Appends lines, each after an end.
 fn push_begun(text: &mut Vec<u8>, end: &[u8], lines: &[Name]) -> Result<(), Memory>
     ensures { OnOk result
         (text.new.items ≡ text.old.items ++ flat_map (λ line. end.now ++ line) lines.now) }
@@ -68,7 +68,7 @@ fn push_begun(text: &mut Vec<u8>, end: &[u8], lines: &[Name]) -> Result<(), Memo
     Ok(())
 }
 
-/// Adds lines after a row with an end of so many bytes.
+/// Appends lines after a row with an end of `len` bytes.
 fn push_following(text: &mut Vec<u8>, end: &[u8], len: u8, lines: &[Name]) -> Result<(), Memory>
     ensures { OnOk result (text.new.items ≡ text.old.items ++ following end.now len lines.now) }
 {
@@ -123,7 +123,7 @@ fn push_row_bytes(
     }
 }
 
-/// What is put in at each line.
+/// What is added at each line.
 #[derive(Debug, Drop)]
 struct Table {
     before: Vec<Group<Name>>,
@@ -131,7 +131,7 @@ struct Table {
     after: Vec<Group<Name>>,
 }
 
-/// Adds a row with what is put before it, into it and after it.
+/// Appends a row with what is added before it, in it and after it.
 fn push_row(
     alloc: Global,
     new: &mut Vec<u8>,
@@ -151,7 +151,7 @@ fn push_row(
     push_following(new, end, row.end, things_at(&table.after, number))
 }
 
-/// The text of a file, of which these are the lines, with what is put into it.
+/// The text of a file, of which these are the lines, with what is added to it.
 pub fn patched_text(
     alloc: Global,
     text: &[u8],

@@ -8,8 +8,8 @@ use Rattle.ios_words.specs.declared.commands.Command.TheVariants as commands
 use Rattle.ios_words.specs.declared.commands.Command.{Command}
 use Rattle.ios_config.specs.declared.settings.Given.{Given}
 use Rattle.net_build.specs.Appends.{line_of, TheLastLineCounts, APassiveLineCounts, ANeighborLineCounts, ABindingLineCounts}
-use Rattle.net_rows.specs.Settings.{last_said, says_passive}
-use Rattle.net_rows.specs.Neighbors.{says_down, says_filter}
+use Rattle.net_rules.specs.Settings.{last_said, says_passive}
+use Rattle.net_rules.specs.Neighbors.{says_down, says_filter}
 
 last-of : {X : Type 0} → (o : Option X) (xs : List X) (x : X) → last_or o (xs ++ x ∷ []) ≡ Some x
 last-of o [] x = refl

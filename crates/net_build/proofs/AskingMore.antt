@@ -11,11 +11,11 @@ use Rattle.net_model.specs.declared.rows.Network.{Network}
 use Rattle.ios_config.specs.declared.settings.Config.{Config}
 use Rattle.ios_config.specs.declared.settings.ListText.{ListText}
 use Rattle.net_build.specs.declared.built.Built.{Built}
-use Rattle.net_rows.specs.Limits.{long_list, RefusesEntries}
-use Rattle.net_rows.specs.Linking.{first_above, RefusesDownLinks}
+use Rattle.net_rules.specs.Limits.{long_list, RefusesEntries}
+use Rattle.net_rules.specs.Linking.{first_above, RefusesDownLinks}
 use Rattle.net_build.specs.Networks.{IsNetworkOf, IsNetworkWithin, IsBuilt, IsBuiltWithin}
 use Rattle.net_build.specs.Order.{tries, Refuses, RefusesWithin, AreClear}
-use Rattle.net_rows.specs.Reasons.{IsClear}
+use Rattle.net_rules.specs.Reasons.{IsClear}
 
 -- one item, and whether each of two tests passes it
 passed_by_both : {X : Type 0} (p q : Bool) (y x : X) (a b : Option X) → (p ≡ true → q ≡ true) → (a ≡ Some x → b ≡ None → ⊥) → cond p (Some y) a ≡ Some x → cond q (Some y) b ≡ None → ⊥

@@ -8,7 +8,7 @@ use Rattle.std.proofs.lemmas.List.Elements.{All-map}
 use Rattle.std.proofs.lemmas.List.Sums.{sum_by-cons, sum_by-append, sum_by-le, count_by-le-length}
 use Rattle.ios_config.specs.declared.settings.Config.{Config}
 use Rattle.ios_config.specs.declared.settings.FaceText.{FaceText}
-use Rattle.net_rows.specs.Sites.{Site, sites_of, sites}
+use Rattle.net_rules.specs.Sites.{Site, sites_of, sites}
 
 -- 1 for an interface of the router, and 0 for any other
 abbrev pub counts : ℕ → Site → ℕ

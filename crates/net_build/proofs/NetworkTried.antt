@@ -17,21 +17,21 @@ use Rattle.net_model.specs.Packets.{subject}
 use Rattle.net_model.specs.Forwarding.{HasEnds}
 use Rattle.net_model.proofs.Hosts.{some_host, one_host}
 use Rattle.ios_config.specs.declared.settings.Config.{Config}
-use Rattle.net_rows.specs.Forms.{IsWellFormed}
+use Rattle.net_rules.specs.Forms.{IsWellFormed}
 use Rattle.arc_base.specs.Lists.{AreDistinct}
-use Rattle.net_rows.specs.Sites.{full_names}
-use Rattle.net_rows.specs.Rows.{AreRows}
-use Rattle.address_checks.specs.Claims.{ClearBelow}
-use Rattle.net_rows.specs.Reasons.{IsClear, TriedAlone, InDocument}
-use Rattle.net_rows.specs.Routers.{RefusesHostname}
-use Rattle.net_rows.specs.Linking.{FitsSubnets, RefusesLinkFace, RefusesLinkSubnets}
-use Rattle.net_rows.specs.Addressing.{HasEndpoints, RefusesEndpoint}
-use Rattle.net_rows.specs.Limits.{RefusesInterfaces}
-use Rattle.net_rows.proofs.Distinct.{Contains-at}
-use Rattle.net_rows.proofs.HostNames.{all_named, hosts_differ}
-use Rattle.net_rows.proofs.LinksApart.{names_distinct, few_files}
-use Rattle.address_checks.proofs.Overlaps.{turn_linked}
-use Rattle.net_rows.proofs.SameNetwork.{tried_same, to_link_subnets, from_link_subnets, to_endpoint, from_endpoint}
+use Rattle.net_rules.specs.Sites.{full_names}
+use Rattle.net_rules.specs.Rows.{AreRows}
+use Rattle.net_checks.specs.Claims.{ClearBelow}
+use Rattle.net_rules.specs.Reasons.{IsClear, TriedAlone, InDocument}
+use Rattle.net_rules.specs.Routers.{RefusesHostname}
+use Rattle.net_rules.specs.Linking.{FitsSubnets, RefusesLinkFace, RefusesLinkSubnets}
+use Rattle.net_rules.specs.Addressing.{HasEndpoints, RefusesEndpoint}
+use Rattle.net_rules.specs.Limits.{RefusesInterfaces}
+use Rattle.net_rules.proofs.Distinct.{Contains-at}
+use Rattle.net_rules.proofs.HostNames.{all_named, hosts_differ}
+use Rattle.net_rules.proofs.LinksApart.{names_distinct, few_files}
+use Rattle.net_checks.proofs.Overlaps.{turn_linked}
+use Rattle.net_rules.proofs.SameNetwork.{tried_same, to_link_subnets, from_link_subnets, to_endpoint, from_endpoint}
 use Rattle.net_build.proofs.ValidNetwork.{valid}
 
 turn_apart : (o q : Option Prefix) → IfSome o (λ p. IfSome q (AreDisjoint p)) → IfSome q (λ p. IfSome o (AreDisjoint p))

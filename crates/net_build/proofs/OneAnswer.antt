@@ -16,19 +16,19 @@ use Rattle.ios_config.specs.declared.settings.Config.{Config}
 use Rattle.ios_config.specs.Configs.{IsConfigOf, IsRefused}
 use Rattle.ios_config.proofs.Unique.{config_one}
 use Rattle.ios_config.proofs.OneAnswer.{refusal_one, refused_alone}
-use Rattle.net_rows.specs.Forms.{IsWellFormed}
+use Rattle.net_rules.specs.Forms.{IsWellFormed}
 use Rattle.arc_base.specs.Lists.{AreDistinct}
 use Rattle.net_build.specs.Networks.{Says, IsFaulty, IsFirstFaulty, IsNetworkWithin, IsFirstRefusalWithin}
 use Rattle.net_build.specs.Order.{tries, RefusesWithin, IsFirstOf}
-use Rattle.net_rows.specs.Rows.{AreRows}
-use Rattle.net_rows.specs.Sites.{full_names}
+use Rattle.net_rules.specs.Rows.{AreRows}
+use Rattle.net_rules.specs.Sites.{full_names}
 use Rattle.std.proofs.lemmas.List.Elements.{All-cons}
 use Rattle.std.proofs.lemmas.Option.{none-some, same_Some}
-use Rattle.net_rows.proofs.HostNames.{hosts_differ}
-use Rattle.net_rows.proofs.NamesDiffer.{full_names_distinct}
+use Rattle.net_rules.proofs.HostNames.{hosts_differ}
+use Rattle.net_rules.proofs.NamesDiffer.{full_names_distinct}
 use Rattle.net_build.proofs.OneRefusal.{one_first_of, clear_or_first}
-use Rattle.net_rows.proofs.SameNetwork.{same_rows}
-use Rattle.net_rows.proofs.SameRows.{one_partner}
+use Rattle.net_rules.proofs.SameNetwork.{same_rows}
+use Rattle.net_rules.proofs.SameRows.{one_partner}
 use Rattle.net_build.proofs.WellFormed.{well_formed_config}
 
 -- a text says one thing

@@ -9,9 +9,9 @@ use Rattle.net_doc.specs.declared.fault.Refusal.{Refusal}
 use Rattle.net_model.specs.declared.policies.Document.{Document}
 use Rattle.ios_config.specs.declared.settings.Config.{Config}
 use Rattle.ios_config.specs.declared.settings.ListText.{ListText}
-use Rattle.net_rows.specs.Limits.{long_list}
+use Rattle.net_rules.specs.Limits.{long_list}
 use Rattle.net_build.specs.Order.{Try, Hostname, Protocol, TwoAreas, SameAs, LinkFace, DownLinks, NeighborUnknown, NetworkNotConnected, Overlap, LinkSubnets, ListStopsSession, AdjacencyForm, Interfaces, Entries, Endpoint, RefusesWithin, IsFirstOf, AreClear}
-use Rattle.net_rows.specs.Reasons.{IsFirst, InFiles, InDocument}
+use Rattle.net_rules.specs.Reasons.{IsFirst, InFiles, InDocument}
 
 -- the kind that a refusal of an item tells
 files_kind : {X : Type 0} (kind : Kind) (Offends : ℕ → X → ℕ → Type 0) (items : List X) (r : Refusal) → InFiles kind Offends items r → r.kind ≡ kind

@@ -13,7 +13,7 @@ use Rattle.ios_config.specs.declared.settings.Config.{Config}
 use Rattle.ios_config.specs.Configs.{IsRefused}
 use Rattle.net_build.specs.Networks.{IsFaulty, IsFirstRefusalWithin}
 use Rattle.net_build.specs.Order.{Try, Hostname, Protocol, TwoAreas, SameAs, LinkFace, DownLinks, NeighborUnknown, NetworkNotConnected, Overlap, LinkSubnets, ListStopsSession, AdjacencyForm, Interfaces, Entries, Endpoint, RefusesWithin, IsFirstOf, tries}
-use Rattle.net_rows.specs.Reasons.{InFiles, InDocument}
+use Rattle.net_rules.specs.Reasons.{InFiles, InDocument}
 
 -- whether a kind speaks of how a file was read
 abbrev says_reading : Kind → Bool

@@ -15,7 +15,7 @@ use Rattle.ios_config.specs.declared.settings.Given.{Given}
 use Rattle.ios_config.specs.declared.settings.ProcessText.{ProcessText}
 use Rattle.ios_config.specs.Texts.{given, face_text, face_by, process_by}
 use Rattle.ios_config.specs.Values.{Says, given_at, last_setting, hostname, mask_length, bandwidth, ospf_cost, inbound, outbound}
-use Rattle.net_rows.specs.Forms.{IsWellFormedFace, BindsName}
+use Rattle.net_rules.specs.Forms.{IsWellFormedFace, BindsName}
 use Rattle.arc_base.proofs.Items.{Contains-cases, Contains-none}
 
 -- names that pass their tests have their forms

@@ -3,7 +3,7 @@ use Rattle.std.proofs.Common.{inl, inr, List, [], ◌∷◌, ◌++◌, Result, O
 use Rattle.net_doc.specs.declared.fault.Refusal.{Refusal}
 use Rattle.net_doc.specs.declared.fault.NetFault.{NetFault}
 use Rattle.net_doc.specs.declared.fault.NetFault.TheVariants.{Refused, Memory}
-use Rattle.net_rows.specs.Reasons.{IsClear, Tried}
+use Rattle.net_rules.specs.Reasons.{IsClear, Tried}
 use Rattle.net_build.specs.Order.{Try, IsFirstOf, AreClear, Answers}
 
 module _ (Makes : Try → Refusal → Type 0) where

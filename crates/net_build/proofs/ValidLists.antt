@@ -15,15 +15,15 @@ use Rattle.ios_words.specs.declared.commands.Command.{Command}
 use Rattle.ios_words.specs.declared.commands.Command.TheVariants as commands
 use Rattle.ios_config.specs.declared.settings.Given.{Given}
 use Rattle.ios_config.specs.declared.settings.Config.{Config}
-use Rattle.net_rows.specs.Forms.{IsWellFormed, IsWellFormedFace, BindsName}
-use Rattle.net_rows.specs.Settings.{lines_of, value}
-use Rattle.net_rows.specs.Neighbors.{says_filter}
-use Rattle.net_rows.specs.Lists.{IsBoundPacketList, IsBoundRouteList, IsListName, IsPacketListRow, IsRouteListRow}
-use Rattle.net_rows.specs.Rows.{IsRouterRow}
-use Rattle.net_rows.proofs.Distinct.{Contains-at}
+use Rattle.net_rules.specs.Forms.{IsWellFormed, IsWellFormedFace, BindsName}
+use Rattle.net_rules.specs.Settings.{lines_of, value}
+use Rattle.net_rules.specs.Neighbors.{says_filter}
+use Rattle.net_rules.specs.Lists.{IsBoundPacketList, IsBoundRouteList, IsListName, IsPacketListRow, IsRouteListRow}
+use Rattle.net_rules.specs.Rows.{IsRouterRow}
+use Rattle.net_rules.proofs.Distinct.{Contains-at}
 use Rattle.net_build.proofs.ValidRows.{AreKnown}
 use Rattle.arc_base.proofs.Zips.{AllZip-right}
-use Rattle.net_rows.proofs.ListKeys.{names_differ}
+use Rattle.net_rules.proofs.ListKeys.{names_differ}
 
 -- a name that an interface of a well formed file binds has its form
 name_of : (o : Option (Given (List ℕ))) (name : List ℕ) → IfSome o (λ g. IsName g.value) → value o ≡ Some name → IsName name

@@ -13,12 +13,12 @@ use Rattle.net_model.specs.Validity.{IsValid, AreLinked, AreApart}
 use Rattle.arc_base.specs.NameForms.{IsName}
 use Rattle.ios_config.specs.declared.settings.Config.{Config}
 use Rattle.ios_config.specs.declared.settings.Setting.{Setting}
-use Rattle.net_rows.specs.Forms.{IsWellFormed}
-use Rattle.net_rows.specs.Sites.{host_name, full_names}
-use Rattle.net_rows.specs.Rows.{IsRouterRow, IsLinkRow, AreRows}
-use Rattle.net_rows.proofs.Distinct.{Contains-at}
-use Rattle.net_rows.proofs.Named.{IsNamed}
-use Rattle.net_rows.proofs.LinksApart.{links_apart}
+use Rattle.net_rules.specs.Forms.{IsWellFormed}
+use Rattle.net_rules.specs.Sites.{host_name, full_names}
+use Rattle.net_rules.specs.Rows.{IsRouterRow, IsLinkRow, AreRows}
+use Rattle.net_rules.proofs.Distinct.{Contains-at}
+use Rattle.net_rules.proofs.Named.{IsNamed}
+use Rattle.net_rules.proofs.LinksApart.{links_apart}
 use Rattle.net_build.proofs.ValidRows.{AreKnown, valid_face, valid_link, few_faces, faces_named_apart}
 use Rattle.net_build.proofs.ValidLists.{packet_lists, route_lists, packet_lists_apart, route_lists_apart}
 use Rattle.net_build.proofs.ValidSessions.{sessions_valid, sessions_apart, fits_protocol}

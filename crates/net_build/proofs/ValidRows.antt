@@ -20,19 +20,19 @@ use Rattle.ios_words.specs.declared.commands.Command.{Command}
 use Rattle.ios_config.specs.declared.settings.Given.{Given}
 use Rattle.ios_config.specs.declared.settings.Config.{Config}
 use Rattle.ios_config.specs.declared.settings.FaceText.{FaceText}
-use Rattle.net_rows.specs.Forms.{IsWellFormed, IsWellFormedFace}
+use Rattle.net_rules.specs.Forms.{IsWellFormed, IsWellFormedFace}
 use Rattle.arc_base.specs.Lists.{AreDistinct}
-use Rattle.net_rows.specs.Settings.{lines_of, address_of, value, cost_of, cost_at, reference_of, bandwidth_of}
-use Rattle.net_rows.specs.Sites.{Site, FullName, sites, full_name, full_names, host_name, a_end, b_end, two_ends, ends_of}
-use Rattle.net_rows.specs.Lists.{packet_list_key, IsPlaceAmong}
-use Rattle.net_rows.specs.Rows.{IsFaceRow, IsLinkRow, IsSubnet, host_address_of, host_len, is_host_route, IsEnd, AreBaseRows, IsRouterRow}
-use Rattle.net_rows.specs.Linking.{RefusesLinkFace}
-use Rattle.net_rows.specs.Reasons.{IsClear}
-use Rattle.net_rows.proofs.Distinct.{Contains-at, item_at}
+use Rattle.net_rules.specs.Settings.{lines_of, address_of, value, cost_of, cost_at, reference_of, bandwidth_of}
+use Rattle.net_rules.specs.Sites.{Site, FullName, sites, full_name, full_names, host_name, a_end, b_end, two_ends, ends_of}
+use Rattle.net_rules.specs.Lists.{packet_list_key, IsPlaceAmong}
+use Rattle.net_rules.specs.Rows.{IsFaceRow, IsLinkRow, IsSubnet, host_address_of, host_len, is_host_route, IsEnd, AreBaseRows, IsRouterRow}
+use Rattle.net_rules.specs.Linking.{RefusesLinkFace}
+use Rattle.net_rules.specs.Reasons.{IsClear}
+use Rattle.net_rules.proofs.Distinct.{Contains-at, item_at}
 use Rattle.net_build.proofs.FewFaces.{counts, few_sites, sum_zip}
 use Rattle.arc_base.proofs.Items.{Contains-head, Contains-tail, Contains-piece}
-use Rattle.net_rows.proofs.LinksApart.{joins_free, one_name}
-use Rattle.net_rows.proofs.SiteFacts.{site_of, name_at_site, same_router, same_site, well_formed_at}
+use Rattle.net_rules.proofs.LinksApart.{joins_free, one_name}
+use Rattle.net_rules.proofs.SiteFacts.{site_of, name_at_site, same_router, same_site, well_formed_at}
 use Rattle.arc_base.proofs.Zips.{AllZip-left, AllZip-right, AllZip-length}
 
 -- what is known of the rows of the network once the links are tried

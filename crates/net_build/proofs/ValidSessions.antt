@@ -18,15 +18,15 @@ use Rattle.net_model.specs.declared.rows.Network.{Network}
 use Rattle.net_model.specs.Routing.{tail_end, head_end}
 use Rattle.net_model.specs.Validity.{IsValidSession, AreSessionsApart, AreLinksApart, AreLinked, AreApart, EndsAt, IsPlace, FitsProtocol}
 use Rattle.ios_config.specs.declared.settings.Config.{Config}
-use Rattle.net_rows.specs.Settings.{lines_of, address_of, is_passive}
-use Rattle.net_rows.specs.Neighbors.{filter_of}
-use Rattle.net_rows.specs.Sites.{Site, sites}
-use Rattle.net_rows.specs.Lists.{route_list_key, IsPlaceAmong}
-use Rattle.net_rows.specs.Ordered.{IsPairBefore}
-use Rattle.net_rows.specs.Rows.{IsSubnet, IsSessionOf, IsSession, AreSessions}
-use Rattle.net_rows.proofs.Distinct.{Contains-at}
+use Rattle.net_rules.specs.Settings.{lines_of, address_of, is_passive}
+use Rattle.net_rules.specs.Neighbors.{filter_of}
+use Rattle.net_rules.specs.Sites.{Site, sites}
+use Rattle.net_rules.specs.Lists.{route_list_key, IsPlaceAmong}
+use Rattle.net_rules.specs.Ordered.{IsPairBefore}
+use Rattle.net_rules.specs.Rows.{IsSubnet, IsSessionOf, IsSession, AreSessions}
+use Rattle.net_rules.proofs.Distinct.{Contains-at}
 use Rattle.net_build.proofs.ValidRows.{AreKnown, site_at}
-use Rattle.net_rows.proofs.LinksApart.{links_apart}
+use Rattle.net_rules.proofs.LinksApart.{links_apart}
 use Rattle.arc_base.proofs.Zips.{AllZip-right, AllZip-length}
 
 -- an end of a link at either side

@@ -22,7 +22,7 @@ use Rattle.ios_config.specs.Texts.{given, face_text, face_by, face_of, process_b
 use Rattle.ios_config.specs.Texts as texts
 use Rattle.ios_config.specs.Twice.{StandOnce}
 use Rattle.ios_config.specs.Values.{last_setting, hostname}
-use Rattle.net_rows.specs.Forms.{IsWellFormedFace, BindsName, IsWellFormed}
+use Rattle.net_rules.specs.Forms.{IsWellFormedFace, BindsName, IsWellFormed}
 use Rattle.ios_config.proofs.PartLists.{distinct_fresh}
 use Rattle.arc_base.proofs.Items.{from_filter, from_map, from_piece, Contains-none}
 use Rattle.arc_base.proofs.Zips.{AllZip-left}

@@ -6,8 +6,8 @@ use Rattle.ios_words.specs.declared.commands.Command.{Command}
 use Rattle.ios_words.specs.declared.commands.Command.TheVariants as commands
 use Rattle.ios_config.specs.declared.settings.Given.{Given}
 use Rattle.net_model.specs.declared.rows.Protocol.TheVariants.{Ospf}
-use Rattle.net_rows.specs.Settings.{last_said, is_passive}
-use Rattle.net_rows.specs.Neighbors.{is_down, filter_of}
+use Rattle.net_rules.specs.Settings.{last_said, is_passive}
+use Rattle.net_rules.specs.Neighbors.{is_down, filter_of}
 
 -- the line that gives a command
 abbrev pub line_of : ℕ → Command → Given Command

@@ -17,7 +17,7 @@ use Rattle.ios_config.specs.Configs.{IsConfigOf, IsRefused}
 use Rattle.net_build.specs.declared.built.Built.{Built}
 use Rattle.net_build.specs.declared.files.ReadFile.{ReadFile}
 use Rattle.net_build.specs.declared.files.ReadFiles.{ReadFiles}
-use Rattle.net_rows.specs.Rows.{AreRows}
+use Rattle.net_rules.specs.Rows.{AreRows}
 use Rattle.net_build.specs.Order.{tries, RefusesWithin, IsFirstOf, AreClear, Answers}
 use Rattle.net_build.specs.Places.{places_of}
 
@@ -84,7 +84,7 @@ Assembles down most_entries doc configs result =
 
 -- The network of the document and the texts of its router files: these have settings, the network
 -- has their rows, and no try refuses them, where the links of these numbers are to be down and no
--- list may have more than so many entries.
+-- list may have more than `most_entries` entries.
 pub record IsNetworkWithin (down : List ℕ) (most_entries : ℕ) (doc : Document)
     (files : List (List ℕ)) (net : Network) : Type 0 where
   pub configs : List Config
@@ -112,8 +112,7 @@ abbrev pub IsFirstRefusalWithin : List ℕ → ℕ → Document → List (List �
 IsFirstRefusalWithin down most_entries doc files r =
     IsFirstFaulty files r ⊎ IsTriedWithin down most_entries doc files r
 
--- the answer is the network, or the first reason why there is none; want of memory may come in
--- place of either
+-- the answer is the network, or the first reason why there is none, or out of memory
 abbrev pub BuildsWithin : List ℕ → ℕ → Document → List (List ℕ) → Result Built NetFault → Type 0
 BuildsWithin down most_entries doc files (Ok built) =
     IsBuiltWithin down most_entries doc files built
@@ -128,9 +127,8 @@ FindsWithin down most_entries doc files (Err (Refused r)) =
     IsFirstRefusalWithin down most_entries doc files r
 FindsWithin down most_entries doc files (Err Memory) = Unit {0}
 
--- Where nothing else is asked for, no link is to be down, and a list has at most ENTRY_LIMIT
--- entries:
--- the network,
+-- With no other conditions, no link is to be down, and a list has at most ENTRY_LIMIT entries: the
+-- network,
 abbrev pub IsNetworkOf : Document → List (List ℕ) → Network → Type 0
 IsNetworkOf doc files net = IsNetworkWithin [] ENTRY_LIMIT doc files net
 

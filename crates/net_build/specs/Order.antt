@@ -6,15 +6,15 @@ use Rattle.net_doc.specs.declared.fault.NetFault.{NetFault}
 use Rattle.net_doc.specs.declared.fault.NetFault.TheVariants.{Refused, Memory}
 use Rattle.net_model.specs.declared.policies.Document.{Document}
 use Rattle.ios_config.specs.declared.settings.Config.{Config}
-use Rattle.net_rows.specs.Reasons.{IsClear, IsFirst}
-use Rattle.net_rows.specs.Routers.{RefusesHostname, RefusesProtocol, RefusesTwoAreas}
-use Rattle.net_rows.specs.Routers.{RefusesSameAs}
-use Rattle.net_rows.specs.Linking.{RefusesLinkFace, RefusesDownLinks, RefusesLinkSubnets}
-use Rattle.net_rows.specs.Linking.{RefusesAdjacencyForm}
-use Rattle.net_rows.specs.Peers.{RefusesNeighbor, RefusesNetwork}
-use Rattle.net_rows.specs.Addressing.{RefusesOverlap, RefusesEndpoint}
-use Rattle.net_rows.specs.Stops.{RefusesListStopsSession}
-use Rattle.net_rows.specs.Limits.{RefusesInterfaces, RefusesEntries}
+use Rattle.net_rules.specs.Reasons.{IsClear, IsFirst}
+use Rattle.net_rules.specs.Routers.{RefusesHostname, RefusesProtocol, RefusesTwoAreas}
+use Rattle.net_rules.specs.Routers.{RefusesSameAs}
+use Rattle.net_rules.specs.Linking.{RefusesLinkFace, RefusesDownLinks, RefusesLinkSubnets}
+use Rattle.net_rules.specs.Linking.{RefusesAdjacencyForm}
+use Rattle.net_rules.specs.Peers.{RefusesNeighbor, RefusesNetwork}
+use Rattle.net_rules.specs.Addressing.{RefusesOverlap, RefusesEndpoint}
+use Rattle.net_rules.specs.Stops.{RefusesListStopsSession}
+use Rattle.net_rules.specs.Limits.{RefusesInterfaces, RefusesEntries}
 
 -- a try: one reason to refuse the network
 pub data Try : Type 0 where
@@ -53,7 +53,7 @@ abbrev pub tries : List Try
 tries = router_tries ++ (link_tries ++ network_tries)
 
 -- the refusals that a try makes, where the links of these numbers are to be down and no list may
--- have more than so many entries
+-- have more than `most_entries` entries
 abbrev pub RefusesWithin : List ℕ → ℕ → Document → List Config → Try → Refusal → Type 0
 RefusesWithin down most_entries doc configs Hostname = RefusesHostname configs
 RefusesWithin down most_entries doc configs Protocol = RefusesProtocol configs
@@ -71,8 +71,7 @@ RefusesWithin down most_entries doc configs Interfaces = RefusesInterfaces confi
 RefusesWithin down most_entries doc configs Entries = RefusesEntries most_entries configs
 RefusesWithin down most_entries doc configs Endpoint = RefusesEndpoint doc configs
 
--- where nothing else is asked for, no link is to be down, and a list has at most ENTRY_LIMIT
--- entries
+-- with no other conditions, no link is to be down, and a list has at most ENTRY_LIMIT entries
 abbrev pub Refuses : Document → List Config → Try → Refusal → Type 0
 Refuses doc configs = RefusesWithin [] ENTRY_LIMIT doc configs
 
@@ -87,7 +86,7 @@ AreClear Makes [] = Unit {0}
 AreClear Makes (t ∷ ts) = IsClear (Makes t) × AreClear Makes ts
 
 -- the answer of some tries: none refuses anything and the value is right, or it is the first
--- refusal; want of memory may come in place of either
+-- refusal, or out of memory
 abbrev pub Answers : {X : Type 0} → (Try → Refusal → Type 0) → List Try → (X → Type 0) →
     Result X NetFault → Type 0
 Answers Makes ts IsRight (Ok value) = AreClear Makes ts × IsRight value

@@ -6,7 +6,7 @@ use Rattle.ios_config.specs.declared.settings.ListText.{ListText}
 use Rattle.net_build.specs.declared.built.Places.{Places}
 use Rattle.net_build.specs.declared.built.FacePlace.{FacePlace}
 use Rattle.net_build.specs.declared.built.ListPlace.{ListPlace}
-use Rattle.net_rows.specs.Settings.{process_of}
+use Rattle.net_rules.specs.Settings.{process_of}
 
 -- where an interface block begins and where its last command is
 abbrev pub face_place : FaceText → FacePlace

@@ -3,39 +3,37 @@ ghost use Rattle.std.specs.Prelude.{◌≡◌, ◌≤◌, ℕ, List, All, IfOk, 
 ghost use Rattle.std.specs.List.{AllZip};
 ghost use Rattle.net_model.specs.declared.policies.Document.{Document};
 ghost use Rattle.net_model.specs.Validity.{IsValid};
-ghost use Rattle.net_rows.specs.Sites.{sites, full_names, ends_of};
-ghost use Rattle.net_rows.specs.Names.{names_at};
+ghost use Rattle.net_rules.specs.Sites.{sites, full_names, ends_of};
+ghost use Rattle.net_rules.specs.Names.{names_at};
 ghost use Rattle.arc_base.specs.Lists.{AreDistinct};
-ghost use Rattle.net_rows.specs.Lists.{ArePacketLists, AreRouteLists, packet_list_key};
-ghost use Rattle.net_rows.specs.Lists.{route_list_key};
-ghost use Rattle.net_rows.specs.Rows.{IsFaceRow, IsLinkRow, AreBaseRows, AreRows, AreSessions};
-ghost use Rattle.net_rows.specs.Reasons.{IsClear};
-ghost use Rattle.net_rows.specs.Routers.{RefusesHostname};
-ghost use Rattle.net_rows.specs.Linking.{RefusesLinkFace};
-ghost use Rattle.net_rows.specs.Addressing.{HasEndpoints};
+ghost use Rattle.net_rules.specs.Lists.{ArePacketLists, AreRouteLists, packet_list_key};
+ghost use Rattle.net_rules.specs.Lists.{route_list_key};
+ghost use Rattle.net_rules.specs.Rows.{IsFaceRow, IsLinkRow, AreBaseRows, AreRows, AreSessions};
+ghost use Rattle.net_rules.specs.Reasons.{IsClear};
+ghost use Rattle.net_rules.specs.Routers.{RefusesHostname};
+ghost use Rattle.net_rules.specs.Linking.{RefusesLinkFace};
+ghost use Rattle.net_rules.specs.Addressing.{HasEndpoints};
 ghost use Rattle.net_build.specs.Order.{RefusesWithin, Answers, router_tries, link_tries};
 ghost use Rattle.net_build.specs.Order.{network_tries};
-ghost use Rattle.net_rows.specs.Forms.{IsWellFormed};
+ghost use Rattle.net_rules.specs.Forms.{IsWellFormed};
 ghost use Rattle.net_build.specs.Networks.{Assembles};
 
-use address_checks::{try_endpoints, try_overlap, try_subnets};
 use arc_base::limits::{LINK_LIMIT, POLICY_LIMIT, ROUTER_LIMIT};
 use arc_base::{List, Memory};
 use indexmap::IndexSet;
-use interface_rows::{
-    Surroundings, face_rows, index_packet_lists, index_route_lists, session_rows, try_down_links,
-    try_links,
-};
 use ios_config::Config;
-use list_rows::{packet_lists, route_lists, router_rows};
+use net_checks::{
+    try_adjacency, try_areas, try_as_numbers, try_endpoints, try_entries, try_hostnames,
+    try_interfaces, try_lists, try_neighbors, try_networks, try_overlap, try_processes,
+    try_subnets,
+};
 use net_doc::NetFault;
 use net_model::{Document, FaceRow, LinkRow, Network, PacketList, Protocol, SessionRow};
-use net_rows::{FullName, index_names, protocol_of};
-use router_checks::{
-    try_adjacency, try_areas, try_as_numbers, try_entries, try_hostnames, try_interfaces,
-    try_processes,
+use net_rules::{FullName, index_names, protocol_of};
+use row_making::{
+    Surroundings, face_rows, index_packet_lists, index_route_lists, packet_lists, route_lists,
+    router_rows, session_rows, try_down_links, try_links,
 };
-use session_checks::{try_lists, try_neighbors, try_networks};
 use std::alloc::Global;
 
 /// Checks what is asked of routers by themselves.
@@ -118,7 +116,7 @@ fn rows(
     })
 }
 
-/// The network, once the routers are tried: or the first refusal of the links and of what stands on
+/// The network, once the routers are tried: or the first refusal of the links and of what is on
 /// them.
 fn joined(
     alloc: Global,

@@ -7,7 +7,7 @@ use arc_base::{Kind, List, Name};
 use ios_config::{Config, ConfigFault, config};
 use ios_lines::{LineFault, Lines, cut};
 use net_doc::NetFault;
-use net_rows::in_file;
+use net_rules::in_file;
 use std::alloc::Global;
 
 /// A router file with its lines.
@@ -43,7 +43,7 @@ fn read_file(alloc: Global, place: usize, text: &[u8]) -> Result<ReadFile, NetFa
     }
 }
 
-/// Reads all router files, or tells the first that is none.
+/// Reads all router files, or names the first that is none.
 pub fn read_files(alloc: Global, files: &List<Name>) -> Result<ReadFiles, NetFault>
     requires few { All (λ text. length text < 2 ^ 32) files.now }
     requires count { length files.now ≤ ROUTER_LIMIT }
@@ -59,8 +59,8 @@ pub fn read_files(alloc: Global, files: &List<Name>) -> Result<ReadFiles, NetFau
     Ok(ReadFiles { lines, configs })
 }
 
-/// Reads the settings of all router files, or tells the first that is none. Each file's lines are
-/// given back before the next file is read.
+/// Reads the settings of all router files, or names the first that has none. Each file's lines are
+/// dropped before the next file is read.
 pub fn read_configs(alloc: Global, files: &List<Name>) -> Result<List<Config>, NetFault>
     requires few { All (λ text. length text < 2 ^ 32) files.now }
     requires count { length files.now ≤ ROUTER_LIMIT }

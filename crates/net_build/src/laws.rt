@@ -36,8 +36,8 @@ pub fn refusals_are_of_what_files_say()
         (r : Refusal) → IsFirstRefusalWithin down most doc files r → r.kind ≡ kinds.TooLong → ⊥ }
 {}
 
-/// What is asked for besides does not change the network: where a list may have fewer entries, or
-/// links are to be down, and nothing is refused, the network is that of the document and its files.
+/// Extra checks do not change the network: if a list may have fewer entries, or links are to be
+/// down, and nothing is refused, the network is that of the document and its files.
 pub fn asking_more_changes_no_network()
     ensures network { (down : List ℕ) (most : ℕ) (doc : Document) (files : List (List ℕ))
         (net : Network) → most ≤ ENTRY_LIMIT →
@@ -47,9 +47,8 @@ pub fn asking_more_changes_no_network()
         IsBuiltWithin down most doc files built → IsBuilt doc files built }
 {}
 
-/// What the last line of a process says counts: an interface is passive, a neighbour shut down or
-/// its list bound as the last line says that speaks of it, and a line more changes nothing that it
-/// does not speak of.
+/// The last line of a process counts: an interface is passive, a neighbour shut down or its list
+/// bound as the last line about it says, and one line more changes nothing else.
 pub fn the_last_line_counts()
     ensures passive { APassiveLineCounts }
     ensures neighbor { ANeighborLineCounts }

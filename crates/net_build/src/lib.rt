@@ -1,7 +1,7 @@
-//! The network that a document and its router files stand for, or the first reason why there is
-//! none. Each file is read by itself. Then the rows are made and the reasons to refuse them are
-//! tried, in one order, by the crates below: `list_rows` and `interface_rows`, `router_checks`,
-//! `session_checks` and `address_checks`, all over the definitions of `net_rows`.
+//! The network of a document and its router files, or the first reason why there is none. Each file
+//! is read by itself. Then the rows are made and the reasons to refuse them are tried, in one
+//! order, by the crates below: `row_making` and `net_checks`, both over the definitions of
+//! `net_rules`.
 #![tactic(auto)]
 
 mod assembly;

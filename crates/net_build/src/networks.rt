@@ -3,7 +3,7 @@ ghost use Rattle.std.specs.Prelude.{◌≡◌, ◌≤◌, ◌^◌, ◌<◌, None
 ghost use Rattle.net_model.specs.Validity.{IsValid};
 ghost use Rattle.net_model.specs.Packets.{subject};
 ghost use Rattle.net_model.specs.Forwarding.{HasEnds};
-ghost use Rattle.net_rows.specs.Linking.{first_above};
+ghost use Rattle.net_rules.specs.Linking.{first_above};
 ghost use Rattle.net_build.specs.Networks.{Builds, BuildsWithin, FindsWithin};
 
 use crate::assembly::assemble;
@@ -16,9 +16,9 @@ use net_doc::NetFault;
 use net_model::{Document, Network};
 use std::alloc::Global;
 
-/// The network of the document and of the texts of its router files, which stand in the document's
-/// order, or the first refusal: `network_within` with no link down, and at most `ENTRY_LIMIT`
-/// entries in a list.
+/// The network of the document and of the texts of its router files, in the document's order, or
+/// the first refusal: `network_within` with no link down, and at most `ENTRY_LIMIT` entries in a
+/// list.
 pub fn network(alloc: Global, doc: &Document, files: &List<Name>) -> Result<Built, NetFault>
     requires count { length files.now ≡ length doc.now.routers }
     requires few { All (λ text. length text < 2 ^ 32) files.now }
@@ -33,12 +33,12 @@ pub fn network(alloc: Global, doc: &Document, files: &List<Name>) -> Result<Buil
     network_within(alloc, doc, files, &[], ENTRY_LIMIT)
 }
 
-/// The network of the document and of the texts of its router files, which stand in the document's
-/// order, or the first refusal. First each file is read by itself, one after another. Then what
-/// they say together is tried, one reason after another. Links that are to be down are given by
-/// their numbers in the document, counted from 1: that each of them is a link's is tried right
-/// after the links, and the network is the same with them up. No list may have more than so many
-/// entries. Want of memory may come in place of either.
+/// The network of the document and of the texts of its router files, in the document's order, or
+/// the first refusal. First each file is read by itself, one after another. Then what they say
+/// together is tried, one reason after another. Links that are to be down are given by their
+/// numbers in the document, counted from 1: that each of them is a link's is tried right after the
+/// links, and the network is the one with them up. No list may have more than `most_entries`
+/// entries.
 pub fn network_within(
     alloc: Global,
     doc: &Document,

@@ -1,12 +1,12 @@
 //! Where each router file says what the network is made of.
 ghost use Rattle.std.specs.Prelude.{◌≡◌, IfOk, map, unwrap_or, option_map};
-ghost use Rattle.net_rows.specs.Settings.{process_of};
+ghost use Rattle.net_rules.specs.Settings.{process_of};
 ghost use Rattle.net_build.specs.Places.{face_place, list_place, places_of};
 
 use crate::built::{FacePlace, ListPlace, Places};
 use arc_base::{List, Memory, Name};
 use ios_config::{Config, FaceText, ListText};
-use net_rows::process_of;
+use net_rules::process_of;
 use std::alloc::Global;
 
 fn face_places(alloc: Global, faces: &List<FaceText>) -> Result<List<FacePlace>, Memory>

@@ -67,7 +67,7 @@ router_of d = do
   name ← as_str d
   where_true (nat_le 1 (length name) && nat_le (length name) FILE_NAME_LIMIT) name
 
--- no text stands twice
+-- no text occurs twice
 abbrev pub are_different : List (List ℕ) → Bool
 are_different [] = true
 are_different (name ∷ names) = not (list_any (bytes_eq name) names) && are_different names
@@ -187,13 +187,13 @@ over what limit number count =
     if nat_lt limit count
     then Some (record { file = 0; number = number; kind = Limit what count }) else None
 
--- a policy speaks of at most FAILURE_LIMIT failures
+-- a policy allows at most FAILURE_LIMIT failures
 abbrev pub failures_refusal : ℕ → PolicyKind → Option Refusal
 failures_refusal number Blocked = None
 failures_refusal number Through = None
 failures_refusal number (Reach failures) = over Failures FAILURE_LIMIT number failures
 
--- the first of the policies, counted from this number on, that speaks of more
+-- the first of the policies, counted from this number on, that allows more
 abbrev pub policies_refusal : ℕ → List Policy → Option Refusal
 policies_refusal number [] = None
 policies_refusal number (policy ∷ policies) =
@@ -220,7 +220,7 @@ limited (Some doc) = within_limits doc (limit_refusal doc)
 abbrev pub reading : List ℕ → Result Document Refusal
 reading bytes = limited (document_of bytes)
 
--- the answer is what reading the bytes gives; want of memory may come in place of it
+-- the answer is what reading the bytes gives, or out of memory
 abbrev pub ReadsDocument : List ℕ → Result Document NetFault → Type 0
 ReadsDocument bytes (Ok doc) = reading bytes ≡ Ok doc
 ReadsDocument bytes (Err (Refused refusal)) = reading bytes ≡ Err refusal
@@ -249,7 +249,7 @@ pub record IsWellFormed (doc : Document) : Type 0 where
   pub filter : IsWeight doc.weights.filter
   pub session : IsWeight doc.weights.session
 
--- a policy of version 1 speaks of all services
+-- a policy of version 1 is about all services
 abbrev pub OldPoliciesAreWhole : Type 0
 OldPoliciesAreWhole =
     (d : Data) (policy : Policy) → policy_of 1 d ≡ Some policy → policy.service ≡ whole_service

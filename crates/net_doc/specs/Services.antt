@@ -96,6 +96,6 @@ PortsHaveServices =
 abbrev pub AreOfOneProtocol : Service → Type 0
 AreOfOneProtocol s = ((s.low ≡ 0) × (s.high ≡ 16777215)) ⊎ (s.low / 65536 ≡ s.high / 65536)
 
--- a policy speaks of all services or of some of one protocol
+-- a policy is about all services or about some of one protocol
 abbrev pub PoliciesSpeakOfOneProtocol : Type 0
 PoliciesSpeakOfOneProtocol = (d : Data) → IfSome (services_of d) AreOfOneProtocol

@@ -1,5 +1,5 @@
-//! A document as it is written: a policy may speak of more failures than it may, and then the
-//! refusal tells how many.
+//! A document as it is written: a policy may allow more failures than the limit, and then the
+//! refusal says how many.
 use arc_base::{List, Name, Prefix};
 use net_model::{LinkText, Service, Weights};
 

@@ -18,7 +18,7 @@ pub fn refusals_are_of_form_or_limits()
         IsFormOrLimit refusal.kind }
 {}
 
-/// Which services policies of version 1 speak of.
+/// Which services policies of version 1 are about.
 pub fn old_policies_speak_of_all_services()
     ensures { OldPoliciesAreWhole }
 {}
@@ -33,7 +33,7 @@ pub fn ports_have_services()
     ensures { PortsHaveServices }
 {}
 
-/// A policy speaks of all services or of some of one protocol.
+/// A policy is about all services or about some of one protocol.
 pub fn policies_speak_of_one_protocol()
     ensures { PoliciesSpeakOfOneProtocol }
 {}

@@ -56,7 +56,7 @@ fn over(what: LimitKind, limit: u64, number: u32, count: u64) -> Option<Refusal>
     }
 }
 
-/// The first policy that speaks of too many failures.
+/// The first policy that allows too many failures.
 fn policies_refusal(policies: &[PolicyText]) -> Option<Refusal>
     requires { length policies.now ≤ POLICY_LIMIT }
     ensures { result ≡ policies_refusal 1 (map policy_meant policies.now) }

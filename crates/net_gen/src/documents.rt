@@ -95,7 +95,7 @@ fn policies(alloc: Global, routers: u32) -> Result<List<Policy>, Memory>
     Ok(policies)
 }
 
-/// The document of a network of so many routers.
+/// The document of a network of `routers` routers.
 pub fn document(alloc: Global, routers: u32) -> Result<Document, Memory>
     requires some { 1 ≤ routers }
     requires few { routers ≤ MOST_GENERATED }

@@ -29,7 +29,7 @@ fn router_texts(alloc: Global, routers: u32) -> Result<List<Name>, Memory>
     Ok(texts)
 }
 
-/// The network of so many routers. Its cost is that of its text.
+/// The network of `number` routers. Its cost is that of its text.
 pub fn generate(alloc: Global, number: u32) -> Result<Generated, Memory>
     requires some { FEWEST_GENERATED ≤ number }
     requires few { number ≤ MOST_GENERATED }

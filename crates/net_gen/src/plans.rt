@@ -5,7 +5,7 @@ ghost use Rattle.net_gen.specs.Plans.{link_count, next, a_router, b_router, has_
 
 use arc_base::limits::MOST_GENERATED;
 
-/// How many links join so many routers.
+/// How many links join `routers` routers.
 pub fn link_count(routers: u32) -> u32
     requires { routers ≤ MOST_GENERATED }
     ensures { result ≡ link_count routers }

@@ -14,7 +14,7 @@ use Rattle.net_model.specs.declared.rows.SessionRow.{SessionRow}
 use Rattle.net_model.specs.declared.rows.Network.{Network}
 use Rattle.net_model.specs.Decided.{is_able_end, is_open, is_told}
 use Rattle.net_model.specs.Lists.{route_permits}
-use Rattle.net_model.specs.Routing.{Arc, IsArc, IsRouted, IsUsable, Tells, IsAbleEnd, IsOpen, RouteListPermits, FilterPermits, Carries, session_at, tail_face, head_face, tail_end, head_end}
+use Rattle.net_model.specs.Routing.{Arc, IsArc, IsRouted, IsUsable, Advertises, IsAbleEnd, IsOpen, RouteListPermits, FilterPermits, Carries, session_at, tail_face, head_face, tail_end, head_end}
 use Rattle.net_model.proofs.Arcs.{one_item, IsArc-unique}
 use Rattle.net_model.proofs.Decided.{able_right, open_right, told_right}
 use Rattle.net_laws.proofs.Triples.{true_or_false}
@@ -74,7 +74,7 @@ carries net to near tail far head =
 
 pub routed : (net : Network) (to : Prefix) (arc : Arc) → Decided (IsRouted net to arc)
 routed net to arc =
-    elim (both (by_test (is_told net to) (Any (Tells to) net.faces) (told_right net to))
+    elim (both (by_test (is_told net to) (Any (Advertises to) net.faces) (told_right net to))
     (carries net to (session_at net (tail_face arc)) arc.tail (session_at net (head_face arc)) arc.head)) [
       | inl h ↦ inl (record { told = h.0; carries = h.1 })
       | inr n ↦ inr (λ h. n (h.told, h.carries))

@@ -15,7 +15,7 @@ use Rattle.net_model.specs.Packets.{IsOf}
 use Rattle.net_model.specs.declared.policies.PolicyKind.TheVariants.{Blocked}
 use Rattle.net_model.specs.Witnesses.{IsRightWalk}
 use Rattle.net_laws.proofs.RightWalks.{right_walks_unblock}
-use Rattle.net_model.specs.Routing.{Arc, IsArc, IsRouted, IsUsable, Offers, IsLeastOffer, Tells, cost, tail_router, head_router}
+use Rattle.net_model.specs.Routing.{Arc, IsArc, IsRouted, IsUsable, Offers, IsLeastOffer, Advertises, cost, tail_router, head_router}
 use Rattle.net_model.specs.Forwarding.{AreEnds, Attains, ListPermits, Walk}
 use Rattle.net_model.proofs.Arcs.{IsArc-unique}
 use Rattle.net_laws.specs.Examples.{users_1}
@@ -42,7 +42,7 @@ is_arc (suc (suc zero)) false = record { link = refl; tail = refl; head = refl }
 is_arc (suc (suc (suc k))) true = record { link = refl; tail = refl; head = refl }
 is_arc (suc (suc (suc k))) false = record { link = refl; tail = refl; head = refl }
 
-told : Any (Tells users_4) square.faces
+told : Any (Advertises users_4) square.faces
 told = (9, owner_4, omega arith, refl, record { host = refl; told = refl; up = refl })
 
 routed : (k : ℕ) → IsRouted square users_4 (arc k true)

@@ -3,7 +3,7 @@ use Rattle.std.proofs.Common.{◌≡◌, ℕ, zero, suc, ◌<◌, ◌≤◌, ◌
 use Rattle.std.specs.Prelude.{Any, MatchOption, slice_get, unwrap_or, is_some}
 use Rattle.std.proofs.lemmas.Bool.{false≢true}
 use Rattle.net_model.specs.declared.rows.FaceRow.{FaceRow}
-use Rattle.net_model.specs.Routing.{Arc, IsArc, IsRouted, Offers, Tells}
+use Rattle.net_model.specs.Routing.{Arc, IsArc, IsRouted, Offers, Advertises}
 use Rattle.net_laws.specs.Examples.{two_routers, users_2, end_1, owner_2, end_2, BothWaysRouted, distances, DistancesAreStable}
 
 unfoldable pub forth : Arc
@@ -12,7 +12,7 @@ forth = record { link = 0; from_a = true; row = record { a = record { 0 = 1 }; b
 back : Arc
 back = record { link = 0; from_a = false; row = record { a = record { 0 = 1 }; b = record { 0 = 3 }; waypoint = false }; tail = end_2; head = end_1 }
 
-told : Any (Tells users_2) two_routers.faces
+told : Any (Advertises users_2) two_routers.faces
 told = (2, owner_2, omega arith, refl, record { host = refl; told = refl; up = refl })
 
 pub is_forth : IsArc two_routers forth

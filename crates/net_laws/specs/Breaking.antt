@@ -1,4 +1,4 @@
--- What one failure set breaks. A policy holds exactly where none that it speaks of breaks it, and
+-- What one failure set breaks. A policy holds exactly if none that it allows for breaks it, and
 -- each no shows one that does.
 use Rattle.std.specs.Prelude.{◌≤◌, ◌↔◌, false, IsTrue, List}
 use Rattle.net_model.specs.declared.lists.Packet.{Packet}
@@ -47,14 +47,14 @@ HoldsUnder net ends class Blocked failed = BlockedUnder net ends class failed
 HoldsUnder net ends class Through failed = ThroughUnder net ends class failed
 HoldsUnder net ends class (Reach k) failed = ReachesUnder net ends class failed
 
--- a kind of policy speaks of the failure set: blocked and through of every one, and reach of one
+-- a kind of policy allows for the failure set: blocked and through for every one, and reach for one
 -- with no more links than may fail
 abbrev pub SpeaksOf : Network → PolicyKind → FailureSet → Type 0
 SpeaksOf net Blocked failed = Unit {0}
 SpeaksOf net Through failed = Unit {0}
 SpeaksOf net (Reach k) failed = failures net failed ≤ k
 
--- the failure set breaks what the kind asks of the class: the kind speaks of it, and under it this
+-- the failure set breaks what the kind asks of the class: the kind allows for it, and under it this
 -- does not hold
 pub record BreaksAs (net : Network) (ends : Ends) (class : Class) (kind : PolicyKind)
     (failed : FailureSet) : Type 0 where
@@ -68,7 +68,7 @@ pub record Breaks (net : Network) (policy : Policy) (failed : FailureSet) : Type
   pub are_ends : AreEnds net (subject policy) ends
   pub breaks : BreaksAs net ends (subject policy) policy.kind failed
 
--- what a kind asks holds exactly where it holds under each failure set that the kind speaks of
+-- what a kind asks holds exactly if it holds under each failure set that the kind allows for
 abbrev pub HoldsUnderEach : Network → Type 0
 HoldsUnderEach net =
     (ends : Ends) (class : Class) (kind : PolicyKind) →

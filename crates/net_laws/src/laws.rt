@@ -55,7 +55,7 @@ pub fn verdicts_are_right()
     ensures decide { (net : Network) → IsValid net → RightVerdictsDecide net }
 {}
 
-/// What a policy asks holds exactly where it holds under each failure set that it speaks of. In a
+/// What a policy asks holds exactly if it holds under each failure set that it allows for. In a
 /// valid network each right no shows a failure set that breaks its policy: a walk every link but
 /// its own, a cut its links, and a denial no link.
 pub fn nos_show_what_breaks()

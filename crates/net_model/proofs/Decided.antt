@@ -14,7 +14,7 @@ use Rattle.net_model.specs.declared.rows.Protocol.{Protocol}
 use Rattle.net_model.specs.declared.rows.Protocol.TheVariants.{Ospf, Bgp}
 use Rattle.net_model.specs.declared.rows.Network.{Network}
 use Rattle.net_model.specs.Decided.{names, takes_part, is_able_end, is_open, tells, is_told}
-use Rattle.net_model.specs.Routing.{Names, TakesPart, IsAbleEnd, IsOpen, Tells}
+use Rattle.net_model.specs.Routing.{Names, TakesPart, IsAbleEnd, IsOpen, Advertises}
 
 both_right : (a b : Bool) (P Q : Type 0) → ((a ≡ true) ↔ P) → ((b ≡ true) ↔ Q) → ((a && b) ≡ true) ↔ (P × Q)
 both_right a b P Q p q = (λ h. let r = and_parts a b h in (p.0 r.0, q.0 r.1), λ h. and_from a b (p.1 h.0) (q.1 h.1))
@@ -74,7 +74,7 @@ host_right to (Some host) =
       λ e. let same : host ≡ to = same_Some host to e in both.1 (ap (λ (p : Prefix). p.addr) same, ap (λ (p : Prefix). p.len) same),
     )
 
-tells_right : (to : Prefix) (face : FaceRow) → (tells to face ≡ true) ↔ Tells to face
+tells_right : (to : Prefix) (face : FaceRow) → (tells to face ≡ true) ↔ Advertises to face
 tells_right to face =
     let host = option_map_or (λ (h : Prefix). h.addr == to.addr && h.len == to.len) face.host false in
     let both = both_right (host && face.told) face.up ((face.host ≡ Some to) × (face.told ≡ true)) (face.up ≡ true)
@@ -83,7 +83,7 @@ tells_right to face =
       λ h. both.1 ((h.host, h.told), h.up),
     )
 
-pub told_right : (net : Network) (to : Prefix) → (is_told net to ≡ true) ↔ Any (Tells to) net.faces
+pub told_right : (net : Network) (to : Prefix) → (is_told net to ≡ true) ↔ Any (Advertises to) net.faces
 told_right net to = (
   λ h. let r = Any-from_list_any (tells to) net.faces h in (r.0, r.1, r.2, r.3, (tells_right to r.1).0 r.4),
   λ r. list_any-from_Any (tells to) net.faces (r.0, r.1, r.2, r.3, (tells_right to r.1).1 r.4),

@@ -31,12 +31,12 @@ is_able_end net session near far =
 abbrev pub is_open : Option SessionRow → FaceRow → Bool
 is_open session face = not face.passive && option_map_or (λ s. not s.down) session true
 
--- whether this is the interface's host network, is told, and the interface is up
+-- whether this is the interface's host network, is advertised, and the interface is up
 abbrev pub tells : Prefix → FaceRow → Bool
 tells to face =
     option_map_or (λ host. host.addr == to.addr && host.len == to.len) face.host false &&
     face.told && face.up
 
--- whether some interface tells the host network
+-- whether some interface advertises the host network
 abbrev pub is_told : Network → Prefix → Bool
 is_told net to = list_any (tells to) net.faces

@@ -11,20 +11,20 @@ use Rattle.net_model.specs.declared.rows.LinkRow.{LinkRow}
 use Rattle.net_model.specs.declared.rows.Network.{Network}
 use Rattle.net_model.specs.declared.routing.Told.{Told}
 use Rattle.net_model.specs.declared.tables.RoutedLink.{RoutedLink}
-use Rattle.net_model.specs.Routing.{tail_end, head_end, session_at, Leads, IsRoutedLink, Tells}
+use Rattle.net_model.specs.Routing.{tail_end, head_end, session_at, Leads, IsRoutedLink, Advertises}
 
 -- the router of the interface, and 0 where there is no such interface
 abbrev pub router_at : Network → Face → ℕ
 router_at net face = option_map_or (λ row. row.router.0) (slice_get net.faces face.0) 0
 
--- the sessions stand by router: none stands before one of an earlier router
+-- the sessions are sorted by router
 pub record StandByRouter (net : Network) : Type 0 where
   pub rising : IsNonDecreasingBy (λ s. router_at net s.face) net.sessions
 
--- what is told of the network for the host network is so: some interface tells it, or none does,
--- and the sessions stand by router where that is told
+-- what is known of the network for the host network is so: some interface advertises it, or none
+-- does, and the sessions are sorted by router if the flag says so
 pub record IsToldOf (net : Network) (to : Prefix) (told : Told) : Type 0 where
-  pub host : IsTrue told.host ↔ Any (Tells to) net.faces
+  pub host : IsTrue told.host ↔ Any (Advertises to) net.faces
   pub by_router : IsTrue told.by_router → StandByRouter net
 
 -- the list has, for each interface within it, the place of its session, or none where it has no
@@ -43,13 +43,13 @@ pub record IsRoutedOver (net : Network) (row : LinkRow) (from_a : Bool) (to : Pr
   pub at_head : slice_get net.faces (head_end row from_a).0 ≡ Some head
   pub leads : Leads net to (tail_end row from_a) tail (head_end row from_a) head
 
--- the flags tell whether the two arcs of the link are routed
+-- the flags say whether the two arcs of the link are routed
 abbrev pub TellsRouted : Network → ℕ → Prefix → RoutedLink → Type 0
 TellsRouted net link to flags =
     (IsTrue flags.from_a ↔ IsRoutedLink net link true to) ×
     (IsTrue flags.from_b ↔ IsRoutedLink net link false to)
 
--- the list has for each link of the network, in order, the flags that tell whether its arcs are
+-- the list has for each link of the network, in order, the flags that say whether its arcs are
 -- routed
 pub record AreRoutedLinks (net : Network) (to : Prefix) (table : List RoutedLink) : Type 0 where
   pub whole : length table ≡ length net.links

@@ -1,6 +1,6 @@
-//! The network that router files stand for, the policies over it, and the witnesses of verdicts.
-//! Its definitions are all that a reader of the product's theorems has to believe; docs/model.md
-//! goes through them in plain words. Its calls answer what lists permit, which interface has a host
+//! The network of router files, the policies over it, and the witnesses of verdicts. Its
+//! definitions are all that a reader of the product's theorems has to believe; docs/model.md goes
+//! through them in plain words. Its calls answer what lists permit, which interface has a host
 //! network, and which arcs are routed.
 #![tactic(auto)]
 

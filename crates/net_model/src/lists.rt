@@ -24,9 +24,9 @@ pub struct PacketEntry {
     pub permit: bool,
     /// The prefix of the source address.
     pub from: Prefix,
-    /// The prefix of the destination address; of length 0 in an entry that speaks of sources alone.
+    /// The prefix of the destination address; of length 0 in an entry about sources alone.
     pub to: Prefix,
-    /// The services; the whole range in an entry that speaks of addresses alone.
+    /// The services; the whole range in an entry about addresses alone.
     pub service: Service,
 }
 
@@ -36,7 +36,7 @@ pub struct PacketEntry {
 pub struct PacketList {
     pub router: Router,
     pub name: Name,
-    /// Whether it is an extended list, whose entries speak of sources and destinations.
+    /// Whether it is an extended list, whose entries are about sources and destinations.
     pub extended: bool,
     pub entries: List<PacketEntry>,
 }

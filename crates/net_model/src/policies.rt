@@ -36,7 +36,7 @@ pub enum PolicyKind {
     Blocked,
     /// Each that is delivered has crossed a waypoint link, whichever links fail.
     Through,
-    /// Each is delivered while at most so many links fail.
+    /// Each is delivered while at most this many links fail.
     Reach(u32),
 }
 
@@ -51,7 +51,7 @@ pub struct Policy {
 }
 
 impl Policy {
-    /// All packets that it speaks of.
+    /// All packets that it is about.
     pub fn subject(&self) -> Class
         ensures { result ≡ subject self.now }
     {

@@ -3,7 +3,7 @@ ghost use Rattle.std.specs.Prelude.{◌≡◌, ◌↔◌, ℕ, length, Any, find
 ghost use Rattle.std.specs.Prelude.{IfNone};
 ghost use Rattle.std.specs.Option.{option_copied};
 ghost use Rattle.net_model.specs.Routing.{tail_end, head_end, session_at, IsAbleEnd, IsOpen};
-ghost use Rattle.net_model.specs.Routing.{RouteListPermits, FilterPermits, Tells, Carries};
+ghost use Rattle.net_model.specs.Routing.{RouteListPermits, FilterPermits, Advertises, Carries};
 ghost use Rattle.net_model.specs.Routing.{IsRoutedLink};
 ghost use Rattle.net_model.specs.Decided.{names, takes_part, is_able_end, is_open, tells, is_told};
 ghost use Rattle.net_model.specs.Tables.{IsRoutedOver, IsToldOf};
@@ -15,9 +15,10 @@ use arc_base::{Face, Link, ListId, Prefix};
 /// What is asked of a network once for a host network, so that it is not asked again for each link.
 #[derive(Clone, Copy, Debug)]
 pub struct Told {
-    /// Whether some interface that is up tells the host network.
+    /// Whether some interface that is up advertises the host network.
     pub host: bool,
-    /// Whether the sessions stand by router, so that those of a router are found by halves.
+    /// Whether the sessions are sorted by router, so that those of a router are found by binary
+    /// search.
     pub by_router: bool,
 }
 
@@ -30,7 +31,7 @@ impl FaceRow {
         p.inside(&host)
     }
 
-    /// Whether this is the host network of this interface, is told, and the interface is up.
+    /// Whether this is the host network of this interface, is advertised, and the interface is up.
     fn tells(&self, to: Prefix) -> bool
         ensures { result ≡ tells to self.now }
     {
@@ -112,11 +113,11 @@ impl Network {
         self.faces.slice().iter().any(|face| face.tells(to))
     }
 
-    /// Whether the host network is told and its interface is up. It looks through all interfaces of
-    /// the network.
+    /// Whether the host network is advertised by an interface that is up. It looks through all
+    /// interfaces of the network.
     #[tactic(auto, using(crate::proofs::Decided::told_right))]
     pub fn is_told(&self, to: Prefix) -> bool
-        ensures holds { IsTrue result ↔ Any (Tells to) self.now.faces }
+        ensures holds { IsTrue result ↔ Any (Advertises to) self.now.faces }
         ensures value { result ≡ is_told self.now to }
     {
         self.some_tells(to)
@@ -209,7 +210,7 @@ impl Network {
         head_session: Option<&SessionRow>,
         to: Prefix,
     ) -> bool
-        requires told { IsTrue told ↔ Any (Tells to) self.now.faces }
+        requires told { IsTrue told ↔ Any (Advertises to) self.now.faces }
         requires tail { option_copied tail_session ≡ session_at self.now (tail_end row.now from_a) }
         requires head { option_copied head_session ≡ session_at self.now (head_end row.now from_a) }
         ensures { IsTrue result ↔ IsRoutedOver self.now row.now from_a to }
@@ -247,8 +248,8 @@ impl Network {
     }
 
     /// The answer of `routed`, where `told` is that of the call of this name. It looks through the
-    /// sessions of the two routers at the link's ends, which it finds by halves. Only where the
-    /// sessions do not stand by router it looks through them all.
+    /// sessions of the two routers at the link's ends, which it finds by binary search. Only if the
+    /// sessions are not sorted by router it looks through them all.
     pub fn routed_if_told(&self, told: Told, link: Link, from_a: bool, to: Prefix) -> bool
         requires { IsToldOf self.now to told }
         ensures { IsTrue result ↔ IsRoutedLink self.now link.0 from_a to }

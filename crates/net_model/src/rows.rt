@@ -41,7 +41,7 @@ pub struct FaceRow {
     pub up: bool,
     /// Whether it runs OSPF. Under BGP it means nothing.
     pub enabled: bool,
-    /// Whether the router tells the host network to the other routers.
+    /// Whether the router advertises the host network to the other routers.
     pub told: bool,
     /// Whether it is passive: its subnet is advertised, and it forms no adjacency.
     pub passive: bool,
@@ -81,8 +81,8 @@ pub struct LinkRow {
     pub waypoint: bool,
 }
 
-/// The network that a document and its router files stand for. `Router`, `Face`, `Link` and
-/// `ListId` are places in its lists, counted from 0.
+/// The network of a document and its router files. `Router`, `Face`, `Link` and `ListId` are places
+/// in its lists, counted from 0.
 #[derive(Debug, Drop)]
 pub struct Network {
     pub protocol: Protocol,

@@ -8,7 +8,7 @@ ghost use Rattle.net_model.specs.Tables.{router_at, StandByRouter};
 use crate::rows::{Network, SessionRow};
 use arc_base::Face;
 
-/// The first of these sessions that stands at the interface.
+/// The first of these sessions at the interface.
 fn first_at(sessions: &[SessionRow], face: Face) -> Option<&SessionRow>
     ensures { option_copied result ≡ find (λ s. s.face.0 == face.0) sessions.now }
 {
@@ -26,8 +26,8 @@ impl Network {
         }
     }
 
-    /// Whether no session stands before one of an earlier router. A router's sessions then stand
-    /// together, and are found by halving.
+    /// Whether the sessions are sorted by router. A router's sessions are then together, and are
+    /// found by binary search.
     pub fn has_sessions_by_router(&self) -> bool
         ensures { IsTrue result ↔ StandByRouter self.now }
     {
@@ -63,7 +63,8 @@ impl Network {
         first_at(&self.sessions.slice()[start..end], face)
     }
 
-    /// The session of the interface, where `by_router` tells whether the sessions stand by router.
+    /// The session of the interface, where `by_router` says whether the sessions are sorted by
+    /// router.
     pub(crate) fn session_found(&self, by_router: bool, face: Face) -> Option<&SessionRow>
         requires { IsTrue by_router → StandByRouter self.now }
         ensures { option_copied result ≡ session_at self.now face }

@@ -2,7 +2,7 @@
 ghost use Rattle.std.specs.Prelude.{◌≡◌, ◌↔◌, ◌<◌, ◌==◌, ℕ, length, slice_index_or, if◌then◌else◌};
 ghost use Rattle.std.specs.Prelude.{None, Some, Any, IsTrue, IfOk};
 ghost use Rattle.std.specs.Option.{option_copied, option_or};
-ghost use Rattle.net_model.specs.Routing.{session_at, Tells};
+ghost use Rattle.net_model.specs.Routing.{session_at, Advertises};
 ghost use Rattle.net_model.specs.Tables.{IsSessionIndex, TellsRouted, AreRoutedLinks};
 
 use crate::rows::{Network, SessionRow};
@@ -40,7 +40,7 @@ impl Network {
         link: Link,
         to: Prefix,
     ) -> RoutedLink
-        requires told { IsTrue told ↔ Any (Tells to) self.now.faces }
+        requires told { IsTrue told ↔ Any (Advertises to) self.now.faces }
         requires places { IsSessionIndex self.now places.now }
         ensures { TellsRouted self.now link.0 to result }
     {

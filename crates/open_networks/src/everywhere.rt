@@ -1,4 +1,4 @@
-//! OSPF at every end of a link, and every host network told.
+//! OSPF at every end of a link, and every host network advertised.
 ghost use Rattle.std.specs.Prelude.{◌≡◌, ◌↔◌, IsTrue, IfSome, slice_get, All};
 ghost use Rattle.net_model.specs.Validity.{IsValid};
 ghost use Rattle.net_model.specs.declared.rows.Protocol.TheVariants.{Ospf};
@@ -67,8 +67,8 @@ fn tell_hosts(net: &Network) -> bool
 }
 
 /// Whether OSPF runs everywhere: at each end of a link that is up, and that then has an address and
-/// is not passive, with each host network told. A valid network is then open, and a right verdict
-/// on a blocked or through policy says what holds for any forwarding.
+/// is not passive, with each host network advertised. A valid network is then open, and a right
+/// verdict on a blocked or through policy says what holds for any forwarding.
 pub fn runs_everywhere(net: &Network) -> bool
     ensures exact { IsTrue result ↔ RunsEverywhere net.now }
     ensures opened { IsValid net.now → IsTrue result → IsOpenNetwork net.now }

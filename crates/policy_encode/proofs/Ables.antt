@@ -12,7 +12,7 @@ use Rattle.net_model.specs.declared.rows.Protocol.{Protocol}
 use Rattle.net_model.specs.declared.rows.Protocol.TheVariants.{Ospf, Bgp}
 use Rattle.net_model.specs.declared.rows.Network.{Network}
 use Rattle.net_model.specs.Decided.{names, takes_part, is_able_end, tells, is_told}
-use Rattle.net_model.specs.Routing.{session_at, IsAbleEnd, Tells}
+use Rattle.net_model.specs.Routing.{session_at, IsAbleEnd, Advertises}
 use Rattle.net_model.proofs.Decided.{able_right, told_right}
 use Rattle.edit_list.specs.declared.edit_kinds.Edit.{Edit}
 use Rattle.edit_list.specs.After.{IsRouterAfter, IsFaceAfter, IsAfter}
@@ -69,5 +69,5 @@ module _ (net : Network) (chosen : List Edit) (after : Network) (is : IsAfter ne
       sym (any_map (tells to) net.faces)
 
   -- a host network is told after the edits where it was before
-  pub told_value : (to : Prefix) → (is_told net to ≡ true) ↔ Any (Tells to) after.faces
+  pub told_value : (to : Prefix) → (is_told net to ≡ true) ↔ Any (Advertises to) after.faces
   told_value to = let right = told_right after to in (λ h. right.0 (told_same to ∙ h), λ h. sym (told_same to) ∙ right.1 h)

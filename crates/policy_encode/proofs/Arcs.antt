@@ -26,14 +26,14 @@ use Rattle.condition_formula.specs.Conditions.{holds, lists_of, is_routed, IsCle
 use Rattle.condition_formula.specs.Laws.{chosen_in}
 use Rattle.edit_list.specs.declared.edit_kinds.Edit.{Edit}
 use Rattle.edit_list.specs.After.{IsFaceAfter}
-use Rattle.edit_list.specs.Numbered.{placed}
+use Rattle.arc_base.specs.Numbered.{placed}
 use Rattle.edit_list.specs.Prices.{chosen_of}
 use Rattle.edit_list.proofs.RowFacts.{row_was, row_now}
 use Rattle.policy_encode.specs.Answers.{session_condition, route_condition, arc_lists}
 use Rattle.policy_encode.specs.Laws.{IsEdited}
 use Rattle.policy_encode.specs.Questions.{is_able, is_never, routing_of, tail_row, head_row, arc_over, able_arcs, link_arcs, arcs_to}
 use Rattle.policy_encode.proofs.Ables.{able_value, told_value}
-use Rattle.edit_laws.proofs.Apart.{from_placed, to_placed}
+use Rattle.network_edit_laws.proofs.Apart.{from_placed, to_placed}
 use Rattle.policy_encode.specs.Mirrors.{IsMirror, HasMirror}
 use Rattle.policy_encode.proofs.Packets.{outbound_value, inbound_value}
 use Rattle.policy_encode.proofs.Sessions.{open_value, route_value}

@@ -30,9 +30,9 @@ use Rattle.edit_list.specs.declared.sites.Site.{Site}
 use Rattle.edit_list.specs.declared.sites.Site.TheVariants.{Bound, New}
 use Rattle.edit_list.specs.EditLists.{has_session, edits_at, link_edits, route_edit, packet_edit, is_same, with_prefix, writable_classes, AreEdits}
 use Rattle.edit_list.specs.Writable.{is_writable}
-use Rattle.edit_list.specs.Numbered.{placed}
+use Rattle.arc_base.specs.Numbered.{placed}
 use Rattle.edit_list.specs.Sites.{route_list_site, neighbor_site, packet_list_site, face_site, takes_list, route_sites, packet_sites}
-use Rattle.edit_laws.proofs.Apart.{AllPairs-flat_map, AllPairs-picked, AllPairs-by_number, from_picked, places_apart}
+use Rattle.network_edit_laws.proofs.Apart.{AllPairs-flat_map, AllPairs-picked, AllPairs-by_number, from_picked, places_apart}
 
 abbrev Differ : {X : Type 0} → X → X → Type 0
 Differ x y = x ≢ y

@@ -14,7 +14,7 @@ use Rattle.traffic_classes.proofs.EachPolicy.{no_more}
 use Rattle.traffic_classes.proofs.Unions.{have_one_list}
 use Rattle.condition_formula.proofs.Parts.{any_to}
 use Rattle.edit_list.specs.declared.edit_kinds.Edit.{Edit}
-use Rattle.edit_list.specs.EditLists.{HasFewClasses}
+use Rattle.edit_list.specs.EditLists.{DocumentHasFewClasses}
 use Rattle.policy_encode.specs.Turning.{Key, key_of, same_key, is_same, place_of}
 use Rattle.policy_encode.proofs.Same.{is_same_true}
 
@@ -55,7 +55,7 @@ index_more list apart i e within is now next k is_key was grown =
     ap (λ (x : Edit). map key_of (take i list) ++ key_of x ∷ []) is ∙ sym (map_more key_of list i e within ∙ ap (λ (x : Edit). map key_of (take i list) ++ key_of x ∷ []) refl)
 
 -- no policy has too many classes where the document has few
-pub few_enough : (net : Network) (doc : Document) (p : Policy) (count : ℕ) → Contains doc.policies p → HasFewClasses net doc → HasClasses net doc.policies p count → 4096 < count → ⊥
+pub few_enough : (net : Network) (doc : Document) (p : Policy) (count : ℕ) → Contains doc.policies p → DocumentHasFewClasses net doc → HasClasses net doc.policies p count → 4096 < count → ⊥
 few_enough net doc p count one few has many =
     let all = (have_one_list net doc.policies doc.policies).0 in
     let less = no_more net doc.policies p has.classes all.0 one has.are all.1 in

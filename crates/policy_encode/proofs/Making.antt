@@ -24,7 +24,7 @@ use Rattle.condition_formula.specs.declared.network.Demand.{Demand}
 use Rattle.condition_formula.specs.declared.condition.ClassEnds.{ClassEnds}
 use Rattle.condition_formula.specs.Limits.{IsSmallNet}
 use Rattle.edit_list.specs.declared.edit_kinds.Edit.{Edit}
-use Rattle.edit_list.specs.Numbered.{placed}
+use Rattle.arc_base.specs.Numbered.{placed}
 use Rattle.edit_list.proofs.Placing.{placed_length, placed_at}
 use Rattle.policy_encode.specs.Questions.{is_able, is_never, arc_over, able_arcs, link_arcs, arcs_to, IsQuestion, AreConditions}
 

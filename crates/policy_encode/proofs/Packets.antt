@@ -30,19 +30,19 @@ use Rattle.edit_list.specs.declared.edit_kinds.Edit.{Edit}
 use Rattle.edit_list.specs.declared.edit_kinds.Edit.TheVariants as edits
 use Rattle.edit_list.specs.After.{with_classes, edited_packet_list, new_packet_entries, IsNewPacketList, PacketListMoves, StaysBound, IsInboundAfter}
 use Rattle.edit_list.specs.Changes.{list_classes, new_classes}
-use Rattle.edit_list.specs.Numbered.{is_empty}
+use Rattle.arc_base.specs.Numbered.{is_empty}
 use Rattle.edit_list.specs.Prices.{chosen_of}
-use Rattle.edit_laws.proofs.Listed.{chosen_listed, class_put, class_listed}
-use Rattle.edit_laws.proofs.Turning.{turning_classes, staying_packets}
+use Rattle.network_edit_laws.proofs.Listed.{chosen_listed, class_put, class_listed}
+use Rattle.network_edit_laws.proofs.Turning.{turning_classes, staying_packets}
 use Rattle.policy_encode.specs.Answers.{packet_answer, list_condition, inbound_condition, outbound_condition}
 use Rattle.policy_encode.specs.Laws.{IsEdited}
 use Rattle.policy_encode.specs.Turning.{turned}
-use Rattle.edit_laws.proofs.Apart.{apart_of}
-use Rattle.edit_laws.proofs.Changed.{packet_list_in, in_packet_list, packet_new_in, in_packet_new, new_packets_unbound}
+use Rattle.network_edit_laws.proofs.Apart.{apart_of}
+use Rattle.network_edit_laws.proofs.Changed.{packet_list_in, in_packet_list, packet_new_in, in_packet_new, new_packets_unbound}
 use Rattle.policy_encode.proofs.Chosen.{chosen_turns, others_stay, either_chosen}
 use Rattle.policy_encode.proofs.Distinct.{edits_differ}
-use Rattle.edit_laws.proofs.NewEntries.{new_permits, new_denies}
-use Rattle.edit_laws.proofs.Told.{some_item, no_item, told_by, at_some, both_by}
+use Rattle.network_edit_laws.proofs.NewEntries.{new_permits, new_denies}
+use Rattle.network_edit_laws.proofs.Told.{some_item, no_item, told_by, at_some, both_by}
 
 module _ (net : Network) (doc : Document) (list : List Edit) (flags : List Bool) (after : Network) (ed : IsEdited net doc list flags after) where
   apart : AllPairs (λ (e : Edit) (f : Edit). e ≢ f) list

@@ -30,20 +30,20 @@ use Rattle.edit_list.specs.declared.edit_kinds.Edit.{Edit}
 use Rattle.edit_list.specs.declared.edit_kinds.Edit.TheVariants as edits
 use Rattle.edit_list.specs.After.{with_prefixes, edited_route_list, new_route_entries, turned_if, passive_after, IsNewRouteList, RouteListMoves, StaysBound, IsFilterAfter, IsFaceAfter, IsSessionAfter, IsAfter}
 use Rattle.edit_list.specs.Changes.{list_prefixes, new_prefixes, turns_session}
-use Rattle.edit_list.specs.Numbered.{is_empty}
+use Rattle.arc_base.specs.Numbered.{is_empty}
 use Rattle.edit_list.specs.Prices.{chosen_of}
-use Rattle.edit_laws.proofs.Listed.{chosen_listed}
+use Rattle.network_edit_laws.proofs.Listed.{chosen_listed}
 use Rattle.edit_list.proofs.RowFacts.{item_of, row_now}
-use Rattle.edit_laws.proofs.Turning.{turning_prefixes, staying_prefixes}
+use Rattle.network_edit_laws.proofs.Turning.{turning_prefixes, staying_prefixes}
 use Rattle.policy_encode.specs.Answers.{session_condition, route_answer, filter_condition, route_condition}
 use Rattle.policy_encode.specs.Laws.{IsEdited}
 use Rattle.policy_encode.specs.Turning.{turned}
-use Rattle.edit_laws.proofs.Apart.{alike_of}
-use Rattle.edit_laws.proofs.Changed.{route_list_in, in_route_list, route_new_in, in_route_new, new_routes_unbound, session_in, in_session}
+use Rattle.network_edit_laws.proofs.Apart.{alike_of}
+use Rattle.network_edit_laws.proofs.Changed.{route_list_in, in_route_list, route_new_in, in_route_new, new_routes_unbound, session_in, in_session}
 use Rattle.policy_encode.proofs.Chosen.{chosen_turns, others_stay, either_chosen}
 use Rattle.policy_encode.proofs.Distinct.{edits_differ}
-use Rattle.edit_laws.proofs.NewEntries.{new_takes, new_refuses}
-use Rattle.edit_laws.proofs.Told.{some_item, no_item, told_by, at_some, both_by}
+use Rattle.network_edit_laws.proofs.NewEntries.{new_takes, new_refuses}
+use Rattle.network_edit_laws.proofs.Told.{some_item, no_item, told_by, at_some, both_by}
 
 -- the session of the interface before and after
 pub record HasSession (net : Network) (chosen : List Edit) (after : Network) (face : Face) : Type 0 where

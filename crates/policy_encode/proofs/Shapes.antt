@@ -31,11 +31,11 @@ use Rattle.condition_formula.specs.declared.network.ConditionArc.{ConditionArc}
 use Rattle.condition_formula.specs.Conditions.{IsOf, HasEdits, bare}
 use Rattle.edit_list.specs.declared.edit_kinds.Edit.{Edit}
 use Rattle.edit_list.specs.declared.edit_kinds.Edit.TheVariants as edits
-use Rattle.edit_list.specs.Numbered.{placed}
+use Rattle.arc_base.specs.Numbered.{placed}
 use Rattle.policy_encode.specs.Answers.{session_condition, filter_condition, route_answer, route_condition, list_condition, packet_answer, inbound_condition, outbound_condition, arc_lists, class_ends}
 use Rattle.policy_encode.specs.Questions.{is_able, is_never, tail_row, head_row, arc_over, able_arcs, link_arcs, arcs_to}
 use Rattle.policy_encode.specs.Turning.{condition_at, place_of, turned}
-use Rattle.edit_laws.proofs.Apart.{AllPairs-flat_map, places_apart}
+use Rattle.network_edit_laws.proofs.Apart.{AllPairs-flat_map, places_apart}
 use Rattle.policy_encode.proofs.Arcs.{Comes, comes_from}
 use Rattle.policy_encode.proofs.Chosen.{some_place}
 

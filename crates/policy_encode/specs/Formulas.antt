@@ -31,17 +31,17 @@ abbrev pub IsWithin : Network → Document → List Edit → ℕ → Type 0
 IsWithin net doc list bound =
     HasConditions net doc list (λ conditions. IsWithinLimits conditions bound)
 
--- the formula has so many variables, more than VARIABLE_LIMIT
+-- the formula has this many variables, more than VARIABLE_LIMIT
 abbrev pub PassesVariables : Network → Document → List Edit → ℕ → ℕ → Type 0
 PassesVariables net doc list bound count =
     HasConditions net doc list (λ conditions. HasTooManyVariables conditions bound count)
 
--- it has not, but so many literals, more than LITERAL_LIMIT, or the most that can be counted
+-- it has not, but this many literals, more than LITERAL_LIMIT, or the most that can be counted
 abbrev pub PassesLiterals : Network → Document → List Edit → ℕ → ℕ → Type 0
 PassesLiterals net doc list bound count =
     HasConditions net doc list (λ conditions. HasTooManyLiterals conditions bound count)
 
--- the fault names the limit that the formula passes, or is want of memory
+-- the fault names the limit that the formula passes, or is out of memory
 abbrev pub IsFaultOf : Network → Document → List Edit → ℕ → EditFault → Type 0
 IsFaultOf net doc list bound (Limit limits.Variables count) =
     PassesVariables net doc list bound count

@@ -59,9 +59,9 @@ pub record IsRepair (doc : Document) (list : List Edit) (flags : List Bool) (aft
   pub met : MeetsDocument after doc
   pub affordable : price_of_flags doc list flags ≤ bound
 
--- the question of a policy stands for the network after the edits: each routed arc stands in it,
--- under conditions that hold, each of its arcs whose conditions hold is routed, and all else that
--- it asks holds exactly where the network's own lists permit
+-- the question of a policy mirrors the network after the edits: each routed arc is in it, under
+-- conditions that hold, each of its arcs whose conditions hold is routed, and all else that it asks
+-- holds exactly if the network's own lists permit
 abbrev pub QuestionsMirrorNetworks : Type 0
 QuestionsMirrorNetworks =
     (net : Network) (doc : Document) (list : List Edit) (flags : List Bool) (after : Network) →

@@ -1,4 +1,4 @@
--- A question whose arcs of conditions stand for the routed arcs of a network.
+-- A question whose arcs of conditions mirror the routed arcs of a network.
 use Rattle.std.specs.Prelude.{◌≡◌, ℕ, ◌<◌, ◌↔◌, Bool, IsTrue, Some, List, length, map, Contains}
 use Rattle.std.specs.Prelude.{slice_get}
 use Rattle.graph_flow.specs.Paths.{IsGraph}
@@ -13,8 +13,8 @@ use Rattle.condition_formula.specs.declared.network.ConditionArc.{ConditionArc}
 use Rattle.condition_formula.specs.declared.network.Question.{Question}
 use Rattle.condition_formula.specs.Conditions.{holds, ends_of, is_routed, bare, IsClear}
 
--- the arc of conditions stands for the network's: it is over its link and between its routers, and
--- its list conditions hold where its lists permit
+-- the arc of conditions mirrors the network's: it is over its link and between its routers, and its
+-- list conditions hold where its lists permit
 pub record IsMirror (net : Network) (classes : List Class) (chosen : ℕ → Bool) (ca : ConditionArc)
     (arc : Arc) : Type 0 where
   pub link : ca.link.0 ≡ arc.link
@@ -24,7 +24,7 @@ pub record IsMirror (net : Network) (classes : List Class) (chosen : ℕ → Boo
   pub permits : (k : ℕ) (class : Class) → slice_get classes k ≡ Some class →
       (p : Packet) → IsOf class p → ArcPermits net arc p ↔ IsClear chosen k ca
 
--- the arc of conditions stands for a routed arc
+-- the arc of conditions mirrors a routed arc
 pub record HasMirror (net : Network) (ends : Ends) (classes : List Class) (chosen : ℕ → Bool)
     (ca : ConditionArc) : Type 0 where
   pub arc : Arc
@@ -32,7 +32,7 @@ pub record HasMirror (net : Network) (ends : Ends) (classes : List Class) (chose
   pub routed : IsRouted net ends.to arc
   pub is_mirror : IsMirror net classes chosen ca arc
 
--- a routed arc stands in the question
+-- a routed arc is in the question
 pub record IsMirrored (net : Network) (classes : List Class) (chosen : ℕ → Bool) (q : Question)
     (arc : Arc) : Type 0 where
   pub ca : ConditionArc
@@ -40,7 +40,7 @@ pub record IsMirrored (net : Network) (classes : List Class) (chosen : ℕ → B
   pub routed : IsTrue (is_routed chosen ca)
   pub is_mirror : IsMirror net classes chosen ca arc
 
--- the question stands for the network between these ends, for these classes
+-- the question mirrors the network between these ends, for these classes
 pub record Mirrors (net : Network) (ends : Ends) (classes : List Class) (chosen : ℕ → Bool)
     (q : Question) : Type 0 where
   pub source : q.source ≡ source_router ends

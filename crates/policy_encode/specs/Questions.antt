@@ -27,7 +27,7 @@ use Rattle.condition_formula.specs.declared.network.Question.{Question}
 use Rattle.condition_formula.specs.declared.network.Demand.{Demand}
 use Rattle.condition_formula.specs.declared.network.Demand.TheVariants.{Blocked, Through, Reach}
 use Rattle.edit_list.specs.declared.edit_kinds.Edit.{Edit}
-use Rattle.edit_list.specs.Numbered.{placed}
+use Rattle.arc_base.specs.Numbered.{placed}
 use Rattle.edit_list.specs.Prices.{weight}
 use Rattle.policy_encode.specs.Answers.{session_condition, route_condition, arc_lists, class_ends}
 
@@ -87,7 +87,7 @@ link_arcs net list to classes link =
     then able_arcs net list to classes link a b else [])
     (slice_get net.faces link.1.b.0) []) (slice_get net.faces link.1.a.0) []
 
--- all arcs to a host network, by link: none where it is not told
+-- all arcs to a host network, by link: none if it is not advertised
 abbrev pub arcs_to : Network → List Edit → Prefix → List Class → List ConditionArc
 arcs_to net list to classes =
     if is_told net to then flat_map (link_arcs net list to classes) (placed net.links) else []

@@ -44,7 +44,7 @@ same_key k l =
 abbrev pub is_same : Edit → Edit → Bool
 is_same e f = same_key (key_of e) (key_of f)
 
--- the place of the edit in the list of edits, if it stands there
+-- the place of the edit in the list of edits, if it is there
 abbrev pub place_of : List Edit → Edit → Option ℕ
 place_of list edit = position (is_same edit) list
 

@@ -68,7 +68,7 @@ pub(crate) struct EditIndex {
 }
 
 impl EditIndex {
-    /// The index of a list in which no edit stands twice.
+    /// The index of a list in which no edit occurs twice.
     pub(crate) fn of(alloc: Global, edits: &[Edit]) -> Result<EditIndex, Memory>
         requires { AllPairs (λ e f. e ≢ f) edits.now }
         ensures { IfOk result (IsIndexOf edits.now) }
@@ -80,7 +80,7 @@ impl EditIndex {
         Ok(EditIndex { keys })
     }
 
-    /// The place of an edit in the list, if it stands there.
+    /// The place of an edit in the list, if it is there.
     fn place_of(&self, edit: Edit) -> Option<u32>
         requires { length self.now.keys.keys < 2 ^ 32 }
         ensures { (list : List AnyEdit) → IsIndexOf list self.now → result ≡ place_of list edit }

@@ -6,7 +6,7 @@ ghost use Rattle.net_model.specs.Forwarding.{HasEnds};
 ghost use Rattle.net_model.specs.Packets.{subject};
 ghost use Rattle.net_model.specs.Validity.{IsValid};
 ghost use Rattle.edit_list.specs.declared.edit_kinds.Edit.{Edit as AnyEdit};
-ghost use Rattle.edit_list.specs.EditLists.{AreEdits, HasFewClasses};
+ghost use Rattle.edit_list.specs.EditLists.{AreEdits, DocumentHasFewClasses};
 ghost use Rattle.edit_list.specs.Prices.{weight};
 ghost use Rattle.traffic_classes.specs.Classes.{AreMarks};
 ghost use Rattle.policy_encode.specs.Finding.{IsIndexOf};
@@ -47,7 +47,7 @@ fn questions(
     requires marks { AreMarks net.now doc.now.policies marks.now }
     requires ends { All (λ policy. HasEnds net.now (subject policy)) doc.now.policies }
     requires failures { All (λ policy. HasFewFailures policy.kind) doc.now.policies }
-    requires few { HasFewClasses net.now doc.now }
+    requires few { DocumentHasFewClasses net.now doc.now }
     requires index { length index.now.keys.keys < 2 ^ 32 }
     ensures { IfOk result (λ qs. (list : Items AnyEdit) → IsIndexOf list index.now →
         AllZip (IsQuestion net.now doc.now.policies list) doc.now.policies qs) }
@@ -72,7 +72,7 @@ fn conditions(
     requires valid { IsValid net.now }
     requires ends { All (λ policy. HasEnds net.now (subject policy)) doc.now.policies }
     requires failures { All (λ policy. HasFewFailures policy.kind) doc.now.policies }
-    requires classes { HasFewClasses net.now doc.now }
+    requires classes { DocumentHasFewClasses net.now doc.now }
     requires edits { AreEdits net.now doc.now edits.now }
     ensures { IfOk result (AreConditions net.now doc.now edits.now) }
 {
@@ -104,7 +104,7 @@ pub fn encode(
     requires few { length doc.now.policies ≤ POLICY_LIMIT }
     requires ends { All (λ policy. HasEnds net.now (subject policy)) doc.now.policies }
     requires failures { All (λ policy. HasFewFailures policy.kind) doc.now.policies }
-    requires classes { HasFewClasses net.now doc.now }
+    requires classes { DocumentHasFewClasses net.now doc.now }
     requires edits { AreEdits net.now doc.now edits.now }
     requires few_edits { length edits.now ≤ EDIT_LIMIT }
     requires bound { bound ≤ PRICE_LIMIT }

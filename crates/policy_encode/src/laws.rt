@@ -3,7 +3,7 @@ ghost use Rattle.policy_encode.specs.Laws.{QuestionsMirrorNetworks, QuestionsAre
 ghost use Rattle.policy_encode.specs.Laws.{ModelsAreRepairs, OneModelServes, FormulasAreSearchable};
 ghost use Rattle.policy_encode.specs.Laws.{FormulasAreThere, HaveOneFormula};
 
-/// The question of a policy stands for the network after any edits, arc by arc and class by class.
+/// The question of a policy mirrors the network after any edits, arc by arc and class by class.
 pub fn questions_mirror_networks()
     ensures { QuestionsMirrorNetworks }
 {}

@@ -3,7 +3,7 @@ ghost use Rattle.std.specs.Prelude.{◌≡◌, ◌<◌, ◌≤◌, ◌^◌, map,
 ghost use Rattle.std.specs.Prelude.{IfOk, IfErr, IfSome};
 ghost use Rattle.std.specs.List.{AllZip};
 ghost use Rattle.edit_list.specs.declared.edit_kinds.Edit.{Edit as AnyEdit};
-ghost use Rattle.edit_list.specs.EditLists.{HasFewClasses};
+ghost use Rattle.edit_list.specs.EditLists.{DocumentHasFewClasses};
 ghost use Rattle.net_model.specs.Forwarding.{HasHost, HasEnds, IsHostOf};
 ghost use Rattle.net_model.specs.Packets.{subject};
 ghost use Rattle.traffic_classes.specs.Classes.{AreClasses, AreMarks};
@@ -79,7 +79,7 @@ fn few_classes(
 ) -> Result<List<Class>, Memory>
     requires marks { AreMarks net.now doc.now.policies marks.now }
     requires one { Contains doc.now.policies policy.now }
-    requires few { HasFewClasses net.now doc.now }
+    requires few { DocumentHasFewClasses net.now doc.now }
     ensures { IfOk result (AreClasses net.now doc.now.policies policy.now) }
 {
     match marks.classes(alloc, policy) {
@@ -102,7 +102,7 @@ pub(crate) fn question(
     requires one { Contains doc.now.policies policy.now }
     requires ends { HasEnds net.now (subject policy.now) }
     requires failures { HasFewFailures policy.now.kind }
-    requires few { HasFewClasses net.now doc.now }
+    requires few { DocumentHasFewClasses net.now doc.now }
     requires index { length index.now.keys.keys < 2 ^ 32 }
     ensures { IfOk result (λ q. (list : List AnyEdit) → IsIndexOf list index.now →
         IsQuestion net.now doc.now.policies list policy.now q) }

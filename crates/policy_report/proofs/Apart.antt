@@ -8,7 +8,7 @@ use Rattle.std.proofs.lemmas.List.{get_or_default}
 use Rattle.std.proofs.lemmas.List.FromFn.{length-range_with_len, get_or-range_with_len}
 use Rattle.arc_base.proofs.Items.{Contains-head, Contains-tail, Contains-cases, Contains-none, from_piece, AllPairs-append, AllPairs-rest, AllPairs-first, AllPairs-among, AllPairs-map, AllPairs-none, AllPairs-single}
 use Rattle.arc_base.specs.Lists.{AreDistinct}
-use Rattle.edit_list.specs.Numbered.{if_number, of_number, by_number}
+use Rattle.arc_base.specs.Numbered.{if_number, of_number, by_number}
 use Rattle.edit_list.proofs.NewListFacts.{picked_from, pairs_picked}
 
 -- an item of a list of one

@@ -4,7 +4,7 @@ use Rattle.std.specs.Prelude.{option_and_then, slice_get}
 use Rattle.std.specs.Fmt.{digits}
 use Rattle.std.specs.List.{AllZip}
 use Rattle.std.proofs.lemmas.Bool.{cond-true, cond-false, le-ltb}
-use Rattle.cnf_types.specs.Words.{lines}
+use Rattle.arc_base.specs.TextLines.{lines}
 use Rattle.arc_base.specs.Words.{words}
 use Rattle.arc_base.specs.declared.certificate.CertKind.TheVariants.{NoClaim}
 use Rattle.net_model.specs.declared.policies.Document.{Document}

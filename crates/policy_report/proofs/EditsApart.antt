@@ -25,7 +25,7 @@ use Rattle.edit_list.specs.declared.edit_kinds.Edit.TheVariants as edits
 use Rattle.edit_list.specs.declared.sites.Site.{Site}
 use Rattle.edit_list.specs.declared.sites.Site.TheVariants.{Bound, New}
 use Rattle.edit_list.specs.EditLists.{has_session, edits_at, link_edits, route_edit, packet_edit, writable_classes, all_edits, is_same, AreEdits}
-use Rattle.edit_list.specs.Numbered.{placed, if_number, of_number, by_number}
+use Rattle.arc_base.specs.Numbered.{placed, if_number, of_number, by_number}
 use Rattle.edit_list.specs.Writable.{is_writable}
 use Rattle.edit_list.specs.Sites.{route_list_site, neighbor_site, packet_list_site, takes_list, face_site, route_sites, packet_sites}
 use Rattle.edit_list.proofs.NewListFacts.{picked_from, pairs_picked, placed_apart, placed_is}

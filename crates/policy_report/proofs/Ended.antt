@@ -1,7 +1,7 @@
 -- The lines of texts that end their last line.
 use Rattle.std.proofs.Common.{◌≡◌, ℕ, ◌⊎◌, inl, inr, Bool, true, false, cond, List, [], ◌∷◌, ◌++◌, map, refl, ap, sym, subst, ◌∙◌, append_assoc, append-nil}
 use Rattle.std.specs.List.{concat, onto_first}
-use Rattle.cnf_types.specs.Words.{lines, is_line_feed}
+use Rattle.arc_base.specs.TextLines.{lines, is_line_feed}
 use Rattle.policy_report.specs.Lines.{after_spaces, line}
 
 -- a text that ends a line has a first line

@@ -4,7 +4,7 @@ use Rattle.std.specs.List.{onto_first, join_with_byte}
 use Rattle.std.proofs.lemmas.Bool.{cond-false, ne_eqb}
 use Rattle.std.proofs.lemmas.List.Elements.{All-nil, All-cons, All-append, All-weaker, All-head, All-tail}
 use Rattle.std.proofs.lemmas.List.Splits.{slice_split_at, slice_split_none, join_with_byte-slice_split}
-use Rattle.cnf_types.specs.Words.{lines, is_line_feed}
+use Rattle.arc_base.specs.TextLines.{lines, is_line_feed}
 use Rattle.policy_report.specs.Lines.{after_spaces, line}
 use Rattle.policy_report.specs.Readings.{line_words}
 

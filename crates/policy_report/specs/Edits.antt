@@ -1,4 +1,4 @@
--- The texts of edits. A text begins with the word `edit` and tells what is turned: the session of a
+-- The texts of edits. A text begins with the word `edit` and says what is turned: the session of a
 -- router's interface, or the answer of a list, or of a new list at a neighbour or an interface, for
 -- a prefix or a class.
 use Rattle.std.specs.Prelude.{◌≡◌, ℕ, ◌+◌, ◌<◌, ◌^◌, ◌↔◌, List, [], ◌∷◌, ◌++◌, All, AllPairs}

@@ -12,8 +12,8 @@ use Rattle.net_model.specs.Validity.{IsValid}
 use Rattle.policy_report.specs.Reports.{report_text}
 use Rattle.policy_report.specs.Rereading.{IsReadable}
 
--- the witness is short: it has at most CLASS_LIMIT sides or paths, and no line of it tells of more
--- than LINK_LIMIT links
+-- the witness is short: it has at most CLASS_LIMIT sides or paths, and no line of it has more than
+-- LINK_LIMIT links
 abbrev pub IsShort : Verdict → Type 0
 IsShort (Closed sides) = length sides ≤ CLASS_LIMIT
 IsShort (Paths paths) = (length paths ≤ CLASS_LIMIT) × All (λ p. length p.links ≤ LINK_LIMIT) paths

@@ -1,6 +1,5 @@
--- What the lines of a report are read as. Each line has one spelling: its words stand with one
--- space between them, and numbers, addresses and prefixes have the one form in which they are
--- written.
+-- What the lines of a report are read as. Each line has one spelling: its words have one space
+-- between them, and numbers, addresses and prefixes have the one form in which they are written.
 use Rattle.std.specs.Prelude.{ℕ, ◌-◌, ◌==◌, ◌&&◌, nat_le, Bool, true, false, if◌then◌else◌, List}
 use Rattle.std.specs.Prelude.{[], ◌∷◌, length, Option, Some, None, bytes_eq, codes}
 use Rattle.std.specs.List.{slice_split}
@@ -39,7 +38,7 @@ count_of word = do
   number ← number_of word
   if nat_le number 4294967295 then Some number else None
 
--- a link, by its number counted from 1, where there are so many
+-- a link, by its number counted from 1, of a network with `links` links
 abbrev pub link_of : ℕ → List ℕ → Option Link
 link_of links word = do
   number ← count_of word
@@ -53,7 +52,7 @@ all_links links (word ∷ words) = do
   rest ← all_links links words
   Some (link ∷ rest)
 
--- for each router, in order, whether it is named; the names stand in that order, each once
+-- for each router, in order, whether it is named; the names come in that order, each once
 abbrev pub side_of : List RouterRow → List (List ℕ) → Option (List Bool)
 side_of [] [] = Some []
 side_of [] (name ∷ names) = None
@@ -189,7 +188,7 @@ asked_of word =
     else if bytes_eq word (codes "reach") then Some Reach
     else None
 
--- a yes: its sides or paths, as many as are counted
+-- a yes: its sides or paths, `count` of them
 abbrev pub yes_of : Asked → ℕ → Block
 yes_of Reach count = if count == 0 then Whole (verdicts.Paths []) else Open (drafts.Paths count [])
 yes_of asked count = if count == 0 then Whole (verdicts.Closed []) else Open (drafts.Sides count [])
@@ -206,7 +205,7 @@ abbrev pub refusal_of : Asked → ℕ → Option Block
 refusal_of Reach count = if count == 1 then Some (Open drafts.Refused) else None
 refusal_of asked count = None
 
--- what an answer with so many lines begins, where what is asked has such an answer
+-- what an answer with `count` lines begins, if what is asked has such an answer
 abbrev pub block_of : Asked → List ℕ → ℕ → Option Block
 block_of asked answer count =
     if bytes_eq answer (codes "yes") then Some (yes_of asked count)

@@ -1,12 +1,12 @@
 -- A certificate is read again: a reader that takes its lines in order gives back its head, its
 -- edits, its verdicts, the steps of its proof log and its end, and a text of which each line is
 -- taken, the first of them as a repair's and the last as the end, is the certificate of a claim,
--- with a proof log in any lines that tell its steps.
+-- with a proof log in any lines that write its steps.
 use Rattle.std.specs.Prelude.{◌≡◌, ℕ, ◌+◌, ◌≤◌, Bool, true, false, List, [], ◌∷◌, ◌++◌, codes}
 use Rattle.std.specs.Prelude.{length, map, All, Option, Some, None, Result, Ok, Err}
 use Rattle.std.specs.List.{AllZip}
 use Rattle.arc_base.specs.declared.certificate.CertKind.TheVariants.{NoClaim}
-use Rattle.cnf_types.specs.Words.{lines}
+use Rattle.arc_base.specs.TextLines.{lines}
 use Rattle.net_model.specs.declared.policies.Document.{Document}
 use Rattle.net_model.specs.declared.rows.Network.{Network}
 use Rattle.net_model.specs.declared.verdicts.Verdict as verdicts
@@ -30,7 +30,7 @@ use Rattle.policy_report.specs.Edits.{AreToldApart, HasAddresses}
 use Rattle.policy_report.specs.Rereading.{IsReadable, IsWhole, answers, blocks_answers}
 use Rattle.policy_report.specs.Steps.{start}
 
--- what a line of a proof log tells: a step, or none
+-- what a line of a proof log writes: a step, or none
 abbrev pub Told : Type 0
 Told = Option steps.Step
 
@@ -72,15 +72,15 @@ IsYes (Closed sides) = Unit {0}
 IsYes (Paths paths) = Unit {0}
 IsYes other = ⊥
 
--- the claim can be told in a certificate: numbers have 32 bits, and a repair has one flag for each
--- edit and one yes for each policy
+-- the claim can be written in a certificate: numbers have 32 bits, and a repair has one flag for
+-- each edit and one yes for each policy
 abbrev pub IsToldClaim : Network → Document → List edits.Edit → Claim → Type 0
 IsToldClaim net doc all (claims.Repaired price bound chosen verdicts) =
     (price ≤ 4294967295) × (bound ≤ 4294967295) × (length chosen ≡ length all) ×
     AllZip (IsReadable net) doc.policies verdicts × All IsYes verdicts
 IsToldClaim net doc all (claims.NoRepair bound) = bound ≤ 4294967295
 
--- the lines are those of a certificate of the claim, with a proof log whose lines tell these steps
+-- the lines are those of a certificate of the claim, with a proof log whose lines write these steps
 pub record IsCertificate (net : Network) (doc : Document) (all : List edits.Edit) (claim : Claim)
     (told : List Told) (ls : List (List ℕ)) : Type 0 where
   pub is_told : IsToldClaim net doc all claim

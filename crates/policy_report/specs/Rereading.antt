@@ -5,7 +5,7 @@ use Rattle.std.specs.Prelude.{◌≡◌, ℕ, ◌+◌, ◌<◌, ◌≤◌, ◌^�
 use Rattle.std.specs.Prelude.{Ok, Err}
 use Rattle.std.specs.List.{AllZip}
 use Rattle.arc_base.specs.declared.place.Link.{Link}
-use Rattle.cnf_types.specs.Words.{lines}
+use Rattle.arc_base.specs.TextLines.{lines}
 use Rattle.net_model.specs.declared.policies.Document.{Document}
 use Rattle.net_model.specs.declared.policies.Policy.{Policy}
 use Rattle.net_model.specs.declared.policies.PolicyKind.{PolicyKind}
@@ -38,8 +38,8 @@ IsAnswer _ _ = ⊥
 abbrev pub AreLinks : Network → List Link → Type 0
 AreLinks net links = All (λ l. l.0 < length net.links) links
 
--- the witness can be told in lines: links are the network's, a side has a flag for each router, an
--- address has 32 bits and a service 24, and the lines can be counted in 32 bits
+-- the witness can be written in lines: links are the network's, a side has a flag for each router,
+-- an address has 32 bits and a service 24, and the lines can be counted in 32 bits
 abbrev pub IsTold : Network → verdicts.Verdict → Type 0
 IsTold net (Closed sides) =
     All (λ s. length s.side ≡ length net.routers) sides × (length sides ≤ 4294967295)
@@ -51,7 +51,7 @@ IsTold net (Refused packet link) =
     (link.0 < length net.links) ×
     ((packet.from < 2 ^ 32) × (packet.to < 2 ^ 32) × (packet.service < 2 ^ 24))
 
--- the verdict on the policy can be told in a report
+-- the verdict on the policy can be written in a report
 pub record IsReadable (net : Network) (policy : Policy) (v : verdicts.Verdict) : Type 0 where
   pub kind : IsAnswer policy.kind v
   pub told : IsTold net v

@@ -1,7 +1,7 @@
--- How services are written, and what a word of them stands for. A service is written as its
--- protocol and its port with a dot between them, a range of services as its first and its last with
--- a dash between them, and `service:` stands before either. Numbers have no zero before another
--- digit. For all services, and for the service 0 of a packet, no word stands.
+-- How services are written and read. A service is written as its protocol and its port with a dot
+-- between them, a range of services as its first and its last with a dash between them, and
+-- `service:` comes before either. Numbers have no zero before another digit. All services, and the
+-- service 0 of a packet, are written as no word.
 use Rattle.std.specs.Prelude.{◌≡◌, ◌≢◌, ℕ, ◌+◌, ◌*◌, ◌/◌, ◌%◌, ◌^◌, ◌<◌, ◌==◌, ◌&&◌, ◌↔◌, nat_lt}
 use Rattle.std.specs.Prelude.{nat_le, Bool, true, false, if◌then◌else◌, List, [], ◌∷◌, ◌++◌, codes}
 use Rattle.std.specs.Prelude.{decimal, bytes_eq, Option, Some, None, refl}

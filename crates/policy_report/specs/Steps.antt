@@ -1,12 +1,11 @@
 -- How a reader goes over the lines of a certificate. The first line is the head. In a report then
 -- come the blocks, one for each policy in order, and the line `end`. In a repair the second line is
--- the answer; where that is a repair, the edits follow in order and the blocks, each of them a yes;
--- then come the line `log`, the lines of the proof log and the line `end`.
--- The first line that is not of this form is rejected, and by which word, each line says: `form`
--- where it is no line that may stand there, `no-claim` where the answer claims nothing, `edit`
--- where the line of an edit names none that comes after the one before, `policy` where a block is
--- missing, too many or of another policy, `not-yes` where the block of a repair is no yes, and
--- `no-end` where a line follows the end.
+-- the answer; if that is a repair, the edits follow in order and the blocks, each of them a yes;
+-- then come the line `log`, the lines of the proof log and the line `end`. The first line that is
+-- not of this form is rejected, with a word that each line has: `form` if it is no line that is
+-- allowed there, `no-claim` if the answer claims nothing, `edit` if the line of an edit names none
+-- that comes after the one before, `policy` if a block is missing, too many or of another policy,
+-- `not-yes` if the block of a repair is no yes, and `no-end` if a line follows the end.
 use Rattle.std.specs.Prelude.{◌≡◌, ◌⊎◌, ℕ, ◌+◌, ◌-◌, ◌==◌, ◌&&◌, nat_lt, nat_le, Bool, true, false}
 use Rattle.std.specs.Prelude.{if◌then◌else◌, List, [], ◌∷◌, ◌++◌, length, Option, Some, None}
 use Rattle.std.specs.Prelude.{Result, Ok, Err, bytes_eq, codes, slice_get}
@@ -49,12 +48,12 @@ use Rattle.policy_report.specs.Readings.{answer_of, line_words, heading_of, aske
 use Rattle.policy_report.specs.Readings.{path_of, walk_of, denied_of, cut_of, side_line_of}
 use Rattle.policy_report.specs.Readings.{refused_of}
 
--- where a reader stands: how many lines it has read, and what may come next
+-- where a reader is: how many lines it has read, and what may come next
 pub record Standing : Type 0 where
   pub line : ℕ
   pub stage : Stage
 
--- where this reader stands
+-- where this reader is
 abbrev pub standing : Reader → Standing
 standing r = record { line = r.line; stage = r.stage }
 
@@ -62,7 +61,7 @@ standing r = record { line = r.line; stage = r.stage }
 abbrev pub start : Standing
 start = record { line = 0; stage = stages.Head }
 
--- a step: where the reader stands after a line, and what it answers
+-- a step: where the reader is after a line, and what it answers
 abbrev pub Step : Type 0
 Step = Standing × Result Got CertFault
 
@@ -150,7 +149,7 @@ is_yes (Open (drafts.Sides left sides)) = true
 is_yes (Open (drafts.Paths left paths)) = true
 is_yes (Open draft) = false
 
--- whether the block may stand in the text: in a repair only a yes does
+-- whether the block is allowed in the text: in a repair only a yes is
 abbrev pub may_stand : Text → Block → Bool
 may_stand Report block = true
 may_stand Repair block = is_yes block
@@ -168,12 +167,12 @@ abbrev pub closed : ℕ → Text → Step
 closed line Report = goes line stages.Ended End
 closed line Repair = fails line Form
 
--- the line `log` after all blocks: it stands before the proof log of a repair
+-- the line `log` after all blocks: it comes before the proof log of a repair
 abbrev pub logs : ℕ → Text → Step
 logs line Report = fails line Form
 logs line Repair = goes line stages.Steps More
 
--- a line between blocks, of which so many are read
+-- a line between blocks, of which `which` are read
 abbrev pub between : Document → ℕ → Text → ℕ → List ℕ → Step
 between doc line text which bytes =
     if bytes_eq bytes (codes "end")
@@ -218,7 +217,7 @@ abbrev pub edited : ℕ → Option ℕ → Step
 edited line None = fails line Edit
 edited line (Some place) = goes line (stages.Edits (place + 1)) (gots.Edit place)
 
--- a line after the answer that there is a repair; the edits before this place stand before it
+-- a line after the answer that there is a repair; the edits before this place are read
 abbrev pub editing : Network → Document → List edits.Edit → ℕ → ℕ → List ℕ → Step
 editing net doc all line next bytes =
     if is_edit (words bytes) then edited line (edit_from net all next bytes)

@@ -149,8 +149,8 @@ pub fn certificate(
     Ok(text)
 }
 
-/// What is written where the search used up its budget of so many learnt clauses, within a bound on
-/// the price. It claims nothing, and its log shows the work that was done.
+/// What is written if the search used up its budget of learnt clauses, within a bound on the price.
+/// It claims nothing, and its log shows the work that was done.
 pub fn budget(alloc: Global, limit: u64, bound: u32, log: &Log) -> Result<Vec<u8>, Memory>
     ensures { IfOk result (λ text. text.items ≡ budget_text limit bound log.now) }
 {

@@ -204,11 +204,10 @@ pub(crate) fn push_edit(
     push_edit_words(alloc, text, net, edit)
 }
 
-/// The text of the edit at this place, without a line end: `edit session ROUTER IFNAME`,
-/// `edit route ROUTER list NAME P/L`, `edit route ROUTER neighbor A P/L`,
-/// `edit packet ROUTER list NAME P/L P/L [SERVICE]` or
-/// `edit packet ROUTER interface IFNAME P/L P/L [SERVICE]`. SERVICE is `service:P.N-P.N`, and is
-/// left out where the edit speaks of all services.
+/// The text of the edit at this place, without a line end: `edit session ROUTER IFNAME`, `edit
+/// route ROUTER list NAME P/L`, `edit route ROUTER neighbor A P/L`, `edit packet ROUTER list NAME
+/// P/L P/L [SERVICE]` or `edit packet ROUTER interface IFNAME P/L P/L [SERVICE]`. SERVICE is
+/// `service:P.N-P.N`, and is left out if the edit is about all services.
 pub fn edit_text(
     alloc: Global,
     net: &Network,
@@ -273,8 +272,8 @@ pub(crate) fn edit_from(
     }
 }
 
-/// The place of the edit that has this text, which stands without a line end; `None` exactly where
-/// no edit has it. It takes time linear in the edits.
+/// The place of the edit that has this text, given without a line end; `None` exactly if no edit
+/// has it. It takes time linear in the edits.
 pub fn edit_line(
     alloc: Global,
     net: &Network,

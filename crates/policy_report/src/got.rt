@@ -1,10 +1,10 @@
-//! What a line of a certificate tells its reader.
+//! What a line of a certificate gives its reader.
 
 use arc_base::CertKind;
 use net_model::Verdict;
 use proof_log::Step;
 
-/// What a line of a certificate tells its reader.
+/// What a line of a certificate gives its reader.
 #[derive(Drop)]
 pub enum Got {
     /// A line that is a part of what goes on: of a block or of the head, or the line before the

@@ -24,7 +24,7 @@ fn asked_of(word: &[u8]) -> Option<Asked>
     }
 }
 
-/// A yes: its sides or paths, as many as are counted.
+/// A yes: its sides or paths, `count` of them.
 fn yes_of(alloc: Global, asked: Asked, count: u32) -> Block
     ensures { result ≡ yes_of asked count }
 {
@@ -36,7 +36,7 @@ fn yes_of(alloc: Global, asked: Asked, count: u32) -> Block
     }
 }
 
-/// What an answer with so many lines begins, if what is asked has such an answer.
+/// What an answer with `count` lines begins, if what is asked has such an answer.
 fn block_of(alloc: Global, asked: Asked, answer: &[u8], count: u32) -> Option<Block>
     ensures { result ≡ block_of asked answer.now count }
 {

@@ -2,7 +2,7 @@
 //! line, one block for each policy with the answer and its witness, and an end line; the
 //! certificate of a repair has its answer, its edits, a block for each policy and a proof log.
 //! `report` and `certificate` write them, and a `Reader` takes their lines one by one: it gives
-//! back what they tell, or rejects the first line that is not of the form.
+//! back what they say, or rejects the first line that is not of the form.
 #![tactic(auto)]
 
 mod answers;

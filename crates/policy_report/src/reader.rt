@@ -15,8 +15,7 @@ use crate::growing::grown;
 use crate::headings::heading_of;
 use crate::reading::line_words;
 use crate::stages::{Stage, Text};
-use arc_base::{CertKind, List, Memory};
-use cnf_types::next_word;
+use arc_base::{CertKind, List, Memory, next_word};
 use edit_list::Edit;
 use net_model::{Document, Network, Policy, Verdict};
 use proof_log::LineKind;
@@ -65,7 +64,7 @@ fn is_yes(block: &Block) -> bool
     }
 }
 
-/// Whether the block may stand in the text.
+/// Whether the block is allowed in the text.
 fn may_stand(text: Text, block: &Block) -> bool
     ensures { result ≡ may_stand text block.now }
 {
@@ -312,9 +311,9 @@ impl Reader {
     }
 
     /// Reads the next line, which is given without its line feed. After a fault it answers that
-    /// fault again. A fault of the kind `Memory` is want of memory, and none of the line's. The
+    /// fault again. A fault of the kind `Memory` is out of memory, and none of the line's. The
     /// lines of edits take time linear in the edits all together, and each other line in its bytes,
-    /// or in the routers where it is a side.
+    /// or in the routers if it is a side.
     pub fn line(
         &mut self,
         net: &Network,

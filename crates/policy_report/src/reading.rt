@@ -66,7 +66,7 @@ fn is_named(router: &RouterRow, names: &[&[u8]], place: usize) -> bool
     }
 }
 
-/// For each router, in order, whether it is named. The names stand in that order, each once.
+/// For each router, in order, whether it is named. The names come in that order, each once.
 fn side_of(
     alloc: Global,
     routers: &[RouterRow],

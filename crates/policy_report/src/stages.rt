@@ -19,7 +19,7 @@ pub(crate) enum Stage {
     Answer,
     /// An edit, at this place or after it, or a block, or what closes the blocks.
     Edits(u32),
-    /// A block, or what closes the blocks after the last one; so many blocks are read.
+    /// A block, or what closes the blocks after the last one; this many blocks are read.
     Between(Text, u64),
     /// A line of the block of the policy at this place.
     Within(Text, u32, Draft),

@@ -1,4 +1,4 @@
-//! Words of a line, put at the end of a text with a space before each.
+//! Words of a line, appended to a text with a space before each.
 ghost use Rattle.std.specs.Prelude.{◌≡◌, ◌++◌, [], ◌∷◌, cond, decimal, false, slice_index_or, OnOk};
 ghost use Rattle.arc_base.specs.PrefixText.{address_text, prefix_text};
 ghost use Rattle.policy_report.specs.Lines.{after_spaces};

@@ -88,7 +88,7 @@ after k (Add id lits hints) = record (learn k id lits) { refuted = k.refuted || 
 after k (Drop ids) = record k { clause = without_clauses k.clause ids }
 after k (Bound id price) = learn k id (bound_clause k.tops price)
 
--- a fault that is answered is the first defect, or want of memory
+-- a fault that is answered is the first defect, or out of memory
 abbrev pub IsFirst : Option StepFault → StepFault → Type 0
 IsFirst first Memory = Unit {0}
 IsFirst first IdNotRising = first ≡ Some IdNotRising

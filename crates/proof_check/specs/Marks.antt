@@ -1,4 +1,4 @@
--- The literals that marks stand for.
+-- The literals of the marks.
 use Rattle.std.specs.Prelude.{Bool, nat_eq, slice_get}
 use Rattle.std.specs.Option.{unwrap_or}
 use Rattle.std.specs.HashSet.{contains}

@@ -5,7 +5,7 @@ use Rattle.std.specs.Option.{option_map}
 use Rattle.arc_base.specs.declared.certificate.CertKind.{CertKind}
 use Rattle.arc_base.specs.declared.certificate.CertKind.TheVariants as kinds
 use Rattle.cnf_types.specs.declared.clauses.Formula.{Formula}
-use Rattle.cnf_types.specs.Words.{lines}
+use Rattle.arc_base.specs.TextLines.{lines}
 use Rattle.proof_log.specs.declared.steps.Step.{Step}
 use Rattle.proof_log.specs.declared.reading.LineKind.{LineKind}
 use Rattle.proof_log.specs.Reading.{reading}

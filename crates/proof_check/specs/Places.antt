@@ -1,10 +1,10 @@
--- Clauses that stand one behind another among literals.
+-- Clauses one behind another among literals.
 use Rattle.std.specs.Prelude.{◌≡◌, ℕ, ◌+◌, ◌-◌, ◌/◌, ◌<◌, ◌≤◌, ◌==◌, max, if◌then◌else◌, All, List}
 use Rattle.std.specs.Prelude.{[], ◌∷◌, length, take, drop, sum_by, Option, Some, None}
 use Rattle.cnf_types.specs.declared.literal.Lit.{Lit}
 use Rattle.proof_check.specs.declared.tables.Place.{Place}
 
--- a place among so many literals
+-- a place among `count` literals
 pub record IsPlace (count : ℕ) (place : Place) : Type 0 where
   pub start : place.start ≤ place.stop - 1
   pub stop : place.stop ≤ count + 1
@@ -13,7 +13,7 @@ pub record IsPlace (count : ℕ) (place : Place) : Type 0 where
 abbrev pub nowhere : Place
 nowhere = record { start = 0; stop = 0 }
 
--- how many literals stand at a place
+-- how many literals are at a place
 abbrev pub size : Place → ℕ
 size place = place.stop - 1 - place.start
 

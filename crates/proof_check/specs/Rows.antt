@@ -4,7 +4,7 @@ use Rattle.cnf_types.specs.declared.literal.Lit.{Lit}
 use Rattle.cnf_types.specs.declared.clauses.Clause.{Clause}
 use Rattle.std.specs.Option.{unwrap_or}
 
--- the rows of a list of clauses: those of the clauses stand behind one that has none
+-- the rows of a list of clauses: those of the clauses come after one that has none
 abbrev pub rows_of : List Clause → List (Option (List Lit))
 rows_of clauses = None ∷ map (λ c. Some c.lits) clauses
 

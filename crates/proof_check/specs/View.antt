@@ -8,7 +8,7 @@ use Rattle.proof_check.specs.declared.live.Live.{Live}
 use Rattle.proof_check.specs.declared.checker.Checker.{Checker}
 use Rattle.proof_check.specs.Knowledge.{Knowledge}
 
--- what stands in a row of a table, or else what a map has
+-- what is in a row of a table, or else what a map has
 abbrev pub near_or : {X : Type 0} → Option (Option X) → Option X → Option X
 near_or (Some row) far = row
 near_or None far = far

@@ -31,7 +31,7 @@ pub struct Checker {
     ghost rows: { length live.near ≤ last + 1 },
 }
 
-/// Puts the literals that numbers stand for in place of those that are there.
+/// Replaces the literals by those of these numbers.
 fn read_literals(lits: &mut Vec<Lit>, numbers: &[i64]) -> Result<(), Memory>
     requires nonzero { All (λ z. is_zero z ≡ false) numbers.now }
     requires fits { All (λ z. unsigned_abs z < 2 ^ 63) numbers.now }
@@ -159,7 +159,7 @@ impl Checker {
         Ok(())
     }
 
-    /// Adds the clause whose literals these numbers stand for, which the hints have to show.
+    /// Adds the clause of these numbers, which the hints have to show.
     pub(crate) fn add_numbers(
         &mut self,
         id: u64,

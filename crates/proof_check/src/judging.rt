@@ -2,7 +2,7 @@
 ghost use Rattle.std.specs.Prelude.{◌≡◌, ℕ, ◌↔◌, [], ◌<◌, ◌^◌, length, All, Bool, None, IfOk};
 ghost use Rattle.std.specs.Prelude.{IsNone};
 ghost use Rattle.std.specs.Prelude.{unsigned_abs};
-ghost use Rattle.cnf_types.specs.Words.{lines};
+ghost use Rattle.arc_base.specs.TextLines.{lines};
 ghost use Rattle.cnf_types.specs.Formulas.{Satisfies};
 ghost use Rattle.proof_log.specs.Reading.{formed, ok_or_bad_line, reading};
 ghost use Rattle.proof_check.specs.Knowledge.{start};
@@ -13,8 +13,8 @@ ghost use Rattle.proof_check.specs.View.{known};
 use crate::checker::Checker;
 use crate::faults::StepFault;
 use crate::rejections::{Outcome, Rejection};
-use arc_base::{CertKind, List, Memory};
-use cnf_types::{Formula, first_line};
+use arc_base::{CertKind, List, Memory, first_line};
+use cnf_types::Formula;
 use proof_log::{LineKind, Sign, added, interpret, line_numbers};
 use std::alloc::Global;
 

@@ -10,7 +10,7 @@ use std::alloc::Global;
 use std::collections::HashSet;
 
 /// What is left of a clause without the literals that are false: nothing, one literal however often
-/// it stands there, or different ones.
+/// it occurs, or different ones.
 #[derive(Clone, Copy, Debug, PartialEq, Eq)]
 pub(crate) enum Left {
     Nothing,
@@ -27,7 +27,7 @@ pub(crate) struct Marks {
 }
 
 impl Marks {
-    /// No marks, with flags for so many codes.
+    /// No marks, with flags for `codes` codes.
     pub fn make(alloc: Global, codes: usize) -> Result<Marks, Memory>
         ensures none { IfOk result (λ marks. (m : Lit) → is_marked marks m ≡ is_among [] m) }
         ensures flags { IfOk result (λ marks. length marks.near ≡ codes) }

@@ -1,4 +1,4 @@
-//! Clauses in the rows of a table, whose literals stand one behind another in one vector.
+//! Clauses in the rows of a table, whose literals are one behind another in one vector.
 ghost use Rattle.std.specs.Prelude.{◌≡◌, ◌≤◌, ◌<◌, ◌+◌, ◌-◌, ◌++◌, [], ◌∷◌, All, length, map, max};
 ghost use Rattle.std.specs.Prelude.{option_map, slice_get, slice_set, sum_by, Some, None};
 ghost use Rattle.std.specs.Prelude.{OnOk, OnErr};
@@ -10,8 +10,8 @@ use cnf_types::Lit;
 use std::alloc::Global;
 use std::marker::Model;
 
-/// Where a clause stands among literals: from `start` on, and one before `stop` is its end. Where
-/// `stop` is 0 there is no clause.
+/// Where a clause is among literals: from `start` on, up to one before `stop`. If `stop` is 0 there
+/// is no clause.
 #[derive(Clone, Copy, Debug)]
 pub(crate) struct Place {
     pub start: usize,
@@ -25,7 +25,7 @@ fn nowhere() -> Place
     Place { start: 0, stop: 0 }
 }
 
-/// How many literals stand at a place.
+/// How many literals are at a place.
 fn size(place: Place) -> usize
     requires { place.start ≤ place.stop - 1 }
     ensures { result ≡ size place }

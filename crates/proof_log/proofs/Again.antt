@@ -7,7 +7,7 @@ use Rattle.std.proofs.lemmas.List.Splits.{slice_split_at}
 use Rattle.std.proofs.lemmas.List.Elements.{All-cons, All-nil, All-append, All-head, All-tail}
 use Rattle.cnf_types.specs.declared.literal.Lit.{Lit}
 use Rattle.cnf_types.specs.Literals.{literal, variable, is_positive}
-use Rattle.cnf_types.specs.Words.{lines}
+use Rattle.arc_base.specs.TextLines.{lines}
 use Rattle.arc_base.specs.Words.{words}
 use Rattle.cnf_types.specs.Dimacs.{is_comment, is_zero, literal_of}
 use Rattle.proof_log.specs.declared.steps.Step.{Step}

@@ -3,7 +3,7 @@ use Rattle.std.proofs.Common.{◌≡◌, ℕ, true, false, not, List, [], ◌∷
 use Rattle.std.proofs.lemmas.Bool.{false≢true}
 use Rattle.std.specs.List.{list_any}
 use Rattle.cnf_types.specs.Dimacs.{is_comment, line_words}
-use Rattle.cnf_types.specs.Words.{without_return}
+use Rattle.arc_base.specs.TextLines.{without_return}
 use Rattle.arc_base.specs.Words.{is_filled, words}
 use Rattle.proof_log.specs.declared.steps.Step.{Step}
 use Rattle.proof_log.specs.declared.reading.LineKind.TheVariants.{BadNumber}

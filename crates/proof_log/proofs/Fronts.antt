@@ -11,7 +11,7 @@ use Rattle.std.proofs.lemmas.List.Splits.{slice_split_none}
 use Rattle.std.proofs.lemmas.List.Elements.{All-cons, All-nil, All-weaker}
 use Rattle.std.proofs.lemmas.Slice.Eq.{bytes_eq-Decides}
 use Rattle.arc_base.specs.Words.{words, is_filled, is_blank}
-use Rattle.cnf_types.specs.Numbers.{natural, is_natural, minus, value_after, with_digit}
+use Rattle.arc_base.specs.WordNumbers.{natural, is_natural, minus, value_after, with_digit}
 use Rattle.proof_log.specs.declared.numbers.Sign.TheVariants.{Adds, Drops, Bounds}
 use Rattle.proof_log.specs.Fronts.{EndsWord, IsFirstNumber}
 use Rattle.proof_log.specs.Reading.{is_bad, log_number, numbers, sign, sign_of}

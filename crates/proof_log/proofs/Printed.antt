@@ -9,8 +9,8 @@ use Rattle.std.proofs.lemmas.List.{get_or_at}
 use Rattle.std.proofs.lemmas.Bool.{and_from, and_left, le-leb, cond-true, cond-false, ne_eqb}
 use Rattle.std.proofs.lemmas.List.Splits.{slice_split_at}
 use Rattle.std.proofs.lemmas.List.Elements.{All-cons, All-nil, All-append, All-weaker, All-from_get_or, All-head, All-tail}
-use Rattle.cnf_types.specs.Numbers.{natural, is_natural, number, minus, value_after}
-use Rattle.cnf_types.specs.Words.{lines, without_return, is_line_feed}
+use Rattle.arc_base.specs.WordNumbers.{natural, is_natural, number, minus, value_after}
+use Rattle.arc_base.specs.TextLines.{lines, without_return, is_line_feed}
 use Rattle.arc_base.specs.Words.{words, is_filled, is_blank}
 use Rattle.cnf_types.specs.Dimacs.{is_comment}
 use Rattle.proof_log.specs.declared.numbers.Sign.TheVariants.{Adds, Drops, Bounds}

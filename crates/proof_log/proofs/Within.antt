@@ -5,7 +5,7 @@ use Rattle.std.specs.Str.{all_ascii_digits}
 use Rattle.std.proofs.lemmas.Bool.{and_parts, leb-true}
 use Rattle.std.proofs.lemmas.Option.{cond_some, none-some, same_Some, option_and_then_some}
 use Rattle.std.proofs.lemmas.List.Elements.{All-cons, All-nil, All-same}
-use Rattle.cnf_types.specs.Numbers.{natural, is_natural, number, minus, value_after}
+use Rattle.arc_base.specs.WordNumbers.{natural, is_natural, number, minus, value_after}
 use Rattle.arc_base.specs.Words.{is_filled}
 use Rattle.proof_log.specs.Reading.{log_number, numbers}
 

@@ -3,7 +3,7 @@ use Rattle.std.specs.Prelude.{◌≡◌, ◌⊎◌, ℕ, ◌<◌, ℤ, List, [],
 use Rattle.arc_base.specs.Words.{words}
 use Rattle.proof_log.specs.Reading.{log_number}
 
--- what stands behind a word: a space and the rest of the line, or nothing
+-- what follows a word: a space and the rest of the line, or nothing
 abbrev pub EndsWord : List ℕ → List ℕ → Type 0
 EndsWord behind rest = (behind ≡ 32 ∷ rest) ⊎ ((behind ≡ []) × (rest ≡ []))
 

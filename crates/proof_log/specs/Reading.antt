@@ -5,9 +5,9 @@ use Rattle.std.specs.Prelude.{◌∷◌, map, Option, Some, None, is_none, Resul
 use Rattle.std.specs.Prelude.{unsigned_abs}
 use Rattle.std.specs.List.{list_any, list_all, slice_split}
 use Rattle.std.specs.Str.{bytes_eq}
-use Rattle.cnf_types.specs.Numbers.{number}
+use Rattle.arc_base.specs.WordNumbers.{number}
 use Rattle.cnf_types.specs.Dimacs.{is_comment, line_words, is_zero, literal_of}
-use Rattle.cnf_types.specs.Words.{without_return}
+use Rattle.arc_base.specs.TextLines.{without_return}
 use Rattle.arc_base.specs.Words.{is_filled}
 use Rattle.proof_log.specs.declared.numbers.Sign.{Sign}
 use Rattle.proof_log.specs.declared.numbers.Sign.TheVariants.{Adds, Drops, Bounds}
@@ -20,7 +20,7 @@ use Rattle.proof_log.specs.declared.reading.LineKind.TheVariants.{BadLine, BadNu
 abbrev pub log_number : List ℕ → Option ℤ
 log_number word = number (2 ^ 63 - 1) word
 
--- the letters d and b stand for a drop and a bound
+-- the letters d and b mean a drop and a bound
 abbrev pub sign_of : List ℕ → Sign
 sign_of word =
     if bytes_eq word (codes "d") then Drops
@@ -59,7 +59,7 @@ abbrev pub is_negative : ℤ → Bool
 is_negative (pos n) = false
 is_negative (negsuc n) = true
 
--- `ID LITS 0 HINTS 0`, from what stands between the zeros after the id
+-- `ID LITS 0 HINTS 0`, from what is between the zeros after the id
 abbrev pub add_of : ℤ → List (List ℤ) → Option Step
 add_of id (lits ∷ hints ∷ [] ∷ []) =
     if is_positive id then Some (Add (unsigned_abs id) (map literal_of lits) hints) else None
@@ -104,7 +104,7 @@ reading line =
     if not (is_filled (without_return line)) || is_comment line then Ok None
     else step_of_words (line_words line)
 
--- the fault is that of the line, or want of memory
+-- the fault is that of the line, or out of memory
 abbrev pub IsFaultOf : List ℕ → LineKind → Type 0
 IsFaultOf line Memory = Unit {0}
 IsFaultOf line BadLine = reading line ≡ Err BadLine

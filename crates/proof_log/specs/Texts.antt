@@ -5,7 +5,7 @@ use Rattle.std.specs.Prelude.{decimal, All, Some, Ok, unsigned_abs}
 use Rattle.std.specs.Fmt.{signed_decimal}
 use Rattle.cnf_types.specs.declared.literal.Lit.{Lit}
 use Rattle.cnf_types.specs.Literals.{variable, is_positive}
-use Rattle.cnf_types.specs.Words.{lines}
+use Rattle.arc_base.specs.TextLines.{lines}
 use Rattle.proof_log.specs.declared.steps.Step.{Step}
 use Rattle.proof_log.specs.declared.steps.Step.TheVariants.{Add, Drop, Bound}
 use Rattle.proof_log.specs.declared.steps.Log.{Log}

@@ -19,7 +19,7 @@ fn is_zero(number: i64) -> bool
     number == 0
 }
 
-/// What stands before the first 0 and after it, or `None` where there is no 0.
+/// What comes before the first 0 and after it, or `None` if there is no 0.
 fn until_zero(numbers: &[i64]) -> Option<(&[i64], &[i64])>
     ensures none { IfNone result (slice_split is_zero numbers.now ≡ numbers.now ∷ []) }
     ensures found { IfSome result (λ found.
@@ -36,7 +36,7 @@ fn until_zero(numbers: &[i64]) -> Option<(&[i64], &[i64])>
 }
 
 #[tactic(auto, using(crate::proofs::Zeros::no_drop_at))]
-/// What stands before the first 0, if that is the last number.
+/// What comes before the first 0, if that is the last number.
 fn one_part(numbers: &[i64]) -> Option<&[i64]>
     ensures part { IfSome result (λ part. slice_split is_zero numbers.now ≡ part.now ∷ [] ∷ []) }
     ensures none { IfNone result ((num : ℤ) →
@@ -47,8 +47,7 @@ fn one_part(numbers: &[i64]) -> Option<&[i64]>
 }
 
 #[tactic(auto, using(crate::proofs::Zeros::no_add_at))]
-/// What stands before the first 0 and what stands between it and the second, if that is the last
-/// number.
+/// What comes before the first 0 and what is between it and the second, if that is the last number.
 fn two_parts(numbers: &[i64]) -> Option<(&[i64], &[i64])>
     ensures parts { IfSome result (λ parts.
         slice_split is_zero numbers.now ≡ parts.0.now ∷ parts.1.now ∷ [] ∷ []) }
@@ -65,7 +64,7 @@ fn two_parts(numbers: &[i64]) -> Option<(&[i64], &[i64])>
     }
 }
 
-/// The literals that numbers other than 0 stand for.
+/// The literals of numbers other than 0.
 fn literals(alloc: Global, numbers: &[i64]) -> Result<List<Lit>, Memory>
     requires nonzero { All (λ z. is_zero z ≡ false) numbers.now }
     requires fits { All (λ z. unsigned_abs z < 2 ^ 63) numbers.now }
@@ -78,7 +77,7 @@ fn literals(alloc: Global, numbers: &[i64]) -> Result<List<Lit>, Memory>
     List::of(lits)
 }
 
-/// The hints as they stand.
+/// The hints as they are.
 fn hints(alloc: Global, numbers: &[i64]) -> Result<List<i64>, Memory>
     ensures { IfOk result (λ hints. hints ≡ numbers.now) }
 {

@@ -7,12 +7,12 @@ ghost use Rattle.std.specs.List.{list_any, slice_split};
 ghost use Rattle.std.specs.Str.{all_ascii_digits};
 ghost use Rattle.arc_base.specs.Words.{words};
 ghost use Rattle.cnf_types.specs.Dimacs.{is_zero};
-ghost use Rattle.cnf_types.specs.Numbers.{minus, value_after};
+ghost use Rattle.arc_base.specs.WordNumbers.{minus, value_after};
 ghost use Rattle.proof_log.specs.Reading.{is_bad, log_number, number_words, numbers, sign, sign_of};
 ghost use Rattle.proof_log.specs.Fronts.{EndsWord, IsFirstNumber};
 
 use crate::reading::LineKind;
-use cnf_types::{next_word, number};
+use arc_base::{next_word, number};
 
 /// What a letter in the second place says that the line does.
 #[derive(Clone, Copy, Debug, PartialEq, Eq)]
@@ -32,8 +32,8 @@ fn log_number(word: &[u8]) -> Option<i64>
     number(word, i64::MAX as u64)
 }
 
-/// The number that the digits at the front write, and how many these are: all of them, or so many
-/// that the number needs no more care.
+/// The number that the digits at the front write, and how many these are: all of them, or as many
+/// as fit without a check.
 fn front_digits(bytes: &[u8]) -> (u64, usize)
     ensures count { result.1 ≤ length bytes.now }
     ensures digits { all_ascii_digits (take result.1 bytes.now) ≡ true }
@@ -50,7 +50,7 @@ fn front_digits(bytes: &[u8]) -> (u64, usize)
     (value, bytes.len())
 }
 
-/// What follows a word of so many bytes at the front, where a space or nothing ends it; `None` says
+/// What follows a word of `count` bytes at the front, if a space or nothing ends it; `None` says
 /// nothing.
 fn after_word(line: &[u8], count: usize) -> Option<&[u8]>
     requires { count ≤ length line.now }
@@ -167,7 +167,7 @@ fn next_number(line: &[u8]) -> Option<(Option<i64>, &[u8])>
     Some((log_number(word), after))
 }
 
-/// The sign of a line, of which this follows the first word, and what its other numbers stand in.
+/// The sign of a line, of which this follows the first word, and what its other numbers are in.
 fn after_sign(rest: &[u8]) -> (Sign, &[u8])
     ensures sign { (first : List ℕ) → result.0 ≡ sign (first ∷ words rest.now) }
     ensures words { (first : List ℕ) →

@@ -6,8 +6,8 @@ ghost use Rattle.proof_log.specs.Reading.{formed, ok_or_bad_line, reading, IsFau
 use crate::interpreting::interpret;
 use crate::numbers::{Sign, read_numbers};
 use crate::steps::Step;
-use arc_base::Memory;
-use cnf_types::{is_comment, without_return};
+use arc_base::{Memory, without_return};
+use cnf_types::is_comment;
 use std::alloc::Global;
 
 /// Why a line of a proof log is no step.
@@ -31,10 +31,9 @@ impl From<Memory> for LineKind {
     }
 }
 
-/// Puts the numbers of a line of a proof log in place of those that are there, and gives its sign;
-/// `None` stands for a comment, which begins with `c`, or an empty line. The line stands without
-/// its line feed; a carriage return may end it. Whether the numbers have one of the three forms is
-/// not said yet.
+/// Replaces the numbers by those of a line of a proof log, and gives its sign; `None` is a comment,
+/// which begins with `c`, or an empty line. The line is given without its line feed; a carriage
+/// return may end it. Whether the numbers have one of the three forms is not said yet.
 #[tactic(auto, unfolding(crate::specs::Reading::reading))]
 pub fn line_numbers(numbers: &mut Vec<i64>, line: &[u8]) -> Result<Option<Sign>, LineKind>
     ensures none { IfOk result (λ sign. IsNone sign → reading line.now ≡ Ok None) }
@@ -54,7 +53,7 @@ pub fn line_numbers(numbers: &mut Vec<i64>, line: &[u8]) -> Result<Option<Sign>,
 }
 
 /// The step that a line of a proof log writes, or `None` for a comment, which begins with `c`, or
-/// an empty line. The line stands without its line feed; a carriage return may end it. Lines are
+/// an empty line. The line is given without its line feed; a carriage return may end it. Lines are
 /// `ID LITS.. 0 HINTS.. 0`, `NUM d IDS.. 0` and `ID b W 0`, with ids from 1 to 2^63 - 1, NUM from
 /// 0, and W below 2^32.
 pub fn step(alloc: Global, line: &[u8]) -> Result<Option<Step>, LineKind>

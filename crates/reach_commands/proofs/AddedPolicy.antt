@@ -6,7 +6,7 @@ use Rattle.std.proofs.lemmas.Option.{same_Some}
 use Rattle.arc_base.specs.declared.refusal.Kind.TheVariants.{Endpoint}
 use Rattle.net_model.specs.declared.policies.Policy.{Policy}
 use Rattle.net_model.specs.declared.rows.Network.{Network}
-use Rattle.net_rows.specs.Addressing.{HasEndpoints}
+use Rattle.net_rules.specs.Addressing.{HasEndpoints}
 use Rattle.run_files.specs.declared.outcome.Stop.{Stop}
 use Rattle.run_files.specs.declared.outcome.Stop.TheVariants as stops
 use Rattle.run_files.specs.Refusals.{refusal_of}

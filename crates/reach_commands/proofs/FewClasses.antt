@@ -9,9 +9,9 @@ use Rattle.traffic_classes.specs.declared.fault.ClassFault.{ClassFault}
 use Rattle.traffic_classes.specs.declared.fault.ClassFault.TheVariants.{TooMany}
 use Rattle.traffic_classes.specs.Classes.{HasClasses, CountsMore}
 use Rattle.traffic_classes.proofs.EachPolicy.{no_more}
-use Rattle.run_inputs.specs.Counts.{HasFewClasses}
+use Rattle.run_inputs.specs.Counts.{PoliciesHaveFewClasses}
 
-pub never_many : (net : Network) (policies : List Policy) (place : ℕ) (fault : ClassFault) (count : ℕ) → HasFewClasses net policies → place < length policies → fault ≡ TooMany count →
+pub never_many : (net : Network) (policies : List Policy) (place : ℕ) (fault : ClassFault) (count : ℕ) → PoliciesHaveFewClasses net policies → place < length policies → fault ≡ TooMany count →
     CountsMore (λ n. IfSome (slice_get policies place) (λ p. HasClasses net policies p n)) fault → ⊥
 never_many net [] place fault count few within is many = absurd (omega arith)
 never_many net (q ∷ qs) place fault count few within is many =

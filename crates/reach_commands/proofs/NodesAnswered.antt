@@ -14,7 +14,7 @@ use Rattle.command_words.specs.declared.commands.NodesWords.{NodesWords}
 use Rattle.run_files.specs.declared.limits.Limits.TheVariants.{Judging}
 use Rattle.run_files.specs.declared.outcome.Done.{Done}
 use Rattle.run_files.specs.Answers.{Answers, IsJudging}
-use Rattle.run_inputs.specs.Counts.{HasFewClasses}
+use Rattle.run_inputs.specs.Counts.{PoliciesHaveFewClasses}
 use Rattle.run_inputs.specs.Inputs.{HoldsInput}
 use Rattle.reach_commands.specs.Added.{AddsPolicy}
 use Rattle.reach_commands.specs.Nodes.{nodes_policy, nodes_status, IsNodesAnswer, IsNodesRefusal}
@@ -23,7 +23,7 @@ abbrev Read : Option Files → NodesWords → Document → Network → Type 0
 Read held words doc net = IfSome held (λ files. HoldsInput Judging [] words.document files doc net)
 
 pub answered : (held : Option Files) (words : NodesWords) (doc : Document) (net : Network) (judged : List Policy) (verdict : NodeVerdict) (done : Done) → Read held words doc net → IsValid net →
-    AddsPolicy words.document net doc.policies (nodes_policy words) (Ok judged) → HasFewClasses net judged → IsRight net (nodes_policy words) verdict →
+    AddsPolicy words.document net doc.policies (nodes_policy words) (Ok judged) → PoliciesHaveFewClasses net judged → IsRight net (nodes_policy words) verdict →
     IsGiven net judged (nodes_policy words) verdict → done.text ≡ nodes_text net words.failures verdict → done.writes ≡ [] → done.status ≡ nodes_status verdict → done.status ≤ 1 →
     Answers IsJudging (IsNodesRefusal words) (IsNodesAnswer words) held (Ok done)
 answered None words doc net judged verdict done told valid adds classes right given text writes status few = (record { status = few; writes = writes }, tt)
@@ -35,7 +35,7 @@ answered (Some files) words doc net judged verdict done told valid adds classes 
     input = told;
     valid = valid;
     ends = adds.0;
-    classes = subst (HasFewClasses net) adds.1 classes;
+    classes = subst (PoliciesHaveFewClasses net) adds.1 classes;
     verdict = verdict;
     right = right;
     given = subst (λ (ps : List Policy). IsGiven net ps (nodes_policy words) verdict) adds.1 given;

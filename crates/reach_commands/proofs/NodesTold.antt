@@ -5,7 +5,7 @@ use Rattle.std.proofs.lemmas.Bool.{false≢true}
 use Rattle.arc_outside.specs.Files.{Files}
 use Rattle.net_model.specs.declared.policies.Document.{Document}
 use Rattle.net_model.specs.declared.rows.Network.{Network}
-use Rattle.net_rows.specs.Addressing.{HasEndpoints}
+use Rattle.net_rules.specs.Addressing.{HasEndpoints}
 use Rattle.arc_nodecut.specs.RouterFailures.{MeetsPast}
 use Rattle.arc_nodecut.specs.NodeWitnesses.{is_yes}
 use Rattle.arc_nodecut.proofs.NodeVerdicts.{right_verdicts_decide}
@@ -14,7 +14,7 @@ use Rattle.run_files.specs.declared.limits.Limits.TheVariants.{Judging}
 use Rattle.run_files.specs.declared.outcome.Done.{Done}
 use Rattle.run_files.specs.declared.outcome.FileRefusal.{FileRefusal}
 use Rattle.run_files.specs.Answers.{IsTold}
-use Rattle.run_inputs.specs.Counts.{HasFewClasses}
+use Rattle.run_inputs.specs.Counts.{PoliciesHaveFewClasses}
 use Rattle.run_inputs.specs.Inputs.{HoldsInput}
 use Rattle.reach_commands.specs.Added.{judged, RefusesClassesWith}
 use Rattle.reach_commands.specs.Nodes.{nodes_policy, IsNodesRefusal, IsNodesAnswer, NodesSayYes, NodesSayNo, TellsNodes}
@@ -45,7 +45,7 @@ module _ (words : NodesWords) (files : Files) where
   ]
 
   pub held_or_refused : (doc : Document) (net : Network) → HoldsInput Judging [] words.document files doc net → HasEndpoints net words.from words.to →
-      HasFewClasses net (judged doc (nodes_policy words)) → (r : FileRefusal) → IsNodesRefusal words files r → ⊥
+      PoliciesHaveFewClasses net (judged doc (nodes_policy words)) → (r : FileRefusal) → IsNodesRefusal words files r → ⊥
   held_or_refused doc net input ends classes r refused = elim (stage r refused) [
     | inl early ↦ early_none words.document (nodes_policy words) files doc net input ends r early
     | inr many ↦ classes_none words.document (nodes_policy words) files doc net input classes r many

@@ -6,11 +6,11 @@ use Rattle.arc_outside.specs.Files.{Files}
 use Rattle.net_model.specs.declared.policies.Document.{Document}
 use Rattle.net_model.specs.declared.policies.Policy.{Policy}
 use Rattle.net_model.specs.declared.rows.Network.{Network}
-use Rattle.net_rows.specs.Addressing.{HasEndpoints}
+use Rattle.net_rules.specs.Addressing.{HasEndpoints}
 use Rattle.run_files.specs.declared.limits.Limits.TheVariants.{Judging}
 use Rattle.run_files.specs.declared.outcome.FileRefusal.{FileRefusal}
 use Rattle.run_files.specs.Refusals.{refusal_of}
-use Rattle.run_inputs.specs.Counts.{HasFewClasses, HasManyClasses}
+use Rattle.run_inputs.specs.Counts.{PoliciesHaveFewClasses, HasManyClasses}
 use Rattle.run_inputs.specs.Determined.{IsDetermined}
 use Rattle.run_inputs.specs.Inputs.{HoldsInput, IsInputRefusal}
 use Rattle.run_inputs.proofs.ClassCounts.{few_or_many, one_count}
@@ -37,9 +37,9 @@ module _ (document : List ℕ) (policy : Policy) (files : Files) where
   early_once r s (inr u) (inr v) = u.told ∙ sym v.told
 
   -- and one that counts the classes
-  pub classes_none : (doc : Document) (net : Network) → HoldsInput Judging [] document files doc net → HasFewClasses net (judged doc policy) → (r : FileRefusal) → RefusesClassesWith document policy files r → ⊥
+  pub classes_none : (doc : Document) (net : Network) → HoldsInput Judging [] document files doc net → PoliciesHaveFewClasses net (judged doc policy) → (r : FileRefusal) → RefusesClassesWith document policy files r → ⊥
   classes_none doc net input few r u =
-      few_or_many u.net (judged u.doc policy) u.count (one_input document files doc u.doc net u.net input u.input (λ d n. HasFewClasses n (judged d policy)) few) u.many
+      few_or_many u.net (judged u.doc policy) u.count (one_input document files doc u.doc net u.net input u.input (λ d n. PoliciesHaveFewClasses n (judged d policy)) few) u.many
 
   pub classes_once : (r s : FileRefusal) → RefusesClassesWith document policy files r → RefusesClassesWith document policy files s → r ≡ s
   classes_once r s u v =

@@ -20,7 +20,7 @@ use Rattle.run_files.specs.declared.outcome.Stop.TheVariants as stops
 use Rattle.run_files.specs.Limits.{least_limit}
 use Rattle.arc_outside.specs.Reads.{TookOn}
 use Rattle.run_files.specs.Answers.{Answers, IsJudging, OnlyReads}
-use Rattle.run_inputs.specs.Counts.{HasFewClasses}
+use Rattle.run_inputs.specs.Counts.{PoliciesHaveFewClasses}
 use Rattle.run_inputs.specs.Inputs.{HoldsInput}
 use Rattle.reach_commands.specs.Added.{AddsPolicy}
 use Rattle.reach_commands.specs.PreferRuns.{prefers_policy, prefers_status, AreNamed, FindsRouters, IsPrefersAnswer, IsPrefersRefusal}
@@ -38,7 +38,7 @@ routers_stopped held words doc net judged stops.Memory told adds finds = tt
 routers_stopped held words doc net judged stops.Failed told adds finds = tt
 
 pub answered : (held : Option Files) (words : PrefersWords) (doc : Document) (net : Network) (judged : List Policy) (wanted : List Router) (answer : Preferred) (done : Done) → Read held words doc net →
-    IsValid net → AddsPolicy words.document net doc.policies (prefers_policy words) (Ok judged) → AreNamed net words.routers wanted → HasFewClasses net judged →
+    IsValid net → AddsPolicy words.document net doc.policies (prefers_policy words) (Ok judged) → AreNamed net words.routers wanted → PoliciesHaveFewClasses net judged →
     IsRightPreferred net (prefers_policy words) wanted answer → IfSome answer.fault (IsOfFirstClass net judged (prefers_policy words) wanted) →
     done.text ≡ prefers_text net answer → done.writes ≡ [] → done.status ≡ prefers_status answer.fault → done.status ≤ 1 →
     Answers IsJudging (IsPrefersRefusal words) (IsPrefersAnswer words) held (Ok done)
@@ -53,7 +53,7 @@ answered (Some files) words doc net judged wanted answer done told valid adds na
     ends = adds.0;
     wanted = wanted;
     named = named;
-    classes = subst (HasFewClasses net) adds.1 classes;
+    classes = subst (PoliciesHaveFewClasses net) adds.1 classes;
     answer = answer;
     right = right;
     first = subst (λ (ps : List Policy). IfSome answer.fault (IsOfFirstClass net ps (prefers_policy words) wanted)) adds.1 first;

@@ -7,7 +7,7 @@ use Rattle.arc_base.specs.declared.refusal.Kind.TheVariants.{UnknownRouter}
 use Rattle.arc_outside.specs.Files.{Files}
 use Rattle.net_model.specs.declared.policies.Document.{Document}
 use Rattle.net_model.specs.declared.rows.Network.{Network}
-use Rattle.net_rows.specs.Addressing.{HasEndpoints}
+use Rattle.net_rules.specs.Addressing.{HasEndpoints}
 use Rattle.arc_prefer.specs.declared.answers.Stray.{Stray}
 use Rattle.arc_prefer.specs.Preferred.{Prefers}
 use Rattle.arc_prefer.proofs.Deciding.{right_answers_decide}
@@ -18,7 +18,7 @@ use Rattle.run_files.specs.declared.outcome.Done.{Done}
 use Rattle.run_files.specs.declared.outcome.FileRefusal.{FileRefusal}
 use Rattle.run_files.specs.Answers.{IsTold}
 use Rattle.run_files.specs.Refusals.{refusal_of}
-use Rattle.run_inputs.specs.Counts.{HasFewClasses}
+use Rattle.run_inputs.specs.Counts.{PoliciesHaveFewClasses}
 use Rattle.run_inputs.specs.Inputs.{HoldsInput}
 use Rattle.reach_commands.specs.Added.{judged}
 use Rattle.reach_commands.specs.PreferRuns.{prefers_policy, prefers_status, AreNamed, IsFirstUnknown, RefusesRouter, RefusesPreferClasses, IsPrefersRefusal, IsPrefersAnswer, PrefersSaysYes, PrefersSaysNo, TellsPrefers}
@@ -68,7 +68,7 @@ module _ (words : PrefersWords) (files : Files) where
   refused_once r s u v = once r s (stage r u) (stage s v)
 
   pub held_or_refused : (doc : Document) (net : Network) (wanted : List Router) → HoldsInput Judging [] words.document files doc net → HasEndpoints net words.from words.to → AreNamed net words.routers wanted →
-      HasFewClasses net (judged doc (prefers_policy words)) → (r : FileRefusal) → IsPrefersRefusal words files r → ⊥
+      PoliciesHaveFewClasses net (judged doc (prefers_policy words)) → (r : FileRefusal) → IsPrefersRefusal words files r → ⊥
   held_or_refused doc net wanted input ends named classes r refused = elim (stage r refused) [
     | inl early ↦ early_or doc net input ends r early
     | inr later ↦ elim later [

@@ -20,7 +20,7 @@ use Rattle.run_files.specs.Limits.{proof_limit}
 use Rattle.run_files.specs.ReadingLines.{IsWithinLimit}
 use Rattle.run_files.specs.Refusals.{read_refusal}
 use Rattle.run_inputs.specs.declared.inputs.Input.{Input}
-use Rattle.run_inputs.specs.Counts.{CountsClasses, HasFewClasses}
+use Rattle.run_inputs.specs.Counts.{CountsClasses, PoliciesHaveFewClasses}
 use Rattle.run_inputs.specs.Inputs.{HoldsDocument, IsFit, ReadsDocumentAt, ReadsFiles}
 use Rattle.reach_commands.specs.RecheckRuns.{AreRechecked, rechecked_status, IsRecheckAnswer, IsRecheckRefusal}
 use Rattle.reach_commands.specs.ReportLines.{ReadsHeld}
@@ -70,7 +70,7 @@ reading_stopped held one two three first second third words input stop read late
 answered_here : (held : Option Files) (words : RecheckWords) (doc : Document) (input : Input) (blocks : List Verdict) (rechecked : List Rechecked)
     (alone : List (Option (List Link))) (done : Done) →
     IfSome held (λ files. ReadsDocumentAt words.document files (Ok doc)) → IfSome held (λ files. IsWithinLimit proof_limit files words.report (Ok tt)) →
-    IfSome held (λ files. HoldsDocument words.document files doc → ReadsFiles Judging [] words.document files (Ok input)) → IsFit input → HasFewClasses input.net input.doc.policies →
+    IfSome held (λ files. HoldsDocument words.document files doc → ReadsFiles Judging [] words.document files (Ok input)) → IsFit input → PoliciesHaveFewClasses input.net input.doc.policies →
     IfSome held (λ files. ReadsHeld proof_limit input.net input.doc words.report files (Ok blocks)) → AreRechecked input.net input.doc.policies blocks rechecked → AllZip (IsAloneAnswer input.net) input.doc.policies alone →
     done.text ≡ recheck_text input.net input.doc.policies rechecked alone → done.writes ≡ [] → done.status ≡ rechecked_status rechecked → done.status ≤ 1 →
     Answers IsJudging (IsRecheckRefusal words) (IsRecheckAnswer words) held (Ok done)
@@ -98,7 +98,7 @@ answered_here (Some files) words doc input blocks rechecked alone done told read
 pub answered : (held one two three : Option Files) → one ≡ held → two ≡ one → three ≡ two → (words : RecheckWords) (doc : Document) (input : Input) (blocks : List Verdict)
     (rechecked : List Rechecked) (alone : List (Option (List Link))) (done : Done) →
     IfSome held (λ files. ReadsDocumentAt words.document files (Ok doc)) → IfSome one (λ files. IsWithinLimit proof_limit files words.report (Ok tt)) →
-    IfSome two (λ files. HoldsDocument words.document files doc → ReadsFiles Judging [] words.document files (Ok input)) → IsFit input → HasFewClasses input.net input.doc.policies →
+    IfSome two (λ files. HoldsDocument words.document files doc → ReadsFiles Judging [] words.document files (Ok input)) → IsFit input → PoliciesHaveFewClasses input.net input.doc.policies →
     IfSome three (λ files. ReadsHeld proof_limit input.net input.doc words.report files (Ok blocks)) → AreRechecked input.net input.doc.policies blocks rechecked → AllZip (IsAloneAnswer input.net) input.doc.policies alone →
     done.text ≡ recheck_text input.net input.doc.policies rechecked alone → done.writes ≡ [] → done.status ≡ rechecked_status rechecked → done.status ≤ 1 →
     Answers IsJudging (IsRecheckRefusal words) (IsRecheckAnswer words) held (Ok done)

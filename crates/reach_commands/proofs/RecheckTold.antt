@@ -17,7 +17,7 @@ use Rattle.run_files.specs.declared.limits.Limits.TheVariants.{Judging}
 use Rattle.run_files.specs.declared.outcome.Done.{Done}
 use Rattle.run_files.specs.declared.outcome.FileRefusal.{FileRefusal}
 use Rattle.run_files.specs.Answers.{IsTold}
-use Rattle.run_inputs.specs.Counts.{HasFewClasses, IsJudgingRefusal, RefusesClasses}
+use Rattle.run_inputs.specs.Counts.{PoliciesHaveFewClasses, IsJudgingRefusal, RefusesClasses}
 use Rattle.run_inputs.specs.Inputs.{HoldsInput, IsFilesRefusal}
 use Rattle.run_files.specs.Limits.{proof_limit}
 use Rattle.run_files.specs.Refusals.{read_refusal}
@@ -78,7 +78,7 @@ module _ (words : RecheckWords) (files : Files) where
   pub refused_once : (r s : FileRefusal) → IsRecheckRefusal words files r → IsRecheckRefusal words files s → r ≡ s
   refused_once r s u v = once r s (stage r u) (stage s v)
 
-  pub held_or_refused : (doc : Document) (net : Network) → HoldsInput Judging [] words.document files doc net → read_refusal proof_limit files words.report ≡ None → HasFewClasses net doc.policies →
+  pub held_or_refused : (doc : Document) (net : Network) → HoldsInput Judging [] words.document files doc net → read_refusal proof_limit files words.report ≡ None → PoliciesHaveFewClasses net doc.policies →
       (r : FileRefusal) → IsRecheckRefusal words files r → ⊥
   held_or_refused doc net input held classes r refused = elim (stage r refused) [
     | inl u ↦ no_value (read_refusal proof_limit files words.report) r u.refused held

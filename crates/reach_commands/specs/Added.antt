@@ -1,5 +1,5 @@
 -- A command that judges one more policy beside those of the document: it goes from the one prefix
--- of the words to the other, and stands at the end of their list.
+-- of the words to the other, and is the last of their list.
 use Rattle.std.specs.Prelude.{◌≡◌, ◌<◌, ◌-◌, ℕ, List, [], ◌∷◌, ◌++◌, length, slice_get, Some}
 use Rattle.std.specs.Prelude.{Result, Ok, Err}
 use Rattle.arc_base.specs.declared.refusal.Kind.TheVariants.{Endpoint, Limit}
@@ -8,7 +8,7 @@ use Rattle.arc_outside.specs.Files.{Files}
 use Rattle.net_model.specs.declared.policies.Document.{Document}
 use Rattle.net_model.specs.declared.policies.Policy.{Policy}
 use Rattle.net_model.specs.declared.rows.Network.{Network}
-use Rattle.net_rows.specs.Addressing.{HasEndpoints}
+use Rattle.net_rules.specs.Addressing.{HasEndpoints}
 use Rattle.run_files.specs.declared.limits.Limits.TheVariants.{Judging}
 use Rattle.run_files.specs.declared.outcome.FileRefusal.{FileRefusal}
 use Rattle.run_files.specs.declared.outcome.Stop.{Stop}
@@ -51,7 +51,7 @@ AddsPolicy document net policies policy (Err (stops.Refused r)) =
 AddsPolicy document net policies policy (Err stops.Memory) = Unit {0}
 AddsPolicy document net policies policy (Err stops.Failed) = ⊥
 
--- the policy stands last among these
+-- the policy is the last of these
 pub record IsLast (policies : List Policy) (policy : Policy) : Type 0 where
   pub some : 0 < length policies
   pub last : slice_get policies (length policies - 1) ≡ Some policy

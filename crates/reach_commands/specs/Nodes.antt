@@ -7,7 +7,7 @@ use Rattle.net_model.specs.declared.policies.PolicyKind.TheVariants.{Reach}
 use Rattle.net_model.specs.declared.rows.Network.{Network}
 use Rattle.net_model.specs.Services.{whole_service}
 use Rattle.net_model.specs.Validity.{IsValid}
-use Rattle.net_rows.specs.Addressing.{HasEndpoints}
+use Rattle.net_rules.specs.Addressing.{HasEndpoints}
 use Rattle.arc_nodecut.specs.declared.verdict.NodeVerdict.{NodeVerdict}
 use Rattle.arc_nodecut.specs.RouterFailures.{MeetsPast}
 use Rattle.arc_nodecut.specs.NodeWitnesses.{IsRight, is_yes}
@@ -17,11 +17,11 @@ use Rattle.command_words.specs.declared.commands.NodesWords.{NodesWords}
 use Rattle.run_files.specs.declared.limits.Limits.TheVariants.{Judging}
 use Rattle.run_files.specs.declared.outcome.Done.{Done}
 use Rattle.run_files.specs.declared.outcome.FileRefusal.{FileRefusal}
-use Rattle.run_inputs.specs.Counts.{HasFewClasses}
+use Rattle.run_inputs.specs.Counts.{PoliciesHaveFewClasses}
 use Rattle.run_inputs.specs.Inputs.{HoldsInput, IsInputRefusal}
 use Rattle.reach_commands.specs.Added.{judged, RefusesEnds, RefusesClassesWith}
 
--- the policy that the words make, of all services: reach under at most so many failed routers
+-- the policy that the words make, of all services: reach under at most this many failed routers
 abbrev pub nodes_policy : NodesWords → Policy
 nodes_policy words = record {
   kind = Reach words.failures;
@@ -49,7 +49,7 @@ pub record IsNodesAnswer (words : NodesWords) (files : Files) (done : Done) : Ty
   pub input : HoldsInput Judging [] words.document files doc net
   pub valid : IsValid net
   pub ends : HasEndpoints net words.from words.to
-  pub classes : HasFewClasses net (judged doc (nodes_policy words))
+  pub classes : PoliciesHaveFewClasses net (judged doc (nodes_policy words))
   pub verdict : NodeVerdict
   pub right : IsRight net (nodes_policy words) verdict
   pub given : IsGiven net (judged doc (nodes_policy words)) (nodes_policy words) verdict
@@ -58,23 +58,23 @@ pub record IsNodesAnswer (words : NodesWords) (files : Files) (done : Done) : Ty
   pub status : done.status ≡ nodes_status verdict
 
 -- the input has a network with these ends and not too many classes, which meets the policy
--- whichever so many routers fail
+-- whichever K routers fail
 pub record NodesSayYes (words : NodesWords) (files : Files) : Type 0 where
   pub doc : Document
   pub net : Network
   pub input : HoldsInput Judging [] words.document files doc net
   pub ends : HasEndpoints net words.from words.to
-  pub classes : HasFewClasses net (judged doc (nodes_policy words))
+  pub classes : PoliciesHaveFewClasses net (judged doc (nodes_policy words))
   pub meets : MeetsPast net (nodes_policy words)
 
--- it has such a network, which does not: some packet is stuck once some of so many routers fail, or
--- the policy is not clear
+-- it has such a network, which does not: some packet is stuck once some K routers fail, or the
+-- policy is not clear
 pub record NodesSayNo (words : NodesWords) (files : Files) : Type 0 where
   pub doc : Document
   pub net : Network
   pub input : HoldsInput Judging [] words.document files doc net
   pub ends : HasEndpoints net words.from words.to
-  pub classes : HasFewClasses net (judged doc (nodes_policy words))
+  pub classes : PoliciesHaveFewClasses net (judged doc (nodes_policy words))
   pub meets_not : ¬ MeetsPast net (nodes_policy words)
 
 -- it has none, and there is a first reason for it
@@ -82,7 +82,7 @@ pub record NodesAreRefused (words : NodesWords) (files : Files) : Type 0 where
   pub refusal : FileRefusal
   pub refused : IsNodesRefusal words files refusal
 
--- Which of the three it is, the status tells: 0 for yes, 1 for no, and 5 for refused.
+-- The status says which of the three it is: 0 for yes, 1 for no, and 5 for refused.
 pub record TellsNodes (words : NodesWords) (status : ℕ) (files : Files) : Type 0 where
   pub yes_exactly : (status ≡ 0) ↔ NodesSayYes words files
   pub no_exactly : (status ≡ 1) ↔ NodesSayNo words files

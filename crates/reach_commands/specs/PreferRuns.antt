@@ -11,7 +11,7 @@ use Rattle.net_model.specs.declared.policies.PolicyKind.TheVariants.{Reach}
 use Rattle.net_model.specs.declared.rows.Network.{Network}
 use Rattle.net_model.specs.Services.{whole_service}
 use Rattle.net_model.specs.Validity.{IsValid}
-use Rattle.net_rows.specs.Addressing.{HasEndpoints}
+use Rattle.net_rules.specs.Addressing.{HasEndpoints}
 use Rattle.arc_prefer.specs.declared.answers.Preferred.{Preferred}
 use Rattle.arc_prefer.specs.declared.answers.Stray.{Stray}
 use Rattle.arc_prefer.specs.Preferred.{Prefers}
@@ -24,7 +24,7 @@ use Rattle.run_files.specs.declared.outcome.Done.{Done}
 use Rattle.run_files.specs.declared.outcome.FileRefusal.{FileRefusal}
 use Rattle.run_files.specs.declared.outcome.Stop.{Stop}
 use Rattle.run_files.specs.declared.outcome.Stop.TheVariants as stops
-use Rattle.run_inputs.specs.Counts.{HasFewClasses}
+use Rattle.run_inputs.specs.Counts.{PoliciesHaveFewClasses}
 use Rattle.run_inputs.specs.Inputs.{HoldsInput, IsInputRefusal}
 use Rattle.run_files.specs.Refusals.{refusal_of}
 use Rattle.reach_commands.specs.Added.{judged, RefusesEnds, RefusesClassesWith}
@@ -93,7 +93,7 @@ pub record IsPrefersAnswer (words : PrefersWords) (files : Files) (done : Done) 
   pub ends : HasEndpoints net words.from words.to
   pub wanted : List Router
   pub named : AreNamed net words.routers wanted
-  pub classes : HasFewClasses net (judged doc (prefers_policy words))
+  pub classes : PoliciesHaveFewClasses net (judged doc (prefers_policy words))
   pub answer : Preferred
   pub right : IsRightPreferred net (prefers_policy words) wanted answer
   pub first : IfSome answer.fault
@@ -111,7 +111,7 @@ pub record PrefersSaysYes (words : PrefersWords) (files : Files) : Type 0 where
   pub ends : HasEndpoints net words.from words.to
   pub wanted : List Router
   pub named : AreNamed net words.routers wanted
-  pub classes : HasFewClasses net (judged doc (prefers_policy words))
+  pub classes : PoliciesHaveFewClasses net (judged doc (prefers_policy words))
   pub prefers : Prefers net (prefers_policy words) wanted
 
 -- it has such a network, which does not prefer the list
@@ -122,7 +122,7 @@ pub record PrefersSaysNo (words : PrefersWords) (files : Files) : Type 0 where
   pub ends : HasEndpoints net words.from words.to
   pub wanted : List Router
   pub named : AreNamed net words.routers wanted
-  pub classes : HasFewClasses net (judged doc (prefers_policy words))
+  pub classes : PoliciesHaveFewClasses net (judged doc (prefers_policy words))
   pub prefers_not : ¬ Prefers net (prefers_policy words) wanted
 
 -- it has none, and there is a first reason for it
@@ -130,7 +130,7 @@ pub record PrefersIsRefused (words : PrefersWords) (files : Files) : Type 0 wher
   pub refusal : FileRefusal
   pub refused : IsPrefersRefusal words files refusal
 
--- Which of the three it is, the status tells: 0 for yes, 1 for no, and 5 for refused.
+-- The status says which of the three it is: 0 for yes, 1 for no, and 5 for refused.
 pub record TellsPrefers (words : PrefersWords) (status : ℕ) (files : Files) : Type 0 where
   pub yes_exactly : (status ≡ 0) ↔ PrefersSaysYes words files
   pub no_exactly : (status ≡ 1) ↔ PrefersSaysNo words files

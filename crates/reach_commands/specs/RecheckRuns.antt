@@ -4,7 +4,7 @@ use Rattle.std.specs.Prelude.{slice_get, IsSomeAnd}
 use Rattle.std.specs.List.{AllZip, list_all}
 use Rattle.arc_base.specs.declared.place.Link.{Link}
 use Rattle.arc_outside.specs.Files.{Files}
-use Rattle.cnf_types.specs.Words.{lines}
+use Rattle.arc_base.specs.TextLines.{lines}
 use Rattle.net_model.specs.declared.policies.Document.{Document}
 use Rattle.net_model.specs.declared.policies.Policy.{Policy}
 use Rattle.net_model.specs.declared.rows.Network.{Network}
@@ -23,7 +23,7 @@ use Rattle.command_words.specs.declared.commands.RecheckWords.{RecheckWords}
 use Rattle.run_files.specs.declared.limits.Limits.TheVariants.{Judging}
 use Rattle.run_files.specs.declared.outcome.Done.{Done}
 use Rattle.run_files.specs.declared.outcome.FileRefusal.{FileRefusal}
-use Rattle.run_inputs.specs.Counts.{HasFewClasses, RefusesClasses}
+use Rattle.run_inputs.specs.Counts.{PoliciesHaveFewClasses, RefusesClasses}
 use Rattle.run_inputs.specs.Inputs.{HoldsDocument, HoldsInput, RefusesDocument, IsFilesRefusal}
 use Rattle.run_files.specs.Limits.{document_limit, proof_limit}
 use Rattle.run_files.specs.Refusals.{bytes_at, read_refusal}
@@ -75,7 +75,7 @@ pub record IsRecheckAnswer (words : RecheckWords) (files : Files) (done : Done) 
   pub input : HoldsInput Judging [] words.document files doc net
   pub valid : IsValid net
   pub held : read_refusal proof_limit files words.report ≡ None
-  pub classes : HasFewClasses net doc.policies
+  pub classes : PoliciesHaveFewClasses net doc.policies
   pub rechecked : List Rechecked
   pub are_rechecked :
       AreRechecked net doc.policies (held_of net doc (bytes_at files words.report)) rechecked
@@ -92,7 +92,7 @@ pub record RecheckSaysYes (words : RecheckWords) (files : Files) : Type 0 where
   pub net : Network
   pub input : HoldsInput Judging [] words.document files doc net
   pub held : read_refusal proof_limit files words.report ≡ None
-  pub classes : HasFewClasses net doc.policies
+  pub classes : PoliciesHaveFewClasses net doc.policies
   pub meets : MeetsDocument net doc
 
 -- the same, and the network does not meet every policy
@@ -101,7 +101,7 @@ pub record RecheckSaysNo (words : RecheckWords) (files : Files) : Type 0 where
   pub net : Network
   pub input : HoldsInput Judging [] words.document files doc net
   pub held : read_refusal proof_limit files words.report ≡ None
-  pub classes : HasFewClasses net doc.policies
+  pub classes : PoliciesHaveFewClasses net doc.policies
   pub meets_not : ¬ MeetsDocument net doc
 
 -- there is none, or the old report cannot be read, and there is a first reason for it
@@ -109,7 +109,7 @@ pub record RecheckIsRefused (words : RecheckWords) (files : Files) : Type 0 wher
   pub refusal : FileRefusal
   pub refused : IsRecheckRefusal words files refusal
 
--- Which of the three it is, the status tells: 0 for yes, 1 for no, and 5 for refused. Whatever the
+-- The status says which of the three it is: 0 for yes, 1 for no, and 5 for refused. Whatever the
 -- old report holds, it is that of `verify`.
 pub record TellsRecheck (words : RecheckWords) (status : ℕ) (files : Files) : Type 0 where
   pub yes_exactly : (status ≡ 0) ↔ RecheckSaysYes words files

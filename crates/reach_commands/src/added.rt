@@ -5,8 +5,8 @@ ghost use Rattle.net_model.specs.Forwarding.{HasEnds};
 ghost use Rattle.net_model.specs.Validity.{IsValid};
 ghost use Rattle.reach_commands.specs.Added.{AddsPolicy};
 
-use address_checks::has_endpoints;
 use arc_base::{Kind, List, Name};
+use net_checks::has_endpoints;
 use net_model::{Network, Policy};
 use run_files::{Stop, refused};
 use std::alloc::Global;

@@ -11,19 +11,19 @@ ghost use Rattle.reach_commands.specs.Nodes.{IsNodesAnswer, IsNodesRefusal, Tell
 ghost use Rattle.reach_commands.specs.PreferRuns.{IsPrefersAnswer, IsPrefersRefusal, TellsPrefers};
 ghost use Rattle.reach_commands.specs.RecheckRuns.{IsRecheckAnswer, IsRecheckRefusal, TellsRecheck};
 
-/// What the status of `nodes` tells.
+/// What the status of `nodes` says.
 pub fn nodes_are_told()
     ensures { (words : NodesWords) → IsTold (IsNodesRefusal words) (IsNodesAnswer words)
         (λ status before after. TellsNodes words status before) }
 {}
 
-/// What the status of `prefers` tells.
+/// What the status of `prefers` says.
 pub fn prefers_is_told()
     ensures { (words : PrefersWords) → IsTold (IsPrefersRefusal words) (IsPrefersAnswer words)
         (λ status before after. TellsPrefers words status before) }
 {}
 
-/// What the status of `recheck` tells.
+/// What the status of `recheck` says.
 pub fn recheck_is_told()
     ensures { (words : RecheckWords) → IsTold (IsRecheckRefusal words) (IsRecheckAnswer words)
         (λ status before after. TellsRecheck words status before) }

@@ -5,7 +5,7 @@ ghost use Rattle.net_model.specs.Forwarding.{HasEnds};
 ghost use Rattle.net_model.specs.Validity.{IsValid};
 ghost use Rattle.arc_prefer.specs.Answers.{IsRightPreferred};
 ghost use Rattle.arc_prefer.specs.Firsts.{IsOfFirstClass};
-ghost use Rattle.run_inputs.specs.Counts.{HasFewClasses};
+ghost use Rattle.run_inputs.specs.Counts.{PoliciesHaveFewClasses};
 ghost use Rattle.run_files.specs.Answers.{Answers, IsJudging, OnlyReads};
 ghost use Rattle.run_files.specs.Limits.{least_limit};
 ghost use Rattle.reach_commands.specs.Added.{IsLast};
@@ -48,7 +48,7 @@ fn answer_last(
     requires valid { IsValid net.now }
     requires last { IsLast policies.now policy }
     requires ends { HasEnds net.now (subject policy) }
-    requires few { HasFewClasses net.now policies.now }
+    requires few { PoliciesHaveFewClasses net.now policies.now }
     ensures right { IfOk result (IsRightPreferred net.now policy wanted.now) }
     ensures first { IfOk result (λ a.
         IfSome a.fault (IsOfFirstClass net.now policies.now policy wanted.now)) }
@@ -73,7 +73,7 @@ fn status_of(answer: &Preferred) -> u8
 }
 
 /// Judges whether, with all links up, the packets from the one prefix to the other go by exactly
-/// these routers, and tells the answer with its distances and, where it is a no, what goes another
+/// these routers, and prints the answer with its distances and, if it is a no, what goes another
 /// way.
 pub fn prefers<S: Store>(alloc: Global, words: &PrefersWords, store: &mut S) -> Result<Done, Stop>
     ensures answer { Answers IsJudging (IsPrefersRefusal words.now) (IsPrefersAnswer words.now)

@@ -3,7 +3,7 @@ ghost use Rattle.std.specs.Prelude.{◌≡◌, ◌<◌, ◌≤◌, length, slice
 ghost use Rattle.std.specs.List.{AllZip, list_all};
 ghost use Rattle.net_model.specs.Witnesses.{is_yes};
 ghost use Rattle.arc_recheck.specs.Singles.{IsAloneAnswer};
-ghost use Rattle.run_inputs.specs.Counts.{HasFewClasses};
+ghost use Rattle.run_inputs.specs.Counts.{PoliciesHaveFewClasses};
 ghost use Rattle.run_inputs.specs.Inputs.{IsFit};
 ghost use Rattle.run_files.specs.Answers.{Answers, IsJudging, OnlyReads};
 ghost use Rattle.run_files.specs.Limits.{least_limit};
@@ -31,7 +31,7 @@ fn recheck_all(
     held: &List<Verdict>,
 ) -> Result<List<Rechecked>, Memory>
     requires fit { IsFit input.now }
-    requires few { HasFewClasses input.now.net input.now.doc.policies }
+    requires few { PoliciesHaveFewClasses input.now.net input.now.doc.policies }
     ensures { IfOk result (AreRechecked input.now.net input.now.doc.policies held.now) }
 {
     let marks = Marks::of(alloc, &input.net, &input.doc.policies)?;
@@ -104,7 +104,7 @@ fn are_all_yes(rechecked: &[Rechecked]) -> bool
 }
 
 /// Rechecks an old report over the document and the router files as they are now: keeps each
-/// verdict whose witness is still right, gives the others anew, and tells for each reach policy
+/// verdict whose witness is still right, judges the others anew, and prints for each reach policy
 /// that holds the links whose failure alone breaks it. The old report is read twice: for its size,
 /// and, after the router files, line by line for its blocks.
 pub fn recheck<S: Store>(alloc: Global, words: &RecheckWords, store: &mut S) -> Result<Done, Stop>

@@ -6,7 +6,7 @@ ghost use Rattle.net_model.specs.Validity.{IsValid};
 ghost use Rattle.arc_nodecut.specs.NodeWitnesses.{IsRight};
 ghost use Rattle.arc_nodecut.specs.Given.{IsGiven};
 ghost use Rattle.arc_nodecut.specs.Judged.{IsFewReach};
-ghost use Rattle.run_inputs.specs.Counts.{HasFewClasses};
+ghost use Rattle.run_inputs.specs.Counts.{PoliciesHaveFewClasses};
 ghost use Rattle.run_files.specs.Answers.{Answers, IsJudging, OnlyReads};
 ghost use Rattle.run_files.specs.Limits.{least_limit};
 ghost use Rattle.reach_commands.specs.Added.{IsLast};
@@ -49,7 +49,7 @@ fn judge_last(
     requires last { IsLast policies.now policy }
     requires ends { HasEnds net.now (subject policy) }
     requires reach { IsFewReach policy.kind }
-    requires few { HasFewClasses net.now policies.now }
+    requires few { PoliciesHaveFewClasses net.now policies.now }
     ensures right { IfOk result (IsRight net.now policy) }
     ensures given { IfOk result (IsGiven net.now policies.now policy) }
 {
@@ -72,8 +72,8 @@ fn status_of(verdict: &NodeVerdict) -> u8
     }
 }
 
-/// Judges whether the packets from the one prefix to the other reach it whichever so many routers
-/// fail beside their ends, and tells the verdict with its witness.
+/// Judges whether the packets from the one prefix to the other reach it whichever K routers fail
+/// other than their ends, and prints the verdict with its witness.
 pub fn nodes<S: Store>(alloc: Global, words: &NodesWords, store: &mut S) -> Result<Done, Stop>
     requires few { words.now.failures ≤ FAILURE_LIMIT }
     ensures answer { Answers IsJudging (IsNodesRefusal words.now) (IsNodesAnswer words.now)

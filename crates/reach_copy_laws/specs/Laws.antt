@@ -28,7 +28,7 @@ FewerKeepsPreferred =
     (policy : Policy) (wanted : List Router) →
     Prefers copy policy wanted → Prefers net policy wanted
 
--- the network carries the packet from end to end of its class whichever so many routers fail
+-- the network carries the packet from end to end of its class whichever K routers fail
 pub record MeetsPastFor (net : Network) (class : Class) (k : ℕ) (p : Packet) : Type 0 where
   pub ends : Ends
   pub are_ends : AreEnds net class ends

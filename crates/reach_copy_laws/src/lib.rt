@@ -1,4 +1,4 @@
-//! Laws of copies for failed routers and for preferred lists of routers, whose definitions stand
+//! Laws of copies for failed routers and for preferred lists of routers, whose definitions are
 //! above those of `copy_laws`. Each law is the contract of a function that does nothing.
 #![tactic(auto)]
 

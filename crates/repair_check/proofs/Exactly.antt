@@ -6,7 +6,7 @@ use Rattle.std.proofs.lemmas.Bool.{cases_eq}
 use Rattle.arc_base.specs.declared.certificate.CertKind.TheVariants as kinds
 use Rattle.cnf_types.specs.declared.clauses.Formula.{Formula}
 use Rattle.cnf_types.specs.declared.literal.Lit.{Lit}
-use Rattle.cnf_types.specs.Words.{lines}
+use Rattle.arc_base.specs.TextLines.{lines}
 use Rattle.net_model.specs.declared.policies.Document.{Document}
 use Rattle.net_model.specs.declared.policies.Policy.{Policy}
 use Rattle.net_model.specs.declared.rows.Network.{Network}
@@ -32,7 +32,7 @@ use Rattle.arc_repair.specs.Claims.{IsCertificate, IsRightYes, is_above_zero}
 use Rattle.arc_repair.specs.Laws.{CertificatesAreTrue}
 use Rattle.arc_repair.specs.Repairs.{cost, none_of}
 use Rattle.repair_check.specs.Certifies.{CertificatesAreAccepted, CertifiedClaimsAreTrue}
-use Rattle.repair_check.specs.Outcomes.{AfterEdits, AfterNone, IsEditsEnd, IsEditsOutcome, IsHeadOutcome, IsOutcome}
+use Rattle.repair_check.specs.Outcomes.{AfterEdits, AfterNone, IsEditsEnd, IsEditsOutcome, IsHeadOutcome, IsRepairOutcome}
 use Rattle.repair_check.proofs.Logs.{AcceptsIf, Passes, log_exact, never, passes_shows, shows_passes, steps_told}
 use Rattle.repair_check.proofs.BlocksJudged.{AreYes, blocks_exact, right_yeses, yeses_right}
 use Rattle.repair_check.proofs.EditsChosen.{all_chosen, edits_passed}
@@ -138,7 +138,7 @@ pub certificates_are_accepted : AfterIsOne → HaveOneFormula → OnlyCertificat
 certificates_are_accepted one_after one_formula only again apart net doc list text o valid countable addresses are few h =
     let told_apart = apart net doc list valid addresses are in (
       λ e.
-          let taken = only net doc list (lines text) valid addresses few (head_whole net doc list 1 (answers net doc list before (lines text)) (subst (IsOutcome net doc list text) e h)) in
+          let taken = only net doc list (lines text) valid addresses few (head_whole net doc list 1 (answers net doc list before (lines text)) (subst (IsRepairOutcome net doc list text) e h)) in
           let read = again net doc list taken.0 taken.1 (lines text) valid addresses few told_apart taken.2 in
           let exact = claim_exact one_after one_formula net doc list valid countable taken.0 taken.1 o taken.2.is_told (subst (λ told. IsHeadOutcome net doc list 1 told o) read h) in
           (taken.0, record { told = taken.1; is_text = taken.2; certificate = exact.0 e }),

@@ -2,7 +2,7 @@
 use Rattle.std.specs.Prelude.{◌≡◌, ◌↔◌, ◌⊎◌, ℕ, ◌≤◌, List, ◌∷◌, length, All, Ok}
 use Rattle.std.specs.List.{filter_map}
 use Rattle.arc_base.specs.declared.limits.TheConstants.{PRICE_LIMIT}
-use Rattle.cnf_types.specs.Words.{lines}
+use Rattle.arc_base.specs.TextLines.{lines}
 use Rattle.net_model.specs.declared.policies.Document.{Document}
 use Rattle.net_model.specs.declared.rows.Network.{Network}
 use Rattle.net_model.specs.Validity.{IsValid}
@@ -28,7 +28,7 @@ use Rattle.report_check.specs.declared.outcome.Outcome.{Outcome}
 use Rattle.report_check.specs.declared.outcome.Outcome.TheVariants.{Accepted}
 use Rattle.arc_repair.specs.Answers.{ClaimsFew}
 use Rattle.arc_repair.specs.Claims.{IsCertificate, IsTrueClaim, claim_bound}
-use Rattle.repair_check.specs.Outcomes.{Answers, IsOutcome}
+use Rattle.repair_check.specs.Outcomes.{Answers, IsRepairOutcome}
 
 -- the text is a certificate of this claim: its lines are those of the claim's text with a log
 -- between its two lines, and that log shows the claim
@@ -42,12 +42,12 @@ pub record Certifies (net : Network) (doc : Document) (list : List Edit) (claim 
 abbrev pub IsCertified : Network → Document → List Edit → List ℕ → Type 0
 IsCertified net doc list text = (claim : Claim) × Certifies net doc list claim text
 
--- the judgement of a text tells exactly whether it is a certificate
+-- the judgement of a text says exactly whether it is a certificate
 abbrev pub CertificatesAreAccepted : Type 0
 CertificatesAreAccepted =
     (net : Network) (doc : Document) (list : List Edit) (text : List ℕ) (o : Outcome) →
     IsValid net → IsCountable net → HasAddresses net →
-    AreEdits net doc list → length doc.policies ≤ 4294967295 → IsOutcome net doc list text o →
+    AreEdits net doc list → length doc.policies ≤ 4294967295 → IsRepairOutcome net doc list text o →
     (o ≡ Accepted) ↔ IsCertified net doc list text
 
 -- and of what has a certificate each claim is true

@@ -8,7 +8,7 @@ use Rattle.net_model.specs.Packets.{subject}
 use Rattle.net_model.specs.Policies.{HasFewFailures}
 use Rattle.net_model.specs.Validity.{IsValid}
 use Rattle.edit_list.specs.declared.edit_kinds.Edit.{Edit}
-use Rattle.edit_list.specs.EditLists.{AreEdits, HasFewClasses}
+use Rattle.edit_list.specs.EditLists.{AreEdits, DocumentHasFewClasses}
 
 -- verdicts on the policies can be judged in the network: it is valid, and has the ends of each
 pub record IsJudgeable (doc : Document) (net : Network) : Type 0 where
@@ -21,6 +21,6 @@ pub record IsInstance (net : Network) (doc : Document) (list : List Edit) : Type
   pub judgeable : IsJudgeable doc net
   pub policies : length doc.policies ≤ POLICY_LIMIT
   pub failures : All (λ policy. HasFewFailures policy.kind) doc.policies
-  pub few_classes : HasFewClasses net doc
+  pub few_classes : DocumentHasFewClasses net doc
   pub edits : AreEdits net doc list
   pub few : length list ≤ EDIT_LIMIT

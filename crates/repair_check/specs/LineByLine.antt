@@ -8,7 +8,7 @@ use Rattle.policy_report.specs.Steps.{standing}
 use Rattle.report_check.specs.declared.outcome.Outcome.{Outcome}
 use Rattle.repair_check.specs.declared.judge.RepairJudge.{RepairJudge}
 use Rattle.repair_check.specs.Certifies.{IsCounted, text_answers}
-use Rattle.repair_check.specs.Outcomes.{Answers, IsOutcome}
+use Rattle.repair_check.specs.Outcomes.{Answers, IsRepairOutcome}
 use Rattle.repair_check.specs.Phases.{IsAt, IsGoing, IsPhaseOutcome}
 
 -- another line may come to the judge
@@ -25,12 +25,12 @@ pub record HasComeTo (net : Network) (doc : Document) (list : List Edit) (text :
     (ls : List (List ℕ)) (judge : RepairJudge) : Type 0 where
   pub outcome : (o : Outcome) →
       IsPhaseOutcome net doc list judge.phase judge.number (answers_to net doc list judge ls) o →
-      IsOutcome net doc list text o
+      IsRepairOutcome net doc list text o
   pub at : IsAt net doc list (text_answers net doc list text) judge.phase
       (answers_to net doc list judge ls)
 
 -- this is what the text is judged to, and the formula of its answer's bound is within its limits
 pub record Judges (net : Network) (doc : Document) (list : List Edit) (text : List ℕ)
     (o : Outcome) : Type 0 where
-  pub outcome : IsOutcome net doc list text o
+  pub outcome : IsRepairOutcome net doc list text o
   pub counted : IsCounted net doc list (text_answers net doc list text)

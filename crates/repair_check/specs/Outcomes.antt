@@ -1,8 +1,8 @@
 -- What the text of a certificate of a repair is judged to, by what a reader answers to its lines.
--- The first line is told that is rejected: one that the reader rejects; the line of the answer
--- where its price is wrong; the first line of a block whose verdict is not right in the network
--- after the edits; a step of the log that is not accepted; the line `end` where something is left
--- to refute; or the line after the last one where the text ends too early.
+-- The first line that is rejected is answered: one that the reader rejects; the line of the answer
+-- if its price is wrong; the first line of a block whose verdict is not right in the network after
+-- the edits; a step of the log that is not accepted; the line `end` if something is left to refute;
+-- or the line after the last one if the text ends too early.
 use Rattle.std.specs.Prelude.{◌≡◌, ◌⊎◌, ℕ, ◌+◌, ◌<◌, ◌≤◌, ◌==◌, ◌||◌, Bool, true, false, not, List}
 use Rattle.std.specs.Prelude.{[], ◌∷◌, length, Some, MatchBool, MatchOption, Result, Ok, Err, set}
 use Rattle.arc_base.specs.declared.limits.TheConstants.{PRICE_LIMIT}
@@ -10,7 +10,7 @@ use Rattle.arc_base.specs.declared.certificate.CertKind.{CertKind}
 use Rattle.arc_base.specs.declared.certificate.CertKind.TheVariants as kinds
 use Rattle.cnf_types.specs.declared.clauses.Formula.{Formula}
 use Rattle.cnf_types.specs.declared.literal.Lit.{Lit}
-use Rattle.cnf_types.specs.Words.{lines}
+use Rattle.arc_base.specs.TextLines.{lines}
 use Rattle.net_model.specs.declared.policies.Document.{Document}
 use Rattle.net_model.specs.declared.policies.Policy.{Policy}
 use Rattle.net_model.specs.declared.rows.Network.{Network}
@@ -162,13 +162,13 @@ IsHeadOutcome net doc list number (Ok More ∷ rest) o =
 IsHeadOutcome net doc list number (Ok other ∷ rest) o = o ≡ rejected number kinds.Form
 
 -- what a text is judged to
-abbrev pub IsOutcome : Network → Document → List edits.Edit → List ℕ → Outcome → Type 0
-IsOutcome net doc list text o =
+abbrev pub IsRepairOutcome : Network → Document → List edits.Edit → List ℕ → Outcome → Type 0
+IsRepairOutcome net doc list text o =
     IsHeadOutcome net doc list 1 (answers net doc list reader.start (lines text)) o
 
 -- a text has one outcome, over a valid network whose interfaces, sessions and names can be counted
 abbrev pub HasOneOutcome : Type 0
 HasOneOutcome =
     (net : Network) (doc : Document) (list : List edits.Edit) (text : List ℕ) (o p : Outcome) →
-    IsValid net → IsCountable net → IsOutcome net doc list text o →
-    IsOutcome net doc list text p → o ≡ p
+    IsValid net → IsCountable net → IsRepairOutcome net doc list text o →
+    IsRepairOutcome net doc list text p → o ≡ p

@@ -33,7 +33,7 @@ use Rattle.repair_check.specs.Outcomes.{Answers, is_edit_kind, IsHeadOutcome, Is
 use Rattle.repair_check.specs.Outcomes.{IsEditsOutcome, IsBlocksOutcome, IsReadyOutcome}
 use Rattle.repair_check.specs.Outcomes.{IsLogOutcome, IsEnded}
 
--- the checker stands before the first step of a log, for the repair formula of this bound and this
+-- the checker is before the first step of a log, for the repair formula of this bound and this
 -- least bound of the log
 pub record IsReady (net : Network) (doc : Document) (list : List Edit) (bound : ℕ)
     (least : Option ℕ) (checker : Checker) : Type 0 where

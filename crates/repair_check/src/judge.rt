@@ -2,7 +2,7 @@
 ghost use Rattle.std.specs.Prelude.{◌≡◌, ◌+◌, ◌<◌, ◌∷◌, ℕ, [], List as Items, IfOk, IfErr};
 ghost use Rattle.std.specs.Prelude.{IfSome};
 ghost use Rattle.std.specs.ControlFlow.{continue_value, MatchControlFlow};
-ghost use Rattle.cnf_types.specs.Words.{lines};
+ghost use Rattle.arc_base.specs.TextLines.{lines};
 ghost use Rattle.policy_report.specs.Steps.{standing, step};
 ghost use Rattle.repair_check.specs.Certifies.{IsCountFault, text_answers};
 ghost use Rattle.repair_check.specs.Instances.{IsInstance, IsJudgeable};
@@ -76,7 +76,7 @@ fn judge_end(
     }
 }
 
-/// What a reader answers to the next line, except for want of memory.
+/// What a reader answers to the next line, other than out of memory.
 fn read_line(
     reader: &mut Reader,
     net: &Network,

@@ -12,12 +12,12 @@ use Rattle.net_model.specs.declared.rows.RouterRow.{RouterRow}
 use Rattle.net_model.specs.Policies.{MeetsDocument}
 use Rattle.net_model.specs.Validity.{IsValid}
 use Rattle.net_build.specs.Networks.{IsNetworkWithin}
-use Rattle.net_rows.specs.Rows.{IsRouterRow}
+use Rattle.net_rules.specs.Rows.{IsRouterRow}
 use Rattle.edit_list.specs.declared.edit_kinds.Edit.{Edit}
 use Rattle.edit_list.specs.After.{IsAfter}
 use Rattle.arc_base.specs.NameForms.{IsNameBefore}
 use Rattle.edit_list.specs.Prices.{chosen_of}
-use Rattle.edit_laws.proofs.NoEdits.{none_change}
+use Rattle.network_edit_laws.proofs.NoEdits.{none_change}
 use Rattle.arc_repair.specs.Repairs.{Mends, none_of}
 
 abbrev HasNamesInOrder : RouterRow → Type 0

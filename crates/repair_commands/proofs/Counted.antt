@@ -14,8 +14,8 @@ use Rattle.edit_list.proofs.OneEditList.{edit_lists_are_one}
 use Rattle.policy_encode.specs.Formulas.{IsFaultOf, IsWithin, PassesLiterals, PassesVariables}
 use Rattle.policy_encode.proofs.One.{one_net}
 use Rattle.arc_repair.specs.Answers.{IsRepairFault, KeepsLimits}
-use Rattle.changed_files.proofs.FewEdits.{few_or_limit}
-use Rattle.changed_files.proofs.OneRefusal.{one_limit}
+use Rattle.file_copies.proofs.FewEdits.{few_or_limit}
+use Rattle.file_copies.proofs.OneRefusal.{one_limit}
 
 too_many_variables : (x y : ConditionNet) (bound count : ℕ) → x ≡ y → IsWithinLimits x bound → HasTooManyVariables y bound count → ⊥
 too_many_variables x y bound count same within many =

@@ -8,7 +8,7 @@ use Rattle.net_model.specs.Validity.{IsValid}
 use Rattle.edit_list.specs.declared.edit_kinds.Edit.{Edit}
 use Rattle.edit_list.specs.declared.edit_kinds.EditFault.TheVariants.{Limit}
 use Rattle.arc_repair.specs.Answers.{IsRepairFault}
-use Rattle.changed_files.proofs.OneRefusal.{as_input, held_or_refused, limit_refusal}
+use Rattle.file_copies.proofs.OneRefusal.{as_input, held_or_refused, limit_refusal}
 use Rattle.command_words.specs.declared.commands.RepairWords.{RepairWords}
 use Rattle.run_files.specs.declared.limits.Limits.TheVariants.{Editing}
 use Rattle.run_files.specs.declared.outcome.FileRefusal.{FileRefusal}

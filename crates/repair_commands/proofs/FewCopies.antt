@@ -4,8 +4,8 @@ use Rattle.std.specs.Prelude.{bytes_eq}
 use Rattle.net_model.specs.declared.policies.Document.{Document}
 use Rattle.net_build.specs.declared.built.Built.{Built}
 use Rattle.edit_list.specs.declared.edit_kinds.Edit.{Edit}
-use Rattle.output_files.specs.Outputs.{copies, copy_name}
-use Rattle.changed_files.specs.Changes.{Changes}
+use Rattle.file_copies.specs.Outputs.{copies, copy_name}
+use Rattle.file_copies.specs.Changes.{Changes}
 
 one_more : (same : Bool) (pair : List ℕ × List ℕ) (rest : List (List ℕ × List ℕ)) (n : ℕ) → length rest ≤ n → length (cond same rest (pair ∷ rest)) ≤ n + 1
 one_more true pair rest n few = omega (arith, few)

@@ -17,8 +17,8 @@ use Rattle.policy_report.specs.Certificates.{budget_text, certificate_text}
 use Rattle.arc_repair.specs.declared.answer.Answer.{Answer}
 use Rattle.arc_repair.specs.declared.answer.Answer.TheVariants.{Done as Claimed, Budget}
 use Rattle.arc_repair.specs.Repairs.{Mends, cost}
-use Rattle.changed_files.specs.Changes.{IsEditable}
-use Rattle.changed_files.proofs.Patched.{patches_have_the_network}
+use Rattle.file_copies.specs.Changes.{IsEditable}
+use Rattle.file_copies.proofs.Patched.{patches_have_the_network}
 use Rattle.repair_commands.specs.Outcomes.{HasRepair, HasNoRepair, HoldsCertificate, IsRepairable, ShowsCheapest, ShowsNone, ShowsSpent, TellsOutcome}
 use Rattle.repair_commands.specs.Repairs.{IsAnswered}
 use Rattle.repair_commands.proofs.Broken.{met_by_none}

@@ -17,9 +17,9 @@ use Rattle.arc_repair.specs.declared.answer.Answer.TheVariants.{Done as Claimed,
 use Rattle.arc_repair.specs.Answers.{IsAnswer, IsRepairFault}
 use Rattle.std.proofs.lemmas.List.Elements.{All-nil}
 use Rattle.std.proofs.lemmas.Slice.Zip.{AllZip-long}
-use Rattle.changed_files.specs.Changes.{IsEditable}
-use Rattle.changed_files.proofs.ReadAgain.{copies_named}
-use Rattle.output_files.specs.Outputs.{IsCopyName}
+use Rattle.file_copies.specs.Changes.{IsEditable}
+use Rattle.file_copies.proofs.ReadAgain.{copies_named}
+use Rattle.file_copies.specs.Outputs.{IsCopyName}
 use Rattle.command_words.specs.declared.commands.RepairWords.{RepairWords}
 use Rattle.run_files.specs.declared.limits.Limits.TheVariants.{Editing}
 use Rattle.run_files.specs.declared.outcome.Done.{Done}

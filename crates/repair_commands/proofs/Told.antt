@@ -10,9 +10,9 @@ use Rattle.proof_log.specs.declared.steps.Log.{Log}
 use Rattle.policy_report.specs.Certificates.{budget_text, certificate_text}
 use Rattle.arc_repair.specs.declared.answer.Answer.{Answer}
 use Rattle.arc_repair.specs.declared.answer.Answer.TheVariants.{Done as Claimed, Budget}
-use Rattle.output_files.specs.Outputs.{copy_names, IsLeft}
-use Rattle.changed_files.proofs.OneMore.{IsFreeLast, free_last, is_written, other_kept, still_left, written_last}
-use Rattle.changed_files.proofs.ReadAgain.{texts_left, unchanged_kept}
+use Rattle.file_copies.specs.Outputs.{copy_names, IsLeft}
+use Rattle.file_copies.proofs.OneMore.{IsFreeLast, free_last, is_written, other_kept, still_left, written_last}
+use Rattle.file_copies.proofs.ReadAgain.{texts_left, unchanged_kept}
 use Rattle.command_words.specs.declared.commands.RepairWords.{RepairWords}
 use Rattle.run_files.specs.declared.outcome.Done.{Done}
 use Rattle.run_files.specs.declared.outcome.FileRefusal.{FileRefusal}
@@ -20,7 +20,7 @@ use Rattle.run_files.specs.Answers.{IsTold}
 use Rattle.run_inputs.specs.Inputs.{contents}
 use Rattle.repair_commands.specs.Outcomes.{HasRepair, HasNoRepair, KeepsOthers}
 use Rattle.repair_commands.specs.Repairs.{IsAnswered, IsRepaired, IsRepairRefusal, Writes, WritesAnswer}
-use Rattle.repair_commands.specs.Tells.{CanBeRepaired, CannotBeRepaired, HasCheapest, HasNone, HoldsSpentLog, IsRepairRefused, PutsCheapest, TellsRepair}
+use Rattle.repair_commands.specs.Tells.{CanBeRepaired, CannotBeRepaired, HasCheapest, HasNone, HoldsSpentCertificate, IsRepairRefused, PutsCheapest, TellsRepair}
 use Rattle.repair_commands.proofs.Determined.{moved, not_refused}
 use Rattle.repair_commands.proofs.Outcomes.{can_be, has_repair, not_both, shows_cheapest, shows_none, shows_spent, tells_cheapest, tells_none, tells_refused, tells_spent}
 
@@ -76,7 +76,7 @@ module _ (words : RepairWords) (files : Files) where
               ∙ unchanged_kept words.suffix done.doc done.built chosen writes.changed files writes.changes name none;
         }
 
-    spent : (log : Log) → Gave (Budget log) → HoldsSpentLog words files now
+    spent : (log : Log) → Gave (Budget log) → HoldsSpentCertificate words files now
     spent log (answered, writes) =
         let text : List ℕ = budget_text words.conflicts words.bound log in
         record {

@@ -43,7 +43,7 @@ pub record HasNoRepair (bound : ℕ) (net : Network) (doc : Document) : Type 0 w
   pub repairable : IsRepairable bound net doc list
   pub none : (flags : List Bool) → Mends net doc list flags → bound < cost doc list flags
 
--- the proof is the certificate of this claim, whose log adds at most so many clauses
+-- the proof is the certificate of this claim, whose log adds at most `conflicts` clauses
 pub record HoldsCertificate (conflicts : ℕ) (net : Network) (doc : Document)
     (list : List Edit) (claim : Claim) (proof : Option (List ℕ)) : Type 0 where
   pub log : Log
@@ -98,10 +98,10 @@ pub record ShowsSpent (bound conflicts : ℕ) (net : Network) (doc : Document)
 abbrev pub KeepsOthers : List ℕ → Files → Files → Type 0
 KeepsOthers proof before after = (name : List ℕ) → ¬ (name ≡ proof) → after name ≡ before name
 
--- What the status of a command that repairs tells, of the files before and after: 0 for the
--- cheapest repair, 2 where there is none within the bound, 3 in place of either where what was
--- written is a spent log, and 5 for refused, with nothing written. What each of these means, and
--- that there is a repair within the bound or none, each command says of its own network.
+-- What the status of a command that repairs says of the files before and after: 0 for the cheapest
+-- repair, 2 if there is none within the bound, 3 in place of either if what was written is a spent
+-- log, and 5 for refused, with nothing written. What each of these means, and that there is a
+-- repair within the bound or none, each command says of its own network.
 pub record TellsOutcome (Cheapest NoneThere Spent Refused Can Cannot : Type 0) (status : ℕ)
     (before after : Files) : Type 0 where
   pub repaired : status ≡ 0 → Cheapest

@@ -25,8 +25,8 @@ use Rattle.arc_repair.specs.declared.answer.Answer.TheVariants.{Done as Claimed,
 use Rattle.arc_repair.specs.Answers.{AnswersFew, IsAnswer, IsRepairFault, IsUntouched, KeepsLimits}
 use Rattle.arc_repair.specs.Answers.{answer_steps}
 use Rattle.arc_repair.specs.Repairs.{Mends, none_of}
-use Rattle.output_files.specs.Outputs.{clashes, copy_names, wrote_lines, IsCopyName}
-use Rattle.changed_files.specs.Changes.{Changes, IsEditable}
+use Rattle.file_copies.specs.Outputs.{clashes, copy_names, wrote_lines, IsCopyName}
+use Rattle.file_copies.specs.Changes.{Changes, IsEditable}
 use Rattle.command_words.specs.declared.commands.RepairWords.{RepairWords}
 use Rattle.run_files.specs.declared.limits.Limits.TheVariants.{Editing}
 use Rattle.run_files.specs.declared.outcome.Done.{Done}
@@ -82,8 +82,8 @@ IsRepairRefusal words files r =
     IsDocumentRefusal words.document files r
     ⊎ (RefusesOutputs words files r ⊎ (RefusesSources words files r ⊎ RefusesCounts words files r))
 
--- what is told and written: the lines that tell it, the copies of changed files, the certificate,
--- and the status
+-- what is printed and written: the lines of the answer, the copies of changed files, the
+-- certificate, and the status
 pub record Writes (words : RepairWords) (told : List ℕ) (changed : List (List ℕ × List ℕ))
     (certificate : List ℕ) (status : ℕ) (done : Done) : Type 0 where
   pub writes : done.writes ≡ changed ++ (words.proof, certificate) ∷ []
@@ -91,12 +91,12 @@ pub record Writes (words : RepairWords) (told : List ℕ) (changed : List (List 
   pub short : length certificate ≤ proof_limit
   pub status_is : done.status ≡ status
 
--- the lines that tell a repair: its price, and its edits
+-- the lines of a repair: its price, and its edits
 abbrev pub repair_lines : Network → List Edit → ℕ → List Bool → List ℕ
 repair_lines net list price flags =
     codes "repaired " ++ decimal price ++ codes "\n" ++ edit_lines net (chosen_of list flags)
 
--- a repair tells its price and its edits, and writes the files that these change, and its
+-- a repair prints its price and its edits, and writes the files that these change, and its
 -- certificate
 pub record WritesRepair (words : RepairWords) (doc : Document) (built : Built)
     (olds : List (List ℕ)) (list : List Edit) (price : ℕ)
@@ -105,7 +105,7 @@ pub record WritesRepair (words : RepairWords) (doc : Document) (built : Built)
   pub changes : Changes words.suffix doc built olds (chosen_of list flags) changed
   pub writes : Writes words (repair_lines built.net list price flags) changed certificate 0 done
 
--- a claim that there is no repair tells its bound, and writes its certificate
+-- a claim that there is no repair prints its bound, and writes its certificate
 abbrev pub WritesClaim : RepairWords → Document → Built → List (List ℕ) → List Edit →
     Claim → Log → Done → Type 0
 WritesClaim words doc built olds list (Repaired price bound flags verdicts) log done =
@@ -115,7 +115,7 @@ WritesClaim words doc built olds list (NoRepair bound) log done =
     Writes words (codes "none " ++ decimal bound ++ codes "\n") []
     (certificate_text built.net doc list (NoRepair bound) log) 2 done
 
--- a log that is spent tells its limit, and writes what was used up
+-- a log that is spent prints its limit, and writes what was used up
 abbrev pub WritesAnswer : RepairWords → Document → Built → List (List ℕ) → List Edit →
     Answer → Done → Type 0
 WritesAnswer words doc built olds list (Claimed claim log) done =

@@ -29,7 +29,7 @@ pub record IsFound (words : RepairWords) (net : Network) (doc : Document) (list 
   pub few : length list ≤ EDIT_LIMIT
   pub countable : IsCountable net
 
--- a count that passes its limit refuses the document, except for want of memory
+-- a count that passes its limit refuses the document, unless memory runs out
 abbrev pub StopsFor : List ℕ → EditFault → Stop → Type 0
 StopsFor document (faults.Limit what count) stop =
     (stop ≡ stops.Memory) ⊎ (stop ≡ stops.Refused (refusal_of document 0 (Limit what count)))

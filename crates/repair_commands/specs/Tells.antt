@@ -1,12 +1,12 @@
--- What the status of `repair` tells.
+-- What the status of `repair` says.
 use Rattle.std.specs.Prelude.{◌≡◌, ℕ, ◌++◌, List, Contains}
 use Rattle.std.specs.List.{AllZip}
 use Rattle.arc_outside.specs.Files.{Files, with_files}
 use Rattle.net_model.specs.declared.policies.Document.{Document}
 use Rattle.net_model.specs.declared.rows.Network.{Network}
 use Rattle.net_build.specs.declared.built.Built.{Built}
-use Rattle.output_files.specs.Outputs.{IsLeft, wrote_lines}
-use Rattle.changed_files.specs.Changes.{changed_names, IsEditable}
+use Rattle.file_copies.specs.Outputs.{IsLeft, wrote_lines}
+use Rattle.file_copies.specs.Changes.{changed_names, IsEditable}
 use Rattle.command_words.specs.declared.commands.RepairWords.{RepairWords}
 use Rattle.run_files.specs.declared.outcome.Done.{Done}
 use Rattle.run_files.specs.declared.outcome.FileRefusal.{FileRefusal}
@@ -31,8 +31,8 @@ pub record HasCheapest (words : RepairWords) (before after : Files) : Type 0 whe
       → ¬ Contains (changed_names words.suffix doc before repair.new) name
       → after name ≡ before name
 
--- it was found and written, and the text that is put tells its price, its edits, and the files that
--- are written
+-- it was found and written, and the text that is printed has its price, its edits, and the files
+-- that are written
 pub record PutsCheapest (words : RepairWords) (files : Files) (done : Done) : Type 0 where
   pub found : HasCheapest words files (with_files done.writes files)
   pub text : done.text
@@ -48,7 +48,7 @@ pub record HasNone (words : RepairWords) (before after : Files) : Type 0 where
   pub kept : KeepsOthers words.proof before after
 
 -- a spent log was written, and nothing else
-pub record HoldsSpentLog (words : RepairWords) (before after : Files) : Type 0 where
+pub record HoldsSpentCertificate (words : RepairWords) (before after : Files) : Type 0 where
   pub doc : Document
   pub net : Network
   pub has : HasNetwork words before doc net
@@ -74,9 +74,9 @@ pub record IsRepairRefused (words : RepairWords) (files : Files) : Type 0 where
   pub refusal : FileRefusal
   pub refused : IsRepairRefusal words files refusal
 
--- what the status tells, of the files before and after
+-- what the status says of the files before and after
 abbrev pub TellsRepair : RepairWords → ℕ → Files → Files → Type 0
 TellsRepair words status before after =
     TellsOutcome (HasCheapest words before after) (HasNone words before after)
-    (HoldsSpentLog words before after) (IsRepairRefused words before)
+    (HoldsSpentCertificate words before after) (IsRepairRefused words before)
     (CanBeRepaired words before) (CannotBeRepaired words before) status before after

@@ -13,19 +13,18 @@ use arc_base::limits::{
 };
 use arc_base::{List, Memory, Name};
 use arc_repair::Answer;
-use changed_files::changes;
 use command_words::RepairWords;
 use edit_list::{Claim, Edit};
+use file_copies::{changes, push_wrote};
 use net_model::{Document, Network};
-use output_files::push_wrote;
 use policy_report::{budget, certificate, edit_lines};
 use proof_log::Log;
 use run_files::Done;
 use run_inputs::Sources;
 use std::alloc::Global;
 
-/// The answer that tells these lines and writes these files, and then the certificate. Want of
-/// memory stands for a certificate that is longer than one may be.
+/// The answer that prints these lines and writes these files, and then the certificate. `Memory`
+/// also if the certificate is longer than one may be.
 fn done_with(
     alloc: Global,
     words: &RepairWords,

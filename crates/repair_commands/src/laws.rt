@@ -8,8 +8,8 @@ ghost use Rattle.run_files.specs.Answers.{IsTold};
 ghost use Rattle.repair_commands.specs.Repairs.{IsRepaired, IsRepairRefusal};
 ghost use Rattle.repair_commands.specs.Tells.{PutsCheapest, TellsRepair};
 
-/// What the status of `repair` tells; and after 0 the text that is put tells the price and the edits
-/// of the repair that the status speaks of, and the files that are written.
+/// What the status of `repair` says; and after 0 the text that is printed has the price and the
+/// edits of the repair that the status is about, and the files that are written.
 pub fn repair_is_told()
     ensures status { (words : RepairWords) →
         IsTold (IsRepairRefusal words) (IsRepaired words) (TellsRepair words) }

@@ -15,11 +15,11 @@ use Rattle.report_check.specs.declared.judging.Next.TheVariants.{Line, End, Done
 use Rattle.report_check.specs.declared.outcome.Outcome.{Outcome}
 use Rattle.report_check.specs.LineByLine.{HasComeTo, IsJudgedTo}
 use Rattle.report_check.specs.Lines.{IsOutcomeAfter, LeadsTo, MayCome}
-use Rattle.report_check.specs.Outcomes.{IsOutcome}
+use Rattle.report_check.specs.Outcomes.{IsReportOutcome}
 
 -- where a line follows, it does not matter what the one before was
 some_follows : (ended : Bool) (net : Network) (policies : List Policy) (first number : ℕ) (told : Result Got CertFault) (rest : List (Result Got CertFault)) (o : Outcome) →
-    IsOutcome net policies first number (told ∷ rest) o → IsOutcomeAfter ended net policies first number (told ∷ rest) o
+    IsReportOutcome net policies first number (told ∷ rest) o → IsOutcomeAfter ended net policies first number (told ∷ rest) o
 some_follows true net policies first number told rest o h = h
 some_follows false net policies first number told rest o h = h
 
@@ -33,7 +33,7 @@ module _ (net : Network) (doc : Document) (text : List ℕ) (judge : ReportJudge
     behind = answers net doc [] (step net doc [] (standing judge.reader) line).0 rest
 
     gone_on : (next : ReportJudge) → standing next.reader ≡ (step net doc [] (standing judge.reader) line).0 → next.number ≡ judge.number + 1 →
-        ((o : Outcome) → IsOutcomeAfter next.ended net doc.policies next.first (judge.number + 1) behind o → IsOutcome net doc.policies judge.first judge.number (answer ∷ behind) o) → HasComeTo net doc text rest next
+        ((o : Outcome) → IsOutcomeAfter next.ended net doc.policies next.first (judge.number + 1) behind o → IsReportOutcome net doc.policies judge.first judge.number (answer ∷ behind) o) → HasComeTo net doc text rest next
     gone_on next stands number leads = record {
       outcome = λ o h. come.outcome o (some_follows judge.ended net doc.policies judge.first judge.number answer behind o (leads o
           (subst (λ (n : ℕ). IsOutcomeAfter next.ended net doc.policies next.first n behind o) number

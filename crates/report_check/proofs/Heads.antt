@@ -12,11 +12,11 @@ use Rattle.policy_report.specs.Rereading.{answers, IsWholeReport}
 use Rattle.policy_report.specs.Steps.{start}
 use Rattle.policy_report.proofs.Heads.{BeginsSo, begins_so}
 use Rattle.report_check.specs.declared.outcome.Outcome.TheVariants.{Accepted}
-use Rattle.report_check.specs.Outcomes.{IsOutcome}
+use Rattle.report_check.specs.Outcomes.{IsReportOutcome}
 use Rattle.report_check.proofs.Rights.{accepted_whole}
 
 -- answers that begin so and are accepted are those to a report
-accepted_so : (net : Network) (policies : List Policy) (told : List (Result Got CertFault)) → BeginsSo told → IsOutcome net policies 1 1 told Accepted → IsWholeReport told
+accepted_so : (net : Network) (policies : List Policy) (told : List (Result Got CertFault)) → BeginsSo told → IsReportOutcome net policies 1 1 told Accepted → IsWholeReport told
 accepted_so net policies [] begins h = absurd (cc)
 accepted_so net policies (Err fault ∷ rest) begins h = absurd (cc)
 accepted_so net policies (Ok (Head Report) ∷ rest) begins h = accepted_whole net policies 2 2 rest h
@@ -38,5 +38,5 @@ accepted_so net policies (Ok More ∷ (Ok (Step s) ∷ rest)) begins h = absurd 
 accepted_so net policies (Ok More ∷ (Ok End ∷ rest)) begins h = absurd begins
 
 pub accepted_report : (net : Network) (doc : Document) (ls : List (List ℕ)) →
-    IsOutcome net doc.policies 1 1 (answers net doc [] start ls) Accepted → IsWholeReport (answers net doc [] start ls)
+    IsReportOutcome net doc.policies 1 1 (answers net doc [] start ls) Accepted → IsWholeReport (answers net doc [] start ls)
 accepted_report net doc ls h = accepted_so net doc.policies (answers net doc [] start ls) (begins_so net doc [] ls) h

@@ -12,7 +12,7 @@ use Rattle.policy_report.specs.Steps.{Standing, Step, IsRead}
 use Rattle.report_check.specs.declared.judging.Next.{Next}
 use Rattle.report_check.specs.declared.judging.Next.TheVariants.{Line, Done}
 use Rattle.report_check.specs.declared.outcome.Outcome.TheVariants.{Rejected}
-use Rattle.report_check.specs.Outcomes.{IsRightAt, IsOutcome}
+use Rattle.report_check.specs.Outcomes.{IsRightAt, IsReportOutcome}
 use Rattle.report_check.specs.Lines.{LeadsTo}
 
 no_fault : (got : Got) (fault : CertFault) → Ok got ≡ Err fault → ⊥
@@ -31,10 +31,10 @@ pub right_leads : (net : Network) (policies : List Policy) (first number which :
     told ≡ Ok (Verdict which v) → next ≡ Line (number + 1) → IsRightAt net policies which v → LeadsTo net policies first number told rest next
 right_leads net policies first number which v told rest next e n right =
     subst (LeadsTo net policies first number told rest) (sym n)
-    (λ o h. subst (λ t. IsOutcome net policies first number (t ∷ rest) o) (sym e) (inl (right, h)))
+    (λ o h. subst (λ t. IsReportOutcome net policies first number (t ∷ rest) o) (sym e) (inl (right, h)))
 
 pub wrong_leads : (net : Network) (policies : List Policy) (first number which : ℕ) (v : verdicts.Verdict) (told : Result Got CertFault) (rest : List (Result Got CertFault)) (next : Next) →
     told ≡ Ok (Verdict which v) → next ≡ Done (Rejected (record { line = first; kind = Witness })) → (¬ IsRightAt net policies which v) → LeadsTo net policies first number told rest next
 wrong_leads net policies first number which v told rest next e n wrong =
     subst (LeadsTo net policies first number told rest) (sym n)
-    (subst (λ t. IsOutcome net policies first number (t ∷ rest) (Rejected (record { line = first; kind = Witness }))) (sym e) (inr (wrong, refl)))
+    (subst (λ t. IsReportOutcome net policies first number (t ∷ rest) (Rejected (record { line = first; kind = Witness }))) (sym e) (inr (wrong, refl)))

@@ -8,10 +8,10 @@ use Rattle.policy_report.specs.declared.got.Got.TheVariants.{More, Head, Verdict
 use Rattle.policy_report.specs.declared.got.CertForm.TheVariants.{Report, Repaired, NoRepair}
 use Rattle.policy_report.specs.declared.got.CertFault.{CertFault}
 use Rattle.report_check.specs.declared.outcome.Outcome.{Outcome}
-use Rattle.report_check.specs.Outcomes.{IsOutcome}
+use Rattle.report_check.specs.Outcomes.{IsReportOutcome}
 
 pub one_outcome : (net : Network) (policies : List Policy) (first number : ℕ) (told : List (Result Got CertFault)) (o p : Outcome) →
-    IsOutcome net policies first number told o → IsOutcome net policies first number told p → o ≡ p
+    IsReportOutcome net policies first number told o → IsReportOutcome net policies first number told p → o ≡ p
 one_outcome net policies first number [] o p h k = h ∙ sym k
 one_outcome net policies first number (Err fault ∷ rest) o p h k = h ∙ sym k
 one_outcome net policies first number (Ok More ∷ rest) o p h k = one_outcome net policies first (number + 1) rest o p h k

@@ -13,14 +13,14 @@ use Rattle.policy_report.specs.Reports.{witness_lines}
 use Rattle.policy_report.specs.Rereading.{IsWhole, more, blocks_answers, report_answers}
 use Rattle.report_check.specs.declared.outcome.Outcome.{Outcome}
 use Rattle.report_check.specs.declared.outcome.Outcome.TheVariants.{Accepted, Rejected}
-use Rattle.report_check.specs.Outcomes.{IsRightAt, IsOutcome}
+use Rattle.report_check.specs.Outcomes.{IsRightAt, IsReportOutcome}
 
 not_accepted : (fault : CertFault) → Accepted ≡ Rejected fault → ⊥
 not_accepted fault e = absurd (cc)
 
 -- what is accepted is taken whole
 pub accepted_whole : (net : Network) (policies : List Policy) (first number : ℕ) (told : List (Result Got CertFault)) →
-    IsOutcome net policies first number told Accepted → IsWhole told
+    IsReportOutcome net policies first number told Accepted → IsWhole told
 accepted_whole net policies first number [] h = absurd (cc)
 accepted_whole net policies first number (Err fault ∷ rest) h = absurd (cc)
 accepted_whole net policies first number (Ok More ∷ rest) h = accepted_whole net policies first (number + 1) rest h
@@ -39,7 +39,7 @@ accepted_whole net policies first number (Ok End ∷ (told ∷ rest)) h = accept
 
 -- the lines of a block that goes on are passed
 passed : (net : Network) (policies : List Policy) (first number : ℕ) (ls : List (List ℕ)) (rest : List (Result Got CertFault)) (o : Outcome) →
-    IsOutcome net policies first number (more ls ++ rest) o → (number : ℕ) × IsOutcome net policies first number rest o
+    IsReportOutcome net policies first number (more ls ++ rest) o → (number : ℕ) × IsReportOutcome net policies first number rest o
 passed net policies first number [] rest o h = (number, h)
 passed net policies first number (line ∷ ls) rest o h = passed net policies first (number + 1) ls rest o h
 
@@ -50,10 +50,10 @@ AreRightFrom net policies which (v ∷ vs) = IsRightAt net policies which v × A
 
 -- in an accepted report each verdict is right
 rights_from : (net : Network) (policies : List Policy) (first number which : ℕ) (vs : List verdicts.Verdict) →
-    IsOutcome net policies first number (blocks_answers net which vs (Ok End ∷ [])) Accepted → AreRightFrom net policies which vs
+    IsReportOutcome net policies first number (blocks_answers net which vs (Ok End ∷ [])) Accepted → AreRightFrom net policies which vs
 rights_from net policies first number which [] h = tt
 rights_from net policies first number which (v ∷ vs) h =
-    let whole = subst (λ told. IsOutcome net policies first number told Accepted) (append_assoc (more (witness_lines net v)) (Ok (Verdict which v) ∷ []) (blocks_answers net (which + 1) vs (Ok End ∷ []))) h in
+    let whole = subst (λ told. IsReportOutcome net policies first number told Accepted) (append_assoc (more (witness_lines net v)) (Ok (Verdict which v) ∷ []) (blocks_answers net (which + 1) vs (Ok End ∷ []))) h in
     let last = passed net policies first number (witness_lines net v) (Ok (Verdict which v) ∷ blocks_answers net (which + 1) vs (Ok End ∷ [])) Accepted whole in
     elim last.1 [
       | inl good ↦ (good.0, rights_from net policies (last.0 + 1) (last.0 + 1) (which + 1) vs good.1)
@@ -62,10 +62,10 @@ rights_from net policies first number which (v ∷ vs) h =
 
 -- a report in which each verdict is right is accepted
 accepted_from : (net : Network) (policies : List Policy) (first number which : ℕ) (vs : List verdicts.Verdict) (o : Outcome) →
-    AreRightFrom net policies which vs → IsOutcome net policies first number (blocks_answers net which vs (Ok End ∷ [])) o → o ≡ Accepted
+    AreRightFrom net policies which vs → IsReportOutcome net policies first number (blocks_answers net which vs (Ok End ∷ [])) o → o ≡ Accepted
 accepted_from net policies first number which [] o right h = h
 accepted_from net policies first number which (v ∷ vs) o right h =
-    let whole = subst (λ told. IsOutcome net policies first number told o) (append_assoc (more (witness_lines net v)) (Ok (Verdict which v) ∷ []) (blocks_answers net (which + 1) vs (Ok End ∷ []))) h in
+    let whole = subst (λ told. IsReportOutcome net policies first number told o) (append_assoc (more (witness_lines net v)) (Ok (Verdict which v) ∷ []) (blocks_answers net (which + 1) vs (Ok End ∷ []))) h in
     let last = passed net policies first number (witness_lines net v) (Ok (Verdict which v) ∷ blocks_answers net (which + 1) vs (Ok End ∷ [])) o whole in
     elim last.1 [
       | inl good ↦ accepted_from net policies (last.0 + 1) (last.0 + 1) (which + 1) vs o right.1 good.1
@@ -73,8 +73,8 @@ accepted_from net policies first number which (v ∷ vs) o right h =
     ]
 
 -- the same of whole reports
-pub all_right : (net : Network) (policies : List Policy) (vs : List verdicts.Verdict) → IsOutcome net policies 1 1 (report_answers net vs) Accepted → AreRightFrom net policies 0 vs
+pub all_right : (net : Network) (policies : List Policy) (vs : List verdicts.Verdict) → IsReportOutcome net policies 1 1 (report_answers net vs) Accepted → AreRightFrom net policies 0 vs
 all_right net policies vs h = rights_from net policies 2 2 0 vs h
 
-pub all_accepted : (net : Network) (policies : List Policy) (vs : List verdicts.Verdict) (o : Outcome) → AreRightFrom net policies 0 vs → IsOutcome net policies 1 1 (report_answers net vs) o → o ≡ Accepted
+pub all_accepted : (net : Network) (policies : List Policy) (vs : List verdicts.Verdict) (o : Outcome) → AreRightFrom net policies 0 vs → IsReportOutcome net policies 1 1 (report_answers net vs) o → o ≡ Accepted
 all_accepted net policies vs o right h = accepted_from net policies 2 2 0 vs o right h

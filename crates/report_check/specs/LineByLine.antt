@@ -1,6 +1,6 @@
 -- A text whose lines come to a judge one by one.
 use Rattle.std.specs.Prelude.{ℕ, List, []}
-use Rattle.cnf_types.specs.Words.{lines}
+use Rattle.arc_base.specs.TextLines.{lines}
 use Rattle.net_model.specs.declared.policies.Document.{Document}
 use Rattle.net_model.specs.declared.rows.Network.{Network}
 use Rattle.policy_report.specs.Rereading.{answers}
@@ -8,11 +8,12 @@ use Rattle.policy_report.specs.Steps.{standing, start}
 use Rattle.report_check.specs.declared.judge.ReportJudge.{ReportJudge}
 use Rattle.report_check.specs.declared.outcome.Outcome.{Outcome}
 use Rattle.report_check.specs.Lines.{IsOutcomeAfter}
-use Rattle.report_check.specs.Outcomes.{IsOutcome}
+use Rattle.report_check.specs.Outcomes.{IsReportOutcome}
 
 -- this is what the text is judged to
 abbrev pub IsJudgedTo : Network → Document → List ℕ → Outcome → Type 0
-IsJudgedTo net doc text o = IsOutcome net doc.policies 1 1 (answers net doc [] start (lines text)) o
+IsJudgedTo net doc text o =
+    IsReportOutcome net doc.policies 1 1 (answers net doc [] start (lines text)) o
 
 -- The lines of the text came to the judge up to these: what these lead to is what the whole text is
 -- judged to.

@@ -8,7 +8,7 @@ use Rattle.report_check.specs.declared.judging.Next.{Next}
 use Rattle.report_check.specs.declared.judging.Next.TheVariants.{Line, End, Done}
 use Rattle.report_check.specs.declared.outcome.Outcome.{Outcome}
 use Rattle.report_check.specs.declared.outcome.Outcome.TheVariants.{Accepted}
-use Rattle.report_check.specs.Outcomes.{IsOutcome}
+use Rattle.report_check.specs.Outcomes.{IsReportOutcome}
 
 -- another line may come
 abbrev pub MayCome : Next → Type 0
@@ -22,17 +22,17 @@ abbrev pub IsOutcomeAfter : Bool → Network → List Policy → ℕ → ℕ →
     List (Result Got CertFault) → Outcome → Type 0
 IsOutcomeAfter true net policies first number [] o = o ≡ Accepted
 IsOutcomeAfter true net policies first number (told ∷ rest) o =
-    IsOutcome net policies first number (told ∷ rest) o
-IsOutcomeAfter false net policies first number told o = IsOutcome net policies first number told o
+    IsReportOutcome net policies first number (told ∷ rest) o
+IsOutcomeAfter false net policies first number told o = IsReportOutcome net policies first number told o
 
 -- what a line's answer leads to: to an outcome, or to that of the rest
 abbrev pub LeadsTo : Network → List Policy → ℕ → ℕ → Result Got CertFault →
     List (Result Got CertFault) → Next → Type 0
 LeadsTo net policies first number told rest (Line begins) =
-    (o : Outcome) → IsOutcome net policies begins (number + 1) rest o →
-    IsOutcome net policies first number (told ∷ rest) o
+    (o : Outcome) → IsReportOutcome net policies begins (number + 1) rest o →
+    IsReportOutcome net policies first number (told ∷ rest) o
 LeadsTo net policies first number told rest End =
     (o : Outcome) → IsOutcomeAfter true net policies first (number + 1) rest o →
-    IsOutcome net policies first number (told ∷ rest) o
+    IsReportOutcome net policies first number (told ∷ rest) o
 LeadsTo net policies first number told rest (Done o) =
-    IsOutcome net policies first number (told ∷ rest) o
+    IsReportOutcome net policies first number (told ∷ rest) o

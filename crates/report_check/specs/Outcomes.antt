@@ -1,11 +1,11 @@
 -- What the text of a report is judged to. A report is a text whose lines are those of a report of
--- right verdicts, one for each policy in order. Of any other text the first line is told that is
--- not of the form, or the first line of the first block whose verdict is not right.
+-- right verdicts, one for each policy in order. Of any other text the first line that is not of the
+-- form is answered, or the first line of the first block whose verdict is not right.
 use Rattle.std.specs.Prelude.{◌≡◌, ◌↔◌, ◌⊎◌, ℕ, ◌+◌, ◌≤◌, List, [], ◌∷◌, length, All, Result, Ok}
 use Rattle.std.specs.Prelude.{Err, IsSomeAnd, slice_get}
 use Rattle.std.specs.List.{AllZip}
 use Rattle.arc_base.specs.declared.certificate.CertKind.TheVariants.{Form, NoEnd, Witness}
-use Rattle.cnf_types.specs.Words.{lines}
+use Rattle.arc_base.specs.TextLines.{lines}
 use Rattle.net_model.specs.declared.policies.Document.{Document}
 use Rattle.net_model.specs.declared.policies.Policy.{Policy}
 use Rattle.net_model.specs.declared.rows.Network.{Network}
@@ -31,21 +31,23 @@ IsRightAt net policies which v =
 -- and the block that it belongs to begins at `first`. What counts is the first line that is
 -- rejected, or the first verdict that is not right, at the first line of its block, or else whether
 -- the last line is the end. What belongs to a repair is no line of a report.
-abbrev pub IsOutcome : Network → List Policy → ℕ → ℕ →
+abbrev pub IsReportOutcome : Network → List Policy → ℕ → ℕ →
     List (Result Got CertFault) → Outcome → Type 0
-IsOutcome net policies first number [] o = o ≡ Rejected (record { line = number; kind = NoEnd })
-IsOutcome net policies first number (Err fault ∷ rest) o = o ≡ Rejected fault
-IsOutcome net policies first number (Ok More ∷ rest) o =
-    IsOutcome net policies first (number + 1) rest o
-IsOutcome net policies first number (Ok (Head Report) ∷ rest) o =
-    IsOutcome net policies (number + 1) (number + 1) rest o
-IsOutcome net policies first number (Ok (Verdict which v) ∷ rest) o =
-    (IsRightAt net policies which v × IsOutcome net policies (number + 1) (number + 1) rest o) ⊎
+IsReportOutcome net policies first number [] o =
+    o ≡ Rejected (record { line = number; kind = NoEnd })
+IsReportOutcome net policies first number (Err fault ∷ rest) o = o ≡ Rejected fault
+IsReportOutcome net policies first number (Ok More ∷ rest) o =
+    IsReportOutcome net policies first (number + 1) rest o
+IsReportOutcome net policies first number (Ok (Head Report) ∷ rest) o =
+    IsReportOutcome net policies (number + 1) (number + 1) rest o
+IsReportOutcome net policies first number (Ok (Verdict which v) ∷ rest) o =
+    (IsRightAt net policies which v ×
+    IsReportOutcome net policies (number + 1) (number + 1) rest o) ⊎
     ((¬ IsRightAt net policies which v) × (o ≡ Rejected (record { line = first; kind = Witness })))
-IsOutcome net policies first number (Ok End ∷ []) o = o ≡ Accepted
-IsOutcome net policies first number (Ok End ∷ (told ∷ rest)) o =
-    IsOutcome net policies first (number + 1) (told ∷ rest) o
-IsOutcome net policies first number (Ok other ∷ rest) o =
+IsReportOutcome net policies first number (Ok End ∷ []) o = o ≡ Accepted
+IsReportOutcome net policies first number (Ok End ∷ (told ∷ rest)) o =
+    IsReportOutcome net policies first (number + 1) (told ∷ rest) o
+IsReportOutcome net policies first number (Ok other ∷ rest) o =
     o ≡ Rejected (record { line = number; kind = Form })
 
 -- the text is a report of right verdicts on the policies of the document, one for each: its lines
@@ -57,12 +59,12 @@ pub record IsReport (net : Network) (doc : Document) (text : List ℕ) : Type 0 
   pub few : All (λ v. length (witness_lines net v) ≤ 4294967295) verdicts
   pub is_text : lines text ≡ lines (report_text net doc verdicts)
 
--- the judgement of a text tells exactly whether it is a report
+-- the judgement of a text says exactly whether it is a report
 abbrev pub ReportsAreAccepted : Type 0
 ReportsAreAccepted =
     (net : Network) (doc : Document) (text : List ℕ) (o : Outcome) → IsValid net →
     length doc.policies ≤ 4294967295 →
-    IsOutcome net doc.policies 1 1 (answers net doc [] start (lines text)) o →
+    IsReportOutcome net doc.policies 1 1 (answers net doc [] start (lines text)) o →
     (o ≡ Accepted) ↔ IsReport net doc text
 
 -- a text has one outcome
@@ -70,4 +72,5 @@ abbrev pub HasOneOutcome : Type 0
 HasOneOutcome =
     (net : Network) (policies : List Policy) (first number : ℕ)
     (told : List (Result Got CertFault)) (o p : Outcome) →
-    IsOutcome net policies first number told o → IsOutcome net policies first number told p → o ≡ p
+    IsReportOutcome net policies first number told o →
+    IsReportOutcome net policies first number told p → o ≡ p

@@ -1,18 +1,17 @@
 //! The judgement of a text that is at hand whole.
 ghost use Rattle.std.specs.Prelude.{◌≡◌, ◌↔◌, ◌≤◌, [], length, All, IfOk};
-ghost use Rattle.cnf_types.specs.Words.{lines};
+ghost use Rattle.arc_base.specs.TextLines.{lines};
 ghost use Rattle.net_model.specs.Packets.{subject};
 ghost use Rattle.net_model.specs.Forwarding.{HasEnds};
 ghost use Rattle.net_model.specs.Validity.{IsValid};
 ghost use Rattle.policy_report.specs.Rereading.{answers};
 ghost use Rattle.policy_report.specs.Steps.{start};
-ghost use Rattle.report_check.specs.Outcomes.{IsOutcome, IsReport};
+ghost use Rattle.report_check.specs.Outcomes.{IsReportOutcome, IsReport};
 
 use crate::judge::ReportJudge;
 use crate::laws::reports_are_accepted;
 use crate::outcome::Outcome;
-use arc_base::Memory;
-use cnf_types::first_line;
+use arc_base::{Memory, first_line};
 use net_model::{Document, Network};
 use std::alloc::Global;
 use std::ops::ControlFlow;
@@ -28,7 +27,7 @@ pub fn check_report(
     requires valid { IsValid net.now }
     requires ends { All (λ policy. HasEnds net.now (subject policy)) doc.now.policies }
     requires few { length doc.now.policies ≤ 4294967295 }
-    ensures outcome { IfOk result (IsOutcome net.now doc.now.policies 1 1
+    ensures outcome { IfOk result (IsReportOutcome net.now doc.now.policies 1 1
         (answers net.now doc.now [] start (lines text.now))) }
     ensures accepted { IfOk result (λ o. (o ≡ Outcome.Accepted) ↔
         IsReport net.now doc.now text.now) }

@@ -1,7 +1,7 @@
 //! The judgement of a text whose lines come one by one.
 ghost use Rattle.std.specs.Prelude.{◌≡◌, ◌+◌, ◌<◌, ◌∷◌, ℕ, [], List, All, IfOk, IfSome};
 ghost use Rattle.std.specs.ControlFlow.{continue_value, MatchControlFlow};
-ghost use Rattle.cnf_types.specs.Words.{lines};
+ghost use Rattle.arc_base.specs.TextLines.{lines};
 ghost use Rattle.net_model.specs.Forwarding.{HasEnds};
 ghost use Rattle.net_model.specs.Packets.{subject};
 ghost use Rattle.net_model.specs.Validity.{IsValid};

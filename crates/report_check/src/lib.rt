@@ -1,6 +1,6 @@
-//! Judges the text of a report from the network and the text alone. A text is accepted exactly
-//! where it is a report with one block for each policy in order, each with a right verdict; else
-//! the first line that is not of that form or whose block is not right is told. A `ReportJudge`
+//! Judges the text of a report from the network and the text alone. A text is accepted exactly if
+//! it is a report with one block for each policy in order, each with a right verdict; else the
+//! first line that is not of that form or whose block is not right is answered. A `ReportJudge`
 //! takes the lines one by one; `check_report` has them at hand.
 #![tactic(auto)]
 

@@ -57,7 +57,7 @@ pub record AreSteps (net : Network) (to : Prefix) (failed : FailureSet) (places 
       Contains steps (step_of net arc)
   pub rising : AllPairs (λ s t. s.tail.0 ≡ t.tail.0 → s.link.0 < t.link.0) steps
 
--- the step leads between two of so many routers, and has a cost that OSPF can tell
+-- the step leads between two of the routers, and has a cost that OSPF can advertise
 pub record IsFit (routers : ℕ) (step : Step) : Type 0 where
   pub tail : step.tail.0 < routers
   pub head : step.head.0 < routers

@@ -47,8 +47,8 @@ pub(crate) fn settle(
 }
 
 impl Front {
-    /// Only the owner has a distance and waits, and no router is settled. The queue has room for so
-    /// many entries.
+    /// Only the owner has a distance and waits, and no router is settled. The queue has room for
+    /// `room` entries.
     fn start(alloc: Global, routers: u32, owner: Router, room: usize) -> Result<Front, Memory>
         requires { owner.0 < routers }
         ensures distances { IfOk result (λ front.

@@ -6,7 +6,7 @@ use Rattle.std.proofs.lemmas.Bool.Decides.{nat_tests}
 use Rattle.std.proofs.lemmas.List.Elements.{recursion_from_All, All-cons, All-nil}
 use Rattle.arc_outside.specs.Lines.{IsFirstLine}
 use Rattle.run_files.specs.HandedOut.{AreHandedOut}
-use Rattle.cnf_types.specs.Words.{lines, is_line_feed}
+use Rattle.arc_base.specs.TextLines.{lines, is_line_feed}
 
 ten_from_feed : (b : ℕ) → is_line_feed b ≡ true → b ≡ 10
 ten_from_feed b e = grind (arith, nat_tests)

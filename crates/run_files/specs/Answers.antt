@@ -19,7 +19,7 @@ Gives IsRefusal IsRight (Err stops.Memory) = Unit {0}
 Gives IsRefusal IsRight (Err stops.Failed) = Unit {0}
 
 -- What the function of a command answers: one of the command's own answers, or its first refusal,
--- by what the store holds. Over a store that does not tell what it holds, any of the command's own,
+-- by what the store holds. Over a store that does not say what it holds, any of the command's own,
 -- and any refusal.
 abbrev pub Answers : (Done → Type 0) → (Files → FileRefusal → Type 0) → (Files → Done → Type 0) →
     Option Files → Result Done Stop → Type 0
@@ -38,15 +38,15 @@ pub record HasRefusalCause (absent long : Type 0) (r : FileRefusal) : Type 0 whe
   pub missing : r.reason ≡ reasons.Kind Missing → absent
   pub too_long : r.reason ≡ reasons.Kind TooLong → long
 
--- And a failure is told only where the count of faults rose.
+-- And a failure is answered only if the count of faults rose.
 abbrev pub HasStopCause : (failed absent long : Type 0) → Stop → Type 0
 HasStopCause failed absent long stops.Memory = Unit {0}
 HasStopCause failed absent long stops.Failed = failed
 HasStopCause failed absent long (stops.Refused r) = HasRefusalCause absent long r
 
 -- A call that only reads: what the store holds stays, its counts never fall, and a stop has its
--- cause. No file that it refuses as too long may have fewer bytes than the limit. A read that fails
--- ends the call, which tells of it.
+-- cause. No file that it refuses as too long has fewer bytes than the limit. A read that fails ends
+-- the call, which answers it.
 pub record OnlyReads {S X : Type 0} (limit : ℕ) (held : S → Option Files)
     (faults absences taken : S → ℕ) (before after : S) (result : Result X Stop) : Type 0 where
   pub same : held after ≡ held before
@@ -57,8 +57,8 @@ pub record OnlyReads {S X : Type 0} (limit : ℕ) (held : S → Option Files)
   pub absences_rise : absences before ≤ absences after
   pub taken_rise : TookOn (taken before) (taken after)
 
--- What a command's status tells of the files before and after: each of its answers tells by its
--- status, with its files written, and each first refusal by 5, with nothing written.
+-- What a command's status says of the files before and after: each of its answers by its status,
+-- with its files written, and each first refusal by 5, with nothing written.
 pub record IsTold (IsRefusal : Files → FileRefusal → Type 0) (IsAnswer : Files → Done → Type 0)
     (Tells : ℕ → Files → Files → Type 0) : Type 0 where
   pub answered : (files : Files) (done : Done) → IsAnswer files done →

@@ -1,7 +1,7 @@
 -- Lines that are handed out one after another.
 use Rattle.std.specs.Prelude.{◌≡◌, ◌↔◌, ℕ, List, [], ◌∷◌}
 use Rattle.arc_outside.specs.Lines.{IsFirstLine}
-use Rattle.cnf_types.specs.Words.{lines}
+use Rattle.arc_base.specs.TextLines.{lines}
 
 -- each is the first line of what those before it leave of the text, and in the end nothing is left
 abbrev pub AreHandedOut : List ℕ → List (List ℕ) → Type 0

@@ -7,7 +7,7 @@ use Rattle.arc_base.specs.declared.limits.TheConstants.{ALL_EDITED_FILES_LIMIT, 
 use Rattle.run_files.specs.declared.limits.Limits.{Limits}
 use Rattle.run_files.specs.declared.limits.Limits.TheVariants.{Judging, Editing}
 
--- The least limit of all: a file of any kind may have so many bytes.
+-- The least limit of all: a file of any kind may have this many bytes.
 abbrev pub least_limit : ℕ
 least_limit = DOCUMENT_LIMIT
 

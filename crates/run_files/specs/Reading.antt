@@ -13,7 +13,7 @@ use Rattle.run_files.specs.declared.outcome.Stop.TheVariants as stops
 use Rattle.run_files.specs.Answers.{Gives}
 use Rattle.run_files.specs.Refusals.{bytes_at, read_refusal, refusal_of, routers_refusal}
 
--- the refusal of a file for this, or want of memory
+-- the refusal of a file for this, or out of memory
 abbrev pub RefusesFor : List ℕ → Kind → Stop → Type 0
 RefusesFor name kind stop =
     (stop ≡ stops.Memory) ⊎ (stop ≡ stops.Refused (refusal_of name 0 kind))

@@ -24,8 +24,8 @@ MovesOn files name before after (Err (Refused r)) = read_refusal before.limit fi
 MovesOn files name before after (Err Memory) = Unit {0}
 MovesOn files name before after (Err Failed) = Unit {0}
 
--- What reading past a file answers: how many bytes it has, at most as many as the limit says;
--- TooLong where it has more; Missing where the name holds nothing.
+-- What reading past a file answers: how many bytes it has, at most as many as the limit allows;
+-- TooLong if it has more; Missing if the name holds nothing.
 abbrev pub IsReadPast : Option (List ℕ) → ℕ → Result ℕ ReadAll → Type 0
 IsReadPast file limit (Ok n) = IsSomeAnd file (λ bytes. (n ≡ length bytes) × (n ≤ limit))
 IsReadPast file limit (Err TooLong) = IsSomeAnd file (λ bytes. limit < length bytes)

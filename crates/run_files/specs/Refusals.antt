@@ -1,4 +1,4 @@
--- Refusals: those of files that are read, and the line that tells one.
+-- Refusals: those of files that are read, and the line that prints one.
 use Rattle.std.specs.Prelude.{ℕ, ◌-◌, List, [], ◌∷◌, ◌++◌, length, min, Option, Some, None}
 use Rattle.std.specs.Prelude.{unwrap_or, nat_lt, codes, decimal, if◌then◌else◌}
 use Rattle.std.specs.Option.{option_or}
@@ -29,8 +29,8 @@ refusal_within limit name (Some bytes) =
 abbrev pub read_refusal : ℕ → Files → List ℕ → Option FileRefusal
 read_refusal limit files name = refusal_within limit name (files name)
 
--- the first refusal of router files in order, where each may have so many bytes, and all together
--- so many
+-- the first refusal of router files in order, each with at most `limit` bytes, and all together
+-- with at most `room`
 abbrev pub first_refusal : ℕ → ℕ → Files → List (List ℕ) → Option FileRefusal
 first_refusal most room files [] = None
 first_refusal most room files (name ∷ names) =
@@ -49,7 +49,7 @@ reason_words reasons.BadHeader = codes "bad-header"
 reason_words reasons.BadNumber = codes "bad-number"
 reason_words reasons.ClauseCount = codes "clause-count"
 
--- the line that tells a refusal
+-- the line that prints a refusal
 unfoldable pub refusal_line : FileRefusal → List ℕ
 refusal_line r =
     codes "refused " ++ r.name ++ codes " " ++ decimal r.number ++ codes " " ++

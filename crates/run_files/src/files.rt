@@ -32,7 +32,7 @@ pub fn read_file<S: Store>(
     }
 }
 
-/// Reads a router file, where it and those to come may have so many bytes together.
+/// Reads a router file, where `room` bytes are left for it and the files after it.
 fn read_router<S: Store>(
     alloc: Global,
     store: &mut S,

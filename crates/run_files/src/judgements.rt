@@ -15,7 +15,7 @@ pub enum Judgement {
     Rejected(u64, CertKind),
 }
 
-/// The line that tells which line is rejected, and why.
+/// The line that says which line is rejected, and why.
 fn rejected_text(alloc: Global, line: u64, kind: CertKind) -> Result<Vec<u8>, AllocError>
     ensures { IfOk result (λ text. text.items ≡ judgement_text (Judgement.Rejected line kind)) }
 {
@@ -28,7 +28,7 @@ fn rejected_text(alloc: Global, line: u64, kind: CertKind) -> Result<Vec<u8>, Al
     Ok(text)
 }
 
-/// The line that tells a judgement.
+/// The line that prints a judgement.
 fn judgement_text(alloc: Global, judgement: Judgement) -> Result<Vec<u8>, AllocError>
     ensures { IfOk result (λ text. text.items ≡ judgement_text judgement) }
 {
@@ -48,7 +48,7 @@ fn judgement_status(judgement: Judgement) -> u8
     }
 }
 
-/// The answer that tells a judgement: its line, no files, and its status, 0 or 1.
+/// The answer that prints a judgement: its line, no files, and its status, 0 or 1.
 pub fn told(alloc: Global, judgement: Judgement) -> Result<Done, AllocError>
     ensures text { IfOk result (λ done. done.text ≡ judgement_text judgement) }
     ensures status { IfOk result (λ done. done.status ≡ judgement_status judgement) }

@@ -1,5 +1,5 @@
 //! The files that commands read, under their limits: whole or line by line, with the first refusal
-//! of what was read and the line that tells it. Beside it stand what every command answers, and the
+//! of what was read and the line that prints it. Beside it are what every command answers, and the
 //! judgement of a certificate or a proof.
 #![tactic(auto)]
 

@@ -31,7 +31,7 @@ pub struct FileRefusal {
 /// What a command that is not refused does.
 #[derive(Drop)]
 pub struct Done {
-    /// The text that is put to the sink.
+    /// The text that is printed.
     pub text: Name,
     /// The files that are written before that, in order: their names and their bytes.
     pub writes: List<(Name, Name)>,

@@ -1,4 +1,4 @@
-//! Refusals, and the line that tells one.
+//! Refusals, and the line that prints one.
 ghost use Rattle.std.specs.Prelude.{◌≡◌, ◌⊎◌, IfOk};
 ghost use Rattle.run_files.specs.Reading.{StopsFor};
 ghost use Rattle.run_files.specs.Refusals.{reason_words, refusal_line, refusal_of};

@@ -18,7 +18,7 @@ use Rattle.traffic_classes.proofs.MakingUp.{one_list}
 use Rattle.verdicts.specs.declared.fault.JudgeFault.{JudgeFault}
 use Rattle.verdicts.specs.declared.fault.JudgeFault.TheVariants.{TooMany}
 use Rattle.verdicts.specs.Judged.{CountsMore}
-use Rattle.run_inputs.specs.Counts.{HasFewClasses, HasManyClasses}
+use Rattle.run_inputs.specs.Counts.{PoliciesHaveFewClasses, HasManyClasses}
 
 -- a class more only lengthens the list
 one_more : (classes : List Class) (class : Class) → length classes ≤ length (with_class classes class)
@@ -66,7 +66,7 @@ no_fewer net policies m n c d below fewer many =
     omega (arith, first, last, once_more (join (take m ks)) (join (drop m ks)), fewer.counted, many.counted)
 
 -- few classes are not many
-pub few_or_many : (net : Network) (policies : List Policy) (count : ℕ) → HasFewClasses net policies → HasManyClasses net policies count → ⊥
+pub few_or_many : (net : Network) (policies : List Policy) (count : ℕ) → PoliciesHaveFewClasses net policies → HasManyClasses net policies count → ⊥
 few_or_many net policies count few many =
     let P : List Policy → Type 0 = λ ps. HaveClasses net policies ps (told (length few.classes)) in
     let all : HaveClasses net policies (take (length policies) policies) (told (length few.classes)) =
@@ -89,7 +89,7 @@ one_count net policies c d one other = elim (cases_lt one.first.place other.firs
 ]
 
 -- where all classes are few, no policy has too many
-pub never_many : (net : Network) (policies : List Policy) (place : ℕ) (fault : JudgeFault) (count : ℕ) → HasFewClasses net policies → place < length policies → fault ≡ TooMany count →
+pub never_many : (net : Network) (policies : List Policy) (place : ℕ) (fault : JudgeFault) (count : ℕ) → PoliciesHaveFewClasses net policies → place < length policies → fault ≡ TooMany count →
     CountsMore (λ n. IfSome (slice_get policies place) (λ p. HasClasses net policies p n)) fault → ⊥
 never_many net [] place fault count few within is many = absurd (omega arith)
 never_many net (q ∷ qs) place fault count few within is many =

@@ -15,7 +15,7 @@ use Rattle.run_files.specs.Limits.{document_limit, entries_limit}
 use Rattle.run_files.specs.Refusals.{refusal_of, read_refusal, routers_refusal, bytes_at}
 use Rattle.arc_base.specs.declared.refusal.Kind.TheVariants.{Limit}
 use Rattle.arc_base.specs.declared.refusal.LimitKind.TheVariants.{Classes}
-use Rattle.run_inputs.specs.Counts.{HasFewClasses, HasManyClasses, IsJudgingRefusal}
+use Rattle.run_inputs.specs.Counts.{PoliciesHaveFewClasses, HasManyClasses, IsJudgingRefusal}
 use Rattle.run_inputs.specs.Determined.{IsDetermined, IsJudgedOnce}
 use Rattle.run_inputs.proofs.ClassCounts.{one_count, few_or_many}
 
@@ -126,14 +126,14 @@ module _ (limits : Limits) (document : List ℕ) (files : Files) where
       let count : u.count ≡ v.count = same_count u.count u.doc v.doc u.net v.net v.count u.input v.input u.many v.many in
       u.told ∙ ap (λ (n : ℕ). refusal_of document 0 (Limit Classes n)) count ∙ sym v.told
 
-  few_or_refused : (doc : Document) (net : Network) (r : FileRefusal) → HoldsInput limits [] document files doc net → HasFewClasses net doc.policies → IsJudgingRefusal limits document files r → ⊥
+  few_or_refused : (doc : Document) (net : Network) (r : FileRefusal) → HoldsInput limits [] document files doc net → PoliciesHaveFewClasses net doc.policies → IsJudgingRefusal limits document files r → ⊥
   few_or_refused doc net r h few (inl e) = not_both limits [] document files doc net r h e
   few_or_refused doc net r h few (inr u) =
       let docs : doc ≡ u.doc = one_document limits [] document files doc u.doc h.files_are.document_is u.input.files_are.document_is in
       let P : Document → Type 0 = λ d. HoldsInput limits [] document files d net in
       let nets : net ≡ u.net = one_network limits [] document files u.doc net u.net (subst P docs h) u.input in
-      let Q : Document → Type 0 = λ d. HasFewClasses net d.policies in
-      let R : Network → Type 0 = λ n. HasFewClasses n u.doc.policies in
+      let Q : Document → Type 0 = λ d. PoliciesHaveFewClasses net d.policies in
+      let R : Network → Type 0 = λ n. PoliciesHaveFewClasses n u.doc.policies in
       few_or_many u.net u.doc.policies u.count (subst R nets (subst Q docs few)) u.many
 
   pub judged_once : IsJudgedOnce limits document files

@@ -17,19 +17,19 @@ use Rattle.run_files.specs.Refusals.{refusal_of}
 use Rattle.run_inputs.specs.Inputs.{HoldsInput, IsInputRefusal}
 
 -- the policies have at most CLASS_LIMIT different classes
-pub record HasFewClasses (net : Network) (policies : List Policy) : Type 0 where
+pub record PoliciesHaveFewClasses (net : Network) (policies : List Policy) : Type 0 where
   pub classes : List Class
   pub are : AreAllClasses net policies policies classes
   pub few : length classes ≤ CLASS_LIMIT
 
--- up to the first policy with which they have more they have so many
+-- up to the first policy with which they have too many classes they have this many
 pub record HasManyClasses (net : Network) (policies : List Policy) (count : ℕ) : Type 0 where
   pub first : FirstHaveMore net policies count
   pub many : CLASS_LIMIT < count
 
 -- what counting the classes answers
 abbrev pub CountsClasses : List ℕ → Network → List Policy → Result (Unit {0}) Stop → Type 0
-CountsClasses document net policies (Ok done) = HasFewClasses net policies
+CountsClasses document net policies (Ok done) = PoliciesHaveFewClasses net policies
 CountsClasses document net policies (Err (stops.Refused r)) =
     (count : ℕ) × HasManyClasses net policies count ×
     (r ≡ refusal_of document 0 (Limit Classes count))

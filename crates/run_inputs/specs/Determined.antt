@@ -5,7 +5,7 @@ use Rattle.net_model.specs.declared.policies.Document.{Document}
 use Rattle.net_model.specs.declared.rows.Network.{Network}
 use Rattle.run_files.specs.declared.limits.Limits.{Limits}
 use Rattle.run_files.specs.declared.outcome.FileRefusal.{FileRefusal}
-use Rattle.run_inputs.specs.Counts.{HasFewClasses, IsJudgingRefusal}
+use Rattle.run_inputs.specs.Counts.{PoliciesHaveFewClasses, IsJudgingRefusal}
 use Rattle.run_inputs.specs.Inputs.{HoldsDocument, HoldsInput, IsInputRefusal}
 
 -- files have at most one document, one network with these links, and one refusal for them, and
@@ -29,4 +29,4 @@ pub record IsJudgedOnce (limits : Limits) (document : List ℕ) (files : Files) 
       IsJudgingRefusal limits document files s → r ≡ s
   pub not_both : (doc : Document) (net : Network) (r : FileRefusal) →
       HoldsInput limits [] document files doc net →
-      HasFewClasses net doc.policies → IsJudgingRefusal limits document files r → ⊥
+      PoliciesHaveFewClasses net doc.policies → IsJudgingRefusal limits document files r → ⊥

@@ -1,7 +1,7 @@
 //! What a command over a document begins with: the document, and the network of the router files
 //! that it names.
 ghost use Rattle.std.specs.Prelude.{◌≡◌, ◌⊎◌, ◌≤◌, All, None, length, IfOk, IfSome};
-ghost use Rattle.net_rows.specs.Linking.{first_above};
+ghost use Rattle.net_rules.specs.Linking.{first_above};
 ghost use Rattle.net_build.specs.Networks.{IsBuiltWithin};
 ghost use Rattle.net_doc.specs.Documents.{IsWellFormed};
 ghost use Rattle.run_inputs.specs.Inputs.{name_of, named, AreFit, HoldsDocument, IsFit};
@@ -26,7 +26,7 @@ pub struct Input {
 }
 
 /// The router files of a document in its order, and what is built of them: their network, their
-/// lines, and where in them each thing stands.
+/// lines, and where in them each item is.
 #[derive(Drop)]
 pub struct Sources {
     pub files: List<Name>,

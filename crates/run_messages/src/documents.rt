@@ -47,8 +47,8 @@ fn wrong_item(
     Ok(None)
 }
 
-/// The part that makes a JSON value no document, where it can be told: `document` itself judges
-/// each link and policy by itself.
+/// The part that makes a JSON value no document, if it can be found: `document` itself judges each
+/// link and policy by itself.
 fn wrong_part(alloc: Global, value: &Value) -> Result<Option<String>, AllocError> {
     let version = match value.get("version") {
         Some(version) => version.to_string(alloc)?,

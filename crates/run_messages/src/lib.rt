@@ -1,6 +1,6 @@
-//! What the program says on standard error for whoever sits before it: the line that a refusal
+//! What the program says on standard error for the person at the terminal: the line that a refusal
 //! names and what is wrong in it, why a text is no document, why words match no command, and
-//! whether a report has a yes of which more is to be said. It bears on no answer and no status, and
+//! whether a report has a yes of which more is to be said. It changes no answer and no status, and
 //! no contract says what the messages are.
 #![tactic(auto)]
 

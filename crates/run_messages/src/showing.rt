@@ -9,7 +9,7 @@ pub fn front_of(line: &[u8]) -> &[u8] {
     line.get(..SHOWN).unwrap_or(line)
 }
 
-/// The bytes with a question mark for each control character but tabs, so that what stands in a
+/// The bytes with a question mark for each control character but tabs, so that the content of a
 /// file can't steer a terminal.
 pub fn visible(alloc: Global, bytes: &[u8]) -> Result<Vec<u8>, AllocError> {
     let shown = |byte: &u8| {

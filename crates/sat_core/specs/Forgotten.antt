@@ -10,7 +10,7 @@ use Rattle.sat_core.specs.declared.assigned.Assigned.{Assigned}
 use Rattle.sat_core.specs.declared.assigned.Held.{Held}
 use Rattle.sat_core.specs.States.{State}
 
--- where a clause stands after the last one took another place
+-- where a clause is after the last one took another place
 abbrev pub moved : ℕ → ℕ → ℕ → ℕ
 moved last at k = if k == last then at else k
 

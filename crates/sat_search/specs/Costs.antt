@@ -23,13 +23,13 @@ is_at place (Some h) = h.0 == place
 abbrev pub is_reason : List Assigned → ℕ → Bool
 is_reason trail place = list_any (λ e. is_at place e.reason) trail
 
--- where a clause stands among the first ids, so many of them, if it may be dropped: it has more
--- than two literals, and is no reason
+-- where a clause is among the first `old` ids, if it may be dropped: it has more than two literals,
+-- and is no reason
 abbrev pub place_among : List ℕ → ℕ → Bool → Numbered → Option ℕ
 place_among ids old reason c =
     if nat_le (length c.lits) 2 || reason then None else position (λ id. id == c.id) (take old ids)
 
--- where the clause at a place of the core stands among them, if it may be dropped
+-- where the clause at a place of the core is among them, if it may be dropped
 abbrev pub dropping_place : List ℕ → ℕ → State → ℕ → Option ℕ
 dropping_place ids old s at =
     option_and_then (place_among ids old (is_reason s.trail at)) (slice_get s.clauses at)
@@ -45,7 +45,7 @@ uses id (Add of lits hints) = list_any (is_hint_of id) hints
 uses id (Drop ids) = false
 uses id (Bound of price) = false
 
--- the flags, which stand for the first ids, are now set also where the test passes
+-- the flags, one for each of the first ids, are now set also where the test passes
 abbrev pub AreSetToo : List ℕ → (ℕ → Bool) → List Bool → List Bool → Type 0
 AreSetToo ids test old new =
     (place id : ℕ) → place < length old → slice_get ids place ≡ Some id →
@@ -56,8 +56,8 @@ abbrev pub cost_at : List ℕ → List Bool → ℕ → ℕ
 cost_at levels used place =
     slice_index_or levels place 0 + (if slice_index_or used place true then 0 else 2 ^ 32)
 
--- what the clause at a place of the core costs, if it may be dropped; of the first lemmas it is
--- told which were used
+-- what the clause at a place of the core costs, if it may be dropped; the flags say which of the
+-- first lemmas were used
 abbrev pub cost_of : Lemmas → List Bool → State → ℕ → Option ℕ
 cost_of lemmas used s at =
     option_map (cost_at lemmas.levels.items used)
@@ -89,7 +89,7 @@ costing lemmas used least s = count_below (λ at. is_as_much least (cost_of lemm
 abbrev pub may_be_named : List ℕ → Numbered → Bool
 may_be_named ids c = nat_lt 2 (length c.lits) && list_any (λ id. id == c.id) ids
 
--- how many clauses of the core may be dropped, where so many of the first lemmas are old enough
+-- how many clauses of the core may be dropped, where the first `old` lemmas are old enough
 abbrev pub droppable : List ℕ → ℕ → State → ℕ
 droppable ids old s = count_below (λ at. is_some (dropping_place ids old s at)) (length s.clauses)
 

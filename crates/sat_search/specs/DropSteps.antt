@@ -1,4 +1,4 @@
--- When lemmas are dropped, and how many, as the log alone tells it.
+-- When lemmas are dropped, and how many, by the log alone.
 use Rattle.std.specs.Prelude.{◌≡◌, ◌≤◌, ℕ, ◌+◌, ◌-◌, ◌*◌, ◌/◌, ◌^◌, ◌==◌, min, if◌then◌else◌}
 use Rattle.std.specs.Prelude.{nat_lt, Bool, false, IsTrue, List, [], ◌∷◌, length, drop, count_by}
 use Rattle.std.specs.Prelude.{All, Option, Some, None}
@@ -7,7 +7,7 @@ use Rattle.proof_log.specs.declared.steps.Step.{Step}
 use Rattle.proof_log.specs.declared.steps.Step.TheVariants.{Add, Drop, Bound}
 use Rattle.proof_check.specs.Knowledge.{with_clause, without_clauses}
 
--- how many clauses are added after so many drop steps until the next one comes: 1,500 j before the
+-- how many clauses are added after `drops` drop steps until the next one comes: 1,500 j before the
 -- j-th, as far as 64 bits count
 abbrev pub gap_after : ℕ → ℕ
 gap_after drops = min (1500 * (drops + 1)) (2 ^ 64 - 1)
@@ -17,8 +17,8 @@ gap_after drops = min (1500 * (drops + 1)) (2 ^ 64 - 1)
 abbrev pub after_one : ℕ → ℕ
 after_one wait = if wait == 0 then 1499 else wait - 1
 
--- how many are still to be added after steps, where so many drop steps came before them and so many
--- clauses were still to be added
+-- how many are still to be added after steps, given how many drop steps came before them and how
+-- many clauses were still to be added
 abbrev pub wait_after : ℕ → ℕ → List Step → ℕ
 wait_after drops wait [] = wait
 wait_after drops wait (Add id lits hints ∷ steps) = wait_after drops (after_one wait) steps
@@ -29,8 +29,8 @@ wait_after drops wait (Bound id price ∷ steps) = wait_after drops wait steps
 abbrev pub wait_of : List Step → ℕ
 wait_of = wait_after 0 (gap_after 0)
 
--- each step that drops clauses comes when just so many were added since the one before it: 1,500 j
--- for the j-th, or some multiple of 1,500 more
+-- each step that drops clauses comes when just this many were added since the one before it: 1,500
+-- j for the j-th, or some multiple of 1,500 more
 abbrev pub DropsInTime : ℕ → ℕ → List Step → Type 0
 DropsInTime drops wait [] = Unit {0}
 DropsInTime drops wait (Add id lits hints ∷ steps) = DropsInTime drops (after_one wait) steps
@@ -56,8 +56,8 @@ pub record IsHalf (live : ℕ → Option (List Lit)) (added : List ℕ) (drops :
   pub some : 1 ≤ length ids
   pub most : length ids ≤ (long_old live added drops + 1) / 2
 
--- each step that drops clauses names such and so many, after others that added these clauses and
--- dropped so often
+-- each step that drops clauses names clauses that may go, at most half of them, after others that
+-- added these clauses and dropped this often
 abbrev pub DropsHalf : (ℕ → Option (List Lit)) → List ℕ → ℕ → List Step → Type 0
 DropsHalf live added drops [] = Unit {0}
 DropsHalf live added drops (Add id lits hints ∷ steps) =

@@ -14,7 +14,7 @@ use Rattle.sat_search.specs.Costs.{droppable}
 use Rattle.sat_search.specs.Orders.{KeepsTrue}
 use Rattle.sat_search.specs.declared.lemmas.Lemmas.{Lemmas}
 
--- the lemmas are those of the log, which tells how many clauses are still to be added
+-- the lemmas are those of the log, with the number of clauses that are still to be added
 pub record AreLemmas (steps : List Step) (lemmas : Lemmas) : Type 0 where
   pub ids : reverse lemmas.ids.items ≡ added_by [] steps
   pub drops : lemmas.drops ≡ dropped_by 0 steps
@@ -64,8 +64,8 @@ pub record ForgetsMore (s : State) (old : List ℕ) (now : State) (new : List �
   pub grown : new ≡ old ++ more
   pub forgets : Forgets s more now
 
--- the core forgot clauses that may go, when it was time and at most half of them, and the log tells
--- so; or nothing changed
+-- the core forgot clauses that may go, when it was time and at most half of them, and the log has
+-- the step; or nothing changed
 pub record Drops (s : State) (old : List Step) (now : State) (new : List Step) : Type 0 where
   pub ids : List ℕ
   pub log :

@@ -97,7 +97,7 @@ HasOneOfLevel s lits current =
 
 -- the pass has gone through all entries but the first few. What is marked was made false by these;
 -- the literals in the list stay, and were made false by the others; the hints show the clause so
--- far; and so many entries of the current level are open
+-- far; and `current` entries of the current level are open
 pub record IsPass (s : State) (first : ℕ) (flags : List Bool) (lits : List Lit) (hints : List ℤ)
     (current : ℕ) : Type 0 where
   pub size : length flags ≡ 2 * s.vars + 2

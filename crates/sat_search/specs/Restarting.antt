@@ -1,5 +1,5 @@
--- When a search begins its decisions anew: after 100 conflicts, and from then on each time after
--- twice as many as the time before.
+-- When a search restarts: after 100 conflicts, and from then on each time after twice as many as
+-- the time before.
 use Rattle.std.specs.Prelude.{ℕ, ◌-◌, ◌*◌, ◌^◌, nat_le, min, if◌then◌else◌, Bool}
 use Rattle.sat_search.specs.declared.restarts.Restarts.{Restarts}
 

@@ -22,7 +22,7 @@ use Rattle.sat_search.specs.DropSteps.{wait_of, DropsInTime, DropsHalf}
 use Rattle.sat_search.specs.Live.{clause_in}
 use Rattle.sat_search.specs.Passes.{IsLive}
 
--- the steps that stand behind the old ones
+-- the steps that follow the old ones
 abbrev pub appended : List Step → List Step → List Step
 appended old new = drop (length old) new
 

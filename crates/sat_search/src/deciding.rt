@@ -1,4 +1,5 @@
-//! Decisions: variables are set one after another, until there is a conflict or all are set.
+//! Which arcs of the pair are routed to a prefix, where r1 asks a route list that denies another
+//! prefix, or none.
 ghost use Rattle.std.specs.Prelude.{◌≡◌, ◌≤◌, ◌<◌, ℕ, IsTrue, IsNone, IfSome, IsSomeAnd};
 ghost use Rattle.std.specs.Prelude.{IsFalse, false, slice_index_or, All};
 ghost use Rattle.cnf_types.specs.Literals.{literal};

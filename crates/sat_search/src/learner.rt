@@ -26,7 +26,7 @@ use proof_log::{Log, Step};
 use sat_core::{Core, Held};
 use std::alloc::Global;
 
-/// What a search keeps between its conflicts: no mark stands then.
+/// What a search keeps between its conflicts: no mark is set then.
 #[derive(Debug, Drop)]
 pub(crate) struct Learner {
     pub alloc: Global,
@@ -55,7 +55,7 @@ impl Learner {
     }
 
     /// Learns from a conflict: the lemma joins the core, at the level on which it implies a literal
-    /// or at level 0, and the log. It tells whether it is empty.
+    /// or at level 0, and the log. Answers whether it is empty.
     pub fn learn(&mut self, core: &mut Core, log: &mut Log, conflict: Held) -> Result<bool, Memory>
         requires ready { IsReady core.old.vars log.old.steps self.old }
         requires waiting { HoldsUnset core.old.vars core.old.trail self.old.order }
@@ -120,7 +120,7 @@ impl Learner {
     }
 }
 
-/// How many levels the literals of a lemma are of, which stand by falling level.
+/// The number of decision levels in the clause (LBD), whose literals are sorted by level.
 fn joined_levels(core: &Core, lits: &[Lit]) -> u32
     requires sound { IsSound core.now }
     requires range { All (IsOf core.now.vars) lits.now }
@@ -171,7 +171,7 @@ fn join(core: &mut Core, order: &mut Order, id: u64, lits: &[Lit]) -> Result<(),
     core.add(id, lits)
 }
 
-/// Adds a lemma to the core under the next id, and to the log. It tells whether it is empty.
+/// Adds a lemma to the core under the next id, and to the log. Answers whether it is empty.
 fn enter(
     core: &mut Core,
     order: &mut Order,

@@ -1,6 +1,6 @@
 //! The lemmas of a log, and when and which of them are dropped. A search with fewer lemmas looks at
 //! fewer clauses; those that join few levels, or were used lately, are worth most. Which are
-//! dropped bears on nothing but speed.
+//! dropped changes nothing but speed.
 ghost use Rattle.std.specs.Prelude.{◌≡◌, ◌≢◌, ◌+◌, ◌-◌, ◌*◌, ◌<◌, ◌≤◌, ◌^◌, ◌∷◌, ◌++◌, []};
 ghost use Rattle.std.specs.Prelude.{length, take, All, AllPairs, Contains, Some, IsSome, IfSome};
 ghost use Rattle.std.specs.Prelude.{IsSomeAnd, IfOk, OnOk, OnErr, slice_get, ◌==◌, ◌/◌, ℕ};
@@ -22,11 +22,10 @@ use proof_log::{Log, Step};
 use sat_core::{Core, Held};
 use std::alloc::Global;
 
-/// A drop step comes after so many times its number added clauses, counted from the drop step
-/// before it.
+/// The j-th drop step comes after `ADDED * j` added clauses, counted from the drop step before it.
 const ADDED: u64 = 1500;
 
-/// It leaves so many times its number of the clauses that were added last.
+/// The j-th drop step keeps the last `KEPT * j` learnt clauses.
 const KEPT: u64 = 1000;
 
 /// What is added to the worth of a lemma that was not used lately.
@@ -48,8 +47,9 @@ pub(crate) struct Lemmas {
 }
 
 impl Lemmas {
-    /// The lemmas of a log. Of a lemma that is there already only its literals are known, which
-    /// stand for the levels that it joined; and all steps tell which lemmas were used lately.
+    /// The lemmas of a log. Of a lemma that is there already only its literals are known, whose
+    /// number is taken for the levels that it joined; and all steps show which lemmas were used
+    /// lately.
     pub fn of(alloc: Global, steps: &[Step]) -> Result<Lemmas, Memory>
         ensures lemmas { IfOk result (AreLemmas steps.now) }
         ensures levels { IfOk result (λ lemmas. lemmas.levels.items ≡ sizes steps.now) }
@@ -125,8 +125,8 @@ impl Lemmas {
         self.ids.len().saturating_sub(kept)
     }
 
-    /// Where a clause stands among the first lemmas, so many of them, where it does, by a binary
-    /// search: the ids of a log's lemmas rise.
+    /// Where a clause is among the first `old` lemmas, if it is, by a binary search: the ids of a
+    /// log's lemmas rise.
     fn place_of(&self, id: u64, old: usize) -> Option<usize>
         ensures place { IfSome result (λ place.
             (place < old) × (slice_get self.now.ids.items place ≡ Some id)) }
@@ -227,7 +227,7 @@ impl Lemmas {
     }
 
     /// Forgets half of the clauses that may be dropped, none that costs less than the one in the
-    /// middle, and tells their ids.
+    /// middle, and gives their ids.
     fn forget_half(&self, core: &mut Core, used: &[bool]) -> Result<List<u64>, Memory>
         requires { AllPairs (λ c d. c.id ≢ d.id) core.old.clauses }
         ensures forgets { IfOk result (λ ids. Forgets core.old ids core.new) }

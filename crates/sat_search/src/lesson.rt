@@ -202,8 +202,8 @@ impl Lesson {
     }
 
     /// What a conflict teaches. The literals are those that the pass through the trail leaves, with
-    /// one alone of the current level; the hints stand in the order of the trail, and the
-    /// conflict's clause is the last one.
+    /// one alone of the current level; the hints are in the order of the trail, and the conflict's
+    /// clause is the last one.
     pub fn of(
         alloc: Global,
         marks: &mut Marks,

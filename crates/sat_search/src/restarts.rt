@@ -25,7 +25,7 @@ impl Restarts {
         }
     }
 
-    /// Counts a conflict, and tells whether the search is to begin anew after it.
+    /// Counts a conflict, and answers whether the search is to restart after it.
     pub fn is_due(&mut self) -> bool
         ensures due { result ≡ ends_gap self.old }
         ensures after { self.new ≡ after_conflict self.old }

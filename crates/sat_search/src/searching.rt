@@ -30,9 +30,9 @@ use std::alloc::Global;
 /// the core and, as a step with its hints, to the log; it ends where the lemma is empty, and where
 /// the log adds `limit` clauses already. From time to time it drops lemmas of the log, which is a
 /// step too: the j-th such step comes as soon as 1,500 j clauses were added since the one before
-/// it, and leaves the last 1,000 j, those of one or two literals, and half of the others; where it
-/// may drop none, it is tried again after 1,500 more.
-/// Want of memory stands for 2^32 - 1 clauses or more, too.
+/// it, and leaves the last 1,000 j, those of one or two literals, and half of the others; if it may
+/// drop none, it is tried again after 1,500 more. `Memory` also if there are 2^32 - 1 clauses or
+/// more.
 pub fn search(alloc: Global, core: &mut Core, log: &mut Log, limit: u64) -> Result<Found, Memory>
     requires level { core.old.level ≡ 0 }
     requires numbers { core.old.last_id + limit < 2 ^ 63 }

@@ -63,7 +63,8 @@ impl Spares {
         }
     }
 
-    /// Takes a variable for one that is not implied, and tells for whose reason it was asked.
+    /// Takes a variable for one that is not implied, and gives the variable for whose reason it was
+    /// asked.
     fn fail(&mut self, var: u64) -> u64 {
         if (var as usize) < self.failed.len() {
             self.failed[var as usize] = self.conflict;

@@ -41,26 +41,26 @@ abbrev pub with_class : List Class → Class → List Class
 with_class classes class =
     if list_any (is_same class) classes then classes else classes ++ class ∷ []
 
--- each of the classes once, where it stands first
+-- each of the classes once, at its first occurrence
 abbrev pub each_once : List Class → List Class
 each_once classes = fold with_class [] classes
 
 -- the list has the classes of some of the policies: each once, in the order in which they first
--- stand in the policies' lists, one after another
+-- occur in the policies' lists, one after another
 pub record AreAllClasses (net : Network) (policies some : List Policy)
     (classes : List Class) : Type 0 where
   pub lists : List (List Class)
   pub are : AllZip (AreClasses net policies) some lists
   pub once : classes ≡ each_once (flat_map (λ l. l) lists)
 
--- some of the policies have so many different classes, as a fault tells it
+-- some of the policies have this many different classes, as a fault gives it
 pub record HaveClasses (net : Network) (policies some : List Policy) (count : ℕ) : Type 0 where
   pub classes : List Class
   pub are : AreAllClasses net policies some classes
   pub counted : told (length classes) ≡ count
 
--- up to the first policy with which there are more than CLASS_LIMIT different classes there are so
--- many
+-- up to the first policy with which there are more than CLASS_LIMIT different classes there are
+-- this many
 pub record FirstHaveMore (net : Network) (policies : List Policy) (count : ℕ) : Type 0 where
   pub place : ℕ
   pub within : place < length policies

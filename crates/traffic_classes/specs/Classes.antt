@@ -90,11 +90,11 @@ pub record AreClasses (net : Network) (policies : List Policy) (policy : Policy)
   pub services_are : AreServiceLeaves (service_marks net policies) policy.service services
   pub triples : classes ≡ all_triples sources destinations services
 
--- the number as a fault tells it: itself, or the greatest number of 64 bits where it is above that
+-- the number as a fault gives it: itself, or the greatest number of 64 bits if it is above that
 abbrev pub told : ℕ → ℕ
 told n = min n (2 ^ 64 - 1)
 
--- the policy has so many classes, as a fault tells it
+-- the policy has this many classes, as a fault gives it
 pub record HasClasses (net : Network) (policies : List Policy) (policy : Policy)
     (count : ℕ) : Type 0 where
   pub classes : List Class

@@ -21,7 +21,7 @@ use std::alloc::Global;
 /// source prefix, a leaf of its destination prefix and a leaf of its services, for each source in
 /// rising order of addresses, and for each destination.
 ///
-/// The count of a fault stands still at the end of 64 bits.
+/// The count of a fault saturates at 64 bits.
 pub fn classes(
     alloc: Global,
     net: &Network,
@@ -64,11 +64,11 @@ impl Marks {
     }
 }
 
-/// The traffic classes of all policies, each once, in the order in which they first stand in the
+/// The traffic classes of all policies, each once, in the order in which they first occur in the
 /// policies' lists.
 ///
-/// The count of a fault is that up to the first policy with which there are too many, and stands
-/// still at the end of 64 bits.
+/// The count of a fault is that up to the first policy with which there are too many, and saturates
+/// at 64 bits.
 pub fn all_classes(
     alloc: Global,
     net: &Network,

@@ -1,4 +1,4 @@
-//! Why there are no classes: too many, or want of memory.
+//! Why there are no classes: too many, or out of memory.
 
 use arc_base::Memory;
 use thiserror::Error;
@@ -6,8 +6,7 @@ use thiserror::Error;
 /// Why there are no traffic classes.
 #[derive(Clone, Copy, Debug, PartialEq, Eq, Error)]
 pub enum ClassFault {
-    /// There are so many, more than `CLASS_LIMIT`. From the end of 64 bits on the number stands
-    /// still.
+    /// There are this many, more than `CLASS_LIMIT`. The number saturates at 64 bits.
     #[error("{0} traffic classes are too many")]
     TooMany(u64),
     /// Want of memory.

@@ -32,7 +32,7 @@ pub fn classes_make_up_policies()
 {}
 
 /// Policies have one list of all their classes, which tells their packets apart, and no policy has
-/// more classes than stand in it.
+/// more classes than are in it.
 pub fn all_classes_tell_packets_apart()
     ensures one { HaveOneListOfClasses }
     ensures apart { AllClassesTellApart }

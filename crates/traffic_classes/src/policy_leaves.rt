@@ -42,8 +42,7 @@ impl Leaves {
         })
     }
 
-    /// The number of triples of a source, a destination and a service. It stands still at the end
-    /// of 64 bits.
+    /// The number of triples of a source, a destination and a service. It saturates at 64 bits.
     pub fn count(&self) -> u64
         ensures { result ≡ told
             (length self.now.sources * length self.now.destinations * length self.now.services) }

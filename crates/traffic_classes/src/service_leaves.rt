@@ -62,7 +62,7 @@ fn parts_between(alloc: Global, whole: &Service, cuts: &[u32]) -> Result<Vec<Ser
 
 /// The leaves of a range of services under marks, in rising order.
 ///
-/// With so many marks this takes as many steps times their logarithm.
+/// It takes n log n steps for n marks.
 pub fn service_leaves_of(
     alloc: Global,
     whole: Service,

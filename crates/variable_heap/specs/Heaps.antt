@@ -47,8 +47,8 @@ pub record IsFirstBelow (activity vars : List ℕ) (place first : ℕ) : Type 0 
   pub most : (other : ℕ) → IsAbove place other → other < length vars →
       active_at activity vars other ≤ active_at activity vars first
 
--- the place of each variable of the list is one more than where it stands, and no other variable
--- has one
+-- the place of each variable of the list is one more than where it is, and no other variable has
+-- one
 pub record IsInverse (vars places : List ℕ) : Type 0 where
   pub placed : (k : ℕ) → k < length vars → slice_index places (slice_index vars k) ≡ k + 1
   pub within : (v k : ℕ) → slice_index places v ≡ k + 1 → k < length vars

@@ -1,9 +1,9 @@
--- What the fields of a heap stand for, and what is kept true of them.
+-- What the fields of a heap mean, and what is kept true of them.
 use Rattle.std.specs.Prelude.{◌≡◌, ◌^◌, ◌≤◌, length, slice_index, vec_capacity}
 use Rattle.variable_heap.specs.declared.heap.VariableHeap.TheInside.{Inside}
 use Rattle.variable_heap.specs.Heaps.{Heap, IsInverse}
 
--- the heap that the fields stand for
+-- the heap that the fields mean
 abbrev pub heap : Inside → Heap
 heap h = record { vars = h.vars.items; limit = length h.places.items }
 

@@ -52,8 +52,7 @@ impl VariableHeap {
         Ok(VariableHeap { vars: heap, places })
     }
 
-    /// Takes out one of the most active variables, in steps as many as the logarithm of the number
-    /// of variables.
+    /// Takes out one of the most active variables, in time logarithmic in the number of variables.
     pub fn take_first(&mut self, activity: &[u64]) -> Option<u64>
         requires known { self.old.limit ≤ length activity.now }
         requires order { IsOrdered activity.now self.old.vars }
@@ -73,8 +72,7 @@ impl VariableHeap {
         Some(first as u64)
     }
 
-    /// Puts a variable in, unless it is there, in steps as many as the logarithm of the number of
-    /// variables at most.
+    /// Adds a variable, unless it is there, in time at most logarithmic in the number of variables.
     pub fn put(&mut self, var: u64, activity: &[u64])
         requires least { 1 ≤ var }
         requires below { var < self.old.limit }
@@ -98,8 +96,8 @@ impl VariableHeap {
         );
     }
 
-    /// Puts the heap in order again after a variable became more active, in steps as many as the
-    /// logarithm of the number of variables at most.
+    /// Restores the heap's order after a variable became more active, in time at most logarithmic
+    /// in the number of variables.
     pub fn raise(&mut self, var: u64, activity: &[u64])
         requires below { var < self.old.limit }
         requires known { self.old.limit ≤ length activity.now }

@@ -83,8 +83,8 @@ pub record IsFirstRefusal (net : Network) (ends : Ends) (whole : Class) (classes
   pub denied : IsDeniedOn net ends.to class link.0
   pub packet : p ≡ first_packet class
 
--- for a reach policy: the first refusal; or the first class of which not each packet enters and
--- leaves; or paths in rising order of their first links; or the least cut
+-- for a reach policy: the first refusal; or the first class with a packet that does not enter or
+-- does not leave; or paths in rising order of their first links; or the least cut
 abbrev pub IsFixedReach : Network → Ends → Class → List Class → Verdict → Type 0
 IsFixedReach net ends whole classes (Closed sides) = ⊥
 IsFixedReach net ends whole classes (Walk class path) = ⊥

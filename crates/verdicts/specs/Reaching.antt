@@ -13,7 +13,7 @@ use Rattle.net_model.specs.Forwarding.{Ends}
 use Rattle.net_model.specs.Witnesses.{IsPath, IsOn}
 use Rattle.verdicts.specs.Fixed.{IsSeparator}
 
--- so many paths, no link stands in them twice, and they are in rising order of their first links
+-- this many paths, no link occurs in them twice, and they are in rising order of their first links
 pub record AreGoodPaths (net : Network) (ends : Ends) (many : ℕ)
     (paths : List LinkPath) : Type 0 where
   pub count : length paths ≡ many
@@ -21,7 +21,7 @@ pub record AreGoodPaths (net : Network) (ends : Ends) (many : ℕ)
   pub once : AllPairs (λ l m. l ≢ m) (flat_map (λ path. path.links) paths)
   pub in_order : AreInOrder (map (λ path. path.links) paths)
 
--- the links separate the ends, are at most so many, no fewer links do, and their side lies in every
+-- the links separate the ends, are at most `most`, no fewer links do, and their side lies in every
 -- side that no more links leave
 pub record IsGoodCut (net : Network) (ends : Ends) (most : ℕ) (links : List Link)
     (side : List Bool) : Type 0 where

@@ -7,7 +7,7 @@ use traffic_classes::ClassFault;
 /// Why there is no verdict.
 #[derive(Clone, Copy, Debug, PartialEq, Eq, Error)]
 pub enum JudgeFault {
-    /// The policy has so many traffic classes, more than `CLASS_LIMIT`.
+    /// The policy has this many traffic classes, more than `CLASS_LIMIT`.
     #[error("{0} traffic classes are too many")]
     TooMany(u64),
     /// Want of memory.

@@ -141,7 +141,7 @@ fn paths_of(alloc: Global, rows: &List<LinkRow2>) -> Result<List<LinkPath>, Memo
     Ok(paths)
 }
 
-/// The same links.
+/// A copy of the links.
 fn copy_of(alloc: Global, links: &List<Link>) -> Result<List<Link>, Memory>
     ensures { IfOk result (λ copy. copy ≡ links.now) }
 {

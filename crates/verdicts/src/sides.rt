@@ -19,7 +19,7 @@ pub(crate) fn reached_from_source(alloc: Global, graph: &ClassGraph) -> Result<C
     Ok(closure)
 }
 
-/// For each of so many routers whether it is reached.
+/// For each router, whether it is reached.
 pub(crate) fn side_of(alloc: Global, closure: &Closure, routers: u32) -> Result<List<bool>, Memory>
     requires { length closure.now ≡ routers }
     ensures { IfOk result (λ side. side ≡ map is_some closure.now) }

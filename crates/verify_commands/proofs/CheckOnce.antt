@@ -1,13 +1,13 @@
 -- `check` has one answer, or one first refusal.
 use Rattle.std.proofs.Common.{◌≡◌, ◌⊎◌, inl, inr, List, [], ℕ, sym, ◌∙◌, ap, subst}
 use Rattle.arc_outside.specs.Files.{Files}
-use Rattle.cnf_types.specs.Words.{lines}
+use Rattle.arc_base.specs.TextLines.{lines}
 use Rattle.net_model.specs.declared.policies.Document.{Document}
 use Rattle.net_model.specs.declared.rows.Network.{Network}
 use Rattle.policy_report.specs.Rereading.{answers}
 use Rattle.policy_report.specs.Steps.{start}
 use Rattle.report_check.specs.declared.outcome.Outcome.{Outcome}
-use Rattle.report_check.specs.Outcomes.{IsOutcome}
+use Rattle.report_check.specs.Outcomes.{IsReportOutcome}
 use Rattle.report_check.proofs.OneOutcome.{one_outcome}
 use Rattle.run_files.specs.declared.limits.Limits.TheVariants.{Judging}
 use Rattle.run_files.specs.declared.outcome.Done.{Done}
@@ -29,8 +29,8 @@ module _ (document certificate : List ℕ) (files : Files) where
       let docs : t.doc ≡ s.doc = known.one_document t.doc s.doc t.input.files_are.document_is s.input.files_are.document_is in
       let P : Document → Type 0 = λ d. HoldsInput Judging [] document files d t.net in
       let nets : t.net ≡ s.net = known.one_network s.doc t.net s.net (subst P docs t.input) s.input in
-      let Q : Document → Type 0 = λ d. IsOutcome t.net d.policies 1 1 (answers t.net d [] start (lines (bytes_at files certificate))) t.outcome in
-      let R : Network → Type 0 = λ n. IsOutcome n s.doc.policies 1 1 (answers n s.doc [] start (lines (bytes_at files certificate))) t.outcome in
+      let Q : Document → Type 0 = λ d. IsReportOutcome t.net d.policies 1 1 (answers t.net d [] start (lines (bytes_at files certificate))) t.outcome in
+      let R : Network → Type 0 = λ n. IsReportOutcome n s.doc.policies 1 1 (answers n s.doc [] start (lines (bytes_at files certificate))) t.outcome in
       let same : t.outcome ≡ s.outcome =
       one_outcome s.net s.doc.policies 1 1 (answers s.net s.doc [] start (lines (bytes_at files certificate))) t.outcome s.outcome (subst R nets (subst Q docs t.outcome_is)) s.outcome_is in
       same_done done other (t.text ∙ ap (λ (o : Outcome). judgement_text (judgement_of o)) same ∙ sym s.text) (t.writes ∙ sym s.writes) (t.status ∙ ap (λ (o : Outcome). judgement_status (judgement_of o)) same ∙ sym s.status)

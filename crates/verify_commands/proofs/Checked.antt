@@ -14,7 +14,7 @@ use Rattle.run_files.specs.declared.outcome.Stop.{Stop}
 use Rattle.run_files.specs.declared.outcome.Stop.TheVariants as stops
 use Rattle.run_files.specs.declared.limits.Limits.TheVariants.{Judging}
 use Rattle.run_files.specs.Answers.{Gives, IsJudging, IsTold}
-use Rattle.run_inputs.specs.Counts.{CountsClasses, HasFewClasses}
+use Rattle.run_inputs.specs.Counts.{CountsClasses, PoliciesHaveFewClasses}
 use Rattle.run_inputs.specs.Inputs.{HoldsDocument, HoldsInput, IsFit, ReadsFiles}
 use Rattle.run_files.specs.Judgements.{judgement_status, judgement_text}
 use Rattle.run_files.specs.Limits.{proof_limit}
@@ -68,7 +68,7 @@ lines_stopped held later same document certificate doc net judged stop told =
 
 -- the judgement where nothing is refused
 judged_here : (held : Option Files) (document certificate : List ℕ) (doc : Document) (input : Input) (judgement : Judgement) (done : Done) → ReadInput document doc held input
-    → IsFit input → HasFewClasses input.net input.doc.policies
+    → IsFit input → PoliciesHaveFewClasses input.net input.doc.policies
     → IfSome held (λ files. JudgesLines proof_limit input.net input.doc certificate files (Ok judgement))
     → done.text ≡ judgement_text (judgement_of judgement) → done.status ≡ judgement_status (judgement_of judgement) → IsJudging done → IsGiven document certificate doc held (Ok done)
 judged_here None document certificate doc input judgement done told fit classes judges text_is status own = tt
@@ -88,7 +88,7 @@ judged_here (Some files) document certificate doc input judgement done told fit 
 }
 
 pub judged : (held later : Option Files) → later ≡ held → (document certificate : List ℕ) (doc : Document) (input : Input) (judgement : Judgement) (done : Done) → ReadInput document doc held input
-    → IsFit input → HasFewClasses input.net input.doc.policies
+    → IsFit input → PoliciesHaveFewClasses input.net input.doc.policies
     → IfSome later (λ files. JudgesLines proof_limit input.net input.doc certificate files (Ok judgement))
     → done.text ≡ judgement_text (judgement_of judgement) → done.status ≡ judgement_status (judgement_of judgement) → IsJudging done → IsGiven document certificate doc held (Ok done)
 judged held later same document certificate doc input judgement done told fit classes judges text_is status own =
@@ -107,7 +107,7 @@ module _ (document certificate : List ℕ) (files : Files) where
       let R : Network → Type 0 = λ n. IsReport n no'.doc (bytes_at files certificate) in
       no'.no_report (subst R nets (subst Q docs yes'.report))
 
-  pub held_or_refused : (doc : Document) (net : Network) (r : FileRefusal) → HoldsInput Judging [] document files doc net → read_refusal proof_limit files certificate ≡ None → HasFewClasses net doc.policies → IsCheckRefusal document certificate files r → ⊥
+  pub held_or_refused : (doc : Document) (net : Network) (r : FileRefusal) → HoldsInput Judging [] document files doc net → read_refusal proof_limit files certificate ≡ None → PoliciesHaveFewClasses net doc.policies → IsCheckRefusal document certificate files r → ⊥
   held_or_refused doc net r input held classes (inl e) = (determined Judging [] document files).not_both doc net r input (inl e)
   held_or_refused doc net r input held classes (inr (inl u)) = (determined Judging [] document files).not_both doc net r input (inr (inl u))
   held_or_refused doc net r input held classes (inr (inr (inl u))) = refused_none (read_refusal proof_limit files certificate) r held u.refused

@@ -6,7 +6,7 @@ use Rattle.std.proofs.lemmas.List.FromFn.{length-map-range_with_len}
 use Rattle.std.proofs.lemmas.List.Folds.{list_any_more}
 use Rattle.std.specs.Prelude.{Option, Some, None, nat_lt, cond}
 use Rattle.std.specs.List.{list_any}
-use Rattle.net_rows.specs.Linking.{first_above}
+use Rattle.net_rules.specs.Linking.{first_above}
 use Rattle.verify_commands.specs.Traces.{down_flags}
 
 none_some : {A : Type 0} (o : Option A) (x : A) → o ≡ None → o ≡ Some x → ⊥

@@ -15,7 +15,7 @@ use Rattle.run_files.specs.declared.outcome.Done.{Done}
 use Rattle.run_files.specs.declared.outcome.Stop.{Stop}
 use Rattle.run_files.specs.declared.outcome.Stop.TheVariants as stops
 use Rattle.run_files.specs.Answers.{Answers, IsJudging}
-use Rattle.run_inputs.specs.Counts.{CountsClasses, HasFewClasses, IsJudgingRefusal}
+use Rattle.run_inputs.specs.Counts.{CountsClasses, PoliciesHaveFewClasses, IsJudgingRefusal}
 use Rattle.run_inputs.specs.Inputs.{HoldsInput, IsFit, IsInputRefusal, ReadsInput}
 use Rattle.run_files.proofs.Answering.{stopped}
 use Rattle.verify_commands.specs.Verifies.{IsVerdictOn, IsVerified, verdicts_status}
@@ -48,7 +48,7 @@ input_stopped held document stop told =
 
 -- the report of the verdicts, which are true
 pub verified : (held : Option Files) (document : List ℕ) (input : Input) (verdicts : List Verdict) (done : Done) → Read held document input → IsFit input
-    → HasFewClasses input.net input.doc.policies → AllZip (IsVerdictOn input.net input.doc.policies) input.doc.policies verdicts → done.text ≡ report_text input.net input.doc verdicts
+    → PoliciesHaveFewClasses input.net input.doc.policies → AllZip (IsVerdictOn input.net input.doc.policies) input.doc.policies verdicts → done.text ≡ report_text input.net input.doc verdicts
     → done.writes ≡ [] → done.status ≡ verdicts_status verdicts → done.status ≤ 1 → Answers IsJudging (IsJudgingRefusal Judging document) (IsVerified document) held (Ok done)
 verified None document input verdicts done told fit classes judged text writes status few = (record { status = few; writes = writes }, tt)
 verified (Some files) document input verdicts done told fit classes judged text writes status few = (

@@ -13,8 +13,8 @@ use Rattle.net_model.specs.Routing.{FailureSet}
 use Rattle.net_model.specs.Validity.{IsValid}
 use Rattle.net_model.proofs.Hosts.{one_host_face}
 use Rattle.net_laws.proofs.StableMaps.{one_stable_map}
-use Rattle.net_rows.specs.Ordered.{AreInOrder}
-use Rattle.net_rows.proofs.InOrder.{ordered_once}
+use Rattle.net_rules.specs.Ordered.{AreInOrder}
+use Rattle.net_rules.proofs.InOrder.{ordered_once}
 use Rattle.route_trace.specs.Routes.{distance_map, Owns, AreDistances, IsNextHop, AreNextHops}
 use Rattle.route_trace.specs.TraceText.{router_name, route_line, route_lines, trace_head, trace_text, IsTrace}
 

@@ -5,7 +5,7 @@ use Rattle.arc_base.specs.declared.refusal.Kind.TheVariants.{Endpoint}
 use Rattle.arc_base.specs.declared.prefix.Prefix.{Prefix}
 use Rattle.arc_outside.specs.Files.{Files}
 use Rattle.net_model.specs.declared.rows.Network.{Network}
-use Rattle.net_rows.specs.Addressing.{HasEndpoints}
+use Rattle.net_rules.specs.Addressing.{HasEndpoints}
 use Rattle.route_trace.specs.Routes.{flagged}
 use Rattle.net_model.specs.Forwarding.{HasHost}
 use Rattle.net_model.proofs.Hosts.{host_at}

@@ -2,7 +2,7 @@
 use Rattle.std.specs.Prelude.{◌≡◌, ◌↔◌, ◌⊎◌, ℕ, List, [], None, Some}
 use Rattle.std.specs.List.{AllZip}
 use Rattle.arc_outside.specs.Files.{Files}
-use Rattle.cnf_types.specs.Words.{lines}
+use Rattle.arc_base.specs.TextLines.{lines}
 use Rattle.net_model.specs.declared.policies.Document.{Document}
 use Rattle.net_model.specs.declared.rows.Network.{Network}
 use Rattle.net_model.specs.Validity.{IsValid}
@@ -10,13 +10,13 @@ use Rattle.policy_report.specs.Rereading.{answers}
 use Rattle.policy_report.specs.Steps.{start}
 use Rattle.report_check.specs.declared.outcome.Outcome.{Outcome}
 use Rattle.report_check.specs.declared.outcome.Outcome.TheVariants.{Accepted, Rejected}
-use Rattle.report_check.specs.Outcomes.{IsOutcome, IsReport}
+use Rattle.report_check.specs.Outcomes.{IsReportOutcome, IsReport}
 use Rattle.run_files.specs.declared.judgements.Judgement.{Judgement}
 use Rattle.run_files.specs.declared.judgements.Judgement.TheVariants as judgements
 use Rattle.run_files.specs.declared.limits.Limits.TheVariants.{Judging}
 use Rattle.run_files.specs.declared.outcome.Done.{Done}
 use Rattle.run_files.specs.declared.outcome.FileRefusal.{FileRefusal}
-use Rattle.run_inputs.specs.Counts.{HasFewClasses, RefusesClasses}
+use Rattle.run_inputs.specs.Counts.{PoliciesHaveFewClasses, RefusesClasses}
 use Rattle.run_inputs.specs.Inputs.{HoldsDocument, HoldsInput, HoldTheSame, RefusesDocument}
 use Rattle.run_inputs.specs.Inputs.{IsFilesRefusal}
 use Rattle.verify_commands.specs.Verifies.{IsTrueOf, IsVerified}
@@ -64,9 +64,9 @@ pub record IsChecked (document certificate : List ℕ) (files : Files) (done : D
   pub input : HoldsInput Judging [] document files doc net
   pub valid : IsValid net
   pub held : read_refusal proof_limit files certificate ≡ None
-  pub classes : HasFewClasses net doc.policies
+  pub classes : PoliciesHaveFewClasses net doc.policies
   pub outcome : Outcome
-  pub outcome_is : IsOutcome net doc.policies 1 1
+  pub outcome_is : IsReportOutcome net doc.policies 1 1
       (answers net doc [] start (lines (bytes_at files certificate))) outcome
   pub accepted : (outcome ≡ Accepted) ↔ IsReport net doc (bytes_at files certificate)
   pub text : done.text ≡ judgement_text (judgement_of outcome)
@@ -81,7 +81,7 @@ pub record IsAccepted (document certificate : List ℕ) (files : Files) : Type 0
   pub net : Network
   pub input : HoldsInput Judging [] document files doc net
   pub held : read_refusal proof_limit files certificate ≡ None
-  pub classes : HasFewClasses net doc.policies
+  pub classes : PoliciesHaveFewClasses net doc.policies
   pub report : IsReport net doc (bytes_at files certificate)
   pub are_true : AllZip (IsTrueOf net) doc.policies report.verdicts
 
@@ -92,7 +92,7 @@ pub record IsRejected (document certificate : List ℕ) (files : Files) : Type 0
   pub net : Network
   pub input : HoldsInput Judging [] document files doc net
   pub held : read_refusal proof_limit files certificate ≡ None
-  pub classes : HasFewClasses net doc.policies
+  pub classes : PoliciesHaveFewClasses net doc.policies
   pub no_report : ¬ IsReport net doc (bytes_at files certificate)
 
 -- they have no network, or their policies too many classes, or the certificate is missing or too
@@ -101,7 +101,7 @@ pub record IsUnchecked (document certificate : List ℕ) (files : Files) : Type 
   pub refusal : FileRefusal
   pub refused : IsCheckRefusal document certificate files refusal
 
--- Which of the three it is, the status tells: 0 for accepted, 1 for rejected, and 5 for refused.
+-- The status says which of the three it is: 0 for accepted, 1 for rejected, and 5 for refused.
 pub record TellsReportCheck (document certificate : List ℕ) (status : ℕ)
     (files : Files) : Type 0 where
   pub accepted_exactly : (status ≡ 0) ↔ IsAccepted document certificate files
@@ -109,8 +109,8 @@ pub record TellsReportCheck (document certificate : List ℕ) (status : ℕ)
   pub refused_exactly : (status ≡ 5) ↔ IsUnchecked document certificate files
   pub nothing_else : (status ≡ 0) ⊎ ((status ≡ 1) ⊎ (status ≡ 5))
 
--- the text that `verify` put is an accepted certificate once it is saved under a name, where the
--- document and its router files are still the same
+-- the text that `verify` printed is an accepted certificate once it is saved under a name, if the
+-- document and its router files are unchanged
 abbrev pub VerifiedIsAccepted : Type 0
 VerifiedIsAccepted =
     (document certificate : List ℕ) (before after : Files) (done : Done) →

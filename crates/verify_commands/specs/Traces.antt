@@ -6,7 +6,7 @@ use Rattle.arc_outside.specs.Files.{Files}
 use Rattle.net_model.specs.declared.policies.Document.{Document}
 use Rattle.net_model.specs.declared.rows.Network.{Network}
 use Rattle.net_model.specs.Validity.{IsValid}
-use Rattle.net_rows.specs.Addressing.{HasEndpoints}
+use Rattle.net_rules.specs.Addressing.{HasEndpoints}
 use Rattle.route_trace.specs.Routes.{flagged}
 use Rattle.route_trace.specs.TraceText.{IsTrace}
 use Rattle.command_words.specs.declared.commands.TraceWords.{TraceWords}
@@ -16,7 +16,7 @@ use Rattle.run_files.specs.declared.outcome.FileRefusal.{FileRefusal}
 use Rattle.run_inputs.specs.Inputs.{HoldsInput, IsInputRefusal}
 use Rattle.run_files.specs.Refusals.{refusal_of}
 
--- for each of so many links whether it is down: whether its number, counted from 1, is among these
+-- for each link, whether it is down: whether its number, counted from 1, is among these
 abbrev pub down_flags : ℕ → List ℕ → List Bool
 down_flags links numbers =
     map (λ place. list_any (λ n. n == place + 1) numbers) (range_with_len 0 links)
@@ -64,7 +64,7 @@ pub record HasNoTrace (words : TraceWords) (files : Files) : Type 0 where
   pub refusal : FileRefusal
   pub refused : IsTraceRefusal words files refusal
 
--- Which of the two it is, the status tells: 0 for a trace, and 5 for refused.
+-- The status says which of the two it is: 0 for a trace, and 5 for refused.
 pub record TellsTrace (words : TraceWords) (status : ℕ) (files : Files) : Type 0 where
   pub traced_exactly : (status ≡ 0) ↔ HasTrace words files
   pub refused_exactly : (status ≡ 5) ↔ HasNoTrace words files

@@ -17,7 +17,7 @@ use Rattle.policy_report.specs.Reports.{report_text}
 use Rattle.run_files.specs.declared.limits.Limits.TheVariants.{Judging}
 use Rattle.run_files.specs.declared.outcome.Done.{Done}
 use Rattle.run_files.specs.declared.outcome.FileRefusal.{FileRefusal}
-use Rattle.run_inputs.specs.Counts.{HasFewClasses, IsJudgingRefusal}
+use Rattle.run_inputs.specs.Counts.{PoliciesHaveFewClasses, IsJudgingRefusal}
 use Rattle.run_inputs.specs.Inputs.{HoldsInput}
 
 -- the verdict on one of the policies is right, and it is the one with the witness that is fixed
@@ -43,7 +43,7 @@ pub record IsVerified (document : List ℕ) (files : Files) (done : Done) : Type
   pub net : Network
   pub input : HoldsInput Judging [] document files doc net
   pub valid : IsValid net
-  pub classes : HasFewClasses net doc.policies
+  pub classes : PoliciesHaveFewClasses net doc.policies
   pub verdicts : List Verdict
   pub judged : AllZip (IsVerdictOn net doc.policies) doc.policies verdicts
   pub are_true : AllZip (IsTrueOf net) doc.policies verdicts
@@ -57,7 +57,7 @@ pub record SaysYes (document : List ℕ) (files : Files) : Type 0 where
   pub doc : Document
   pub net : Network
   pub input : HoldsInput Judging [] document files doc net
-  pub classes : HasFewClasses net doc.policies
+  pub classes : PoliciesHaveFewClasses net doc.policies
   pub meets : MeetsDocument net doc
 
 -- they have a network and not too many classes, and it does not meet each policy: it breaks one
@@ -66,7 +66,7 @@ pub record SaysNo (document : List ℕ) (files : Files) : Type 0 where
   pub doc : Document
   pub net : Network
   pub input : HoldsInput Judging [] document files doc net
-  pub classes : HasFewClasses net doc.policies
+  pub classes : PoliciesHaveFewClasses net doc.policies
   pub meets_not : ¬ MeetsDocument net doc
 
 -- they have no network, or their policies too many classes, and there is a first reason for it
@@ -74,7 +74,7 @@ pub record SaysRefused (document : List ℕ) (files : Files) : Type 0 where
   pub refusal : FileRefusal
   pub refused : IsJudgingRefusal Judging document files refusal
 
--- Which of the three it is, the status tells: 0 for yes, 1 for no, and 5 for refused.
+-- The status says which of the three it is: 0 for yes, 1 for no, and 5 for refused.
 pub record TellsVerdicts (document : List ℕ) (status : ℕ) (files : Files) : Type 0 where
   pub yes_exactly : (status ≡ 0) ↔ SaysYes document files
   pub no_exactly : (status ≡ 1) ↔ SaysNo document files

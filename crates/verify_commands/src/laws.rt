@@ -12,19 +12,19 @@ ghost use Rattle.verify_commands.specs.Checks.{VerifiedIsAccepted};
 ghost use Rattle.verify_commands.specs.Traces.{IsTraced, IsTraceRefusal, TellsTrace};
 ghost use Rattle.verify_commands.specs.Verifies.{IsVerified, TellsVerdicts};
 
-/// What the status of `verify` tells.
+/// What the status of `verify` says.
 pub fn verify_is_told()
     ensures { (document : List ℕ) → IsTold (IsJudgingRefusal Judging document) (IsVerified document)
         (λ status before after. TellsVerdicts document status before) }
 {}
 
-/// What the status of `trace` tells.
+/// What the status of `trace` says.
 pub fn trace_is_told()
     ensures { (words : TraceWords) → IsTold (IsTraceRefusal words) (IsTraced words)
         (λ status before after. TellsTrace words status before) }
 {}
 
-/// What the status of `check` tells.
+/// What the status of `check` says.
 pub fn check_is_told()
     ensures { (document certificate : List ℕ) →
         IsTold (IsCheckRefusal document certificate) (IsChecked document certificate)
@@ -55,8 +55,8 @@ pub fn check_is_determined()
         → IsCheckRefusal document certificate files r → ⊥ }
 {}
 
-/// Every report that `verify` put is accepted by `check` once it is saved under a name, where the
-/// document and its router files are still the same.
+/// Every report that `verify` printed is accepted by `check` once it is saved under a name, if the
+/// document and its router files are unchanged.
 pub fn verified_is_accepted()
     ensures { VerifiedIsAccepted }
 {}

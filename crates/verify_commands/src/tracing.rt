@@ -1,20 +1,20 @@
 //! The command `trace DOC FROM TO`.
 ghost use Rattle.std.specs.Prelude.{◌≡◌, None, IfOk};
-ghost use Rattle.net_rows.specs.Linking.{first_above};
+ghost use Rattle.net_rules.specs.Linking.{first_above};
 ghost use Rattle.run_files.specs.Answers.{Answers, IsJudging, OnlyReads};
 ghost use Rattle.run_files.specs.Limits.{least_limit};
 ghost use Rattle.verify_commands.specs.Traces.{down_flags, IsTraceRefusal, IsTraced};
 
-use address_checks::has_endpoints;
 use arc_base::{Kind, List, Name};
 use arc_outside::Store;
 use command_words::TraceWords;
+use net_checks::has_endpoints;
 use route_trace::trace_text;
 use run_files::{Done, Limits, Stop, refused};
 use run_inputs::read_input;
 use std::alloc::{AllocError, Global};
 
-/// For each of so many links whether it is down.
+/// For each link, whether it is down.
 fn down_flags(alloc: Global, links: u32, numbers: &[u32]) -> Result<Vec<bool>, AllocError>
     requires { first_above links numbers.now ≡ None }
     ensures { IfOk result (λ flags. flags.items ≡ down_flags links numbers.now) }

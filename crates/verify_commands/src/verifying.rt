@@ -2,7 +2,7 @@
 ghost use Rattle.std.specs.Prelude.{◌≡◌, ◌≤◌, length, IfOk};
 ghost use Rattle.std.specs.List.{AllZip, list_all};
 ghost use Rattle.net_model.specs.Witnesses.{is_yes};
-ghost use Rattle.run_inputs.specs.Counts.{HasFewClasses, IsJudgingRefusal};
+ghost use Rattle.run_inputs.specs.Counts.{PoliciesHaveFewClasses, IsJudgingRefusal};
 ghost use Rattle.run_inputs.specs.Inputs.{IsFit};
 ghost use Rattle.run_files.specs.Answers.{Answers, IsJudging, OnlyReads};
 ghost use Rattle.run_files.specs.Limits.{least_limit};
@@ -22,7 +22,7 @@ use verdicts::{JudgeFault, judge_under};
 /// more than all of them.
 fn judge_all(alloc: Global, input: &Input) -> Result<List<Verdict>, Memory>
     requires fit { IsFit input.now }
-    requires few { HasFewClasses input.now.net input.now.doc.policies }
+    requires few { PoliciesHaveFewClasses input.now.net input.now.doc.policies }
     ensures { IfOk result
         (AllZip (IsVerdictOn input.now.net input.now.doc.policies) input.now.doc.policies) }
 {

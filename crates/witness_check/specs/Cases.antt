@@ -19,7 +19,7 @@ use Rattle.witness_check.specs.declared.cases.Case.{Case}
 abbrev pub ends_of : Case → Ends
 ends_of case = record { source = case.source.now; target = case.target.now; to = case.to }
 
--- what the case was told of its network is so
+-- what the case says of its network is so
 abbrev pub IsTold : Case → Type 0
 IsTold case = IsToldOf case.net.now case.to case.told
 

@@ -1,4 +1,4 @@
--- How many paths are asked, and that no link stands twice in them.
+-- How many paths are asked for, and that no link occurs twice in them.
 use Rattle.std.specs.Prelude.{◌≡◌, ◌≢◌, ℕ, ◌+◌, List, Contains, AllPairs}
 use Rattle.arc_base.specs.declared.place.Link.{Link}
 use Rattle.net_model.specs.Forwarding.{Ends, source_router, target_router}
@@ -13,7 +13,7 @@ IsFullCount ends k count =
 abbrev pub AreApart : Link → Link → Type 0
 AreApart l m = l ≢ m
 
--- no link of these stands twice among them or stands among the others
+-- no link of these occurs twice among them or among the others
 abbrev pub StandOnce : List Link → List Link → Type 0
 StandOnce links others =
     AllPairs AreApart links × ((l : Link) → Contains links l → Contains others l → ⊥)

@@ -1,4 +1,4 @@
--- What is looked at of a closed side: its class's packet of first addresses stands for them all.
+-- What is looked at of a closed side: its class's packet of first addresses decides for them all.
 use Rattle.std.specs.Prelude.{◌≡◌, List, length, All}
 use Rattle.net_model.specs.declared.policies.Class.{Class}
 use Rattle.net_model.specs.declared.policies.PolicyKind.{PolicyKind}
@@ -21,7 +21,7 @@ SparesTarget net ends shown =
     IsOn shown.side (target_router ends) → ¬ Leaves net ends (first_packet shown.class)
 
 -- the class is a part of the whole on which each list is uniform, and the side has a flag for each
--- router and stands so to source and target
+-- router and the right ends inside and outside
 pub record Stands (net : Network) (ends : Ends) (whole : Class) (shown : ClassSide) : Type 0 where
   pub part : LiesIn shown.class whole
   pub flags : length shown.side ≡ length net.routers

@@ -25,7 +25,7 @@ pub record IsTrail (net : Network) (to : Prefix) (P : Arc → Type 0) (u : ℕ) 
   pub leads : Path net to u arcs v
   pub each : AllByRecursion P arcs
 
--- the links are those of arcs that lead from the one router to the other, and no router stands
+-- the links are those of arcs that lead from the one router to the other, and no router occurs
 -- twice on the way
 pub record IsTrailOnce (net : Network) (to : Prefix) (u : ℕ) (links : List Link)
     (v : ℕ) : Type 0 where
@@ -47,7 +47,7 @@ abbrev pub AnyArc : Arc → Type 0
 AnyArc arc = Unit {0}
 
 -- the links are a walk: those of arcs that lead from the one router to the other, each of which may
--- carry the class, and no router stands twice on the way
+-- carry the class, and no router occurs twice on the way
 pub record IsWalk (net : Network) (to : Prefix) (kind : PolicyKind) (class : Class) (u : ℕ)
     (links : List Link) (v : ℕ) : Type 0 where
   pub arcs : List Arc

@@ -84,7 +84,7 @@ impl Asked<'_> {
         Share::Open(place)
     }
 
-    /// The same without the entries before this place.
+    /// The questions without the entries before this place.
     pub fn rest(&self, place: usize) -> Asked<'_>
         requires { place ≤ length self.now.entries.now }
         ensures entries { result.entries.now ≡ drop place self.now.entries.now }

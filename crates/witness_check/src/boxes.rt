@@ -134,7 +134,7 @@ fn service_halves_towards(whole: Service, service: u32) -> (Service, Service)
 /// class comes first.
 ///
 /// A range of services is cut in the middle, as prefixes are, and not at an end of the other range:
-/// so no class is halved more than 88 times over, and calls that halve stand no deeper than that.
+/// so no class is halved more than 88 times over, and calls that halve nest no deeper than that.
 pub fn halve_towards(class: Class, other: Class) -> (Class, Class)
     requires { IsTrue (splits class other) }
     ensures whole { MakeUp class result.0 result.1 }

@@ -18,7 +18,7 @@ pub(crate) fn contains(links: &[Link], link: Link) -> bool
     links.iter().any(|l| l.0 == link.0)
 }
 
-/// Whether the link stands in one of the paths.
+/// Whether the link occurs in one of the paths.
 fn is_used(paths: &[LinkPath], link: Link) -> bool
     ensures { IsTrue result ↔ Contains (flat_map (λ path. path.links) paths.now) link }
 {
@@ -30,7 +30,7 @@ fn is_used(paths: &[LinkPath], link: Link) -> bool
     false
 }
 
-/// Whether the link is one of these, or stands in one of the later paths.
+/// Whether the link is one of these, or occurs in one of the later paths.
 fn stands_again(link: Link, links: &[Link], later: &[LinkPath]) -> bool
     ensures { IsTrue result ↔
         (Contains links.now link ⊎ Contains (flat_map (λ path. path.links) later.now) link) }
@@ -38,7 +38,7 @@ fn stands_again(link: Link, links: &[Link], later: &[LinkPath]) -> bool
     contains(links, link) || is_used(later, link)
 }
 
-/// Whether no link of these stands twice among them, or stands in one of the later paths.
+/// Whether no link of these occurs twice among them, or in one of the later paths.
 fn stand_once(links: &[Link], later: &[LinkPath]) -> bool
     ensures { IsTrue result ↔ StandOnce links.now (flat_map (λ path. path.links) later.now) }
 {
@@ -50,7 +50,7 @@ fn stand_once(links: &[Link], later: &[LinkPath]) -> bool
     true
 }
 
-/// Whether no link stands twice in the paths.
+/// Whether no link occurs twice in the paths.
 fn are_disjoint(paths: &[LinkPath]) -> bool
     ensures { IsTrue result ↔ AllPairs (λ l m. l ≢ m) (flat_map (λ path. path.links) paths.now) }
 {

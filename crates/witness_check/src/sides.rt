@@ -111,7 +111,7 @@ impl Case<'_> {
             && are_uniform(self.net, shown.class)
     }
 
-    /// Whether each of the sides stands so.
+    /// Whether each of the sides is right.
     fn each_stands(&self, sides: &[ClassSide]) -> bool
         ensures { IsTrue result ↔
             All (Stands self.now.net.now (ends_of self.now) self.now.whole) sides.now }

@@ -137,7 +137,7 @@ impl<'a> Case<'a> {
         router.0 == self.target.router.0
     }
 
-    /// Whether the links lead from the source to the target, and no router stands twice on the way.
+    /// Whether the links lead from the source to the target, and no router occurs twice on the way.
     /// Each router is looked for among those that follow it.
     pub fn goes_once(&self, links: &[Link]) -> bool
         requires told { IsTold self.now }

@@ -12,7 +12,7 @@ use net_model::{Class, LinkPath, PolicyKind};
 
 impl Case<'_> {
     /// Whether the links are a walk that may carry each packet of the class and breaks the policy:
-    /// they lead from the source to the target, and no router stands twice on the way.
+    /// they lead from the source to the target, and no router occurs twice on the way.
     fn walks(&self, kind: PolicyKind, class: Class, links: &[Link]) -> bool
         requires told { IsTold self.now }
         requires valid { IsValid self.now.net.now }

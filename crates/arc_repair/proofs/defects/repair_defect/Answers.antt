@@ -7,7 +7,7 @@ use Rattle.net_model.specs.Forwarding.{HasEnds}
 use Rattle.net_model.specs.Packets.{subject}
 use Rattle.edit_list.specs.After.{IsAfter}
 use Rattle.edit_list.specs.Prices.{chosen_of}
-use Rattle.edit_laws.proofs.SameHosts.{ends_stay}
+use Rattle.network_edit_laws.proofs.SameHosts.{ends_stay}
 use Rattle.arc_repair.specs.Checks.{IsVerdictDefect}
 use Rattle.arc_repair.specs.Claims.{IsRightYes}
 use Rattle.arc_repair.specs.Repairs.{cost}

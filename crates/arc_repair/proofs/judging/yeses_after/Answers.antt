@@ -1,5 +1,5 @@
-use Rattle.edit_laws.proofs.SameClasses.{classes_stay}
-use Rattle.edit_laws.proofs.SameHosts.{ends_stay}
+use Rattle.network_edit_laws.proofs.SameClasses.{classes_stay}
+use Rattle.network_edit_laws.proofs.SameHosts.{ends_stay}
 use Rattle.std.specs.List.{AllZip}
 use Rattle.arc_repair.specs.Claims.{IsRightYes}
 use Rattle.arc_repair.specs.Search.{AreYesAfter}

@@ -1,7 +1,7 @@
 use Rattle.std.proofs.Common.{◌≡◌, ◌+◌, ◌-◌, ◌^◌, ◌≤◌, false}
 use Rattle.std.specs.Prelude.{IfSome, min}
 use Rattle.arc_outside.specs.LinesRead.{ahead}
-use Rattle.cnf_types.specs.Words.{lines}
+use Rattle.arc_base.specs.TextLines.{lines}
 use Rattle.run_files.specs.Refusals.{bytes_at}
 use Rattle.check_commands.specs.RepairChecks.{begins_repair}
 use Rattle.check_commands.proofs.first_reading.begins_repair.Given as goal

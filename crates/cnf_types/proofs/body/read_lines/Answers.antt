@@ -1,6 +1,6 @@
 use Rattle.std.proofs.Common.{◌≡◌, ◌+◌, ◌++◌, false, IsFalse, refl, arith, ◌∙◌, length, sym, ap}
 use Rattle.std.specs.List.{list_any}
-use Rattle.cnf_types.specs.Words.{lines}
+use Rattle.arc_base.specs.TextLines.{lines}
 use Rattle.arc_base.specs.Words.{words}
 use Rattle.cnf_types.specs.Progress.{pieces_after}
 use Rattle.cnf_types.specs.Dimacs.{content, numbers, is_comment, is_bad, line_numbers}

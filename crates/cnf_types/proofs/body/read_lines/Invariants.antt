@@ -1,5 +1,5 @@
 use Rattle.std.proofs.Common.{◌≡◌, ◌+◌, ◌≤◌, ◌++◌, List, ℤ, length}
-use Rattle.cnf_types.specs.Words.{lines}
+use Rattle.arc_base.specs.TextLines.{lines}
 use Rattle.cnf_types.specs.Dimacs.{first_bad, content, numbers, pieces}
 use Rattle.cnf_types.specs.Progress.{pieces_after}
 use Rattle.cnf_types.proofs.body.read_lines.Given as goal

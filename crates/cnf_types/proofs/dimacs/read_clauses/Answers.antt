@@ -1,6 +1,6 @@
 use Rattle.std.proofs.Common.{◌∙◌}
 use Rattle.std.proofs.lemmas.Result.{err_from_is_err_and, IfOk-weaker, IfErr-weaker}
-use Rattle.cnf_types.specs.Words.{lines}
+use Rattle.arc_base.specs.TextLines.{lines}
 use Rattle.cnf_types.proofs.Reading.{too_many, body_fault, whole, fault_is, read_from}
 use Rattle.cnf_types.proofs.dimacs.read_clauses.Goals as goal
 

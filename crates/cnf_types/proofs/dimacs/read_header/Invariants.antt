@@ -1,5 +1,5 @@
 use Rattle.std.proofs.Common.{◌≡◌, ◌+◌, ◌≤◌, length}
-use Rattle.cnf_types.specs.Words.{lines}
+use Rattle.arc_base.specs.TextLines.{lines}
 use Rattle.cnf_types.specs.Dimacs.{content}
 use Rattle.cnf_types.proofs.dimacs.read_header.Given as goal
 

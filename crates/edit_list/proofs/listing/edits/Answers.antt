@@ -8,7 +8,7 @@ use Rattle.traffic_classes.specs.AllClasses.{AreAllClasses}
 use Rattle.traffic_classes.proofs.Unions.{have_one_list}
 use Rattle.edit_list.specs.declared.edit_kinds.Edit.{Edit}
 use Rattle.edit_list.specs.declared.sites.Site.{Site}
-use Rattle.edit_list.specs.EditLists.{all_edits, link_edits, route_edit, packet_edit, writable_classes, HasFewClasses}
+use Rattle.edit_list.specs.EditLists.{all_edits, link_edits, route_edit, packet_edit, writable_classes, DocumentHasFewClasses}
 use Rattle.edit_list.specs.Sites.{route_sites}
 use Rattle.edit_list.proofs.Counts.{counted_all, few_writable, small_product, have_hosts}
 use Rattle.edit_list.proofs.listing.edits.Goals as goal
@@ -56,7 +56,7 @@ overflow_add-count-2 c =
     )
 
 -- the classes are few, whoever lists them
-few_of_one : (net : Network) (doc : Document) (classes : List Class) → AreAllClasses net doc.policies doc.policies classes → length classes ≤ 4096 → HasFewClasses net doc
+few_of_one : (net : Network) (doc : Document) (classes : List Class) → AreAllClasses net doc.policies doc.policies classes → length classes ≤ 4096 → DocumentHasFewClasses net doc
 few_of_one net doc classes are few = λ other others. omega (arith, ap length ((have_one_list net doc.policies doc.policies).1 other classes others are), few)
 
 pub returns-then-count-gt-EDIT_LIMIT-clause-limit : goal.returns-then-count-gt-EDIT_LIMIT-clause-limit

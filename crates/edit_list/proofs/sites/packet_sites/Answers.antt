@@ -1,7 +1,7 @@
 use Rattle.std.proofs.Common.{◌≡◌, ◌<◌, ◌^◌, ◌∙◌, ◌++◌, ℕ, List, Vec, Global, length, ap, arith}
 use Rattle.std.proofs.lemmas.Result.{IfOk-weaker}
 use Rattle.edit_list.specs.declared.sites.Site.{Site}
-use Rattle.edit_list.specs.Numbered.{by_number}
+use Rattle.arc_base.specs.Numbered.{by_number}
 use Rattle.edit_list.specs.Sites.{packet_sites}
 use Rattle.edit_list.proofs.Counts.{few_packet_sites, packet_sites_are}
 use Rattle.edit_list.proofs.sites.packet_sites.Goals as goal

@@ -6,7 +6,7 @@ use Rattle.edit_list.specs.declared.edit_kinds.Edit.{Edit}
 use Rattle.edit_space.specs.declared.order.Keyed.{Keyed}
 use Rattle.edit_list.specs.NewLists.{new_names_of}
 use Rattle.edit_list.specs.After.{IsAfter}
-use Rattle.edit_list.specs.Numbered.{Tells, EachRow}
+use Rattle.arc_base.specs.Numbered.{IsTableOf, EachRow}
 use Rattle.edit_list.specs.Prices.{chosen_of}
 use Rattle.edit_space.specs.Working.{packet_keys, route_keys, IsWithin, IsPacketListFor, IsRouteListFor}
 use Rattle.edit_space.proofs.Whole.{in_place, is_whole}
@@ -31,7 +31,7 @@ placed_lists-requires-2 c =
 pub routers_after-requires : goal.routers_after-requires
 routers_after-requires c =
     let net = c.args.net.now in
-    subst (λ (l : List (List (List ℕ))). Tells (length net.routers) (new_names_of net c.in_ok-changes.changes.edits.items) l) (sym c.deref-3.ensures.value) c.in_ok-names.ensures.new_names.told
+    subst (λ (l : List (List (List ℕ))). IsTableOf (length net.routers) (new_names_of net c.in_ok-changes.changes.edits.items) l) (sym c.deref-3.ensures.value) c.in_ok-names.ensures.new_names.told
 
 pub packet_lists_after-requires-clause-within : goal.packet_lists_after-requires-clause-within
 packet_lists_after-requires-clause-within c =

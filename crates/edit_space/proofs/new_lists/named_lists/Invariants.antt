@@ -1,6 +1,6 @@
 use Rattle.std.proofs.Common.{◌≡◌, ℕ, length, map, take}
 use Rattle.std.specs.List.{range_with_len}
-use Rattle.edit_list.specs.Numbered.{EachRow}
+use Rattle.arc_base.specs.Numbered.{EachRow}
 use Rattle.edit_space.specs.Working.{IsNamed}
 use Rattle.edit_space.proofs.Naming.{counts}
 use Rattle.edit_space.proofs.new_lists.named_lists.Given as goal

@@ -4,9 +4,9 @@ use Rattle.net_model.specs.declared.rows.Network.{Network}
 use Rattle.net_model.specs.declared.rows.RouterRow.{RouterRow}
 use Rattle.edit_list.specs.declared.list_kinds.NewList.{NewList}
 use Rattle.edit_list.specs.NewLists.{free_names, names_of}
-use Rattle.edit_list.specs.Numbered.{if_number, of_number}
+use Rattle.arc_base.specs.Numbered.{if_number, of_number}
 use Rattle.edit_list.proofs.Counts.{few_picked}
-use Rattle.edit_list.proofs.Numbers.{told_all}
+use Rattle.arc_base.proofs.Grouped.{told_all}
 use Rattle.edit_space.proofs.Naming.{new_names_more, counted_more, few_more, group_of}
 use Rattle.edit_space.proofs.new_lists.new_names.Goals as goal
 

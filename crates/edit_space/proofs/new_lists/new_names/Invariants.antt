@@ -1,7 +1,7 @@
 use Rattle.std.proofs.Common.{◌≡◌, ◌<◌, ◌^◌, ℕ, length, map, [], get_or}
 use Rattle.std.specs.List.{range_with_len}
 use Rattle.edit_list.specs.NewLists.{free_names, names_of}
-use Rattle.edit_list.specs.Numbered.{of_number}
+use Rattle.arc_base.specs.Numbered.{of_number}
 use Rattle.edit_space.proofs.new_lists.new_names.Given as goal
 
 abbrev pub invariant-loop-place : goal.invariant-loop-place

@@ -3,7 +3,7 @@ use Rattle.net_model.specs.declared.policies.Class.{Class}
 use Rattle.edit_list.specs.Changes.{new_classes}
 use Rattle.edit_list.specs.declared.list_kinds.NewList.{NewList}
 use Rattle.edit_list.specs.declared.list_kinds.NewList.TheVariants.{Packet}
-use Rattle.edit_list.proofs.Numbers.{picked_unless_empty}
+use Rattle.arc_base.proofs.Grouped.{picked_unless_empty}
 use Rattle.edit_space.proofs.new_lists.new_packet_list.Goals as goal
 
 pub returns-then-not-is_filled : goal.returns-then-not-is_filled

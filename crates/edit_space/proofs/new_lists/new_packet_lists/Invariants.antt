@@ -1,7 +1,7 @@
 use Rattle.std.proofs.Common.{◌≡◌, take}
 use Rattle.std.specs.List.{filter_map}
 use Rattle.edit_list.specs.NewLists.{new_packet_list}
-use Rattle.edit_list.specs.Numbered.{placed}
+use Rattle.arc_base.specs.Numbered.{placed}
 use Rattle.edit_space.proofs.new_lists.new_packet_lists.Given as goal
 
 abbrev pub invariant-loop-place : goal.invariant-loop-place

@@ -4,10 +4,10 @@ use Rattle.std.proofs.lemmas.Option.{slice_get_within}
 use Rattle.arc_base.specs.declared.prefix.Prefix.{Prefix}
 use Rattle.net_model.specs.declared.rows.FaceRow.{FaceRow}
 use Rattle.edit_list.specs.Changes.{new_prefixes}
-use Rattle.edit_list.specs.Numbered.{is_empty}
+use Rattle.arc_base.specs.Numbered.{is_empty}
 use Rattle.edit_list.specs.declared.list_kinds.NewList.{NewList}
 use Rattle.edit_list.specs.declared.list_kinds.NewList.TheVariants.{Route}
-use Rattle.edit_list.proofs.Numbers.{picked_unless_empty}
+use Rattle.arc_base.proofs.Grouped.{picked_unless_empty}
 use Rattle.edit_space.proofs.new_lists.new_route_list.Goals as goal
 
 pub returns-then-not-is_filled : goal.returns-then-not-is_filled

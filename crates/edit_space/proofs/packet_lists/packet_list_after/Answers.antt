@@ -2,7 +2,7 @@ use Rattle.std.proofs.Common.{◌≡◌, ◌∙◌, ℕ, List, length, refl, ap}
 use Rattle.edit_list.specs.After.{with_classes, new_packet_entries}
 use Rattle.edit_list.specs.Changes.{list_classes, new_classes}
 use Rattle.edit_list.specs.declared.edit_kinds.Edit.{Edit}
-use Rattle.edit_list.proofs.Numbers.{things_told}
+use Rattle.arc_base.proofs.Grouped.{things_told}
 use Rattle.edit_space.proofs.packet_lists.packet_list_after.Goals as goal
 
 pub returns-in_ok-with_classes-in-Some : goal.returns-in_ok-with_classes-in-Some

@@ -1,7 +1,7 @@
 use Rattle.std.proofs.Common.{◌≡◌, ℕ, List, length, refl, sym, subst}
 use Rattle.std.proofs.lemmas.Result.{IfOk-weaker}
 use Rattle.net_model.specs.declared.lists.PacketList.{PacketList}
-use Rattle.edit_list.specs.Numbered.{EachRow}
+use Rattle.arc_base.specs.Numbered.{EachRow}
 use Rattle.edit_space.specs.Working.{IsPacketListFor}
 use Rattle.edit_space.proofs.Naming.{rows_more, no_rows, all_rows}
 use Rattle.edit_space.proofs.PlacesFound.{within_at}

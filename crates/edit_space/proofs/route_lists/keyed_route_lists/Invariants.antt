@@ -1,5 +1,5 @@
 use Rattle.std.proofs.Common.{◌≡◌, take, map}
-use Rattle.edit_list.specs.Numbered.{placed}
+use Rattle.arc_base.specs.Numbered.{placed}
 use Rattle.edit_space.specs.Working.{old_key}
 use Rattle.edit_space.proofs.route_lists.keyed_route_lists.Given as goal
 

@@ -2,7 +2,7 @@ use Rattle.std.proofs.Common.{◌≡◌, ◌∙◌, ℕ, List, length, refl, ap}
 use Rattle.edit_list.specs.After.{with_prefixes, new_route_entries}
 use Rattle.edit_list.specs.Changes.{list_prefixes, new_prefixes}
 use Rattle.edit_list.specs.declared.edit_kinds.Edit.{Edit}
-use Rattle.edit_list.proofs.Numbers.{things_told}
+use Rattle.arc_base.proofs.Grouped.{things_told}
 use Rattle.edit_space.proofs.route_lists.route_list_after.Goals as goal
 
 pub returns-in_ok-with_prefixes-in-Some : goal.returns-in_ok-with_prefixes-in-Some

@@ -1,5 +1,5 @@
 use Rattle.std.proofs.Common.{ℕ, take}
-use Rattle.edit_list.specs.Numbered.{EachRow}
+use Rattle.arc_base.specs.Numbered.{EachRow}
 use Rattle.edit_space.specs.Working.{IsRouteListFor}
 use Rattle.edit_space.proofs.route_lists.route_lists_after.Given as goal
 

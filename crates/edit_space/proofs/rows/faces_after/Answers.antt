@@ -1,7 +1,7 @@
 use Rattle.std.proofs.Common.{◌≡◌, ◌∙◌, ℕ, List, map, ap}
 use Rattle.std.proofs.lemmas.Result.{IfOk-weaker}
 use Rattle.net_model.specs.declared.rows.FaceRow.{FaceRow}
-use Rattle.edit_list.specs.Numbered.{placed}
+use Rattle.arc_base.specs.Numbered.{placed}
 use Rattle.edit_space.specs.Working.{face_after}
 use Rattle.edit_list.proofs.Placing.{placed_mapped, placed_all_mapped}
 use Rattle.edit_space.proofs.rows.faces_after.Goals as goal

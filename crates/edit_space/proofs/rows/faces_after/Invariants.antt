@@ -1,5 +1,5 @@
 use Rattle.std.proofs.Common.{◌≡◌, take, map}
-use Rattle.edit_list.specs.Numbered.{placed}
+use Rattle.arc_base.specs.Numbered.{placed}
 use Rattle.edit_space.specs.Working.{face_after}
 use Rattle.edit_space.proofs.rows.faces_after.Given as goal
 

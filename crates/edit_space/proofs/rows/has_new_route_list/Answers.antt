@@ -1,6 +1,6 @@
 use Rattle.std.proofs.Common.{length, ◌∙◌}
 use Rattle.edit_list.specs.Changes.{new_prefixes}
-use Rattle.edit_list.proofs.Numbers.{filled_told}
+use Rattle.arc_base.proofs.Grouped.{filled_told}
 use Rattle.edit_space.proofs.rows.has_new_route_list.Goals as goal
 
 pub returns : goal.returns

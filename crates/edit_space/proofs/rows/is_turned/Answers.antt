@@ -1,6 +1,6 @@
 use Rattle.std.proofs.Common.{◌<◌, ◌∙◌, length, arith}
 use Rattle.edit_list.specs.Changes.{turns_session}
-use Rattle.edit_list.proofs.Numbers.{told_within, told_or}
+use Rattle.arc_base.proofs.Grouped.{told_within, told_or}
 use Rattle.edit_space.proofs.rows.is_turned.Goals as goal
 
 pub index-requires : goal.index-requires

@@ -4,7 +4,7 @@ use Rattle.edit_list.specs.declared.edit_kinds.Edit.{Edit}
 use Rattle.edit_list.specs.After.{IsRouterAfter}
 use Rattle.edit_list.specs.NewLists.{new_names_of}
 use Rattle.edit_space.specs.Working.{AreJoined}
-use Rattle.edit_list.proofs.Numbers.{told_within, told_or}
+use Rattle.arc_base.proofs.Grouped.{told_within, told_or}
 use Rattle.edit_space.proofs.Naming.{rows_more}
 use Rattle.edit_space.proofs.rows.routers_after.Goals as goal
 

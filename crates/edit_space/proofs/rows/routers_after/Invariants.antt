@@ -1,6 +1,6 @@
 use Rattle.std.proofs.Common.{take}
 use Rattle.edit_list.specs.After.{IsRouterAfter}
-use Rattle.edit_list.specs.Numbered.{EachRow}
+use Rattle.arc_base.specs.Numbered.{EachRow}
 use Rattle.edit_space.proofs.rows.routers_after.Given as goal
 
 abbrev pub invariant-loop-place : goal.invariant-loop-place

@@ -3,7 +3,7 @@ use Rattle.std.specs.Prelude.{codes}
 use Rattle.ios_lines.specs.Written.{spaced}
 use Rattle.ios_words.specs.Printed.{top_line, list_head_words, entry_words}
 use Rattle.net_model.specs.declared.lists.PacketEntry.{PacketEntry}
-use Rattle.net_rows.specs.Lists.{packet_text}
+use Rattle.net_rules.specs.Lists.{packet_text}
 use Rattle.edit_list.specs.After.{every_packet}
 use Rattle.line_patcher.specs.NewListLines.{deny_class_line}
 use Rattle.line_patcher.proofs.Growing.{framed}

@@ -1,7 +1,7 @@
 use Rattle.std.proofs.Common.{◌≡◌, ◌∙◌, ℕ, List, length, get_or, ap, sym, subst, arith}
 use Rattle.ios_lines.specs.Lines.{AreLinesOf}
 use Rattle.edit_list.specs.declared.edit_kinds.Edit.{Edit}
-use Rattle.edit_list.specs.Numbered.{EachRow}
+use Rattle.arc_base.specs.Numbered.{EachRow}
 use Rattle.edit_list.specs.Prices.{chosen_of}
 use Rattle.edit_space.proofs.Naming.{rows_more, no_rows, all_rows}
 use Rattle.line_patcher.specs.Patches.{IsPatched}

@@ -1,5 +1,5 @@
 use Rattle.std.proofs.Common.{take}
-use Rattle.edit_list.specs.Numbered.{EachRow}
+use Rattle.arc_base.specs.Numbered.{EachRow}
 use Rattle.line_patcher.specs.Patches.{IsPatched}
 use Rattle.line_patcher.proofs.patches.patch.Given as goal
 

@@ -1,6 +1,6 @@
 use Rattle.std.proofs.Common.{◌≡◌, take}
 use Rattle.std.specs.List.{filter_map}
-use Rattle.edit_list.specs.Numbered.{placed}
+use Rattle.arc_base.specs.Numbered.{placed}
 use Rattle.line_patcher.specs.EntryLines.{edited_packet_list}
 use Rattle.line_patcher.proofs.plans.edited_packet_lists.Given as goal
 

@@ -1,5 +1,5 @@
 use Rattle.std.proofs.Common.{ℕ, List, [], ◌∷◌, ◌++◌, ◌∙◌, ap, get_or, set}
-use Rattle.edit_list.proofs.Numbers.{grouped_more}
+use Rattle.arc_base.proofs.Grouped.{grouped_more}
 use Rattle.line_patcher.proofs.texts.lines_at.Goals as goal
 
 pub loop-number-preserved : goal.loop-number-preserved

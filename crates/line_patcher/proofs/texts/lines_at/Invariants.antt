@@ -1,6 +1,6 @@
 use Rattle.std.proofs.Common.{◌≡◌, ℕ, List, map, take}
 use Rattle.std.specs.List.{range_with_len}
-use Rattle.edit_list.specs.Numbered.{of_number}
+use Rattle.arc_base.specs.Numbered.{of_number}
 use Rattle.line_patcher.proofs.texts.lines_at.Given as goal
 
 abbrev pub invariant-loop-number : goal.invariant-loop-number

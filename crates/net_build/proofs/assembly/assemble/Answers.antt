@@ -1,8 +1,8 @@
 use Rattle.std.proofs.Common.{[], ◌++◌, Ok, Err}
 use Rattle.std.proofs.lemmas.Result.{err_from_is_err_and}
-use Rattle.net_rows.specs.Rows.{AreRows}
+use Rattle.net_rules.specs.Rows.{AreRows}
 use Rattle.net_build.specs.Order.{RefusesWithin, router_tries, link_tries, network_tries}
-use Rattle.net_rows.proofs.LinksApart.{names_distinct}
+use Rattle.net_rules.proofs.LinksApart.{names_distinct}
 use Rattle.net_build.proofs.Tries.{more_fail, clear_before}
 use Rattle.net_build.proofs.assembly.assemble.Goals as goal
 

@@ -1,10 +1,10 @@
 use Rattle.std.proofs.Common.{ℕ, List, subst}
 use Rattle.std.specs.Prelude.{IfOk}
 use Rattle.std.specs.List.{AllZip}
-use Rattle.net_rows.specs.Names.{names_at}
-use Rattle.net_rows.specs.Rows.{IsFaceRow}
-use Rattle.net_rows.specs.Sites.{sites}
-use Rattle.net_rows.proofs.ListKeys.{packet_keys_differ}
+use Rattle.net_rules.specs.Names.{names_at}
+use Rattle.net_rules.specs.Rows.{IsFaceRow}
+use Rattle.net_rules.specs.Sites.{sites}
+use Rattle.net_rules.proofs.ListKeys.{packet_keys_differ}
 use Rattle.net_build.proofs.assembly.faces_of.Goals as goal
 
 pub index_packet_lists-requires : goal.index_packet_lists-requires

@@ -1,8 +1,8 @@
 use Rattle.std.proofs.Common.{[], ◌∷◌, Err}
 use Rattle.std.specs.List.{AllZip}
 use Rattle.std.proofs.lemmas.Result.{err_from_is_err_and}
-use Rattle.net_rows.specs.Sites.{full_names}
-use Rattle.net_rows.specs.Rows.{IsLinkRow, AreBaseRows, AreRows}
+use Rattle.net_rules.specs.Sites.{full_names}
+use Rattle.net_rules.specs.Rows.{IsLinkRow, AreBaseRows, AreRows}
 use Rattle.net_build.specs.Order.{LinkFace, DownLinks, NeighborUnknown, NetworkNotConnected, RefusesWithin}
 use Rattle.net_build.proofs.Tries.{first_fails, clear_before}
 use Rattle.net_build.proofs.assembly.joined.Goals as goal

@@ -1,9 +1,9 @@
 use Rattle.std.proofs.Common.{List, subst}
 use Rattle.std.specs.Prelude.{map}
 use Rattle.std.specs.List.{AllZip}
-use Rattle.net_rows.specs.Lists.{packet_list_key}
-use Rattle.net_rows.specs.Rows.{IsFaceRow}
-use Rattle.net_rows.specs.Sites.{FullName, sites}
+use Rattle.net_rules.specs.Lists.{packet_list_key}
+use Rattle.net_rules.specs.Rows.{IsFaceRow}
+use Rattle.net_rules.specs.Sites.{FullName, sites}
 use Rattle.net_build.proofs.assembly.rows.Goals as goal
 
 pub faces_of-requires-clause-lists : goal.faces_of-requires-clause-lists

@@ -1,4 +1,4 @@
-use Rattle.net_rows.proofs.ListKeys.{route_keys_differ}
+use Rattle.net_rules.proofs.ListKeys.{route_keys_differ}
 use Rattle.net_build.proofs.assembly.sessions_of.Goals as goal
 
 pub index_route_lists-requires : goal.index_route_lists-requires

@@ -1,10 +1,10 @@
 use Rattle.std.proofs.Common.{[], ◌∷◌, Ok, Err, arith}
 use Rattle.std.proofs.lemmas.Result.{err_from_is_err_and, on_ok_weaker}
 use Rattle.net_model.specs.Validity.{IsValid}
-use Rattle.net_rows.specs.Sites.{full_names}
-use Rattle.net_rows.specs.Rows.{IsLinkRow}
+use Rattle.net_rules.specs.Sites.{full_names}
+use Rattle.net_rules.specs.Rows.{IsLinkRow}
 use Rattle.net_build.specs.Order.{Overlap, LinkSubnets, ListStopsSession, AdjacencyForm, Interfaces, Entries, Endpoint, RefusesWithin}
-use Rattle.net_rows.proofs.LinksApart.{names_distinct, links_apart, sites_long, a_within, b_within}
+use Rattle.net_rules.proofs.LinksApart.{names_distinct, links_apart, sites_long, a_within, b_within}
 use Rattle.net_build.proofs.NetworkTried.{valid_network, subnets_tried, endpoints_tried}
 use Rattle.net_build.proofs.Tries.{first_fails, clear_before, one_decides}
 use Rattle.arc_base.proofs.Zips.{AllZip-length}

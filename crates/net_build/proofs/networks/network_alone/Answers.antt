@@ -9,9 +9,9 @@ use Rattle.net_build.specs.Networks.{Says, ReadsConfigs, Assembles, FindsWithin}
 use Rattle.net_build.proofs.NetworkTried.{all_have_ends}
 use Rattle.net_build.proofs.OneAnswer.{all_well_formed}
 use Rattle.net_build.proofs.AskingMore.{no_number_above}
-use Rattle.net_rows.specs.Linking.{first_above}
-use Rattle.net_rows.specs.Rows.{IsLinkRow}
-use Rattle.net_rows.specs.Sites.{full_names}
+use Rattle.net_rules.specs.Linking.{first_above}
+use Rattle.net_rules.specs.Rows.{IsLinkRow}
+use Rattle.net_rules.specs.Sites.{full_names}
 use Rattle.arc_base.proofs.Zips.{AllZip-length}
 use Rattle.net_build.proofs.networks.network_alone.Goals as goal
 

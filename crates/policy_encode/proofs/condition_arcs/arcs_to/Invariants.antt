@@ -1,7 +1,7 @@
 use Rattle.std.proofs.Common.{◌≡◌, List, take}
 use Rattle.std.specs.List.{flat_map}
 use Rattle.edit_list.specs.declared.edit_kinds.Edit.{Edit}
-use Rattle.edit_list.specs.Numbered.{placed}
+use Rattle.arc_base.specs.Numbered.{placed}
 use Rattle.policy_encode.specs.Questions.{link_arcs}
 use Rattle.policy_encode.specs.Finding.{IsIndexOf}
 use Rattle.policy_encode.proofs.condition_arcs.arcs_to.Given as goal

@@ -1,6 +1,6 @@
 use Rattle.std.proofs.Common.{List, None, ap, arith, ◌∙◌}
 use Rattle.cnf_types.specs.declared.literal.Lit.{Lit}
-use Rattle.cnf_types.specs.Words.{lines}
+use Rattle.arc_base.specs.TextLines.{lines}
 use Rattle.proof_check.specs.Knowledge.{Knowledge, start}
 use Rattle.proof_check.specs.Outcomes.{log_outcome}
 use Rattle.proof_check.proofs.judging.judge_lines.Goals as goal

@@ -1,5 +1,5 @@
 use Rattle.std.proofs.Common.{◌≡◌, ◌+◌, ◌≤◌, [], None, length}
-use Rattle.cnf_types.specs.Words.{lines}
+use Rattle.arc_base.specs.TextLines.{lines}
 use Rattle.proof_check.specs.Knowledge.{start}
 use Rattle.proof_check.specs.Outcomes.{log_outcome}
 use Rattle.proof_check.specs.View.{known}

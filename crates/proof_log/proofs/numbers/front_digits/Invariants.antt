@@ -1,6 +1,6 @@
 use Rattle.std.proofs.Common.{◌≡◌, ◌<◌, ◌^◌, true, take}
 use Rattle.std.specs.Str.{all_ascii_digits}
-use Rattle.cnf_types.specs.Numbers.{value_after}
+use Rattle.arc_base.specs.WordNumbers.{value_after}
 use Rattle.proof_log.proofs.numbers.front_digits.Given as goal
 
 abbrev pub invariant-loop-count : goal.invariant-loop-count

@@ -1,5 +1,5 @@
 use Rattle.std.proofs.Common.{◌+◌, ◌≤◌, length}
-use Rattle.cnf_types.specs.Words.{lines}
+use Rattle.arc_base.specs.TextLines.{lines}
 use Rattle.report_check.specs.LineByLine.{HasComeTo}
 use Rattle.report_check.proofs.checking.check_report.Given as goal
 

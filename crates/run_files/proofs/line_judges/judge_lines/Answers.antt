@@ -1,7 +1,7 @@
 use Rattle.std.proofs.Common.{ℕ, ◌∙◌, ◌∷◌, List, arith, refl}
 use Rattle.std.specs.Prelude.{Ok, Err}
 use Rattle.arc_outside.specs.Files.{Files}
-use Rattle.cnf_types.specs.Words.{lines}
+use Rattle.arc_base.specs.TextLines.{lines}
 use Rattle.run_files.specs.LineJudges.{Judges, JudgesText, LeadsOn}
 use Rattle.run_files.specs.Refusals.{bytes_at}
 use Rattle.run_files.proofs.LineByLine.{begun, left_lines, line_taken}

@@ -1,7 +1,7 @@
 use Rattle.std.proofs.Common.{◌≡◌, ◌≤◌, ◌+◌, ◌-◌, ◌^◌, false}
 use Rattle.std.specs.Prelude.{IfSome, min}
 use Rattle.arc_outside.specs.LinesRead.{ahead}
-use Rattle.cnf_types.specs.Words.{lines}
+use Rattle.arc_base.specs.TextLines.{lines}
 use Rattle.run_files.specs.LineJudges.{LeadsOn}
 use Rattle.run_files.specs.Refusals.{bytes_at}
 use Rattle.run_files.proofs.LineByLine.{left_lines}

@@ -4,7 +4,7 @@ use Rattle.net_model.specs.declared.rows.Network.{Network}
 use Rattle.edit_list.specs.declared.edit_kinds.Edit.{Edit}
 use Rattle.edit_list.specs.declared.list_kinds.NewList.{NewList}
 use Rattle.edit_list.specs.NewLists.{new_lists}
-use Rattle.edit_list.specs.Numbered.{placed}
+use Rattle.arc_base.specs.Numbered.{placed}
 use Rattle.edit_space.specs.Working.{AreNewNames}
 use Rattle.line_patcher.specs.SessionLines.{turned_face}
 use Rattle.line_patcher.specs.NewListLines.{face_places}

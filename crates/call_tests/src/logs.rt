@@ -1,0 +1,78 @@
+//! The steps of proofs, as lines and as they are written, and the proofs that are accepted.
+
+use arc_base::{List, Memory};
+use cnf_types::formula;
+use proof_check::check_log;
+use proof_log::{Log, step, text};
+use std::alloc::Global;
+use std::test::Fail;
+
+/// The text of the one step that a line writes.
+fn written_again(alloc: Global, line: &[u8]) -> Result<Vec<u8>, Memory> {
+    let mut steps = List::make(alloc);
+    if let Ok(Some(step)) = step(alloc, line) {
+        steps.push(step)?;
+    }
+    text(alloc, &Log { steps })
+}
+
+/// A line, and what is written for it. The number of a line that drops clauses is that of the
+/// clause that was added last, here of none.
+const LINES: &[(&str, &str)] = &[
+    ("3  1 -20 0 2 -7 0\r", "3 1 -20 0 2 -7 0\n"),
+    ("9223372036854775807 0 1 0", "9223372036854775807 0 1 0\n"),
+    ("3 d 2 4 0", "0 d 2 4 0\n"),
+    ("4 b 9 0", "4 b 9 0\n"),
+    ("c 5 d 1 2 0", ""),
+    (" ", ""),
+    ("3 1 0 2", ""),
+    ("3 b 4294967296 0", ""),
+    ("3 -0 0 1 0", ""),
+    ("9223372036854775808 0 1 0", ""),
+];
+
+#[test]
+fn steps_are_read_and_written(rt: HostRuntime) -> Result<(), Fail> {
+    for (line, want) in LINES {
+        assert!(rt;
+            written_again(rt.alloc(), line.as_bytes())?.as_slice() == want.as_bytes(),
+            "{line}"
+        );
+    }
+    Ok(())
+}
+
+/// How a proof that no value of the one variable fits 1 and -1 is judged.
+fn judged(alloc: Global, proof: &[u8]) -> Result<String, Fail> {
+    match formula(alloc, b"p cnf 1 2\n1 0\n-1 0\n") {
+        Ok(formula) => Ok(format!(in alloc; "{:?}", check_log(alloc, &formula, proof))?),
+        Err(_) => Err(Fail::from("a formula")),
+    }
+}
+
+const PROOFS: &[(&str, &str)] = &[
+    ("3 0 1 2 0", "Ok(Accepted)"),
+    ("3 1 0 1 0\r\n\nc\n4 0 3 2 0", "Ok(Accepted)"),
+    ("3 0 1 0\n", "Ok(Rejected(1, Fault(NoConflict)))"),
+    ("2 0 1 2 0\n", "Ok(Rejected(1, Fault(IdNotRising)))"),
+    (
+        "0 d 1 0\n3 0 1 2 0\n",
+        "Ok(Rejected(2, Fault(UnknownId(0))))",
+    ),
+    ("3 0 -1 2 0\n", "Ok(Rejected(1, Fault(NegativeHint(0))))"),
+    ("3 b 1 0\n", "Ok(Rejected(1, Fault(BoundTooHigh)))"),
+    ("3 0 1 2\n", "Ok(Rejected(1, Form))"),
+    ("3 -1 0 2 0\n", "Ok(Rejected(2, NotRefuted))"),
+    ("", "Ok(Rejected(1, NotRefuted))"),
+];
+
+#[test]
+fn proofs_are_judged(rt: HostRuntime) -> Result<(), Fail> {
+    for (proof, want) in PROOFS {
+        assert!(rt;
+            judged(rt.alloc(), proof.as_bytes())?.as_str() == *want,
+            "{want}"
+        );
+    }
+    Ok(())
+}

@@ -1,6 +1,0 @@
-pub mod ReadAgain
-pub mod Patched
-pub mod SomePatches
-pub mod FewEdits
-pub mod OneMore
-pub mod OneRefusal

@@ -1,9 +1,0 @@
-use Rattle.changed_files.proofs.Patched.{patches_have_the_network}
-use Rattle.changed_files.proofs.SomePatches.{patches_are_there}
-use Rattle.changed_files.proofs.laws.patches_have_the_network.Goals as goal
-
-pub returns-clause-there : goal.returns-clause-there
-returns-clause-there c = patches_are_there
-
-pub returns-clause-network : goal.returns-clause-network
-returns-clause-network c = patches_have_the_network

@@ -1,0 +1,9 @@
+//! Edit files: each line names one edit of a network by its text, in any order. Reading one gives
+//! the edits that it names, or the first of its lines that names none, or one that an earlier line
+//! names.
+#![tactic(auto)]
+
+mod places;
+mod reading;
+
+pub use reading::{Named, named_edits};

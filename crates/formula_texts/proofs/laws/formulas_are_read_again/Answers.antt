@@ -1,5 +1,0 @@
-use Rattle.formula_texts.proofs.Texts.{read-again}
-use Rattle.formula_texts.proofs.laws.formulas_are_read_again.Goals as goal
-
-pub returns : goal.returns
-returns c = read-again

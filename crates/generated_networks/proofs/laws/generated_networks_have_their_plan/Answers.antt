@@ -1,8 +1,0 @@
-use Rattle.generated_networks.proofs.Networks.{have-plan, have-policies}
-use Rattle.generated_networks.proofs.laws.generated_networks_have_their_plan.Goals as goal
-
-pub returns-clause-network : goal.returns-clause-network
-returns-clause-network c = have-plan
-
-pub returns-clause-policies : goal.returns-clause-policies
-returns-clause-policies c = have-policies

@@ -1,6 +1,0 @@
-//! Laws of generated networks: their files are read and refused for no reason, whatever their
-//! number of routers, the network that they stand for is the one that the number describes, and no
-//! limit on classes or edits is passed.
-#![tactic(auto)]
-
-pub mod laws;

@@ -1,5 +1,0 @@
-mod LinkFaces
-mod NamesKeys
-mod SessionEnds
-mod SessionSteps
-mod IndexLines

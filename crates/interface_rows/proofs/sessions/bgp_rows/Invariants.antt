@@ -1,7 +1,0 @@
-use Rattle.net_rows.specs.Lists.{keys_at}
-use Rattle.interface_rows.specs.Sessions.{AreFilesOf, AreSessionsTo}
-use Rattle.interface_rows.proofs.sessions.bgp_rows.Given as goal
-
-abbrev pub invariant-loop-router : goal.invariant-loop-router
-invariant-loop-router l =
-    AreFilesOf l.fn.configs l.fn.net (keys_at l.fn.lists.keys) → AreSessionsTo l.fn.configs l.fn.net.links (keys_at l.fn.lists.keys) l.router 0 l.sessions.items

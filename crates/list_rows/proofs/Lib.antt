@@ -1,4 +1,0 @@
-mod ListsNames
-mod ListsTables
-mod ListsRows
-mod ListsKinds

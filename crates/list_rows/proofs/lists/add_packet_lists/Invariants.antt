@@ -1,9 +1,0 @@
-use Rattle.std.proofs.Common.{◌≡◌, ◌++◌}
-use Rattle.std.specs.List.{filter_map}
-use Rattle.net_rows.specs.Lists.{packet_row_at}
-use Rattle.arc_base.specs.NameForms.{texts_at}
-use Rattle.list_rows.proofs.lists.add_packet_lists.Given as goal
-
-abbrev pub invariant-loop-name : goal.invariant-loop-name
-invariant-loop-name l =
-    l.rows.items ++ filter_map (packet_row_at l.router l.config) (texts_at l.name-iterator) ≡ l.fn.rows.items ++ filter_map (packet_row_at l.router l.config) (texts_at l.initial.name-iterator)

@@ -1,0 +1,20 @@
+mod LimitsKept
+mod OwnProcesses
+mod Grown
+mod Repeated
+mod Picks
+mod AreaLines
+mod Adjacencies
+mod StopsFirst
+mod StopsEnds
+mod PeersEnds
+mod PeersFiles
+mod ConnectedSubnets
+mod SessionPackets
+mod Ranges
+mod SortedClaims
+mod Partners
+pub mod Overlaps
+mod ClaimPairs
+mod FirstOverlap
+mod OverlapTried

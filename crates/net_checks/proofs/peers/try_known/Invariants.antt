@@ -1,0 +1,12 @@
+use Rattle.std.proofs.Common.{ℕ}
+use Rattle.std.specs.Prelude.{Any}
+use Rattle.ios_config.specs.declared.settings.Config.{Config}
+use Rattle.arc_base.specs.declared.refusal.Kind.TheVariants as kinds
+use Rattle.net_rules.specs.Settings.{lines_of}
+use Rattle.net_rules.specs.Peers.{NamesOther}
+use Rattle.net_checks.specs.FarEnds.{IsReached}
+use Rattle.net_rules.proofs.Firsts.{ClearTo}
+use Rattle.net_checks.proofs.peers.try_known.Given as goal
+
+abbrev pub invariant-loop-place : goal.invariant-loop-place
+invariant-loop-place l = ClearTo kinds.NeighborUnknown (λ (place : ℕ) (config : Config) (line : ℕ). Any (NamesOther (IsReached l.ends.keys place config) line) (lines_of config)) l.config-items l.place

@@ -1,0 +1,33 @@
+//! The reasons to refuse what router files set: routers by their names, processes, areas, AS
+//! numbers, router ids, network types and counts, sessions by their neighbours, network statements
+//! and packet lists, addresses by their subnets and the ends of links and policies. Each is tried
+//! over the files in their order; what may occur only once is gathered in an index, and so are far
+//! ends and subnets. The first interface that overlaps one before it is found by bisection over
+//! sorted subnets, O(n log² n) in all, and a list is tried run by run of services that it treats
+//! alike.
+#![tactic(auto)]
+
+mod adjacency;
+mod areas;
+mod claims;
+mod endpoints;
+mod limits;
+mod overlap;
+mod peers;
+mod processes;
+mod repeats;
+mod routers;
+mod session_packets;
+mod stops;
+mod subnets;
+
+pub use adjacency::try_adjacency;
+pub use areas::try_areas;
+pub use endpoints::{has_endpoints, try_endpoints};
+pub use limits::{try_entries, try_interfaces};
+pub use overlap::try_overlap;
+pub use peers::{try_neighbors, try_networks};
+pub use processes::try_processes;
+pub use routers::{try_as_numbers, try_hostnames};
+pub use stops::try_lists;
+pub use subnets::try_subnets;

@@ -1,5 +1,0 @@
-use Rattle.number_texts.proofs.Exact.{addresses-exact}
-use Rattle.number_texts.proofs.laws.address_texts_are_exact.Goals as goal
-
-pub returns : goal.returns
-returns c = addresses-exact

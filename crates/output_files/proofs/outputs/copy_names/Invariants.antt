@@ -1,7 +1,0 @@
-use Rattle.std.proofs.Common.{◌≡◌, take}
-use Rattle.std.specs.Prelude.{map}
-use Rattle.output_files.specs.Outputs.{copy_name}
-use Rattle.output_files.proofs.outputs.copy_names.Given as goal
-
-abbrev pub invariant-loop-name : goal.invariant-loop-name
-invariant-loop-name l = l.copies.items ≡ map (copy_name l.suffix) (take l.name-index l.names)

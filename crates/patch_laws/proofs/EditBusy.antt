@@ -1,0 +1,159 @@
+-- Whatever edits put into a file stands at a line of one of its commands.
+use Rattle.std.proofs.Common.{◌≡◌, ◌≢◌, ℕ, ◌+◌, Bool, true, false, if◌then◌else◌, Some, List, [], ◌∷◌, ◌++◌, length, map, sym, ap, subst, ◌∙◌, ⊎_elim, Contains}
+use Rattle.std.specs.Prelude.{slice_get, option_map, unwrap_or}
+use Rattle.std.specs.List.{flat_map, enumerate_from}
+use Rattle.std.proofs.lemmas.Option.{none-some, same_Some}
+use Rattle.std.proofs.lemmas.List.Elements.{Contains-append_cases}
+use Rattle.arc_base.proofs.Items.{Contains-cases, Contains-none, Contains-head, Contains-tail, from_map, from_piece}
+use Rattle.net_model.specs.declared.lists.PacketList.{PacketList}
+use Rattle.net_model.specs.declared.lists.RouteList.{RouteList}
+use Rattle.net_model.specs.declared.rows.Network.{Network}
+use Rattle.ios_lines.specs.declared.line.Lines.{Lines}
+use Rattle.ios_lines.specs.Texts.{text_lines}
+use Rattle.ios_words.specs.declared.commands.Command.{Command}
+use Rattle.ios_config.specs.declared.commands.FileCommand.{FileCommand}
+use Rattle.ios_config.specs.declared.settings.Given.{Given}
+use Rattle.ios_config.specs.declared.settings.ListText.{ListText}
+use Rattle.ios_config.specs.declared.settings.ProcessText.{ProcessText}
+use Rattle.ios_config.specs.ProcessLines.{HasProcess}
+use Rattle.ios_config.specs.Texts.{config_of}
+use Rattle.ios_config.proofs.ProcessBlocks.{process-blocks}
+use Rattle.net_build.specs.declared.built.ListPlace.{ListPlace}
+use Rattle.net_build.specs.declared.built.Places.{Places}
+use Rattle.net_build.specs.Places.{list_place}
+use Rattle.edit_list.specs.declared.edit_kinds.Edit.{Edit}
+use Rattle.edit_list.specs.declared.list_kinds.NewList.{NewList}
+use Rattle.edit_list.specs.declared.list_kinds.NewList.TheVariants.{Route, Packet}
+use Rattle.edit_list.specs.Changes.{list_prefixes, list_classes}
+use Rattle.edit_list.proofs.NewListFacts.{picked_from}
+use Rattle.line_patcher.specs.declared.additions.NewNumber.{NewNumber}
+use Rattle.line_patcher.specs.Additions.{all_at, lines_before, lines_after, numbers_at}
+use Rattle.line_patcher.specs.EntryLines.{first_line, new_number, new_numbers, at_front, class_lines, prefix_lines, edited_packet_lists, edited_route_lists, packet_list_entries, route_list_entries, packet_list_numbers, route_list_numbers}
+use Rattle.line_patcher.specs.NewListLines.{face_places, group_line_among, group_lines, lines_of_new_lists, filter_lines}
+use Rattle.line_patcher.specs.SessionLines.{session_lines}
+use Rattle.edit_list.specs.NewLists.{named_lists}
+use Rattle.patch_laws.specs.EditFiles.{HasFace, HasPacketList, HasRouteList, IsEditedFile}
+use Rattle.patch_laws.specs.EditSiteLaws.{own_places}
+use Rattle.patch_laws.specs.FaceBlocks.{HasFaceBlock}
+use Rattle.patch_laws.proofs.EditLists.{list-group, entry-command, first-entry, edited-packets, edited-routes, packets-have, routes-have}
+use Rattle.patch_laws.proofs.FaceBlocks.{face-blocks}
+
+-- one of the commands stands at this line
+pub record AtCommand (cs : List FileCommand) (number : ℕ) : Type 0 where
+  pub command : FileCommand
+  pub among : Contains cs command
+  pub line : number ≡ command.line
+
+-- the lines of a list's entries are those of commands
+pub first-command : (cs : List FileCommand) (list : ListText) → Contains (config_of cs).lists list → list.entries ≢ [] → AtCommand cs (first_line (list_place list))
+first-command cs list there some =
+    let f = first-entry list some in
+    let c = entry-command cs list (list-group cs list there) f.first (subst (λ (es : List (Given Command)). Contains es f.first) (sym f.is) (Contains-head f.first f.more)) in
+    record { command = c.command; among = c.among; line = f.line ∙ sym c.line }
+
+-- an item of some with their places is one of them
+pub of-enumerated : {X : Type 0} (n : ℕ) (xs : List X) (item : ℕ × X) → Contains (enumerate_from n xs) item → Contains xs item.1
+of-enumerated n [] item there = absurd (Contains-none item there)
+of-enumerated {X} n (x ∷ xs) item there = ⊎_elim
+    (λ same. subst (λ (y : X). Contains (x ∷ xs) y) (ap (λ (p : ℕ × X). p.1) same) (Contains-head x xs))
+    (λ more. Contains-tail x item.1 xs (of-enumerated (n + 1) xs item more))
+    (Contains-cases (n, x) item (enumerate_from (n + 1) xs) there)
+
+pub numbered-command : (cs : List FileCommand) (list : ListText) → Contains (config_of cs).lists list → (word step count : ℕ) (item : ℕ × NewNumber) → Contains (new_numbers (list_place list) word step count) item → AtCommand cs item.0
+numbered-command cs list there word step count item among = by list.numbered among
+  where
+    by : (b : Bool) → Contains (if b then map (new_number word step count) (enumerate_from 1 (map (λ (g : Given Command). g.line) list.entries)) else []) item → AtCommand cs item.0
+    by false has = absurd (Contains-none item has)
+    by true has =
+        let (entry, in_places, is) = from_map (new_number word step count) (enumerate_from 1 (map (λ (g : Given Command). g.line) list.entries)) item has in
+        let (g, in_entries, line) = from_map (λ (g : Given Command). g.line) list.entries entry.1 (of-enumerated 1 (map (λ (g : Given Command). g.line) list.entries) entry in_places) in
+        let c = entry-command cs list (list-group cs list there) g in_entries in
+        record { command = c.command; among = c.among; line = ap (λ (p : ℕ × NewNumber). p.0) (sym is) ∙ sym line ∙ sym c.line }
+
+-- things that all stand at one number
+pub at-one : {X Y : Type 0} (number : ℕ) (f : X → Y) (xs : List X) (item : ℕ × Y) → Contains (map (λ (x : X). (number, f x)) xs) item → item.0 ≡ number
+at-one {X} {Y} number f xs item there = let (x, among, is) = from_map (λ (x : X). (number, f x)) xs item there in ap (λ (p : ℕ × Y). p.0) (sym is)
+
+module _ (net : Network) (places : List Places) (chosen : List Edit) (router : ℕ) (text : List ℕ) (lines : Lines) (cs : List FileCommand) (file : IsEditedFile net places chosen router text lines cs) where
+  abbrev own : Places
+  own = own_places cs
+
+  -- the process of the file among its commands
+  pub process-here : HasProcess cs file.process
+  process-here = process-blocks (text_lines text) cs file.process file.stand (subst (λ (ps : List ProcessText). Contains ps file.process) (sym file.one) (Contains-head file.process []))
+
+  pub process-line : own.process ≡ process-here.head.line
+  process-line = ap (λ (ps : List ProcessText). unwrap_or (option_map (λ (p : ProcessText). p.head) (slice_get ps 0)) 0) file.one ∙ process-here.head_line
+
+  pub last-line : own.process_last ≡ process-here.last.line
+  last-line = ap (λ (ps : List ProcessText). unwrap_or (option_map (λ (p : ProcessText). p.last) (slice_get ps 0)) 0) file.one ∙ process-here.last_line
+
+  pub packets-of : (id : ℕ) → Contains (edited_packet_lists net chosen router) id → (row : PacketList) × (slice_get net.packet_lists id ≡ Some row) × HasPacketList cs row
+  packets-of id there = let e = edited-packets net chosen router id there in (e.row, e.at, file.packets id e.row e.at e.own e.some)
+
+  pub routes-of : (id : ℕ) → Contains (edited_route_lists net chosen router) id → (row : RouteList) × (slice_get net.route_lists id ≡ Some row) × HasRouteList cs row
+  routes-of id there = let e = edited-routes net chosen router id there in (e.row, e.at, file.routes id e.row e.at e.own e.some)
+
+  pub before-command : (item : ℕ × List ℕ) → Contains (lines_before net own chosen router) item → AtCommand cs item.0
+  before-command item there = ⊎_elim
+      (λ front. ⊎_elim
+      (λ new. record { command = process-here.head; among = process-here.block.among; line = at-one own.process (λ (l : List ℕ). l) (lines_of_new_lists net chosen router) item new ∙ process-line })
+      (λ packets.
+      let (id, among, has) = from_piece (packet_list_entries net own chosen) (edited_packet_lists net chosen router) item packets in
+      let (row, at, h) = packets-of id among in
+      let here = subst (λ (l : List (ℕ × List ℕ)). Contains l item) (packets-have net cs (λ (list : PacketList) (place : ListPlace). at_front place (class_lines place list (list_classes chosen id))) id row h at) has in
+      let c = first-command cs h.list h.among h.some in
+      record { command = c.command; among = c.among; line = at-one (first_line (list_place h.list)) (λ (l : List ℕ). l) (class_lines (list_place h.list) row (list_classes chosen id)) item here ∙ c.line })
+      (Contains-append_cases (all_at own.process (lines_of_new_lists net chosen router)) (flat_map (packet_list_entries net own chosen) (edited_packet_lists net chosen router)) item front))
+      (λ routes.
+      let (id, among, has) = from_piece (route_list_entries net own chosen) (edited_route_lists net chosen router) item routes in
+      let (row, at, h) = routes-of id among in
+      let here = subst (λ (l : List (ℕ × List ℕ)). Contains l item) (routes-have net cs (λ (list : RouteList) (place : ListPlace). at_front place (prefix_lines place list (list_prefixes chosen id))) id row h at) has in
+      let c = first-command cs h.list h.among h.some in
+      record { command = c.command; among = c.among; line = at-one (first_line (list_place h.list)) (λ (l : List ℕ). l) (prefix_lines (list_place h.list) row (list_prefixes chosen id)) item here ∙ c.line })
+      (Contains-append_cases (all_at own.process (lines_of_new_lists net chosen router) ++ flat_map (packet_list_entries net own chosen) (edited_packet_lists net chosen router)) (flat_map (route_list_entries net own chosen) (edited_route_lists net chosen router)) item there)
+
+  pub number-command : (item : ℕ × NewNumber) → Contains (numbers_at net own chosen router) item → AtCommand cs item.0
+  number-command item there = ⊎_elim
+      (λ packets.
+      let (id, among, has) = from_piece (packet_list_numbers net own chosen) (edited_packet_lists net chosen router) item packets in
+      let (row, at, h) = packets-of id among in
+      let here = subst (λ (l : List (ℕ × NewNumber)). Contains l item) (packets-have net cs (λ (list : PacketList) (place : ListPlace). new_numbers place 0 10 (length (list_classes chosen id))) id row h at) has in
+      numbered-command cs h.list h.among 0 10 (length (list_classes chosen id)) item here)
+      (λ routes.
+      let (id, among, has) = from_piece (route_list_numbers net own chosen) (edited_route_lists net chosen router) item routes in
+      let (row, at, h) = routes-of id among in
+      let here = subst (λ (l : List (ℕ × NewNumber)). Contains l item) (routes-have net cs (λ (list : RouteList) (place : ListPlace). new_numbers place 4 5 (length (list_prefixes chosen id))) id row h at) has in
+      numbered-command cs h.list h.among 4 5 (length (list_prefixes chosen id)) item here)
+      (Contains-append_cases (flat_map (packet_list_numbers net own chosen) (edited_packet_lists net chosen router)) (flat_map (route_list_numbers net own chosen) (edited_route_lists net chosen router)) item there)
+
+  -- a binding stands at the last line of its interface
+  pub record AtFace (number : ℕ) : Type 0 where
+    pub face : ℕ
+    pub has : HasFace net places router cs face
+    pub block : HasFaceBlock cs has.face
+    pub line : number ≡ block.last.line
+
+  pub face-line : (named : NewList × List ℕ) → Contains (named_lists net chosen router) named → (item : ℕ × List ℕ) → group_line_among (face_places places) named.0 named.1 ≡ Some item → AtFace item.0
+  face-line named among item e = by named.0 named.1 among e
+    where
+      by : (list : NewList) (name : List ℕ) → Contains (named_lists net chosen router) (list, name) → group_line_among (face_places places) list name ≡ Some item → AtFace item.0
+      by (Route face) name among e = absurd (none-some item e)
+      by (Packet face) name among e =
+          let h = file.faces face name among in
+          let b = face-blocks (text_lines text) cs h.face file.stand h.among in
+          let is : Some (h.face.last, _) ≡ Some item = sym (ap (option_map _) h.place_is) ∙ e in
+          record { face = face.0; has = h; block = b; line = ap (λ (p : ℕ × List ℕ). p.0) (sym (same_Some _ item is)) ∙ b.last_line }
+
+  pub after-command : (item : ℕ × List ℕ) → Contains (lines_after net places own chosen router) item → AtCommand cs item.0
+  after-command item there = ⊎_elim
+      (λ process. record {
+        command = process-here.last;
+        among = process-here.block.last_among;
+        line = at-one own.process_last (λ (l : List ℕ). l) (session_lines net chosen router ++ filter_lines net chosen router) item process ∙ last-line;
+      })
+      (λ faces.
+      let (named, among, is) = picked_from (λ (n : NewList × List ℕ). group_line_among (face_places places) n.0 n.1) (named_lists net chosen router) item faces in
+      let a = face-line named among item is in
+      record { command = a.block.last; among = a.block.block.last_among; line = a.line })
+      (Contains-append_cases (all_at own.process_last (session_lines net chosen router ++ filter_lines net chosen router)) (group_lines net places chosen router) item there)

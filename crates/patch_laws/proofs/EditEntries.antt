@@ -1,0 +1,195 @@
+-- The lines of entries and of new lists that edits put into a file.
+use Rattle.std.proofs.Common.{◌≡◌, ◌≢◌, ℕ, ◌+◌, ◌*◌, ◌≤◌, ◌⊎◌, inl, inr, Bool, true, false, if◌then◌else◌, Option, Some, None, List, [], ◌∷◌, ◌++◌, length, map, refl, sym, ap, subst, ◌∙◌, arith, ⊎_elim, Contains, codes, IsTrue}
+use Rattle.std.specs.List.{AllByRecursion, enumerate_from, flat_map}
+use Rattle.std.proofs.lemmas.Option.{slice_get_within}
+use Rattle.std.proofs.lemmas.List.Elements.{Contains-append_cases}
+use Rattle.arc_base.specs.declared.prefix.Prefix.{Prefix}
+use Rattle.arc_base.specs.PrefixText.{number_of}
+use Rattle.arc_base.proofs.Items.{Contains-cases, Contains-none, Contains-head, Contains-tail, from_map, from_piece}
+use Rattle.net_model.proofs.Readings.{item_at_place}
+use Rattle.net_model.specs.declared.lists.PacketEntry.{PacketEntry}
+use Rattle.net_model.specs.declared.lists.PacketList.{PacketList}
+use Rattle.net_model.specs.declared.lists.RouteList.{RouteList}
+use Rattle.net_model.specs.declared.policies.Class.{Class}
+use Rattle.net_model.specs.declared.rows.Network.{Network}
+use Rattle.ios_lines.specs.declared.line.Lines.{Lines}
+use Rattle.ios_lines.specs.Written.{spaced}
+use Rattle.ios_words.specs.declared.kinds.BlockKind.TheVariants as kinds
+use Rattle.ios_words.specs.Forms.{IsOrder}
+use Rattle.arc_base.specs.NameForms.{is_name}
+use Rattle.ios_words.specs.Numbers.{list_kind}
+use Rattle.ios_words.specs.Printed.{top_line, entry_words, prefix_line_words, permit_all_words, list_head_words}
+use Rattle.ios_words.proofs.PrintedLines.{entry-line, list_head-line, prefix_line-line, permit_all-line, closing-line}
+use Rattle.ios_config.specs.declared.commands.FileCommand.{FileCommand}
+use Rattle.ios_config.specs.declared.settings.ListForm.{ListForm}
+use Rattle.ios_config.specs.declared.settings.ListForm.TheVariants as forms
+use Rattle.ios_config.specs.declared.settings.ListKind.TheVariants.{Extended}
+use Rattle.ios_config.specs.declared.settings.ListText.{ListText}
+use Rattle.ios_config.specs.Texts.{config_of, entry_number}
+use Rattle.net_build.specs.declared.built.ListPlace.{ListPlace}
+use Rattle.net_build.specs.declared.built.Places.{Places}
+use Rattle.net_rules.specs.Lists.{packet_text}
+use Rattle.net_build.specs.Places.{list_place}
+use Rattle.edit_list.specs.declared.edit_kinds.Edit.{Edit}
+use Rattle.edit_list.specs.declared.list_kinds.NewList.{NewList}
+use Rattle.edit_list.specs.declared.list_kinds.NewList.TheVariants.{Route, Packet}
+use Rattle.edit_list.specs.After.{class_entry, every_packet, opposite_packet_entry}
+use Rattle.edit_list.specs.Writable.{is_writable}
+use Rattle.edit_list.specs.Changes.{list_prefixes, list_classes, new_prefixes, new_classes}
+use Rattle.line_patcher.specs.EntryLines.{first_line, order_at, packet_line, edited_packet_lists, edited_route_lists}
+use Rattle.line_patcher.specs.NewListLines.{deny_line, deny_class_line, new_list_lines}
+use Rattle.line_edit_laws.specs.Sites.{Written, IsBlockLine, IsSingleLine}
+use Rattle.patch_laws.specs.EditFiles.{HasPacketList, HasRouteList, IsEditedFile}
+use Rattle.patch_laws.specs.EditSiteLaws.{own_places}
+use Rattle.patch_laws.specs.EditSites.{class_table, entry_table, prefix_table, written_at}
+use Rattle.patch_laws.specs.EntrySites.{class_written, packet_command, packet_written, prefix_written}
+use Rattle.patch_laws.specs.Fits.{IsFit}
+use Rattle.patch_laws.specs.NewListSites.{IsNewName}
+use Rattle.patch_laws.proofs.EditBusy.{packets-of, routes-of}
+use Rattle.patch_laws.proofs.EditLists.{packets-have, routes-have}
+use Rattle.patch_laws.proofs.EditRenumber.{at-enumerated, few-classes, few-prefixes}
+use Rattle.patch_laws.proofs.EntrySites.{block-entries, list-entries, prefix-entries}
+use Rattle.patch_laws.proofs.SessionFiles.{written-fit}
+
+-- what all of some items have
+pub all-from : {X : Type 0} (P : X → Type 0) (xs : List X) → ((x : X) → Contains xs x → P x) → AllByRecursion P xs
+all-from P [] each = tt
+all-from P (x ∷ xs) each = (each x (Contains-head x xs), all-from P xs (λ y there. each y (Contains-tail x y xs there)))
+
+pub all-of : {X : Type 0} (P : X → Type 0) (xs : List X) → AllByRecursion P xs → (x : X) → Contains xs x → P x
+all-of P [] all x there = absurd (Contains-none x there)
+all-of P (y ∷ xs) all x there = ⊎_elim (λ same. subst P same all.0) (λ more. all-of P xs all.1 x more) (Contains-cases y x xs there)
+
+-- the number of an entry
+pub order-fits : (place : ListPlace) (step at high : ℕ) → 1 ≤ step * at → step * at ≤ high → IsOrder high (order_at place step at)
+order-fits place step at high low few = by place.numbered
+  where
+    by : (b : Bool) → IsOrder high (if b then Some (step * at) else None)
+    by true = (low, few)
+    by false = tt
+
+-- an entry that is put before the first of a list: as a line of its block, or as a line of it
+pub record TableEntry (cs : List FileCommand) (item : ℕ × Written) : Type 0 where
+  pub list : ListText
+  pub among : Contains (config_of cs).lists list
+  pub some : list.entries ≢ []
+  pub number : item.0 ≡ first_line (list_place list)
+  pub stands : ((list.kind ≡ Extended) × (list.form ≡ forms.Block) × IsBlockLine kinds.Extended item.1) ⊎ (((list.form ≡ forms.Lines) ⊎ (list.form ≡ forms.PrefixLines)) × IsSingleLine item.1)
+  pub fit : IsFit item.1.line
+  pub order : list.numbered ≡ false → entry_number item.1.command ≡ None
+
+module _ (net : Network) (places : List Places) (chosen : List Edit) (router : ℕ) (text : List ℕ) (lines : Lines) (cs : List FileCommand) (file : IsEditedFile net places chosen router text lines cs) where
+  abbrev own : Places
+  own = own_places cs
+
+  packet-item : (id : ℕ) (row : PacketList) (h : HasPacketList cs row) (entry : ℕ × Class) → IsTrue (is_writable entry.1.service) → 1 ≤ entry.0 → entry.0 ≤ 16384 →
+      TableEntry cs (first_line (list_place h.list), class_written (list_place h.list) row entry)
+  packet-item id row h entry writable low few = by h.form
+    where
+      order : Option ℕ
+      order = order_at (list_place h.list) 10 entry.0
+
+      new : PacketEntry
+      new = opposite_packet_entry row.entries entry.1
+
+      by : (h.list.form ≡ forms.Block) ⊎ ((h.list.form ≡ forms.Lines) × (list_kind (number_of h.list.name) ≡ Some true)) → TableEntry cs (first_line (list_place h.list), packet_written h.list.form row.name order new)
+      by (inl form) =
+          let b = block-entries row.name order new writable (order-fits (list_place h.list) 10 entry.0 2147483647 (omega arith) (omega arith)) in
+          record {
+            list = h.list;
+            among = h.among;
+            some = h.some;
+            number = refl;
+            stands = inl (h.kind, form, subst (λ (f : ListForm). IsBlockLine kinds.Extended (packet_written f row.name order new)) (sym form) b.0);
+            fit = subst (λ (f : ListForm). IsFit (packet_line f row.name order new)) (sym form) b.1;
+            order = λ none. subst (λ (f : ListForm). entry_number (packet_command f row.name order new) ≡ None) (sym form) (ap (λ (b : Bool). if b then Some (10 * entry.0) else None) none);
+          }
+      by (inr form) =
+          let b = list-entries row.name order new writable (ap (λ (n : List ℕ). list_kind (number_of n)) (sym h.name) ∙ form.1) in
+          record {
+            list = h.list;
+            among = h.among;
+            some = h.some;
+            number = refl;
+            stands = inr (inl form.0, subst (λ (f : ListForm). IsSingleLine (packet_written f row.name order new)) (sym form.0) b.0);
+            fit = subst (λ (f : ListForm). IsFit (packet_line f row.name order new)) (sym form.0) b.1;
+            order = λ none. subst (λ (f : ListForm). entry_number (packet_command f row.name order new) ≡ None) (sym form.0) refl;
+          }
+
+  route-item : (id : ℕ) (row : RouteList) (h : HasRouteList cs row) (entry : ℕ × Prefix) → 1 ≤ entry.0 → entry.0 ≤ 16384 → TableEntry cs (first_line (list_place h.list), prefix_written (list_place h.list) row entry)
+  route-item id row h entry low few =
+      let b = prefix-entries (list_place h.list) row entry (subst (λ (n : List ℕ). IsTrue (is_name n)) h.name h.is_name) (λ same. h.other (h.name ∙ same)) (order-fits (list_place h.list) 5 entry.0 4294967294 (omega arith) (omega arith)) in
+      record {
+        list = h.list;
+        among = h.among;
+        some = h.some;
+        number = refl;
+        stands = inr (inr h.form, b.0);
+        fit = b.1;
+        order = λ none. ap (λ (b : Bool). if b then Some (5 * entry.0) else None) none;
+      }
+
+  -- each item of the table is one
+  pub table-entry : (item : ℕ × Written) → Contains (entry_table net own chosen router) item → TableEntry cs item
+  table-entry item there = ⊎_elim
+      (λ packets.
+      let (id, in_ids, has) = from_piece (class_table net own chosen) (edited_packet_lists net chosen router) item packets in
+      let (row, at, h) = packets-of net places chosen router text lines cs file id in_ids in
+      let here = subst (λ (l : List (ℕ × Written)). Contains l item) (packets-have net cs (λ (list : PacketList) (place : ListPlace). written_at (first_line place) (map (class_written place list) (enumerate_from 1 (list_classes chosen id)))) id row h at) has in
+      let (w, in_written, is) = from_map (λ (w : Written). (first_line (list_place h.list), w)) (map (class_written (list_place h.list) row) (enumerate_from 1 (list_classes chosen id))) item here in
+      let (entry, in_classes, same) = from_map (class_written (list_place h.list) row) (enumerate_from 1 (list_classes chosen id)) w in_written in
+      let (k, number, get) = at-enumerated 1 (list_classes chosen id) entry in_classes in
+      let low = slice_get_within (list_classes chosen id) k entry.1 get in
+      let few = few-classes chosen id in
+      let all = file.few in
+      subst (TableEntry cs) (ap (λ (x : Written). (first_line (list_place h.list), x)) same ∙ is) (packet-item id row h entry (file.classes id entry.1 (item_at_place (list_classes chosen id) k entry.1 get)) (omega arith) (omega arith)))
+      (λ routes.
+      let (id, in_ids, has) = from_piece (prefix_table net own chosen) (edited_route_lists net chosen router) item routes in
+      let (row, at, h) = routes-of net places chosen router text lines cs file id in_ids in
+      let here = subst (λ (l : List (ℕ × Written)). Contains l item) (routes-have net cs (λ (list : RouteList) (place : ListPlace). written_at (first_line place) (map (prefix_written place list) (enumerate_from 1 (list_prefixes chosen id)))) id row h at) has in
+      let (w, in_written, is) = from_map (λ (w : Written). (first_line (list_place h.list), w)) (map (prefix_written (list_place h.list) row) (enumerate_from 1 (list_prefixes chosen id))) item here in
+      let (entry, in_prefixes, same) = from_map (prefix_written (list_place h.list) row) (enumerate_from 1 (list_prefixes chosen id)) w in_written in
+      let (k, number, get) = at-enumerated 1 (list_prefixes chosen id) entry in_prefixes in
+      let low = slice_get_within (list_prefixes chosen id) k entry.1 get in
+      let few = few-prefixes chosen id in
+      let all = file.few in
+      subst (TableEntry cs) (ap (λ (x : Written). (first_line (list_place h.list), x)) same ∙ is) (route-item id row h entry (omega arith) (omega arith)))
+      (Contains-append_cases (flat_map (class_table net own chosen) (edited_packet_lists net chosen router)) (flat_map (prefix_table net own chosen) (edited_route_lists net chosen router)) item there)
+
+-- the lines of new lists may be put in
+deny-fit : (name : List ℕ) → IsTrue (is_name name) → name ≢ codes "sequence-number" → (entry : ℕ × Prefix) → 1 ≤ entry.0 → entry.0 ≤ 16384 → IsFit (deny_line name entry)
+deny-fit name is other entry low high =
+    let line = prefix_line-line name (Some (5 * entry.0)) false entry.1 is other ((omega arith), (omega arith)) in
+    written-fit (prefix_line_words name (Some (5 * entry.0)) false entry.1) (deny_line name entry) line.written (omega arith)
+
+permit-fit : (name : List ℕ) → IsTrue (is_name name) → name ≢ codes "sequence-number" → (number : ℕ) → 1 ≤ number → number ≤ 100000 → IsFit (top_line (permit_all_words name number))
+permit-fit name is other number low high =
+    let line = permit_all-line name number is other ((omega arith), (omega arith)) in
+    written-fit (permit_all_words name number) (top_line (permit_all_words name number)) line.written (omega arith)
+
+route-fit : (name : List ℕ) → IsTrue (is_name name) → name ≢ codes "sequence-number" → (k : ℕ) (prefixes : List Prefix) (last : ℕ) → 1 ≤ k → k + length prefixes ≤ 16385 → 1 ≤ last → last ≤ 100000 →
+    AllByRecursion IsFit (map (deny_line name) (enumerate_from k prefixes) ++ top_line (permit_all_words name last) ∷ [])
+route-fit name is other k [] last low high some few = (permit-fit name is other last some few, tt)
+route-fit name is other k (p ∷ prefixes) last low high some few = (deny-fit name is other (k, p) low (omega arith), route-fit name is other (k + 1) prefixes last (omega arith) (omega arith) some few)
+
+entry-fit : (entry : PacketEntry) → IsTrue (is_writable entry.service) → IsFit (spaced (entry_words None (packet_text entry)))
+entry-fit entry writable =
+    let line = entry-line None (packet_text entry) writable tt in
+    written-fit (entry_words None (packet_text entry)) (spaced (entry_words None (packet_text entry))) line.written (omega arith)
+
+mark-fit : IsFit (codes "!")
+mark-fit = written-fit (codes "!" ∷ []) (codes "!") closing-line.written (omega arith)
+
+packet-fit : (classes : List Class) → ((class : Class) → Contains classes class → IsTrue (is_writable class.service)) →
+    AllByRecursion IsFit (map deny_class_line classes ++ spaced (entry_words None (packet_text every_packet)) ∷ codes "!" ∷ [])
+packet-fit [] writable = (entry-fit every_packet refl, (mark-fit, tt))
+packet-fit (class ∷ classes) writable =
+    (entry-fit (class_entry false class) (writable class (Contains-head class classes)), packet-fit classes (λ c there. writable c (Contains-tail class c classes there)))
+
+pub new-lines-fit : (chosen : List Edit) (list : NewList) (name : List ℕ) → IsNewName chosen (list, name) → AllByRecursion IsFit (new_list_lines chosen list name)
+new-lines-fit chosen (Route face) name is =
+    let few = is.few face.0 in
+    route-fit name is.name is.other 1 (new_prefixes chosen face.0) (5 * (length (new_prefixes chosen face.0) + 1)) (omega arith) (omega arith) (omega arith) (omega arith)
+new-lines-fit chosen (Packet face) name is =
+    let head = list_head-line name is.name in
+    (written-fit (list_head_words name) (top_line (list_head_words name)) head.written (omega arith), packet-fit (new_classes chosen face.0) (is.writable face.0))

@@ -1,0 +1,157 @@
+-- The numbers of a list that has some rise with the entries of the edits.
+use Rattle.std.proofs.Common.{◌≡◌, ◌≢◌, ℕ, ◌+◌, ◌*◌, ◌<◌, Bool, true, if◌then◌else◌, Option, Some, None, List, [], ◌∷◌, ◌++◌, length, map, refl, sym, ap, subst, ◌∙◌, arith, ⊎_elim, Contains}
+use Rattle.std.specs.List.{enumerate_from, filter_map, flat_map}
+use Rattle.std.proofs.lemmas.Bool.{false≢true}
+use Rattle.arc_base.specs.declared.prefix.Prefix.{Prefix}
+use Rattle.net_model.specs.declared.policies.Class.{Class}
+use Rattle.net_model.specs.declared.rows.Network.{Network}
+use Rattle.ios_lines.specs.declared.line.Lines.{Lines}
+use Rattle.ios_lines.specs.Texts.{text_lines}
+use Rattle.ios_words.specs.declared.commands.Command.{Command}
+use Rattle.ios_config.specs.declared.commands.FileCommand.{FileCommand}
+use Rattle.ios_config.specs.declared.settings.Given.{Given}
+use Rattle.ios_config.specs.declared.settings.ListForm.{ListForm}
+use Rattle.ios_config.specs.declared.settings.ListForm.TheVariants as forms
+use Rattle.ios_config.specs.declared.settings.ListKind.{ListKind}
+use Rattle.ios_config.specs.declared.settings.ListKind.TheVariants as kinds
+use Rattle.ios_config.specs.declared.settings.ListText.{ListText}
+use Rattle.ios_config.specs.Groups.{members}
+use Rattle.ios_config.specs.Texts.{config_of, entries, entry_number, given, is_entry, is_numbered}
+use Rattle.net_build.specs.declared.built.Places.{Places}
+use Rattle.net_build.specs.Places.{list_place}
+use Rattle.edit_list.specs.declared.edit_kinds.Edit.{Edit}
+use Rattle.edit_list.specs.Changes.{list_prefixes, list_classes}
+use Rattle.arc_base.specs.Numbered.{of_number}
+use Rattle.edit_list.proofs.NewListFacts.{picks}
+use Rattle.line_patcher.specs.declared.additions.NewNumber.{NewNumber}
+use Rattle.line_patcher.specs.EntryLines.{new_number, new_numbers}
+use Rattle.settings_edit_laws.specs.Additions.{class_for, prefix_for}
+use Rattle.line_edit_laws.specs.Sites.{Written, in_block, says_other}
+use Rattle.patch_laws.specs.EditFiles.{IsEditedFile}
+use Rattle.patch_laws.specs.EditSites.{entries_at}
+use Rattle.patch_laws.proofs.EditCounted.{Counts, alone, classes-count, counts-append, counts-rise, front-numbers, none-alone, numbers, numbers-append, numbers-are, prefixes-count, renumbered, rises-of, unchanged}
+use Rattle.patch_laws.proofs.EditFronts.{FirstOf, first-of, members-rise, none-elsewhere}
+use Rattle.patch_laws.proofs.EditGrow.{own, grow_at, new_at, grow-is}
+use Rattle.patch_laws.proofs.EditListGroups.{no-ends}
+use Rattle.patch_laws.proofs.EditLists.{ListGroup, list-group}
+use Rattle.patch_laws.proofs.EditListsShow.{classes-found, classes-here, no-class-here, no-prefix-here, only-classes, only-prefixes, prefixes-found, prefixes-here}
+use Rattle.patch_laws.proofs.EditNewNumbers.{new_numbers_at, no-packets, no-routes, some-packets, some-routes}
+use Rattle.patch_laws.proofs.EditNumbers.{lines-unnumbered, number-of, rise-in}
+use Rattle.patch_laws.proofs.EditRising.{Rises, numbers_of}
+
+module _ (net : Network) (places : List Places) (chosen : List Edit) (router : ℕ) (text : List ℕ) (lines : Lines) (cs : List FileCommand) (f : IsEditedFile net places chosen router text lines cs) where
+  abbrev own_at : Places
+  own_at = own net places chosen router text lines cs
+
+  abbrev grown_at : FileCommand → List FileCommand
+  grown_at c = grow_at net places chosen router text lines cs c
+
+  abbrev news : FileCommand → List NewNumber
+  news c = new_numbers_at net places chosen router text lines cs f c
+
+  -- the numbers of the entries before a command, and its own
+  abbrev before : FileCommand → List (Option ℕ)
+  before c = numbers (map (in_block c.block) (entries_at net own_at chosen router c))
+
+  abbrev itself : FileCommand → List (Option ℕ)
+  itself c = alone (new_at net places chosen router text lines cs c)
+
+  module _ (list : ListText) (listed : Contains (config_of cs).lists list) (g : ListGroup cs list) (numbered : list.numbered ≡ true) where
+    abbrev x : List ℕ × ListKind × ListForm
+    x = (list.name, list.kind, list.form)
+
+    abbrev group : List FileCommand
+    group = members cs g.part
+
+    grows : (c : FileCommand) → Contains group c → numbers (grown_at c) ≡ before c ++ itself c
+    grows c there =
+        let front = map (in_block c.block) (entries_at net own_at chosen router c) in
+        let m = says_other c (new_at net places chosen router text lines cs c) in
+        ap numbers (grow-is net places chosen router text lines cs c ∙ ap (λ (l : List Written). front ++ (m ∷ map (in_block c.block) l)) (no-ends net places chosen router text lines cs f g.part g.first g.rest g.is x g.begun c there)) ∙ numbers-append front (m ∷ [])
+
+    in-list : (c : FileCommand) → Contains group c → is_entry c.command ≡ true → Contains list.entries (given c)
+    in-list c there entry =
+        subst (λ (es : List (Given Command)). Contains es (given c)) (ap entries g.is ∙ sym g.entries_are)
+        (picks (λ (d : FileCommand). if is_entry d.command then Some (given d) else None) group c (given c) there (ap (λ (b : Bool). if b then Some (given c) else None) entry))
+
+    has-number : (c : FileCommand) → Contains group c → is_entry c.command ≡ true → (m : ℕ) × (entry_number c.command ≡ Some m)
+    has-number c there entry = number-of (text_lines text) cs f.stand list listed f.rising numbered (given c) (in-list c there entry)
+
+    -- another row of the list has numbers too
+    also-numbered : (other : ListText) → Contains (config_of cs).lists other → other.entries ≡ entries group → other.numbered ≡ true
+    also-numbered other among same = let h = list-group cs other among in h.numbered_is ∙ ap is_numbered (sym h.entries_are ∙ same ∙ ap entries g.is) ∙ sym g.numbered_is ∙ numbered
+
+    module _ (e : Given Command) (more : List (Given Command)) (es : entries group ≡ e ∷ more) (c : FirstOf group e) where
+      whole : numbers (flat_map grown_at group) ≡ before c.command ++ flat_map itself group
+      whole =
+          front-numbers grown_at before itself 1 group c.command (members-rise net places chosen router text lines cs f g.part g.first g.rest g.is x g.begun) c.among grows
+          (λ d there other. ap (λ (ws : List Written). numbers (map (in_block d.block) ws)) (none-elsewhere net places chosen router text lines cs f g.part g.first g.rest g.is x g.begun e more es c d there other))
+          (λ d there low. none-alone d.command (news d) (c.before d there low))
+
+      -- without new entries and numbers the list is as it was
+      as-before : entries_at net own_at chosen router c.command ≡ [] → ((d : FileCommand) → Contains group d → news d ≡ []) → Rises (numbers (flat_map grown_at group))
+      as-before none quiet =
+          let same : numbers (flat_map grown_at group) ≡ numbers_of list.entries =
+          whole ∙ ap (λ (ws : List Written). numbers (map (in_block c.command.block) ws) ++ flat_map itself group) none ∙ unchanged 0 0 0 news group (λ d there is. quiet d there) ∙ sym (numbers-are group) ∙ ap (λ (l : List FileCommand). numbers_of (entries l)) g.is ∙ ap numbers_of (sym g.entries_are) in
+          subst Rises (sym same) (rises-of list.entries (rise-in (config_of cs).lists list f.rising listed))
+
+      -- else new and old entries are counted on
+      counted : (word step count : ℕ) (other : ListText) → ((k : ℕ) → step * k < step * (k + 1)) → other.entries ≡ entries group → other.numbered ≡ true →
+          ((d : FileCommand) → Contains group d → news d ≡ of_number d.line (new_numbers (list_place other) word step count)) → Counts step 1 (before c.command) × (length (before c.command) ≡ count) → Rises (numbers (flat_map grown_at group))
+      counted word step count other up same has news_are front =
+          let long = front.1 in
+          let old = renumbered word step count news 1 1 group (members-rise net places chosen router text lines cs f g.part g.first g.rest g.is x g.begun)
+          (λ d there is. news_are d there ∙ (λ i. of_number d.line (if has i then map (new_number word step count) (enumerate_from 1 (map (λ (h : Given Command). h.line) (same i))) else []))) has-number in
+          subst Rises (sym whole) (counts-rise step 1 (before c.command ++ flat_map itself group) up (counts-append step 1 (count + 1) (before c.command) (flat_map itself group) (omega (arith, long)) front.0 old))
+
+      packets-rise : list.kind ≢ kinds.Prefix → Rises (numbers (flat_map grown_at group))
+      packets-rise kind = by (filter_map (class_for net router list.name) chosen) refl
+        where
+          by : (zs : List Class) → filter_map (class_for net router list.name) chosen ≡ zs → Rises (numbers (flat_map grown_at group))
+          by [] made = as-before
+              (only-classes net places chosen router text lines cs f g.part g.first g.rest g.is x g.begun e more es c kind ∙ no-class-here net places chosen router text lines cs f g.part g.first g.rest g.is x g.begun e more es c made)
+              (λ d there. no-packets net places chosen router text lines cs f g.part g.first g.rest g.is x g.begun d there kind made)
+          by (z ∷ zs) made =
+              let s = classes-found net places chosen router text lines cs f g.part g.first g.rest g.is x g.begun z zs made kind in
+              let has = also-numbered s.has.list s.has.among s.is_this.entries_are in
+              let form : s.has.list.form ≡ forms.Block = ⊎_elim (λ block. block) (λ rows. absurd (false≢true (sym (lines-unnumbered (text_lines text) cs f.stand s.has.list s.has.among rows.0) ∙ has))) s.has.form in
+              let front = only-classes net places chosen router text lines cs f g.part g.first g.rest g.is x g.begun e more es c kind ∙
+              classes-here net places chosen router text lines cs f g.part g.first g.rest g.is x g.begun e more es c s.id s.row s.at s.here s.named s.has s.some s.is_this in
+              counted 0 10 (length (list_classes chosen s.id)) s.has.list (λ k. omega arith) s.is_this.entries_are has (λ d there. some-packets net places chosen router text lines cs f g.part g.first g.rest g.is x g.begun d there kind s)
+              (subst (λ (ws : List Written). Counts 10 1 (numbers (map (in_block c.command.block) ws)) × (length (numbers (map (in_block c.command.block) ws)) ≡ length (list_classes chosen s.id))) (sym front)
+              (classes-count c.command.block (list_place s.has.list) s.row (list_classes chosen s.id) form has))
+
+      routes-rise : list.kind ≡ kinds.Prefix → Rises (numbers (flat_map grown_at group))
+      routes-rise kind = by (filter_map (prefix_for net router list.name) chosen) refl
+        where
+          by : (zs : List Prefix) → filter_map (prefix_for net router list.name) chosen ≡ zs → Rises (numbers (flat_map grown_at group))
+          by [] made = as-before
+              (only-prefixes net places chosen router text lines cs f g.part g.first g.rest g.is x g.begun e more es c kind ∙ no-prefix-here net places chosen router text lines cs f g.part g.first g.rest g.is x g.begun e more es c made)
+              (λ d there. no-routes net places chosen router text lines cs f g.part g.first g.rest g.is x g.begun d there kind made)
+          by (z ∷ zs) made =
+              let s = prefixes-found net places chosen router text lines cs f g.part g.first g.rest g.is x g.begun z zs made kind in
+              let has = also-numbered s.has.list s.has.among s.is_this.entries_are in
+              let front = only-prefixes net places chosen router text lines cs f g.part g.first g.rest g.is x g.begun e more es c kind ∙
+              prefixes-here net places chosen router text lines cs f g.part g.first g.rest g.is x g.begun e more es c s.id s.row s.at s.here s.named s.has s.some s.is_this in
+              counted 4 5 (length (list_prefixes chosen s.id)) s.has.list (λ k. omega arith) s.is_this.entries_are has (λ d there. some-routes net places chosen router text lines cs f g.part g.first g.rest g.is x g.begun d there kind s)
+              (subst (λ (ws : List Written). Counts 5 1 (numbers (map (in_block c.command.block) ws)) × (length (numbers (map (in_block c.command.block) ws)) ≡ length (list_prefixes chosen s.id))) (sym front)
+              (prefixes-count c.command.block 1 (list_place s.has.list) s.row (list_prefixes chosen s.id) has))
+
+    -- the numbers of the list with the entries of the edits
+    pub numbered-rise : Rises (numbers_of (entries (flat_map grown_at group)))
+    numbered-rise = subst Rises (sym (numbers-are (flat_map grown_at group))) (by-entries (entries group) refl)
+      where
+        extended-prefix : kinds.Extended ≡ kinds.Prefix → ⊥
+        extended-prefix e = absurd cc
+
+        standard-prefix : kinds.Standard ≡ kinds.Prefix → ⊥
+        standard-prefix e = absurd cc
+
+        by-kind : (k : ListKind) → list.kind ≡ k → (e : Given Command) (more : List (Given Command)) → entries group ≡ e ∷ more → FirstOf group e → Rises (numbers (flat_map grown_at group))
+        by-kind kinds.Extended kind e more es c = packets-rise e more es c (λ p. extended-prefix (sym kind ∙ p))
+        by-kind kinds.Standard kind e more es c = packets-rise e more es c (λ p. standard-prefix (sym kind ∙ p))
+        by-kind kinds.Prefix kind e more es c = routes-rise e more es c kind
+
+        by-entries : (gs : List (Given Command)) → entries group ≡ gs → Rises (numbers (flat_map grown_at group))
+        by-entries [] es = absurd (false≢true (sym (ap is_numbered (sym (ap entries g.is) ∙ es)) ∙ sym g.numbered_is ∙ numbered))
+        by-entries (e ∷ more) es = by-kind list.kind refl e more es (first-of 1 group e more (members-rise net places chosen router text lines cs f g.part g.first g.rest g.is x g.begun) es)

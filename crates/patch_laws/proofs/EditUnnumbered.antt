@@ -1,0 +1,162 @@
+-- A list without numbers has none with the entries of the edits.
+use Rattle.std.proofs.Common.{◌≡◌, ℕ, zero, suc, ◌+◌, ◌==◌, Bool, true, false, if◌then◌else◌, Option, Some, None, List, [], ◌∷◌, map, refl, sym, ap, subst, ◌∙◌, ⊎_elim, Contains, arith}
+use Rattle.std.specs.Prelude.{slice_get, is_some}
+use Rattle.std.specs.List.{flat_map}
+use Rattle.std.proofs.lemmas.Bool.{false≢true, true≢false}
+use Rattle.std.proofs.lemmas.Option.{none-some, same_Some}
+use Rattle.std.proofs.lemmas.List.Elements.{Contains-append_cases}
+use Rattle.arc_base.proofs.Items.{Contains-cases, Contains-none, Contains-head, from_filter, from_map, from_piece}
+use Rattle.net_model.proofs.Readings.{place_of_item}
+use Rattle.net_model.specs.declared.rows.Network.{Network}
+use Rattle.ios_lines.specs.declared.line.Lines.{Lines}
+use Rattle.ios_lines.specs.Texts.{text_lines}
+use Rattle.ios_words.specs.declared.commands.Command.{Command}
+use Rattle.ios_words.specs.declared.commands.Command.TheVariants as commands
+use Rattle.ios_config.specs.declared.commands.FileCommand.{FileCommand}
+use Rattle.ios_config.specs.declared.settings.Given.{Given}
+use Rattle.ios_config.specs.declared.settings.ListText.{ListText}
+use Rattle.ios_config.specs.Groups.{Part, is_same, members, part_of}
+use Rattle.ios_config.specs.Rising.{FallsAt, rises}
+use Rattle.ios_config.specs.Texts.{config_of, entries, entry_number, given, is_entry, is_numbered}
+use Rattle.ios_config.proofs.PartLists.{is_same-Decides}
+use Rattle.net_build.specs.declared.built.Places.{Places}
+use Rattle.edit_list.specs.declared.edit_kinds.Edit.{Edit}
+use Rattle.arc_base.specs.Numbered.{of_number}
+use Rattle.edit_list.proofs.NewListFacts.{picked_from, picks}
+use Rattle.line_patcher.specs.declared.additions.NewNumber.{NewNumber}
+use Rattle.line_patcher.specs.Additions.{numbers_at}
+use Rattle.line_edit_laws.specs.Sites.{Single, Written, chunk_commands, in_block, own_commands, says_other}
+use Rattle.patch_laws.specs.EditFiles.{IsEditedFile}
+use Rattle.patch_laws.specs.EditSiteLaws.{own_places}
+use Rattle.patch_laws.specs.EditSites.{end_table, entries_at, entry_table, grow, inner_entries, new_key, put, singles, with_number}
+use Rattle.patch_laws.proofs.EditEntries.{table-entry}
+use Rattle.patch_laws.proofs.EditLists.{ListGroup, entry-command, first-entry, from-number, list-group}
+use Rattle.patch_laws.proofs.EditNumbers.{rise-in}
+use Rattle.patch_laws.proofs.EditRenumber.{numbered-list}
+use Rattle.patch_laws.proofs.EditRows.{one-command}
+use Rattle.patch_laws.proofs.EditSequences.{sequences}
+
+-- in a list whose numbers rise, no entry has one where the first has none
+none-numbered : (es : List (Given Command)) → ((line : ℕ) → ¬ FallsAt es line) → is_numbered es ≡ false → (k : ℕ) (g : Given Command) → slice_get es k ≡ Some g → entry_number g.value ≡ None
+none-numbered [] rise is k g at = absurd (none-some g at)
+none-numbered (e ∷ es) rise is zero g at = no-number (entry_number g.value) (subst (λ (x : Given Command). is_some (entry_number x.value) ≡ false) (same_Some e g at) is)
+  where
+    no-number : (o : Option ℕ) → is_some o ≡ false → o ≡ None
+    no-number None none = refl
+    no-number (Some n) some = absurd (true≢false some)
+none-numbered (e ∷ es) rise is (suc k) g at = next (before (e ∷ es) k g at) (λ h here. none-numbered (e ∷ es) rise is k h here)
+  where
+    before : (xs : List (Given Command)) (k : ℕ) (g : Given Command) → slice_get xs (suc k) ≡ Some g → (h : Given Command) × (slice_get xs k ≡ Some h)
+    before [] k g at = absurd (none-some g at)
+    before (x ∷ xs) zero g at = (x, refl)
+    before (x ∷ xs) (suc k) g at = before xs k g at
+
+    by : (h : Given Command) → slice_get (e ∷ es) k ≡ Some h → entry_number h.value ≡ None → (o : Option ℕ) → entry_number g.value ≡ o → o ≡ None
+    by h here none None said = refl
+    by h here none (Some n) said =
+        let step : k + 1 ≡ suc k = omega arith in
+        absurd (rise g.line (record {
+          place = k;
+          earlier = h;
+          at_place = here;
+          later = g;
+          at_next = ap (slice_get (e ∷ es)) step ∙ at;
+          falls = (λ i. rises (none i) (said i));
+          is_line = refl;
+        }))
+
+    next : (h : Given Command) × (slice_get (e ∷ es) k ≡ Some h) → ((h : Given Command) → slice_get (e ∷ es) k ≡ Some h → entry_number h.value ≡ None) → entry_number g.value ≡ None
+    next (h, here) earlier = by h here (earlier h here) (entry_number g.value) refl
+
+entry-with : (k : Command) (new : List NewNumber) → is_entry (with_number k new) ≡ is_entry k
+entry-with k [] = refl
+entry-with (commands.Entry order entry) (n ∷ more) = refl
+entry-with (commands.PrefixLine name order entry) (n ∷ more) = refl
+entry-with _ (n ∷ more) = refl
+
+module _ (net : Network) (places : List Places) (chosen : List Edit) (router : ℕ) (text : List ℕ) (lines : Lines) (cs : List FileCommand) (f : IsEditedFile net places chosen router text lines cs)
+    (list : ListText) (listed : Contains (config_of cs).lists list) (group : ListGroup cs list) (none : list.numbered ≡ false) (ends : (c : FileCommand) → Contains (members cs group.part) c → of_number c.line (end_table net places (own_places cs) chosen router) ≡ []) where
+  abbrev own : Places
+  own = own_places cs
+
+  abbrev q : Part
+  q = group.part
+
+  abbrev grown_at : FileCommand → List FileCommand
+  grown_at c = grow net places own chosen router text lines (new_key lines) c
+
+  of-part : (c : FileCommand) → Contains (members cs q) c → Contains cs c × (q ≡ part_of c)
+  of-part c there = let (among, same) = from_filter (λ (d : FileCommand). is_same q (part_of d)) cs c there in (among, (is_same-Decides q (part_of c)).0 same)
+
+  -- another list with an entry in this part is this one
+  same-list : (c : FileCommand) → Contains cs c → q ≡ part_of c → (other : ListText) (there : Contains (config_of cs).lists other) (e : Given Command) → Contains other.entries e → c.line ≡ e.line → other.numbered ≡ false
+  same-list c among part other there e has line =
+      let h = list-group cs other there in
+      let d = entry-command cs other h e has in
+      let same : d.command ≡ c = one-command (text_lines text) cs d.command c f.stand d.among among (d.line ∙ sym line) in
+      let parts : h.part ≡ q = sym d.own ∙ ap part_of same ∙ sym part in
+      h.numbered_is ∙ ap (λ (g : List FileCommand). is_numbered (entries g)) (sym h.is ∙ ap (members cs) parts ∙ group.is) ∙ sym group.numbered_is ∙ none
+
+  new-none : (c : FileCommand) → Contains cs c → q ≡ part_of c → (w : Written) → Contains (entries_at net own chosen router c) w → entry_number w.command ≡ None
+  new-none c among part w there =
+      let t = table-entry net places chosen router text lines cs f (c.line, w) (from-number c.line (entry_table net own chosen router) w there) in
+      let e = first-entry t.list t.some in
+      let has : Contains t.list.entries e.first = subst (λ (es : List (Given Command)). Contains es e.first) (sym e.is) (Contains-head e.first e.more) in
+      t.order (same-list c among part t.list t.among e.first has (t.number ∙ e.line))
+
+  own-none : (c : FileCommand) → Contains (members cs q) c → is_entry c.command ≡ true → (ns : List NewNumber) → of_number c.line (numbers_at net own chosen router) ≡ ns → entry_number (with_number c.command ns) ≡ None
+  own-none c there entry (new ∷ more) is =
+      let m = of-part c there in
+      let n = numbered-list sequences net places chosen router text lines cs f c m.0 new more is in
+      absurd (false≢true (sym (same-list c m.0 m.1 n.list n.listed n.entry n.has n.line) ∙ n.numbered))
+  own-none c there entry [] is =
+      let h = group in
+      let has : Contains (entries (members cs q)) (given c) = picks (λ (d : FileCommand). if is_entry d.command then Some (given d) else None) (members cs q) c (given c) there (ap (λ (b : Bool). if b then Some (given c) else None) entry) in
+      let in_list : Contains list.entries (given c) = subst (λ (es : List (Given Command)). Contains es (given c)) (ap entries h.is ∙ sym h.entries_are) has in
+      let (k, at) = place_of_item list.entries (given c) in_list in
+      none-numbered list.entries (rise-in (config_of cs).lists list f.rising listed) (ap is_numbered h.entries_are ∙ sym h.numbered_is ∙ none) k (given c) at
+
+  command-none : (c : FileCommand) → Contains (members cs q) c → (v : FileCommand) → Contains (grown_at c) v → is_entry v.command ≡ true → entry_number v.command ≡ None
+  command-none c there v in_grown entry = ⊎_elim
+      (λ chunks.
+      let (t, in_chunks, in_t) = from_piece chunk_commands (map Single (singles net own chosen router c)) v chunks in
+      let (w, in_singles, is) = from_map Single (singles net own chosen router c) t in_chunks in
+      single w (by-single (c.block == 0) w in_singles) (subst (λ x. Contains (chunk_commands x) v) (sym is) in_t))
+      (λ owns. ⊎_elim
+      (λ inner. let (w, has, is) = from_map (in_block c.block) (inner_entries net own chosen router c) v inner in ap (λ (x : FileCommand). entry_number x.command) (sym is) ∙ new-none c m.0 m.1 w (by-inner (c.block == 0) w has))
+      (λ more. ⊎_elim
+      (λ itself.
+      ap (λ (x : FileCommand). entry_number x.command) (sym itself) ∙
+      own-none c there (sym (entry-with c.command (of_number c.line (numbers_at net own chosen router))) ∙ ap (λ (x : FileCommand). is_entry x.command) itself ∙ entry) (of_number c.line (numbers_at net own chosen router)) refl)
+      (λ later. absurd (Contains-none v (subst (λ (ws : List Written). Contains (map (in_block c.block) ws) v) (ends c there) later)))
+      (Contains-cases (says_other c (put net places own chosen router text lines (new_key lines) c).command) v (map (in_block c.block) (of_number c.line (end_table net places own chosen router))) more))
+      (Contains-append_cases (map (in_block c.block) (inner_entries net own chosen router c)) (says_other c (put net places own chosen router text lines (new_key lines) c).command ∷ map (in_block c.block) (of_number c.line (end_table net places own chosen router))) v owns))
+      (Contains-append_cases (flat_map chunk_commands (map Single (singles net own chosen router c))) (own_commands c (put net places own chosen router text lines (new_key lines) c)) v in_grown)
+    where
+      m : Contains cs c × (q ≡ part_of c)
+      m = of-part c there
+
+      by-single : (b : Bool) (w : Written) → Contains (if b then entries_at net own chosen router c else []) w → Contains (entries_at net own chosen router c) w
+      by-single true w has = has
+      by-single false w has = absurd (Contains-none w has)
+
+      by-inner : (b : Bool) (w : Written) → Contains (if b then [] else entries_at net own chosen router c) w → Contains (entries_at net own chosen router c) w
+      by-inner true w has = absurd (Contains-none w has)
+      by-inner false w has = has
+
+      single : (w : Written) → Contains (entries_at net own chosen router c) w → Contains (in_block 0 w ∷ []) v → entry_number v.command ≡ None
+      single w has one = ⊎_elim
+          (λ same. ap (λ (x : FileCommand). entry_number x.command) (sym same) ∙ new-none c m.0 m.1 w has)
+          (λ no. absurd (Contains-none v no))
+          (Contains-cases (in_block 0 w) v [] one)
+
+  -- no entry of the grown list has a number
+  pub all-none : (e : Given Command) → Contains (entries (flat_map grown_at (members cs q))) e → entry_number e.value ≡ None
+  all-none e there =
+      let (v, in_grown, picked) = picked_from (λ (d : FileCommand). if is_entry d.command then Some (given d) else None) (flat_map grown_at (members cs q)) e there in
+      let (c, in_members, in_c) = from_piece grown_at (members cs q) v in_grown in
+      by c v in_members in_c (is_entry v.command) refl picked
+    where
+      by : (c v : FileCommand) → Contains (members cs q) c → Contains (grown_at c) v → (b : Bool) → is_entry v.command ≡ b → (if b then Some (given v) else None) ≡ Some e → entry_number e.value ≡ None
+      by c v in_members in_c true is picked = ap (λ (x : Given Command). entry_number x.value) (sym (same_Some (given v) e picked)) ∙ command-none c in_members v in_c is
+      by c v in_members in_c false is picked = absurd (none-some e picked)

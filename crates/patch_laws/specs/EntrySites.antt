@@ -1,0 +1,160 @@
+-- The lines of entries that are added to lists, with the commands that they are read as, and
+-- entries of other numbers.
+use Rattle.std.specs.Prelude.{◌≡◌, ◌≢◌, ℕ, ◌+◌, ◌^◌, ◌<◌, true, false, Option, Some, List, ◌∷◌, map}
+use Rattle.std.specs.Prelude.{codes, decimal, slice_get, IsTrue}
+use Rattle.std.specs.List.{enumerate_from}
+use Rattle.arc_base.specs.declared.prefix.Prefix.{Prefix}
+use Rattle.arc_base.specs.declared.span.Span.{Span}
+use Rattle.arc_base.specs.PrefixText.{number_of}
+use Rattle.net_model.specs.declared.lists.PacketEntry.{PacketEntry}
+use Rattle.net_model.specs.declared.lists.PacketList.{PacketList}
+use Rattle.net_model.specs.declared.lists.RouteList.{RouteList}
+use Rattle.net_model.specs.declared.policies.Class.{Class}
+use Rattle.ios_lines.specs.declared.line.Line.{Line}
+use Rattle.ios_lines.specs.declared.line.Lines.{Lines}
+use Rattle.ios_lines.specs.ChangeLaws.{CanBeCut}
+use Rattle.ios_lines.specs.Ended.{IsFree, HasNoReturn}
+use Rattle.ios_lines.specs.Lines.{AreLinesOf}
+use Rattle.ios_lines.specs.Rewritten.{rewritten}
+use Rattle.ios_lines.specs.Texts.{part}
+use Rattle.ios_words.specs.declared.commands.Command.{Command}
+use Rattle.ios_words.specs.declared.commands.Command.TheVariants as commands
+use Rattle.ios_words.specs.declared.commands.PacketText.{PacketText}
+use Rattle.ios_words.specs.declared.commands.RouteText.{RouteText}
+use Rattle.ios_words.specs.declared.kinds.BlockKind.TheVariants as kinds
+use Rattle.ios_words.specs.Commands.{ReadBy}
+use Rattle.ios_words.specs.Forms.{IsOrder}
+use Rattle.ios_words.specs.Language.{rows}
+use Rattle.arc_base.specs.NameForms.{is_name}
+use Rattle.ios_words.specs.Numbers.{list_kind}
+use Rattle.ios_words.specs.Printed.{route_text}
+use Rattle.ios_config.specs.declared.commands.FileCommand.{FileCommand}
+use Rattle.ios_config.specs.declared.settings.ListForm.{ListForm}
+use Rattle.ios_config.specs.declared.settings.ListForm.TheVariants as forms
+use Rattle.net_build.specs.declared.built.ListPlace.{ListPlace}
+use Rattle.net_rules.specs.Lists.{packet_text}
+use Rattle.edit_list.specs.After.{opposite_packet_entry, opposite_route_entry}
+use Rattle.edit_list.specs.Writable.{is_writable}
+use Rattle.line_patcher.specs.EntryLines.{order_at, packet_line, prefix_line, class_lines}
+use Rattle.line_patcher.specs.EntryLines.{prefix_lines}
+use Rattle.line_edit_laws.specs.Sites.{Written, Site, bytes_of, IsSingleLine, IsBlockLine}
+use Rattle.line_edit_laws.specs.Sites.{IsOfBlock}
+use Rattle.line_edit_laws.specs.Sites.{IsRewrittenFor}
+use Rattle.patch_laws.specs.Fits.{IsFit}
+
+-- what the line of an entry of a packet list is read as
+abbrev pub packet_command : ListForm → List ℕ → Option ℕ → PacketEntry → Command
+packet_command forms.Block name order entry = commands.Entry order (packet_text entry)
+packet_command forms.Lines name order entry = commands.ListLine name (packet_text entry)
+packet_command forms.PrefixLines name order entry = commands.Entry order (packet_text entry)
+
+abbrev pub packet_written : ListForm → List ℕ → Option ℕ → PacketEntry → Written
+packet_written form name order entry = record {
+  line = packet_line form name order entry;
+  command = packet_command form name order entry;
+}
+
+-- the new entries of a packet list, and of a route list, counted from 1
+abbrev pub class_written : ListPlace → PacketList → ℕ × Class → Written
+class_written place list entry =
+    packet_written place.form list.name (order_at place 10 entry.0)
+    (opposite_packet_entry list.entries entry.1)
+
+abbrev pub prefix_written : ListPlace → RouteList → ℕ × Prefix → Written
+prefix_written place list entry = record {
+  line = prefix_line place list entry;
+  command =
+      commands.PrefixLine list.name (order_at place 5 entry.0)
+      (route_text (opposite_route_entry list.entries entry.1).permit entry.1);
+}
+
+-- they are the lines that a patch adds there
+abbrev pub EntriesHaveTheirLines : Type 0
+EntriesHaveTheirLines =
+    (place : ListPlace) (packets : PacketList) (classes : List Class)
+    (routes : RouteList) (prefixes : List Prefix) →
+    (bytes_of (map (class_written place packets) (enumerate_from 1 classes))
+    ≡ class_lines place packets classes) ×
+    (bytes_of (map (prefix_written place routes) (enumerate_from 1 prefixes))
+    ≡ prefix_lines place routes prefixes)
+
+-- an entry of a packet list that is written as a block is a line of the block, if one entry can say
+-- its services
+abbrev pub BlockEntriesAreRead : Type 0
+BlockEntriesAreRead =
+    (name : List ℕ) (order : Option ℕ) (entry : PacketEntry) → IsTrue (is_writable entry.service) →
+    IsOrder 2147483647 order →
+    IsBlockLine kinds.Extended (packet_written forms.Block name order entry) ×
+    IsFit (packet_line forms.Block name order entry)
+
+-- one of a packet list that is written as lines, and one of a route list, are lines of these lists
+abbrev pub ListEntriesAreRead : Type 0
+ListEntriesAreRead =
+    (name : List ℕ) (order : Option ℕ) (entry : PacketEntry) → IsTrue (is_writable entry.service) →
+    list_kind (number_of name) ≡ Some true →
+    IsSingleLine (packet_written forms.Lines name order entry) ×
+    IsFit (packet_line forms.Lines name order entry)
+
+abbrev pub PrefixEntriesAreRead : Type 0
+PrefixEntriesAreRead =
+    (place : ListPlace) (list : RouteList) (entry : ℕ × Prefix) → IsTrue (is_name list.name) →
+    list.name ≢ codes "sequence-number" → IsOrder 4294967294 (order_at place 5 entry.0) →
+    IsSingleLine (prefix_written place list entry) × IsFit (prefix_line place list entry)
+
+-- the row of a command in a text of these commands
+pub record HasRow (text : List ℕ) (lines : Lines) (c : FileCommand) (row : Line) : Type 0 where
+  pub are : AreLinesOf text lines
+  pub cut : CanBeCut text
+  pub place : ℕ
+  pub at : slice_get lines.rows place ≡ Some row
+  pub says : row.inert ≡ false
+  pub number : c.line ≡ place + 1
+  pub block : c.block ≡ row.block
+  pub head : row.head ≡ false
+
+-- a row that is written anew for a site
+pub record IsRenumbered (text : List ℕ) (cs : List FileCommand) (c : FileCommand) (row : Line)
+    (word : ℕ) (number : ℕ) (site : Site) : Type 0 where
+  pub span : Span
+  pub at : slice_get row.words word ≡ Some span
+  pub line : site.line ≡ rewritten text row span (decimal number)
+  pub other : IsRewrittenFor cs c (part text row.span) site
+  pub free : IsFree site.line
+  pub no_return : HasNoReturn (part text row.span) → HasNoReturn site.line
+
+-- an entry of an extended list's block with another number
+abbrev pub EntriesAreRenumbered : Type 0
+EntriesAreRenumbered =
+    (text : List ℕ) (lines : Lines) (cs : List FileCommand) (c : FileCommand)
+    (row : Line) (n m : ℕ) (entry : PacketText) (span : Span) (site : Site) →
+    HasRow text lines c row →
+    IsOfBlock cs c kinds.Extended → c.block ≢ c.line → c.command ≡ commands.Entry (Some n) entry →
+    slice_get row.words 0 ≡ Some span → m < 2 ^ 64 → IsOrder 2147483647 (Some m) →
+    site.line ≡ rewritten text row span (decimal m) → site.command ≡ commands.Entry (Some m) entry →
+    IsRenumbered text cs c row 0 m site
+
+-- the words of a prefix list's line that has a number: it is the fifth
+pub record IsSequenced (ws : List (List ℕ)) : Type 0 where
+  pub name : List ℕ
+  pub word : List ℕ
+  pub rest : List (List ℕ)
+  pub are : ws ≡ codes "ip" ∷ codes "prefix-list" ∷ name ∷ codes "seq" ∷ word ∷ rest
+
+-- the line of a prefix list with another number
+abbrev pub PrefixLinesAreRenumbered : Type 0
+PrefixLinesAreRenumbered =
+    (text : List ℕ) (lines : Lines) (cs : List FileCommand) (c : FileCommand) (row : Line)
+    (list : List ℕ) (n m : ℕ) (entry : RouteText) (span : Span) (site : Site) →
+    HasRow text lines c row → c.block ≡ 0 → c.command ≡ commands.PrefixLine list (Some n) entry →
+    IsSequenced (map (part text) row.words) → slice_get row.words 4 ≡ Some span → m < 2 ^ 64 →
+    IsOrder 4294967294 (Some m) → site.line ≡ rewritten text row span (decimal m) →
+    site.command ≡ commands.PrefixLine list (Some m) entry → IsRenumbered text cs c row 4 m site
+
+-- a row has the word that is the number of its entry
+abbrev pub NumbersAreWords : Type 0
+NumbersAreWords =
+    (text : List ℕ) (row : Line) →
+    ((n : ℕ) (entry : PacketText) →
+    ReadBy true (map (part text) row.words) (rows kinds.Extended) (commands.Entry (Some n) entry) →
+    (span : Span) × (slice_get row.words 0 ≡ Some span)) ×
+    (IsSequenced (map (part text) row.words) → (span : Span) × (slice_get row.words 4 ≡ Some span))

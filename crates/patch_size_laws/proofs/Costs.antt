@@ -1,0 +1,342 @@
+-- What edits put into one router's file costs at most 512 bytes for each of its edits, and the new numbers are small.
+use Rattle.std.proofs.Common.{◌≡◌, ℕ, zero, suc, ◌+◌, ◌*◌, ◌^◌, ◌<◌, ◌≤◌, ◌==◌, not, Bool, true, false, if◌then◌else◌, List, [], ◌∷◌, ◌++◌, length, map, refl, ap, subst, arith, codes}
+use Rattle.std.specs.Prelude.{Option, Some, None, slice_get, option_map, option_and_then, bytes_eq, ◌&&◌}
+use Rattle.std.specs.Option.{option_map_or}
+use Rattle.std.specs.List.{cons_option, enumerate_from, filter_map, flat_map, find, zip, AllByRecursion}
+use Rattle.std.proofs.lemmas.Bool.{leb-true, and_parts}
+use Rattle.std.proofs.lemmas.List.Elements.{All-contains}
+use Rattle.std.proofs.lemmas.Option.{none-some, same_Some}
+use Rattle.arc_base.specs.declared.prefix.Prefix.{Prefix}
+use Rattle.net_model.specs.declared.lists.PacketList.{PacketList}
+use Rattle.net_model.specs.declared.lists.RouteList.{RouteList}
+use Rattle.net_model.specs.declared.policies.Class.{Class}
+use Rattle.net_model.specs.declared.rows.FaceRow.{FaceRow}
+use Rattle.net_model.specs.declared.rows.Network.{Network}
+use Rattle.net_model.specs.declared.rows.Protocol.{Protocol}
+use Rattle.net_model.specs.declared.rows.Protocol.TheVariants.{Ospf, Bgp}
+use Rattle.net_model.specs.declared.rows.SessionRow.{SessionRow}
+use Rattle.net_model.specs.Routing.{session_at}
+use Rattle.net_model.specs.Validity.{IsValid, IsValidPacketList, IsValidRouteList}
+use Rattle.net_model.proofs.Readings.{item_at_place}
+use Rattle.net_rules.specs.Lists.{packet_text}
+use Rattle.ios_lines.specs.Written.{spaced}
+use Rattle.ios_words.specs.Printed.{entry_words, group_words, neighbor_list_words, neighbor_words, passive_words, permit_all_words, top_line}
+use Rattle.ios_config.specs.declared.settings.ListForm.{ListForm}
+use Rattle.ios_config.specs.declared.settings.ListForm.TheVariants.{Block, Lines, PrefixLines}
+use Rattle.net_build.specs.declared.built.ListPlace.{ListPlace}
+use Rattle.net_build.specs.declared.built.FacePlace.{FacePlace}
+use Rattle.net_build.specs.declared.built.Places.{Places}
+use Rattle.edit_list.specs.declared.edit_kinds.Edit.{Edit}
+use Rattle.edit_list.specs.declared.list_kinds.NewList.{NewList}
+use Rattle.edit_list.specs.declared.list_kinds.NewList.TheVariants.{Route, Packet}
+use Rattle.edit_list.specs.After.{class_entry, every_packet, opposite_packet_entry, opposite_route_entry}
+use Rattle.edit_list.specs.Changes.{list_classes, list_prefixes, new_classes, new_prefixes, new_route_change, packet_list_change, route_list_change}
+use Rattle.edit_list.specs.NewLists.{named_lists, new_lists_of, new_names_of}
+use Rattle.arc_base.specs.Numbered.{if_number}
+use Rattle.edit_list.proofs.Counts.{few_picked}
+use Rattle.line_patcher.specs.declared.additions.NewNumber.{NewNumber}
+use Rattle.line_patcher.specs.Additions.{lines_after, lines_before, numbers_at}
+use Rattle.line_patcher.specs.EntryLines.{first_line, class_line, edited_packet_lists, edited_route_lists, new_number, new_numbers, order_at, packet_line, packet_list_entries, packet_list_numbers, packet_place, prefix_line, route_list_entries, route_list_numbers, route_place, is_packet_form, at_front, class_lines, prefix_lines}
+use Rattle.line_patcher.specs.NewListLines.{deny_class_line, deny_line, face_places, filter_line, group_line_among, new_list_lines, new_packet_lines, new_route_lines}
+use Rattle.line_patcher.specs.SessionLines.{session_line, turned_faces, turning_line}
+use Rattle.settings_edit_laws.specs.Premises.{IsWritable}
+use Rattle.patch_laws.specs.NewListSites.{IsNewName}
+use Rattle.patch_laws.proofs.SessionReads.{session_in}
+use Rattle.patch_size_laws.proofs.Keyed.{total, total-append, total-flat, total-map, total-le, total-times, total-ones, picked-few, zip-few, flat-all, both-all}
+use Rattle.patch_size_laws.proofs.LineSizes.{IsSmallOrder, entry-line-few, list-line-few, prefix-line-few, permit-all-few, list-head-few, group-few, neighbor-list-few, passive-few, neighbor-few}
+use Rattle.patch_size_laws.proofs.RowSizes.{cost, cost_of, put, IsSmall}
+
+-- ---- counted things
+
+counted-few : {X : Type 0} (h : ℕ × X → ℕ) (c n most : ℕ) (xs : List X) → ((e : ℕ × X) → e.0 ≤ most → h e ≤ c) → n + length xs ≤ most + 1 → total h (enumerate_from n xs) ≤ c * length xs
+counted-few h c n most [] each room = omega arith
+counted-few h c n most (x ∷ xs) each room = omega (arith, each (n, x) (omega (arith, room)), counted-few h c (n + 1) most xs each (omega (arith, room)))
+
+counted-all : {X Y : Type 0} (P : Y → Type 0) (f : ℕ × X → Y) (n most : ℕ) (xs : List X) → ((e : ℕ × X) → e.0 ≤ most → P (f e)) → n + length xs ≤ most + 1 → AllByRecursion P (map f (enumerate_from n xs))
+counted-all P f n most [] each room = tt
+counted-all P f n most (x ∷ xs) each room = (each (n, x) (omega (arith, room)), counted-all P f (n + 1) most xs each (omega (arith, room)))
+
+found-all : {X : Type 0} (P : X → Type 0) (p : X → Bool) (xs : List X) (x : X) → AllByRecursion P xs → find p xs ≡ Some x → P x
+found-all P p [] x all e = absurd (none-some x e)
+found-all {X} P p (y ∷ xs) x all e = by (p y) e (found-all P p xs x all.1)
+  where
+    by : (b : Bool) → (if b then Some y else find p xs) ≡ Some x → (find p xs ≡ Some x → P x) → P x
+    by true e rest = subst P (same_Some y x e) all.0
+    by false e rest = rest e
+
+opt-total : {X : Type 0} (h : X → ℕ) (o : Option X) (xs : List X) → total h (cons_option o xs) ≡ total h (cons_option o []) + total h xs
+opt-total h None xs = omega arith
+opt-total h (Some x) xs = omega arith
+
+zip-all : {X Y : Type 0} (P : X → Type 0) (xs : List X) (ys : List Y) → AllByRecursion P xs → AllByRecursion (λ (p : X × Y). P p.0) (zip xs ys)
+zip-all P [] ys all = tt
+zip-all P (x ∷ xs) [] all = tt
+zip-all P (x ∷ xs) (y ∷ ys) all = (all.0, zip-all P xs ys all.1)
+
+order-small : (b : Bool) (step at : ℕ) → step ≤ 10 → at ≤ 8192 → IsSmallOrder (if b then Some (step * at) else None)
+order-small false step at low few = tt
+order-small true step at low few = let least : step * at ≤ 10 * at = times-le step at low in omega (arith, least, few)
+  where
+    times-le : (s a : ℕ) → s ≤ 10 → s * a ≤ 10 * a
+    times-le s zero low = omega arith
+    times-le s (suc a) low = omega (arith, times-le s a low, low)
+
+all-put : (number : ℕ) (lines : List (List ℕ)) → put (map (λ (line : List ℕ). (number, line)) lines) ≡ cost lines
+all-put number lines = total-map (λ (x : ℕ × List ℕ). cost_of x.1) (λ (line : List ℕ). (number, line)) lines
+
+-- how many edits make a new list
+abbrev pub new_size : List Edit → NewList → ℕ
+new_size chosen (Route face) = length (new_prefixes chosen face.0)
+new_size chosen (Packet face) = length (new_classes chosen face.0)
+
+-- how many edits are put into the file of a router
+abbrev pub weight : Network → List Edit → ℕ → ℕ
+weight net chosen router =
+    length (turned_faces net chosen router) +
+    (total (λ id. length (list_classes chosen id)) (edited_packet_lists net chosen router) +
+    (total (λ id. length (list_prefixes chosen id)) (edited_route_lists net chosen router) + total (new_size chosen) (new_lists_of net chosen router)))
+
+module _ (net : Network) (valid : IsValid net) (writable : IsWritable net) (chosen : List Edit) (few : length chosen ≤ 8192) where
+  pub classes-few : (id : ℕ) → length (list_classes chosen id) ≤ length chosen
+  classes-few id = omega (arith, few_picked (if_number id) (filter_map packet_list_change chosen), few_picked packet_list_change chosen)
+
+  pub prefixes-few : (id : ℕ) → length (list_prefixes chosen id) ≤ length chosen
+  prefixes-few id = omega (arith, few_picked (if_number id) (filter_map route_list_change chosen), few_picked route_list_change chosen)
+
+  new-prefixes-few : (face : ℕ) → length (new_prefixes chosen face) ≤ length chosen
+  new-prefixes-few face = omega (arith, few_picked (if_number face) (filter_map new_route_change chosen), few_picked new_route_change chosen)
+
+  packet-name : (id : ℕ) (list : PacketList) → slice_get net.packet_lists id ≡ Some list → length list.name ≤ 64
+  packet-name id list at = (All-contains (IsValidPacketList net) net.packet_lists list valid.packet_lists (item_at_place net.packet_lists id list at)).name.few
+
+  route-name : (id : ℕ) (list : RouteList) → slice_get net.route_lists id ≡ Some list → length list.name ≤ 64
+  route-name id list at = (All-contains (IsValidRouteList net) net.route_lists list valid.route_lists (item_at_place net.route_lists id list at)).name.few
+
+  -- ---- sessions
+
+  session-few : (face : ℕ) (line : List ℕ) → session_line net face ≡ Some line → cost_of line ≤ 512
+  session-few face line is = of-row (slice_get net.faces face) refl is
+    where
+      of-session : (o : Option SessionRow) → ((s : SessionRow) → o ≡ Some s → s.peer < 2 ^ 32) → option_map (λ (s : SessionRow). spaced (neighbor_words s.peer (not s.down))) o ≡ Some line → cost_of line ≤ 512
+      of-session None small e = absurd (none-some line e)
+      of-session (Some s) small e = omega (arith, ap length (same_Some (spaced (neighbor_words s.peer (not s.down))) line e), neighbor-few s.peer (not s.down) (small s refl))
+
+      of-protocol : (p : Protocol) (row : FaceRow) → length row.name ≤ 64 → turning_line p row (session_at net (record { 0 = face })) ≡ Some line → cost_of line ≤ 512
+      of-protocol Ospf row short e = omega (arith, ap length (same_Some (spaced (passive_words (not row.passive) row.name)) line e), passive-few (not row.passive) row.name short)
+      of-protocol Bgp row short e = of-session (session_at net (record { 0 = face })) (λ s at. writable.peers s (session_in (λ (t : SessionRow). t.face.0 == face) net.sessions s at)) e
+
+      of-row : (o : Option FaceRow) → slice_get net.faces face ≡ o → option_and_then (λ (row : FaceRow). turning_line net.protocol row (session_at net (record { 0 = face }))) o ≡ Some line → cost_of line ≤ 512
+      of-row None at e = absurd (none-some line e)
+      of-row (Some row) at e = of-protocol net.protocol row (leb-true (length row.name) 64 (and_parts _ _ (writable.faces face row at)).0) e
+
+  sessions-few : (router : ℕ) → cost (filter_map (session_line net) (turned_faces net chosen router)) ≤ 512 * length (turned_faces net chosen router)
+  sessions-few router =
+      let faces : List ℕ = turned_faces net chosen router in
+      omega (arith, picked-few (session_line net) cost_of (λ (face : ℕ). 512) faces session-few, consts faces)
+    where
+      consts : (xs : List ℕ) → total (λ (x : ℕ). 512) xs ≡ 512 * length xs
+      consts [] = refl
+      consts (x ∷ xs) = omega (arith, consts xs)
+
+  -- ---- entries
+
+  class-line-few : (place : ListPlace) (list : PacketList) (e : ℕ × Class) → length list.name ≤ 64 → e.0 ≤ 8192 → cost_of (class_line place list e) ≤ 512
+  class-line-few place list e short low = by place.form
+    where
+      order : Option ℕ
+      order = order_at place 10 e.0
+
+      by : (form : ListForm) → cost_of (packet_line form list.name (order_at place 10 e.0) (opposite_packet_entry list.entries e.1)) ≤ 512
+      by Block = omega (arith, entry-line-few (order_at place 10 e.0) (packet_text (opposite_packet_entry list.entries e.1)) (order-small place.numbered 10 e.0 (omega arith) low))
+      by Lines = omega (arith, list-line-few list.name (packet_text (opposite_packet_entry list.entries e.1)) short)
+      by PrefixLines = omega arith
+
+  prefix-line-cost : (place : ListPlace) (list : RouteList) (e : ℕ × Prefix) → length list.name ≤ 64 → e.0 ≤ 8192 → cost_of (prefix_line place list e) ≤ 512
+  prefix-line-cost place list e short low =
+      omega (arith, prefix-line-few list.name (order_at place 5 e.0) (opposite_route_entry list.entries e.1).permit e.1 short (order-small place.numbered 5 e.0 (omega arith) low))
+
+  packet-entries-few : (own : Places) (id : ℕ) → put (packet_list_entries net own chosen id) ≤ 512 * length (list_classes chosen id)
+  packet-entries-few own id = of-list (slice_get net.packet_lists id) refl
+    where
+      of-place : (list : PacketList) (o : Option ListPlace) → length list.name ≤ 64 →
+          put (option_map_or (λ place. at_front place (class_lines place list (list_classes chosen id))) o []) ≤ 512 * length (list_classes chosen id)
+      of-place list None short = omega arith
+      of-place list (Some place) short =
+          let classes : List Class = list_classes chosen id in
+          omega (
+            arith,
+            all-put (first_line place) (class_lines place list classes),
+            total-map cost_of (class_line place list) (enumerate_from 1 classes),
+            counted-few (λ e. cost_of (class_line place list e)) 512 1 8192 classes (λ e low. class-line-few place list e short low) (omega (arith, classes-few id, few)),
+          )
+
+      of-list : (o : Option PacketList) → slice_get net.packet_lists id ≡ o →
+          put (option_map_or (λ list. option_map_or (λ place. at_front place (class_lines place list (list_classes chosen id))) (packet_place own list.name) []) o []) ≤ 512 * length (list_classes chosen id)
+      of-list None at = omega arith
+      of-list (Some list) at = of-place list (packet_place own list.name) (packet-name id list at)
+
+  route-entries-few : (own : Places) (id : ℕ) → put (route_list_entries net own chosen id) ≤ 512 * length (list_prefixes chosen id)
+  route-entries-few own id = of-list (slice_get net.route_lists id) refl
+    where
+      of-place : (list : RouteList) (o : Option ListPlace) → length list.name ≤ 64 →
+          put (option_map_or (λ place. at_front place (prefix_lines place list (list_prefixes chosen id))) o []) ≤ 512 * length (list_prefixes chosen id)
+      of-place list None short = omega arith
+      of-place list (Some place) short =
+          let prefixes : List Prefix = list_prefixes chosen id in
+          omega (
+            arith,
+            all-put (first_line place) (prefix_lines place list prefixes),
+            total-map cost_of (prefix_line place list) (enumerate_from 1 prefixes),
+            counted-few (λ e. cost_of (prefix_line place list e)) 512 1 8192 prefixes (λ e low. prefix-line-cost place list e short low) (omega (arith, prefixes-few id, few)),
+          )
+
+      of-list : (o : Option RouteList) → slice_get net.route_lists id ≡ o →
+          put (option_map_or (λ list. option_map_or (λ place. at_front place (prefix_lines place list (list_prefixes chosen id))) (route_place own list.name) []) o []) ≤ 512 * length (list_prefixes chosen id)
+      of-list None at = omega arith
+      of-list (Some list) at = of-place list (route_place own list.name) (route-name id list at)
+
+  -- ---- new lists
+
+  route-lines-few : (name : List ℕ) (prefixes : List Prefix) → length name ≤ 64 → length prefixes ≤ 8192 → cost (new_route_lines name prefixes) ≤ 118 * length prefixes + 115
+  route-lines-few name prefixes short low =
+      let last : List ℕ = top_line (permit_all_words name (5 * (length prefixes + 1))) in
+      omega (
+        arith,
+        total-append cost_of (map (deny_line name) (enumerate_from 1 prefixes)) (last ∷ []),
+        total-map cost_of (deny_line name) (enumerate_from 1 prefixes),
+        counted-few (λ e. cost_of (deny_line name e)) 118 1 8192 prefixes (λ e within. omega (arith, prefix-line-few name (Some (5 * e.0)) false e.1 short (omega (arith, within)))) (omega (arith, low)),
+        permit-all-few name (5 * (length prefixes + 1)) short (omega (arith, low)),
+      )
+
+  packet-lines-few : (name : List ℕ) (classes : List Class) → length name ≤ 64 → cost (new_packet_lines name classes) ≤ 103 * length classes + 198
+  packet-lines-few name classes short =
+      let every : List ℕ = spaced (entry_words None (packet_text every_packet)) in
+      omega (
+        arith,
+        list-head-few name short,
+        total-append cost_of (map deny_class_line classes) (every ∷ codes "!" ∷ []),
+        total-map cost_of deny_class_line classes,
+        total-le (λ class. cost_of (deny_class_line class)) (λ class. 103 * 1) classes (λ class. omega (arith, entry-line-few None (packet_text (class_entry false class)) tt)),
+        total-times 103 (λ (class : Class). 1) classes,
+        total-ones classes,
+        entry-line-few None (packet_text every_packet) tt,
+      )
+
+  abbrev filters : NewList × List ℕ → Option (List ℕ)
+  filters n = filter_line net n.0 n.1
+
+  abbrev groups : List FacePlace → NewList × List ℕ → Option (ℕ × List ℕ)
+  groups faces n = group_line_among faces n.0 n.1
+
+  one-named : (faces : List FacePlace) (list : NewList) (name : List ℕ) → length name ≤ 64 → 1 ≤ new_size chosen list →
+      cost (new_list_lines chosen list name) + (cost (cons_option (filter_line net list name) []) + put (cons_option (group_line_among faces list name) [])) ≤ 512 * new_size chosen list
+  one-named faces (Route face) name short some = by (session_at net face) refl
+    where
+      by : (o : Option SessionRow) → session_at net face ≡ o →
+          cost (new_route_lines name (new_prefixes chosen face.0)) + (cost (cons_option (option_map (λ (s : SessionRow). spaced (neighbor_list_words s.peer name)) o) []) + 0) ≤ 512 * length (new_prefixes chosen face.0)
+      by None at = omega (arith, some, route-lines-few name (new_prefixes chosen face.0) short (omega (arith, new-prefixes-few face.0, few)))
+      by (Some s) at =
+          omega (
+            arith,
+            some,
+            route-lines-few name (new_prefixes chosen face.0) short (omega (arith, new-prefixes-few face.0, few)),
+            neighbor-list-few s.peer name (writable.peers s (session_in (λ (t : SessionRow). t.face.0 == face.0) net.sessions s at)) short,
+          )
+  one-named faces (Packet face) name short some = by (slice_get faces face.0)
+    where
+      by : (o : Option FacePlace) →
+          cost (new_packet_lines name (new_classes chosen face.0)) + (0 + put (cons_option (option_map (λ (place : FacePlace). (place.last, spaced (group_words name))) o) [])) ≤ 512 * length (new_classes chosen face.0)
+      by None = omega (arith, some, packet-lines-few name (new_classes chosen face.0) short)
+      by (Some place) = omega (arith, some, packet-lines-few name (new_classes chosen face.0) short, group-few name short)
+
+  abbrev is_filled : NewList × List ℕ → Type 0
+  is_filled n = 1 ≤ new_size chosen n.0
+
+  named-few : (faces : List FacePlace) (ns : List (NewList × List ℕ)) → AllByRecursion (IsNewName chosen) ns → AllByRecursion is_filled ns →
+      cost (flat_map (λ (n : NewList × List ℕ). new_list_lines chosen n.0 n.1) ns) + (cost (filter_map filters ns) + put (filter_map (groups faces) ns)) ≤ 512 * total (λ (n : NewList × List ℕ). new_size chosen n.0) ns
+  named-few faces [] names filled = omega arith
+  named-few faces (n ∷ ns) names filled =
+      let h : ℕ × List ℕ → ℕ = λ x. cost_of x.1 in
+      omega (
+        arith,
+        total-append cost_of (new_list_lines chosen n.0 n.1) (flat_map (λ (m : NewList × List ℕ). new_list_lines chosen m.0 m.1) ns),
+        opt-total cost_of (filters n) (filter_map filters ns),
+        opt-total h (groups faces n) (filter_map (groups faces) ns),
+        one-named faces n.0 n.1 (leb-true (length n.1) 64 (and_parts _ _ (and_parts _ _ names.0.name).0).1) filled.0,
+        named-few faces ns names.1 filled.1,
+      )
+
+  -- ---- all
+
+  pub router-few : (places : List Places) (own : Places) (router : ℕ) → AllByRecursion (IsNewName chosen) (named_lists net chosen router) → AllByRecursion (λ (list : NewList). 1 ≤ new_size chosen list) (new_lists_of net chosen router) →
+      put (lines_before net own chosen router) + put (lines_after net places own chosen router) ≤ 512 * weight net chosen router
+  router-few places own router names filled =
+      let h : ℕ × List ℕ → ℕ = λ x. cost_of x.1 in
+      let named : List (NewList × List ℕ) = named_lists net chosen router in
+      let faces : List FacePlace = face_places places in
+      let news : List (List ℕ) = flat_map (λ (n : NewList × List ℕ). new_list_lines chosen n.0 n.1) named in
+      let packets : List (ℕ × List ℕ) = flat_map (packet_list_entries net own chosen) (edited_packet_lists net chosen router) in
+      let routes : List (ℕ × List ℕ) = flat_map (route_list_entries net own chosen) (edited_route_lists net chosen router) in
+      let sessions : List (List ℕ) = filter_map (session_line net) (turned_faces net chosen router) in
+      let binds : List (List ℕ) = filter_map filters named in
+      omega (
+        arith,
+        total-append h (map (λ (line : List ℕ). (own.process, line)) news ++ packets) routes,
+        total-append h (map (λ (line : List ℕ). (own.process, line)) news) packets,
+        all-put own.process news,
+        total-flat h (packet_list_entries net own chosen) (edited_packet_lists net chosen router),
+        total-le (λ id. put (packet_list_entries net own chosen id)) (λ id. 512 * length (list_classes chosen id)) (edited_packet_lists net chosen router) (packet-entries-few own),
+        total-times 512 (λ id. length (list_classes chosen id)) (edited_packet_lists net chosen router),
+        total-flat h (route_list_entries net own chosen) (edited_route_lists net chosen router),
+        total-le (λ id. put (route_list_entries net own chosen id)) (λ id. 512 * length (list_prefixes chosen id)) (edited_route_lists net chosen router) (route-entries-few own),
+        total-times 512 (λ id. length (list_prefixes chosen id)) (edited_route_lists net chosen router),
+        total-append h (map (λ (line : List ℕ). (own.process_last, line)) (sessions ++ binds)) (filter_map (groups faces) named),
+        all-put own.process_last (sessions ++ binds),
+        total-append cost_of sessions binds,
+        sessions-few router,
+        named-few faces named names (zip-all (λ (list : NewList). 1 ≤ new_size chosen list) (new_lists_of net chosen router) (new_names_of net chosen router) filled),
+        zip-few (new_size chosen) (new_lists_of net chosen router) (new_names_of net chosen router),
+      )
+
+  -- ---- new numbers
+
+  abbrev pub HasRoomAt : ListPlace → Type 0
+  HasRoomAt place = length place.entries + length chosen ≤ 16384
+
+  abbrev IsSmallAt : ℕ × NewNumber → Type 0
+  IsSmallAt x = IsSmall x.1
+
+  of-numbers : (place : ListPlace) (word step count : ℕ) → step ≤ 10 → count ≤ length chosen → HasRoomAt place → AllByRecursion IsSmallAt (new_numbers place word step count)
+  of-numbers place word step count low counted room = by place.numbered
+    where
+      times-le : (s a : ℕ) → s ≤ 10 → s * a ≤ 10 * a
+      times-le s zero l = omega arith
+      times-le s (suc a) l = omega (arith, times-le s a l, l)
+
+      by : (b : Bool) → AllByRecursion IsSmallAt (if b then map (new_number word step count) (enumerate_from 1 place.entries) else [])
+      by false = tt
+      by true = counted-all IsSmallAt (new_number word step count) 1 (length place.entries) place.entries (λ e within. omega (arith, within, counted, room, times-le step (count + e.0) low)) (omega arith)
+
+  pub numbers-small : (own : Places) (router : ℕ) → AllByRecursion HasRoomAt own.lists → AllByRecursion IsSmallAt (numbers_at net own chosen router)
+  numbers-small own router rooms =
+      both-all IsSmallAt (flat_map (packet_list_numbers net own chosen) (edited_packet_lists net chosen router)) (flat_map (route_list_numbers net own chosen) (edited_route_lists net chosen router))
+      (flat-all IsSmallAt (packet_list_numbers net own chosen) (edited_packet_lists net chosen router) (λ id. of-packets id (slice_get net.packet_lists id)))
+      (flat-all IsSmallAt (route_list_numbers net own chosen) (edited_route_lists net chosen router) (λ id. of-routes id (slice_get net.route_lists id)))
+    where
+      packet-at : (id : ℕ) (o : Option ListPlace) → ((place : ListPlace) → o ≡ Some place → HasRoomAt place) → AllByRecursion IsSmallAt (option_map_or (λ place. new_numbers place 0 10 (length (list_classes chosen id))) o [])
+      packet-at id None room = tt
+      packet-at id (Some place) room = of-numbers place 0 10 (length (list_classes chosen id)) (omega arith) (classes-few id) (room place refl)
+
+      route-at : (id : ℕ) (o : Option ListPlace) → ((place : ListPlace) → o ≡ Some place → HasRoomAt place) → AllByRecursion IsSmallAt (option_map_or (λ place. new_numbers place 4 5 (length (list_prefixes chosen id))) o [])
+      route-at id None room = tt
+      route-at id (Some place) room = of-numbers place 4 5 (length (list_prefixes chosen id)) (omega arith) (prefixes-few id) (room place refl)
+
+      of-packets : (id : ℕ) (o : Option PacketList) →
+          AllByRecursion IsSmallAt (option_map_or (λ list. option_map_or (λ place. new_numbers place 0 10 (length (list_classes chosen id))) (packet_place own list.name) []) o [])
+      of-packets id None = tt
+      of-packets id (Some list) = packet-at id (packet_place own list.name) (λ place e. found-all HasRoomAt (λ place. bytes_eq place.name list.name && is_packet_form place.form) own.lists place rooms e)
+
+      of-routes : (id : ℕ) (o : Option RouteList) →
+          AllByRecursion IsSmallAt (option_map_or (λ list. option_map_or (λ place. new_numbers place 4 5 (length (list_prefixes chosen id))) (route_place own list.name) []) o [])
+      of-routes id None = tt
+      of-routes id (Some list) = route-at id (route_place own list.name) (λ place e. found-all HasRoomAt (λ place. bytes_eq place.name list.name && not (is_packet_form place.form)) own.lists place rooms e)

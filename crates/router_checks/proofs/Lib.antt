@@ -1,7 +1,0 @@
-mod LimitsKept
-mod OwnProcesses
-mod Grown
-mod Repeated
-mod Picks
-mod AreaLines
-mod Adjacencies

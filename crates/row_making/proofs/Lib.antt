@@ -1,0 +1,9 @@
+mod ListsNames
+mod ListsTables
+mod ListsRows
+mod ListsKinds
+mod LinkFaces
+mod NamesKeys
+mod SessionEnds
+mod SessionSteps
+mod IndexLines

@@ -1,0 +1,25 @@
+use Rattle.std.proofs.Common.{◌≡◌, ◌⊎◌, Option, Some, refl, subst, ◌↔◌}
+use Rattle.arc_base.specs.declared.prefix.Prefix.{Prefix}
+use Rattle.ios_words.specs.declared.commands.Command.{Command}
+use Rattle.ios_config.specs.declared.settings.Given.{Given}
+use Rattle.net_rules.specs.Prefixes.{HasPrefix}
+use Rattle.row_making.specs.Indexes.{covered_prefix}
+use Rattle.net_rules.proofs.Gathered.{gathered_more, gathered_all}
+use Rattle.row_making.proofs.IndexLines.{no_prefixes}
+use Rattle.row_making.proofs.process_index.covered.Goals as goal
+
+abbrev P : Prefix → Given Command → Type 0
+P p g = covered_prefix g.value ≡ Some p
+
+pub loop-line-init : goal.loop-line-init
+loop-line-init c = no_prefixes P c.new-covered.result.keys c.new-covered.ensures.empty
+
+pub loop-line-preserved : goal.loop-line-preserved
+loop-line-preserved c = λ p.
+    gathered_more (P p) c.args.lines.now c.loop-line.line-index c.line-item.result c.loop-line-test.true c.line-item.is
+    (HasPrefix c.loop-line.covered.keys p) (HasPrefix c.add_found.new.prefixes.keys p) (c.loop-line.invariant p)
+    (subst (λ (o : Option Prefix). HasPrefix c.add_found.new.prefixes.keys p ↔ (HasPrefix c.loop-line.covered.keys p ⊎ (o ≡ Some p))) c.covered_prefix.ensures (c.in_ok-add_found.ensures p))
+
+pub returns : goal.returns
+returns c = λ p.
+    gathered_all (P p) c.args.lines.now c.args.lines.now c.loop-line.line-index c.loop-line-test.false refl (HasPrefix c.loop-line.covered.keys p) (c.loop-line.invariant p)

@@ -1,0 +1,3 @@
+pub mod ListTables
+pub mod Sessions
+pub mod Indexes

@@ -1,0 +1,337 @@
+//! The lists of router files: their names, and the rows of those that are bound and defined.
+ghost use Rattle.std.specs.Prelude.{◌≡◌, ◌≤◌, ◌<◌, ◌^◌, ◌-◌, ◌++◌, ℕ, List, Any, IfOk, OnOk};
+ghost use Rattle.std.specs.Prelude.{option_map, length, AllPairs};
+ghost use Rattle.std.specs.Option.{option_copied, option_or, option_to_list};
+ghost use Rattle.net_rules.specs.Lists.{AreListNames, ArePacketLists, AreRouteLists};
+ghost use Rattle.net_rules.specs.Lists.{is_packet_kind, is_extended_kind, entry_of, packet_entry};
+ghost use Rattle.net_rules.specs.Lists.{route_entry, packet_entries, route_entries, is_of_kind};
+ghost use Rattle.net_rules.specs.Lists.{list_named, if_defined, packet_row, route_row};
+ghost use Rattle.arc_base.specs.NameForms.{IsNameBefore, texts_at};
+ghost use Rattle.row_making.specs.ListTables.{Adds, list_at, list_if, AddsRows};
+ghost use Rattle.net_rules.specs.Lists.{IsBoundPacketList, IsBoundRouteList, packet_row_at};
+ghost use Rattle.net_rules.specs.Lists.{route_row_at};
+
+use crate::bound_lists::{Names, add_bound_packet, add_bound_route};
+use arc_base::limits::ROUTER_LIMIT;
+use arc_base::{List, Memory, Name, Router};
+use ios_config::{Config, ListKind, ListText};
+use ios_words::{Command, PacketText};
+use net_model::{PacketEntry, PacketList, RouteEntry, RouteList, Service};
+use std::alloc::Global;
+use std::collections::{BTreeMap, BTreeSet};
+
+/// Lists by their names.
+type ByName<'a> = BTreeMap<&'a [u8], &'a ListText>;
+
+fn add_defined<'a>(names: &mut Names<'a>, config: &'a Config) -> Result<(), Memory>
+    ensures { OnOk result
+        (Adds (λ name. Any (λ l. l.name ≡ name) config.now.lists) names.old.keys names.new.keys) }
+{
+    for list in config.lists.slice() {
+        names.insert(list.name.bytes())?;
+    }
+    Ok(())
+}
+
+/// The names, in their order.
+fn listed(alloc: Global, names: &Names<'_>) -> Result<Vec<Name>, Memory>
+    ensures names { IfOk result (λ listed. listed.items ≡ texts_at names.now.keys) }
+    ensures order { IfOk result (λ listed. AllPairs IsNameBefore listed.items) }
+{
+    let mut listed = Vec::new(alloc);
+    for name in names {
+        listed.push(Name::make(alloc, name)?)?;
+    }
+    Ok(listed)
+}
+
+/// The names that the file gives a list or binds.
+pub fn list_names(alloc: Global, config: &Config) -> Result<List<Name>, Memory>
+    ensures { IfOk result (AreListNames config.now) }
+{
+    let mut names = BTreeSet::new(alloc);
+    add_defined(&mut names, config)?;
+    add_bound_packet(&mut names, config)?;
+    add_bound_route(alloc, &mut names, config)?;
+    List::of(listed(alloc, &names)?)
+}
+
+fn is_packet_kind(kind: ListKind) -> bool
+    ensures { result ≡ is_packet_kind kind }
+{
+    match kind {
+        ListKind::Extended => true,
+        ListKind::Standard => true,
+        ListKind::Prefix => false,
+    }
+}
+
+fn is_extended_kind(kind: ListKind) -> bool
+    ensures { result ≡ is_extended_kind kind }
+{
+    matches!(kind, ListKind::Extended)
+}
+
+/// Whether the list is a packet list, or whether it is a route list.
+fn is_of_kind(packet: bool, list: &ListText) -> bool
+    ensures { result ≡ is_of_kind packet list.now }
+{
+    if packet {
+        is_packet_kind(list.kind)
+    } else {
+        !is_packet_kind(list.kind)
+    }
+}
+
+/// Adds the list if it is of the kind and no list of its name is there.
+fn add_list<'a>(lists: &mut ByName<'a>, packet: bool, list: &'a ListText) -> Result<(), Memory>
+    ensures { OnOk result ((name : List ℕ) → list_at lists.new name
+        ≡ option_or (list_at lists.old name) (list_if packet list.now name)) }
+{
+    if !is_of_kind(packet, list) {
+        return Ok(());
+    }
+    if lists.contains_key(&list.name.bytes()) {
+        return Ok(());
+    }
+    lists.insert(list.name.bytes(), list)?;
+    Ok(())
+}
+
+/// The packet lists of the file or its route lists by name: of each name the first.
+fn by_name<'a>(alloc: Global, config: &'a Config, packet: bool) -> Result<ByName<'a>, Memory>
+    ensures { IfOk result (λ lists. (name : List ℕ) →
+        list_at lists name ≡ list_named packet config.now name) }
+{
+    let mut lists = BTreeMap::new(alloc);
+    for list in config.lists.slice() {
+        add_list(&mut lists, packet, list)?;
+    }
+    Ok(lists)
+}
+
+/// The list that was found, if it has an entry.
+fn defined(found: Option<&ListText>) -> Option<&ListText>
+    ensures { option_copied result ≡ if_defined (option_copied found.entry) }
+{
+    match found {
+        Some(list) => {
+            if list.entries.is_empty() {
+                return None;
+            }
+            Some(list)
+        }
+        None => None,
+    }
+}
+
+/// The entry that the words of a line give.
+fn entry_of(text: &PacketText) -> PacketEntry
+    ensures { result ≡ entry_of text.now }
+{
+    PacketEntry {
+        permit: text.permit,
+        from: text.from,
+        to: text.to,
+        service: Service {
+            low: text.low,
+            high: text.high,
+        },
+    }
+}
+
+fn packet_entry(command: &Command) -> Option<PacketEntry>
+    ensures { result ≡ packet_entry command.now }
+{
+    match command {
+        Command::Entry(_, text) => Some(entry_of(text)),
+        Command::ListLine(_, text) => Some(entry_of(text)),
+        _ => None,
+    }
+}
+
+/// Adds the entry that the command is, if it is one.
+fn add_packet_entry(entries: &mut List<PacketEntry>, command: &Command) -> Result<(), Memory>
+    requires { length entries.old < 2 ^ 32 - 1 }
+    ensures { OnOk result (entries.new ≡ entries.old ++ option_to_list (packet_entry command.now)) }
+{
+    match packet_entry(command) {
+        Some(entry) => entries.push(entry),
+        None => Ok(()),
+    }
+}
+
+fn packet_entries(alloc: Global, list: &ListText) -> Result<List<PacketEntry>, Memory>
+    ensures { IfOk result (λ entries. entries ≡ packet_entries list.now) }
+{
+    let mut entries = List::make(alloc);
+    for given in list.entries.slice() {
+        add_packet_entry(&mut entries, &given.value)?;
+    }
+    Ok(entries)
+}
+
+fn route_entry(command: &Command) -> Option<RouteEntry>
+    ensures { result ≡ route_entry command.now }
+{
+    match command {
+        Command::PrefixLine(_, _, text) => Some(RouteEntry {
+            permit: text.permit,
+            prefix: text.prefix,
+            low: text.low,
+            high: text.high,
+        }),
+        _ => None,
+    }
+}
+
+/// Adds the entry that the command is, if it is one.
+fn add_route_entry(entries: &mut List<RouteEntry>, command: &Command) -> Result<(), Memory>
+    requires { length entries.old < 2 ^ 32 - 1 }
+    ensures { OnOk result (entries.new ≡ entries.old ++ option_to_list (route_entry command.now)) }
+{
+    match route_entry(command) {
+        Some(entry) => entries.push(entry),
+        None => Ok(()),
+    }
+}
+
+fn route_entries(alloc: Global, list: &ListText) -> Result<List<RouteEntry>, Memory>
+    ensures { IfOk result (λ entries. entries ≡ route_entries list.now) }
+{
+    let mut entries = List::make(alloc);
+    for given in list.entries.slice() {
+        add_route_entry(&mut entries, &given.value)?;
+    }
+    Ok(entries)
+}
+
+fn packet_row(
+    alloc: Global,
+    router: u32,
+    name: &[u8],
+    list: &ListText,
+) -> Result<PacketList, Memory>
+    ensures { IfOk result (λ row. row ≡ packet_row router name.now list.now) }
+{
+    Ok(PacketList {
+        router: Router(router),
+        name: Name::make(alloc, name)?,
+        extended: is_extended_kind(list.kind),
+        entries: packet_entries(alloc, list)?,
+    })
+}
+
+fn route_row(alloc: Global, router: u32, name: &[u8], list: &ListText) -> Result<RouteList, Memory>
+    ensures { IfOk result (λ row. row ≡ route_row router name.now list.now) }
+{
+    Ok(RouteList {
+        router: Router(router),
+        name: Name::make(alloc, name)?,
+        entries: route_entries(alloc, list)?,
+    })
+}
+
+/// Adds the row of the list that was found, if it is defined.
+fn add_packet_row(
+    alloc: Global,
+    rows: &mut Vec<PacketList>,
+    router: u32,
+    name: &[u8],
+    found: Option<&ListText>,
+) -> Result<(), Memory>
+    ensures { OnOk result (rows.new.items ≡ rows.old.items ++ option_to_list
+        (option_map (packet_row router name.now) (if_defined (option_copied found.entry)))) }
+{
+    match defined(found) {
+        Some(list) => {
+            rows.push(packet_row(alloc, router, name, list)?)?;
+            Ok(())
+        }
+        None => Ok(()),
+    }
+}
+
+/// Adds the rows of the packet lists that the file binds and defines.
+fn add_packet_lists(
+    alloc: Global,
+    rows: &mut Vec<PacketList>,
+    router: u32,
+    config: &Config,
+) -> Result<(), Memory>
+    ensures { OnOk result (AddsRows (IsBoundPacketList config.now)
+        (packet_row_at router config.now) rows.old.items rows.new.items) }
+{
+    let mut bound = BTreeSet::new(alloc);
+    add_bound_packet(&mut bound, config)?;
+    let lists = by_name(alloc, config, true)?;
+    for name in &bound {
+        let found = lists.get(name).copied();
+        add_packet_row(alloc, rows, router, name, found)?;
+    }
+    Ok(())
+}
+
+/// Adds the row of the list that was found, if it is defined.
+fn add_route_row(
+    alloc: Global,
+    rows: &mut Vec<RouteList>,
+    router: u32,
+    name: &[u8],
+    found: Option<&ListText>,
+) -> Result<(), Memory>
+    ensures { OnOk result (rows.new.items ≡ rows.old.items ++ option_to_list
+        (option_map (route_row router name.now) (if_defined (option_copied found.entry)))) }
+{
+    match defined(found) {
+        Some(list) => {
+            rows.push(route_row(alloc, router, name, list)?)?;
+            Ok(())
+        }
+        None => Ok(()),
+    }
+}
+
+/// Adds the rows of the route lists that the file binds and defines.
+fn add_route_lists(
+    alloc: Global,
+    rows: &mut Vec<RouteList>,
+    router: u32,
+    config: &Config,
+) -> Result<(), Memory>
+    ensures { OnOk result (AddsRows (IsBoundRouteList config.now)
+        (route_row_at router config.now) rows.old.items rows.new.items) }
+{
+    let mut bound = BTreeSet::new(alloc);
+    add_bound_route(alloc, &mut bound, config)?;
+    let lists = by_name(alloc, config, false)?;
+    for name in &bound {
+        let found = lists.get(name).copied();
+        add_route_row(alloc, rows, router, name, found)?;
+    }
+    Ok(())
+}
+
+/// The rows of the packet lists of all files.
+pub fn packet_lists(alloc: Global, configs: &List<Config>) -> Result<List<PacketList>, Memory>
+    requires { length configs.now ≤ ROUTER_LIMIT }
+    ensures { IfOk result (ArePacketLists configs.now) }
+{
+    let mut rows = Vec::new(alloc);
+    for (router, config) in configs.slice().iter().enumerate() {
+        add_packet_lists(alloc, &mut rows, router as u32, config)?;
+    }
+    List::of(rows)
+}
+
+/// The rows of the route lists of all files.
+pub fn route_lists(alloc: Global, configs: &List<Config>) -> Result<List<RouteList>, Memory>
+    requires { length configs.now ≤ ROUTER_LIMIT }
+    ensures { IfOk result (AreRouteLists configs.now) }
+{
+    let mut rows = Vec::new(alloc);
+    for (router, config) in configs.slice().iter().enumerate() {
+        add_route_lists(alloc, &mut rows, router as u32, config)?;
+    }
+    List::of(rows)
+}

@@ -1,0 +1,226 @@
+//! What the process of a file says, gathered once for all interfaces of the file: no look-up goes
+//! through its lines again.
+ghost use Rattle.std.specs.Prelude.{◌≡◌, ◌↔◌, ◌⊎◌, ℕ, List, [], Some, Any, IfOk, IsTrue};
+ghost use Rattle.std.specs.Prelude.{option_map};
+ghost use Rattle.std.specs.Option.{option_copied, option_or};
+ghost use Rattle.arc_base.specs.declared.prefix.Prefix.{Prefix};
+ghost use Rattle.ios_words.specs.declared.commands.Command.TheVariants as commands;
+ghost use Rattle.net_rules.specs.Settings.{last_said, says_passive};
+ghost use Rattle.net_rules.specs.Prefixes.{HasPrefix};
+ghost use Rattle.row_making.specs.Indexes.{told_prefix, covered_prefix, passive_setting};
+ghost use Rattle.row_making.specs.Indexes.{by_face};
+ghost use Rattle.row_making.specs.Indexes.{said_of, IsIndex};
+
+use crate::commands::reference;
+use arc_base::{Memory, Name, Prefix};
+use indexmap::{IndexMap, IndexSet};
+use ios_config::{Config, Given};
+use ios_words::Command;
+use net_model::Protocol;
+use net_rules::{Prefixes, add_prefix, has_prefix, has_prefix_of, lines_of};
+use std::alloc::Global;
+
+/// What the lines of a process say of passive interfaces.
+#[derive(Drop)]
+pub struct PassiveIndex<'a> {
+    /// What the last line about all interfaces says.
+    pub all: Option<bool>,
+    /// What later lines say of an interface by its name.
+    pub named: IndexMap<&'a [u8], bool>,
+}
+
+/// What the process of a file says.
+#[derive(Drop)]
+pub struct ProcessIndex<'a> {
+    pub config: &'a Config,
+    /// The reference bandwidth, in kbit/s.
+    pub reference: u64,
+    /// The prefixes of the network statements of BGP.
+    pub told: Prefixes,
+    /// The prefixes of the network statements of OSPF.
+    pub covered: Prefixes,
+    pub passive: PassiveIndex<'a>,
+}
+
+/// The prefix of a network statement of BGP.
+fn told_prefix(command: &Command) -> Option<&Prefix>
+    ensures { option_copied result ≡ told_prefix command.now }
+{
+    match command {
+        Command::Tells(p) => Some(p),
+        _ => None,
+    }
+}
+
+/// The prefix of a network statement of OSPF.
+fn covered_prefix(command: &Command) -> Option<&Prefix>
+    ensures { option_copied result ≡ covered_prefix command.now }
+{
+    match command {
+        Command::Covers(p, _) => Some(p),
+        _ => None,
+    }
+}
+
+/// Adds the prefix, if there is one.
+fn add_found(prefixes: &mut Prefixes, found: Option<&Prefix>) -> Result<(), Memory>
+    ensures { IfOk result (λ done. (p : Prefix) → HasPrefix prefixes.new.keys p ↔
+        (HasPrefix prefixes.old.keys p ⊎ (option_copied found.entry ≡ Some p))) }
+{
+    match found {
+        Some(p) => {
+            add_prefix(prefixes, p)?;
+            Ok(())
+        }
+        None => Ok(()),
+    }
+}
+
+fn told(alloc: Global, lines: &[Given<Command>]) -> Result<Prefixes, Memory>
+    ensures { IfOk result (λ told. (p : Prefix) →
+        HasPrefix told.keys p ↔ Any (λ g. g.value ≡ commands.Tells p) lines.now) }
+{
+    let mut told = IndexSet::new(alloc);
+    for line in lines {
+        add_found(&mut told, told_prefix(&line.value))?;
+    }
+    Ok(told)
+}
+
+fn covered(alloc: Global, lines: &[Given<Command>]) -> Result<Prefixes, Memory>
+    ensures { IfOk result (λ covered. (p : Prefix) →
+        HasPrefix covered.keys p ↔ Any (λ g. covered_prefix g.value ≡ Some p) lines.now) }
+{
+    let mut covered = IndexSet::new(alloc);
+    for line in lines {
+        add_found(&mut covered, covered_prefix(&line.value))?;
+    }
+    Ok(covered)
+}
+
+/// Whether the command makes interfaces passive, and which one, or else all.
+fn passive_setting(command: &Command) -> Option<(bool, Option<&Name>)>
+    ensures { option_map (λ s. (s.0, option_copied s.1)) result ≡ passive_setting command.now }
+{
+    match command {
+        Command::Passive(on, face) => Some((*on, face.as_ref())),
+        _ => None,
+    }
+}
+
+/// Notes whether the interface of this name, or else each, is passive.
+fn note_passive<'a>(
+    passive: &mut PassiveIndex<'a>,
+    on: bool,
+    face: Option<&'a Name>,
+) -> Result<(), Memory>
+    ensures { IfOk result (λ done. (name : List ℕ) → said_of passive.new name
+        ≡ option_or (by_face name on (option_copied face.entry)) (said_of passive.old name)) }
+{
+    match face {
+        Some(face) => {
+            passive.named.insert(face.bytes(), on)?;
+            Ok(())
+        }
+        None => {
+            passive.all = Some(on);
+            passive.named.clear();
+            Ok(())
+        }
+    }
+}
+
+/// Notes what the command says of passive interfaces, in place of what was said before.
+fn add_passive<'a>(passive: &mut PassiveIndex<'a>, command: &'a Command) -> Result<(), Memory>
+    ensures { IfOk result (λ done. (name : List ℕ) → said_of passive.new name
+        ≡ option_or (says_passive name command.now) (said_of passive.old name)) }
+{
+    match passive_setting(command) {
+        Some((on, face)) => {
+            note_passive(passive, on, face)?;
+            Ok(())
+        }
+        None => Ok(()),
+    }
+}
+
+fn passive<'a>(alloc: Global, lines: &'a [Given<Command>]) -> Result<PassiveIndex<'a>, Memory>
+    ensures { IfOk result (λ passive. (name : List ℕ) →
+        said_of passive name ≡ last_said (says_passive name) lines.now) }
+{
+    let mut passive = PassiveIndex {
+        all: None,
+        named: IndexMap::new(alloc),
+    };
+    for line in lines {
+        add_passive(&mut passive, &line.value)?;
+    }
+    Ok(passive)
+}
+
+/// The index of the file's process.
+pub fn index_process(alloc: Global, config: &Config) -> Result<ProcessIndex<'_>, Memory>
+    ensures config { IfOk result (λ index. index.config.now ≡ config.now) }
+    ensures index { IfOk result IsIndex }
+{
+    let lines = lines_of(config);
+    Ok(ProcessIndex {
+        config,
+        reference: reference(lines),
+        told: told(alloc, lines)?,
+        covered: covered(alloc, lines)?,
+        passive: passive(alloc, lines)?,
+    })
+}
+
+impl PassiveIndex<'_> {
+    /// What the last line about the interface of this name, or about all, says.
+    fn get(&self, name: &[u8]) -> Option<bool>
+        ensures { result ≡ said_of self.now name.now }
+    {
+        match self.named.get(&name) {
+            Some(on) => Some(*on),
+            None => self.all,
+        }
+    }
+}
+
+impl ProcessIndex<'_> {
+    ghost use Rattle.net_rules.specs.Settings.{lines_of, is_passive, CommandCovers};
+
+    /// Whether a network statement of BGP names just this prefix.
+    pub fn is_told(&self, p: &Prefix) -> bool
+        requires { IsIndex self.now }
+        ensures { IsTrue result ↔
+            Any (λ g. g.value ≡ commands.Tells p.now) (lines_of self.now.config.now) }
+    {
+        has_prefix(&self.told, p)
+    }
+
+    /// Whether a network statement of OSPF covers the address.
+    pub fn is_covered(&self, address: u32) -> bool
+        requires { IsIndex self.now }
+        ensures { IsTrue result ↔
+            Any (λ g. CommandCovers address g.value) (lines_of self.now.config.now) }
+    {
+        has_prefix_of(&self.covered, address)
+    }
+
+    fn last_passive(&self, name: &[u8]) -> Option<bool>
+        requires { IsIndex self.now }
+        ensures { result ≡ last_said (says_passive name.now) (lines_of self.now.config.now) }
+    {
+        self.passive.get(name)
+    }
+
+    /// Whether the interface of this name is passive.
+    pub fn is_passive(&self, protocol: Protocol, name: &[u8]) -> bool
+        requires { IsIndex self.now }
+        ensures { result ≡ is_passive protocol (lines_of self.now.config.now) name.now }
+    {
+        match protocol {
+            Protocol::Ospf => self.last_passive(name).unwrap_or(false),
+            Protocol::Bgp => false,
+        }
+    }
+}

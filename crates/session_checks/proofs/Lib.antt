@@ -1,6 +1,0 @@
-mod StopsFirst
-mod StopsEnds
-mod PeersEnds
-mod PeersFiles
-mod ConnectedSubnets
-mod SessionPackets

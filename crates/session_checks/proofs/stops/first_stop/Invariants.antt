@@ -1,6 +1,0 @@
-use Rattle.std.proofs.Common.{take}
-use Rattle.session_checks.specs.Stopping.{FindsFirst, StopsAtSome}
-use Rattle.session_checks.proofs.stops.first_stop.Given as goal
-
-abbrev pub invariant-loop-link : goal.invariant-loop-link
-invariant-loop-link l = FindsFirst (StopsAtSome l.net l.configs (take l.link-index l.link-items)) l.first

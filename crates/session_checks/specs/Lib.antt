@@ -1,4 +1,0 @@
-pub mod FarEnds
-pub mod Stopping
-pub mod Subnets
-pub mod SessionPackets
