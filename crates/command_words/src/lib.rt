@@ -5,6 +5,7 @@
 
 mod commands;
 mod forms;
+mod found;
 mod grammar;
 pub mod laws;
 mod matched;

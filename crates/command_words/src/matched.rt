@@ -1,9 +1,9 @@
-//! From what `clap` found to the command: the row of its name, and one reader for each row.
+//! The readers of the commands, one for each row of the table, over what `clap` found.
 ghost use Rattle.std.specs.Prelude.{◌≡◌, ◌≤◌, ◌<◌, ◌^◌, IfOk, IfErr, MatchOption, MatchResult};
 ghost use Rattle.std.specs.Prelude.{None, Some, codes, option_and_then};
 ghost use Rattle.std.specs.Result.{result_ok};
 ghost use Rattle.arc_base.specs.PrefixText.{prefix_of};
-ghost use Rattle.clap.specs.Words.{first_of, found_of, rows_of, subcommand_rows_of};
+ghost use Rattle.clap.specs.Words.{first_of, found_of, rows_of};
 ghost use Rattle.command_words.specs.Commands.{
   apply_by,
   check_by,
@@ -20,16 +20,14 @@ ghost use Rattle.command_words.specs.Commands.{
   trace_by,
   verify_by,
 };
-ghost use Rattle.command_words.specs.Matched.{matched_command, matched_named};
 ghost use Rattle.command_words.specs.Values.{number_within, router_names};
 
 use crate::commands::{
     ApplyWords, Command, GenerateWords, NodesWords, PrefersWords, RecheckWords, RepairWords,
     SolveWords, TraceWords,
 };
-use crate::forms::{CommandKind, form_named};
+use crate::forms::CommandKind;
 use crate::values::{self, Fault};
-use crate::wrong::{WrongWord, WrongWords};
 use arc_base::limits::{
     CONFLICT_LIMIT, DEFAULT_CONFLICTS, DEFAULT_PRICE, FAILURE_LIMIT, FEWEST_GENERATED,
     MOST_GENERATED, PRICE_LIMIT,
@@ -40,13 +38,13 @@ use std::alloc::Global;
 
 /// A value that is wrong: the name of its place or option, and what is wrong with it.
 #[derive(Clone, Copy, Debug)]
-struct WrongValue {
-    name: &'static str,
-    fault: Fault,
+pub struct WrongValue {
+    pub name: &'static str,
+    pub fault: Fault,
 }
 
 /// What is read, unless a value is wrong.
-type Read<T> = Result<T, WrongValue>;
+pub type Read<T> = Result<T, WrongValue>;
 
 /// The value that is read, and else the end of the reading.
 macro_rules! read {
@@ -70,7 +68,7 @@ macro_rules! made {
 }
 
 /// The value of an argument.
-fn value<'a>(found: &ArgMatches<'a>, name: &str) -> Option<&'a str>
+pub fn value<'a>(found: &ArgMatches<'a>, name: &str) -> Option<&'a str>
     ensures { MatchOption result (first_of name.now (rows_of (found_of found.now)) ≡ None) (λ text.
         first_of name.now (rows_of (found_of found.now)) ≡ Some text.now) }
 {
@@ -347,7 +345,11 @@ fn recheck(alloc: Global, found: &ArgMatches<'_>) -> Result<Read<Command>, Memor
 }
 
 /// The command of this kind.
-fn read(alloc: Global, kind: CommandKind, found: &ArgMatches<'_>) -> Result<Read<Command>, Memory>
+pub fn read(
+    alloc: Global,
+    kind: CommandKind,
+    found: &ArgMatches<'_>,
+) -> Result<Read<Command>, Memory>
     ensures { IfOk result (λ read. result_ok read
         ≡ command_by kind (λ name. first_of name (rows_of (found_of found.now)))) }
 {
@@ -364,63 +366,4 @@ fn read(alloc: Global, kind: CommandKind, found: &ArgMatches<'_>) -> Result<Read
         CommandKind::Prefers => prefers(alloc, found),
         CommandKind::Recheck => recheck(alloc, found),
     }
-}
-
-/// The value that is wrong, with its word.
-fn wrong_word(
-    alloc: Global,
-    found: &ArgMatches<'_>,
-    wrong: WrongValue,
-) -> Result<WrongWords, Memory> {
-    let word = value(found, wrong.name).unwrap_or("");
-    Ok(WrongWords::Value(WrongWord {
-        name: wrong.name,
-        word: Name::make(alloc, word.as_bytes())?,
-        fault: wrong.fault,
-    }))
-}
-
-/// The command of this kind, or else the word that is wrong.
-fn read_or_word(
-    alloc: Global,
-    kind: CommandKind,
-    found: &ArgMatches<'_>,
-) -> Result<Result<Command, WrongWords>, Memory>
-    ensures { IfOk result (λ read. result_ok read
-        ≡ command_by kind (λ name. first_of name (rows_of (found_of found.now)))) }
-{
-    match read(alloc, kind, found) {
-        Ok(Ok(command)) => Ok(Ok(command)),
-        Ok(Err(wrong)) => Ok(Err(wrong_word(alloc, found, wrong)?)),
-        Err(memory) => Err(memory),
-    }
-}
-
-/// The command of this name, with the values that `clap` found.
-fn named(
-    alloc: Global,
-    name: &str,
-    found: &ArgMatches<'_>,
-) -> Result<Result<Command, WrongWords>, Memory>
-    ensures { IfOk result (λ read. result_ok read
-        ≡ matched_named name.now (rows_of (found_of found.now))) }
-{
-    match form_named(name) {
-        Some(form) => read_or_word(alloc, form.kind, found),
-        None => Ok(Err(WrongWords::NoCommand)),
-    }
-}
-
-/// The command with the values that `clap` found, each read.
-pub fn command_of_matches(
-    alloc: Global,
-    matches: &ArgMatches<'_>,
-) -> Result<Result<Command, WrongWords>, Memory>
-    ensures { IfOk result (λ read. result_ok read
-        ≡ matched_command (subcommand_rows_of matches.now)) }
-{
-    let Some((name, found)) = matches.subcommand() else {
-        return Ok(Err(WrongWords::NoCommand));
-    };
-    named(alloc, name, found)
 }

@@ -7,8 +7,8 @@ ghost use Rattle.command_words.specs.Commands.{command_of, HasLimit};
 
 use crate::commands::Command;
 use crate::forms::command_forms;
+use crate::found::command_of_matches;
 use crate::grammar::command_line;
-use crate::matched::command_of_matches;
 use crate::wrong::WrongWords;
 use arc_base::{Memory, Name};
 use clap::error::ErrorKind;

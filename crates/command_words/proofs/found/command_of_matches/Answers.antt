@@ -3,7 +3,7 @@ use Rattle.std.proofs.lemmas.Result.{IfOk-weaker}
 use Rattle.clap.specs.Walk.{Row, Text}
 use Rattle.clap.specs.Simple.{subcommand_rows_of}
 use Rattle.command_words.specs.Matched.{matched_command}
-use Rattle.command_words.proofs.matched.command_of_matches.Goals as goal
+use Rattle.command_words.proofs.found.command_of_matches.Goals as goal
 
 abbrev pairing : {S : Type 0} → (S → Text) → (S → List Row) → S → Text × List Row
 pairing name_of rows_by s = (name_of s, rows_by s)
