@@ -137,18 +137,18 @@ module _ (g : Digraph) (is : IsGraph g) (s t : ℕ) (carried needed : Units) (ar
       λ b m to. none (joined (without g.arcs arc.link) s b.head t to (behind b m)) in
       let closed : (r : Arc) → Contains (residual carried g.arcs) r → Leads (without g.arcs arc.link) s r.tail → Leads (without g.arcs arc.link) s r.head =
       λ r m to. let from : Source g.arcs carried r = residual-source g.arcs carried r m in
-          elim from.how [
-            | inl free ↦
-                let away : from.base.link.0 ≡ arc.link.0 → ⊥ = λ e.
-                none≢some arc (unit_at carried arc.link.0) (ap (λ (n : ℕ). unit_at carried n) (sym e) ∙ free.0) (w.full arc (Contains-here arc rest)) in
-                leads-on (without g.arcs arc.link) s r to (subst (λ (x : Arc). Contains (without g.arcs arc.link) x) free.1 (left g.arcs arc.link from.base from.is_base away))
-            | inr (used, e, same, turned_is) ↦
-                let to_head : Leads (without g.arcs arc.link) s used.head = subst (λ (x : Arc). Leads (without g.arcs arc.link) s x.tail) (sym turned_is) to in
-                elim (w.units from.base.link.0 used e) [
-                  | inl m ↦ absurd (ends used m to_head)
-                  | inr passed ↦ subst (λ (x : Arc). Leads (without g.arcs arc.link) s x.head) turned_is (passed.tail arc (Contains-here arc rest))
-                ]
-          ] in
+      elim from.how [
+        | inl free ↦
+            let away : from.base.link.0 ≡ arc.link.0 → ⊥ = λ e.
+            none≢some arc (unit_at carried arc.link.0) (ap (λ (n : ℕ). unit_at carried n) (sym e) ∙ free.0) (w.full arc (Contains-here arc rest)) in
+            leads-on (without g.arcs arc.link) s r to (subst (λ (x : Arc). Contains (without g.arcs arc.link) x) free.1 (left g.arcs arc.link from.base from.is_base away))
+        | inr (used, e, same, turned_is) ↦
+            let to_head : Leads (without g.arcs arc.link) s used.head = subst (λ (x : Arc). Leads (without g.arcs arc.link) s x.tail) (sym turned_is) to in
+            elim (w.units from.base.link.0 used e) [
+              | inl m ↦ absurd (ends used m to_head)
+              | inr passed ↦ subst (λ (x : Arc). Leads (without g.arcs arc.link) s x.head) turned_is (passed.tail arc (Contains-here arc rest))
+            ]
+      ] in
       ends arc (Contains-here arc rest) (stays_inside (residual carried g.arcs) (λ (n : ℕ). Leads (without g.arcs arc.link) s n) closed s arc.head seen.0 seen.1 ([], refl))
 
   -- where it does not, the link is needed
@@ -226,7 +226,7 @@ module _ (g : Digraph) (is : IsGraph g) (s t : ℕ) (carried needed : Units) (ar
       λ r m h. (
         leads-on (residual carried g.arcs) s r h.0 m,
         leads-on (residual (set carried arc.link.0 None) g.arcs) s r h.1 (kept-arc g.arcs carried arc w.on place (w.full arc (Contains-here arc rest)) r m
-        (λ e. unseen (subst (λ (n : ℕ). Leads (residual carried g.arcs) s n) e h.0))),
+            (λ e. unseen (subst (λ (n : ℕ). Leads (residual carried g.arcs) s n) e h.0))),
       ) in
       (stays_inside (residual carried g.arcs) P closed s v to.0 to.1 (([], refl), ([], refl))).1
 

@@ -76,7 +76,7 @@ module _ (g : Digraph) (is : IsGraph g) (units : Units) (on : OnArcs g.arcs unit
             let ne : arc.link.0 ≡ from.base.link.0 → ⊥ =
             λ f. none≢some used (unit_at (set units arc.link.0 None) from.base.link.0) (ap (λ (n : ℕ). unit_at (set units arc.link.0 None) n) (sym f) ∙ none_here) e in
             inl (subst (λ (x : Arc). Contains (residual units g.arcs) x) turned_is
-                (residual-back g.arcs units from.base.link.0 used on (sym (off from.base.link.0 ne) ∙ e)))
+            (residual-back g.arcs units from.base.link.0 used on (sym (off from.base.link.0 ne) ∙ e)))
       ]
 
   module _ (s : ℕ) (marks : List Mark) (queue : List ℕ) (count : ℕ) (search : IsSearch (residual units g.arcs) s marks queue count count)

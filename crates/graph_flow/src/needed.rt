@@ -18,12 +18,7 @@ use std::alloc::Global;
 
 /// The links without which no path leads from `s` to `t`, in rising order, or none where no path
 /// leads there. The time is linear in nodes, arcs and the greatest number of a link.
-pub fn needed_links(
-    alloc: Global,
-    g: &Graph,
-    s: u32,
-    t: u32,
-) -> Result<Option<List<Link>>, Memory>
+pub fn needed_links(alloc: Global, g: &Graph, s: u32, t: u32) -> Result<Option<List<Link>>, Memory>
     requires source { s < g.now.nodes }
     requires target { t < g.now.nodes }
     ensures { IfOk result (IsNeededAnswer g.now.arcs s t) }

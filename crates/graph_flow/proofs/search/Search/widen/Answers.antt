@@ -7,8 +7,11 @@ use Rattle.graph_flow.proofs.search.Search.widen.Goals as goal
 pub follow-more-requires-clause-room : goal.follow-more-requires-clause-room
 follow-more-requires-clause-room c unseen =
     let on : OnArcs c.args.g.now.arcs c.args.carried.now = record { is_arc = c.requires.units; of_link = c.requires.of_link } in
-    omega (arith, has_room c.args.g.now c.requires.graph c.args.carried.now on c.args.arc c.requires.arc c.args.from c.args.self.now.marks.items c.args.self.now.queue.items c.args.count
-    c.requires.search (omega (arith, c.requires.marks)) (omega (arith, c.requires.queue, c.requires.marks)) c.requires.tail unseen)
+    omega (
+      arith,
+      has_room c.args.g.now c.requires.graph c.args.carried.now on c.args.arc c.requires.arc c.args.from c.args.self.now.marks.items c.args.self.now.queue.items c.args.count
+          c.requires.search (omega (arith, c.requires.marks)) (omega (arith, c.requires.queue, c.requires.marks)) c.requires.tail unseen,
+    )
 
 pub close-requires-clause-units : goal.close-requires-clause-units
 close-requires-clause-units c =
