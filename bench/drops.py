@@ -5,6 +5,7 @@ from dataclasses import dataclass, field
 from typing import Iterable
 
 STEP, KEPT = 1500, 1000
+REASONS = 100  # up to this many old lemmas may all be reasons, which stay; the log does not say which are
 
 
 @dataclass
@@ -36,8 +37,8 @@ class Log:
         return self.since >= gap and (self.since - gap) % STEP == 0
 
     def check_late(self) -> None:
-        """At a lemma: where it was time, none could go. A reason cannot, so one lemma that is left is no fault."""
-        if self.is_time() and len(self.may_go(self.old())) > 1000:
+        """At a lemma: where it was time for a drop, none could go but for reasons."""
+        if self.is_time() and len(self.may_go(self.old())) > REASONS:
             self.faults.append(f"no drop after {self.since} lemmas, though many could go")
 
     def drop(self, words: list[str]) -> None:

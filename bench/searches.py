@@ -127,7 +127,7 @@ def repaired_row(bench: Bench, title: str, network: Network, folder: Path, most:
     encoding.write_weighted(folder / "f.wcnf", formula)
     commands = {"arcv": [bench.arcv, *REPAIR]}
     commands |= {"z3": ["z3", "-wcnf", "-model", "f.wcnf"]} if beside.installed("z3") else {}
-    commands |= {"clasp": ["clasp", "--opt-strategy=usc", "--quiet=1,2", "f.wcnf"]} if beside.installed("clasp") else {}
+    commands |= {"clasp": ["clasp", "--opt-strategy=usc", "f.wcnf"]} if beside.installed("clasp") else {}
     runs = by_turns(commands, folder, min(bench.rounds, 3), bench.seconds)
     readers = {"arcv": price_of_arcv, "z3": price_of_z3, "clasp": price_of_clasp}
     prices = {name: readers[name](it) for name, it in runs.items()}
