@@ -1,23 +1,55 @@
 //! Bytes of files as they may be shown.
 use std::alloc::{AllocError, Global};
+use std::str;
 
 /// How many bytes of a line are shown: a few rows of a terminal.
 const SHOWN: usize = 300;
 
-/// The front of a line, as much as is shown: a file whose line feeds were lost is one line.
+/// The front of a line, as much as is shown: a file whose line feeds were lost is one line. No
+/// character of it is cut.
 pub fn front_of(line: &[u8]) -> &[u8] {
-    line.get(..SHOWN).unwrap_or(line)
+    let Some(front) = line.get(..SHOWN) else {
+        return line;
+    };
+    match str::from_utf8(front) {
+        Err(error) if error.error_len().is_none() => {
+            front.get(..error.valid_up_to()).unwrap_or(front)
+        }
+        _ => front,
+    }
+}
+
+/// Whether these bytes are text without a control character beyond ASCII.
+fn is_text(bytes: &[u8]) -> bool {
+    match str::from_utf8(bytes) {
+        Ok(text) => !text.chars().any(|c| !c.is_ascii() && c.is_control()),
+        Err(_) => false,
+    }
+}
+
+fn push_shown(
+    alloc: Global,
+    shown: &mut Vec<u8>,
+    byte: u8,
+    is_text: bool,
+) -> Result<(), AllocError> {
+    if byte.is_ascii_control() && byte != b'\t' {
+        shown.push(b'?')?;
+    } else if is_text || byte.is_ascii() {
+        shown.push(byte)?;
+    } else {
+        shown.extend_from_slice(format!(in alloc; "\\x{byte:02x}")?.as_bytes())?;
+    }
+    Ok(())
 }
 
 /// The bytes with a question mark for each control character but tabs, so that the content of a
-/// file can't steer a terminal.
+/// file can't steer a terminal, and with an escape for each byte above 127 of what is no text.
 pub fn visible(alloc: Global, bytes: &[u8]) -> Result<Vec<u8>, AllocError> {
-    let shown = |byte: &u8| {
-        if byte.is_ascii_control() && *byte != b'\t' {
-            b'?'
-        } else {
-            *byte
-        }
-    };
-    bytes.iter().map(shown).collect(alloc)
+    let is_text = is_text(bytes);
+    let mut shown = Vec::new(alloc);
+    for byte in bytes {
+        push_shown(alloc, &mut shown, *byte, is_text)?;
+    }
+    Ok(shown)
 }

@@ -35,12 +35,27 @@ fn refusals_are_taken_apart(rt: HostRuntime) -> Result<(), Fail> {
         Some((b"a b.cfg".as_slice(), 11, b"bad-word".as_slice()))
     );
     assert!(rt; told_refusal(b"accepted\n").is_none());
-    assert_eq!(rt;
-        visible(rt.alloc(), b"a\x1bb")?.as_slice(),
-        b"a?b".as_slice()
-    );
+    Ok(())
+}
+
+/// Bytes, and how they are shown.
+const SHOWN: &[(&[u8], &[u8])] = &[
+    (b"a\x1bb\t", b"a?b\t"),
+    (b"caf\xc3\xa9", b"caf\xc3\xa9"),
+    (b"caf\xe9\x8b", b"caf\\xe9\\x8b"),
+    (b"\xc2\x9b", b"\\xc2\\x9b"),
+];
+
+#[test]
+fn bytes_are_shown(rt: HostRuntime) -> Result<(), Fail> {
+    for (bytes, want) in SHOWN {
+        assert!(rt; visible(rt.alloc(), *bytes)?.as_slice() == *want);
+    }
     assert_eq!(rt; front_of(b"ab"), b"ab".as_slice());
     assert_eq!(rt; front_of(&[b'a'; 301]).len(), 300);
+    let mut line = Vec::from_elem(rt.alloc(), b'a', 299)?;
+    line.extend_from_slice(b"\xc3\xa9")?;
+    assert_eq!(rt; front_of(&line).len(), 299);
     Ok(())
 }
 
