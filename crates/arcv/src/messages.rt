@@ -64,7 +64,10 @@ fn explain_words(rt: &HostRuntime, words: &[Name]) -> io::Result<()> {
     if asks_for_version(command.bytes()) {
         return say(rt, &[b"arcv ", VERSION.as_bytes()]);
     }
-    let named = str::from_utf8(command.bytes()).ok().and_then(form_named);
+    let named = match str::from_utf8(command.bytes()) {
+        Ok(name) => form_named(name),
+        Err(_) => None,
+    };
     let Some(form) = named else {
         return explain_name(rt, command.bytes());
     };
