@@ -6,7 +6,7 @@ use Rattle.std.proofs.lemmas.List.Elements.{Contains-push}
 use Rattle.ios_words.specs.declared.commands.Command.TheVariants as commands
 use Rattle.ios_words.specs.declared.kinds.BlockKind.TheVariants as blocks
 use Rattle.ios_words.specs.Prefixes.{whole}
-use Rattle.ios_words.proofs.PrintedLines.{closing-line}
+use Rattle.ios_words.proofs.PlainLines.{closing-line}
 use Rattle.ios_config.specs.declared.commands.FileCommand.{FileCommand}
 use Rattle.ios_config.specs.Inserted.{command_at}
 use Rattle.net_gen.specs.Plans.{a_router, port}

@@ -6,9 +6,12 @@ pub mod Heads
 pub mod Holding
 pub mod Known
 pub mod NameForms
+pub mod PlainLines
+pub mod PlainParts
+pub mod PlainReads
+pub mod PlainSteps
 pub mod PlainWords
 pub mod Printed
-pub mod PrintedLines
 pub mod PrintedSides
 pub mod PrintedSteps
 pub mod PrintedServices
@@ -19,8 +22,10 @@ pub mod ServicesBetween
 pub mod Trials
 pub mod Units
 pub mod WordLists
+pub mod WordSizes
 pub mod Returns
 pub mod ValuesKept
 pub mod ListLines
+pub mod ListReads
 pub mod PrefixNames
 pub mod WritableReads

@@ -7,10 +7,11 @@ use Rattle.arc_base.specs.PrefixText.{address_text}
 use Rattle.arc_base.proofs.AddressTexts.{address_of-address_text}
 use Rattle.ios_words.specs.declared.rows.Form.TheVariants.{Address, Host, Wildcard}
 use Rattle.ios_words.specs.Prefixes.{holding, whole}
-use Rattle.ios_words.specs.Printed.{side_words}
-use Rattle.ios_words.specs.Readings.{State, begins, after_word, place, then_do, width, side, any, passed}
+use Rattle.ios_words.specs.Printed.{side_words, wildcard_text}
+use Rattle.ios_words.specs.Readings.{State, alone, begins, after_word, place, stands_alone, then_do, width, side, any, passed}
 use Rattle.ios_words.specs.Values.{Values, with_value, with_length}
 use Rattle.ios_words.proofs.PrintedSteps.{at, address-word, holding-prefix, wildcard-read}
+use Rattle.ios_words.proofs.PlainSteps.{wildcard-small}
 
 -- what follows a side that was read: its prefix is known, and nothing else that counts
 pub record SideRead (extended : Bool) (words rest : List (List ℕ)) (p : Prefix) (taken : ℕ) (v : Values) : Type 0 where
@@ -82,3 +83,9 @@ side-by extended p rest taken v width = ⊎_elim
 -- of an extended list
 pub side-read : (p : Prefix) (rest : List (List ℕ)) (taken : ℕ) (v : Values) → SideRead true (side_words p) rest p taken v
 side-read p rest taken v = side-by true p rest taken v refl
+
+-- and of a standard one
+pub standard-side : (p : Prefix) (rest : List (List ℕ)) (taken : ℕ) (v : Values) → SideRead false (side_words p) rest p taken v
+standard-side p rest taken v =
+    side-by false p rest taken v
+    (cond-false (stands_alone (wildcard_text p ∷ rest)) (Ok (alone (at_wildcard p rest taken v))) _ (address-word (2 ^ (32 - p.len) - 1) 108 (codes "og") (wildcard-small p.len) (omega arith)))

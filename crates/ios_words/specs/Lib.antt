@@ -12,6 +12,7 @@ pub mod Prefixes
 pub mod ServiceRanges
 pub mod Services
 pub mod Printed
+pub mod Plain
 pub mod Readings
 pub mod Renumbered
 pub mod Rows

@@ -1,7 +1,12 @@
 -- What the program's values mean.
-use Rattle.std.specs.Prelude.{ℕ, List, Result, Ok, Err}
+use Rattle.std.specs.Prelude.{ℕ, Bool, true, false, List, Result, Ok, Err, decimal}
+use Rattle.arc_base.specs.PrefixText.{address_text, prefix_text}
+use Rattle.ios_words.specs.declared.kinds.BlockKind.{BlockKind}
+use Rattle.ios_words.specs.declared.kinds.BlockKind.TheVariants.{Extended, Standard}
 use Rattle.ios_words.specs.declared.kinds.WordFault.{WordFault}
 use Rattle.ios_words.specs.declared.found.Found.{Found}
+use Rattle.ios_words.specs.declared.printed_words.Word.{Word}
+use Rattle.ios_words.specs.declared.printed_words.Word.TheVariants.{Text, Number, Address, Route}
 use Rattle.ios_words.specs.declared.reading.Reader.{Reader}
 use Rattle.ios_words.specs.declared.words.Words.{Words}
 use Rattle.ios_words.specs.Readings.{State}
@@ -26,3 +31,15 @@ next_state (Err fault) = Err fault
 abbrev pub line_values : Result Found WordFault → Result Values WordFault
 line_values (Ok found) = Ok (values_of found)
 line_values (Err fault) = Err fault
+
+-- a word that is printed
+abbrev pub text_of : Word → List ℕ
+text_of (Text text) = text.now
+text_of (Number number) = decimal number
+text_of (Address address) = address_text address
+text_of (Route prefix) = prefix_text prefix
+
+-- the block of a list, extended or standard
+abbrev pub list_block : Bool → BlockKind
+list_block true = Extended
+list_block false = Standard

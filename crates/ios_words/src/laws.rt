@@ -3,10 +3,8 @@ ghost use Rattle.ios_words.specs.Returns.{ReturnsSayNothing, HeadsHaveNoReturn};
 ghost use Rattle.ios_words.specs.Forms.{CommandsAreInForm, AllAddressesFit};
 ghost use Rattle.std.specs.Prelude.{codes};
 ghost use Rattle.ios_words.specs.Names.{NamesHaveTheirForm};
-ghost use Rattle.ios_words.specs.Printed.{PassiveLinesAreRead, NeighborLinesAreRead};
-ghost use Rattle.ios_words.specs.Printed.{NeighborListLinesAreRead, GroupLinesAreRead};
-ghost use Rattle.ios_words.specs.Printed.{EntryLinesAreRead, ListHeadsAreRead, ListLinesAreRead};
-ghost use Rattle.ios_words.specs.Printed.{PrefixLinesAreRead, PermitAllLinesAreRead, IsClosingLine};
+ghost use Rattle.ios_words.specs.Plain.{PlainLinesAreRead};
+ghost use Rattle.ios_words.specs.Printed.{IsClosingLine};
 ghost use Rattle.ios_words.specs.Renumbered.{EntriesMayBeRenumbered, PrefixLinesMayBeRenumbered};
 ghost use Rattle.ios_words.specs.Renumbered.{NumberedLinesHaveSequences};
 ghost use Rattle.ios_words.specs.ListLines.{ListLinesAreTopLines, PrefixListsHaveOtherNames};
@@ -41,18 +39,11 @@ pub fn names_have_their_form()
     ensures { NamesHaveTheirForm }
 {}
 
-/// The lines that `printing` writes are read as what they were written for, in blocks of their
-/// kinds.
-pub fn printed_lines_are_read()
-    ensures passive { PassiveLinesAreRead }
-    ensures neighbor { NeighborLinesAreRead }
-    ensures neighbor_list { NeighborListLinesAreRead }
-    ensures group { GroupLinesAreRead }
-    ensures entry { EntryLinesAreRead }
-    ensures list_head { ListHeadsAreRead }
-    ensures list_line { ListLinesAreRead }
-    ensures prefix_line { PrefixLinesAreRead }
-    ensures permit_all { PermitAllLinesAreRead }
+/// The plain line of a command is read as the command: it has the command's words, it heads a block
+/// exactly where the command does, and the language gives just this command for its words in a
+/// block of the kind in which it stands. The line `!` closes a block.
+pub fn plain_lines_are_read()
+    ensures lines { PlainLinesAreRead }
     ensures closing { IsClosingLine (codes "!") }
 {}
 

@@ -1,302 +1,269 @@
-//! Lines of router files, appended to a text without their ends. Those of blocks begin with one
-//! space.
-ghost use Rattle.std.specs.Prelude.{◌≡◌, ◌≤◌, ◌-◌, ◌^◌, ◌∷◌, ◌++◌, [], decimal, OnOk};
-ghost use Rattle.arc_base.specs.PrefixText.{address_text, prefix_text};
-ghost use Rattle.ios_lines.specs.Written.{spaced};
-ghost use Rattle.ios_words.specs.Printed.{unless, passive_words, neighbor_words};
-ghost use Rattle.ios_words.specs.Printed.{neighbor_list_words, group_words, list_head_words};
-ghost use Rattle.ios_words.specs.Printed.{verdict_word, side_words, packet_words, order_words};
-ghost use Rattle.ios_words.specs.Printed.{entry_words, list_line_words, sequence_words};
-ghost use Rattle.ios_words.specs.Printed.{prefix_line_words, permit_all_words, top_line};
-ghost use Rattle.ios_words.specs.Services.{are_all, are_all_ports, protocol_text, protocol_word};
-ghost use Rattle.ios_words.specs.Services.{port_words};
+//! The plain line of each command, put at the end of a text without its end. A line of a block
+//! begins with one space.
+ghost use Rattle.std.specs.Prelude.{◌≡◌, ◌++◌, OnOk};
+ghost use Rattle.ios_words.specs.declared.commands.Command.TheVariants.{ListLine, PrefixLine};
+ghost use Rattle.ios_words.specs.declared.kinds.BlockKind.TheVariants as blocks;
+ghost use Rattle.ios_words.specs.Plain.{plain_line};
+ghost use Rattle.ios_words.specs.Printed.{interface_word};
+ghost use Rattle.ios_words.specs.Views.{list_block, text_of};
 
-use crate::commands::PacketText;
-use crate::protocols::protocol_name;
-use arc_base::{Memory, Prefix, push_address, push_number, push_prefix};
+use crate::commands::{Command, PacketText, RouteText};
+use crate::kinds::BlockKind;
+use crate::numbers::list_kind;
+use crate::printed_words::{
+    Word, either, mask, push_entry, push_order, push_route, push_sequence, push_top, push_unless,
+    push_words, wildcard,
+};
+use arc_base::{Memory, Name};
 use std::alloc::Global;
 
-/// A word.
-fn push_word(text: &mut Vec<u8>, word: &[u8]) -> Result<(), Memory>
-    ensures { OnOk result (text.new.items ≡ text.old.items ++ spaced (word.now ∷ [])) }
-{
-    text.push(b' ')?;
-    text.extend_from_slice(word)?;
-    Ok(())
-}
-
-fn push_number_word(alloc: Global, text: &mut Vec<u8>, number: u32) -> Result<(), Memory>
-    ensures { OnOk result (text.new.items ≡ text.old.items ++ spaced (decimal number ∷ [])) }
-{
-    text.push(b' ')?;
-    push_number(alloc, text, u64::from(number))
-}
-
-fn push_address_word(alloc: Global, text: &mut Vec<u8>, address: u32) -> Result<(), Memory>
-    ensures { OnOk result (text.new.items ≡ text.old.items ++ spaced (address_text address ∷ [])) }
-{
-    text.push(b' ')?;
-    push_address(alloc, text, address)
-}
-
-fn push_prefix_word(alloc: Global, text: &mut Vec<u8>, prefix: &Prefix) -> Result<(), Memory>
-    ensures { OnOk result
-        (text.new.items ≡ text.old.items ++ spaced (prefix_text prefix.now ∷ [])) }
-{
-    text.push(b' ')?;
-    push_prefix(alloc, text, prefix)
-}
-
-/// The word no, unless something is to be.
-fn push_unless(text: &mut Vec<u8>, is: bool) -> Result<(), Memory>
-    ensures { OnOk result (text.new.items ≡ text.old.items ++ spaced (unless is [])) }
-{
-    if is {
-        return Ok(());
-    }
-    push_word(text, b"no")
-}
-
-/// Whether an interface is passive, in an OSPF process.
-pub fn push_passive(text: &mut Vec<u8>, passive: bool, name: &[u8]) -> Result<(), Memory>
-    ensures { OnOk result
-        (text.new.items ≡ text.old.items ++ spaced (passive_words passive name.now)) }
-{
-    push_unless(text, passive)?;
-    push_word(text, b"passive-interface")?;
-    push_word(text, name)
-}
-
-/// Whether a neighbour is shut down, in a BGP process.
-pub fn push_neighbor(alloc: Global, text: &mut Vec<u8>, peer: u32, down: bool) -> Result<(), Memory>
-    ensures { OnOk result (text.new.items ≡ text.old.items ++ spaced (neighbor_words peer down)) }
-{
-    push_unless(text, down)?;
-    push_word(text, b"neighbor")?;
-    push_address_word(alloc, text, peer)?;
-    push_word(text, b"shutdown")
-}
-
-/// The list that filters what a neighbour advertises, in a BGP process.
-pub fn push_neighbor_list(
+/// Adds an entry of a numbered list, as a line.
+fn print_list_line(
     alloc: Global,
     text: &mut Vec<u8>,
-    peer: u32,
-    name: &[u8],
-) -> Result<(), Memory>
-    ensures { OnOk result
-        (text.new.items ≡ text.old.items ++ spaced (neighbor_list_words peer name.now)) }
-{
-    push_word(text, b"neighbor")?;
-    push_address_word(alloc, text, peer)?;
-    push_word(text, b"prefix-list")?;
-    push_word(text, name)?;
-    push_word(text, b"in")
-}
-
-/// The list that filters what enters at an interface.
-pub fn push_group(text: &mut Vec<u8>, name: &[u8]) -> Result<(), Memory>
-    ensures { OnOk result (text.new.items ≡ text.old.items ++ spaced (group_words name.now)) }
-{
-    push_word(text, b"ip")?;
-    push_word(text, b"access-group")?;
-    push_word(text, name)?;
-    push_word(text, b"in")
-}
-
-/// The head of the block of a packet list.
-pub fn push_list_head(text: &mut Vec<u8>, name: &[u8]) -> Result<(), Memory>
-    ensures { OnOk result (text.new.items ≡ text.old.items ++ top_line (list_head_words name.now)) }
-{
-    text.extend_from_slice(b"ip")?;
-    push_word(text, b"access-list")?;
-    push_word(text, b"extended")?;
-    push_word(text, name)
-}
-
-/// Permit or deny.
-fn push_verdict(text: &mut Vec<u8>, permit: bool) -> Result<(), Memory>
-    ensures { OnOk result (text.new.items ≡ text.old.items ++ spaced (verdict_word permit ∷ [])) }
-{
-    if permit {
-        push_word(text, b"permit")
-    } else {
-        push_word(text, b"deny")
-    }
-}
-
-/// The addresses of a prefix and its wildcard, or the words for one address and for all.
-fn push_side(alloc: Global, text: &mut Vec<u8>, prefix: &Prefix) -> Result<(), Memory>
-    ensures { OnOk result (text.new.items ≡ text.old.items ++ spaced (side_words prefix.now)) }
-{
-    if prefix.len == 0 {
-        return push_word(text, b"any");
-    }
-    if prefix.len == 32 {
-        push_word(text, b"host")?;
-        return push_address_word(alloc, text, prefix.addr);
-    }
-    push_address_word(alloc, text, prefix.addr)?;
-    push_address_word(alloc, text, wildcard(prefix.len))
-}
-
-/// The wildcard of a length.
-fn wildcard(len: u8) -> u32
-    requires { len ≤ 32 }
-    ensures { result ≡ 2 ^ (32 - len) - 1 }
-{
-    ((1u64 << (32 - len)) - 1) as u32
-}
-
-/// Whether the range from the one service to the other is that of all services.
-fn are_all(low: u32, high: u32) -> bool
-    ensures { result ≡ are_all low high }
-{
-    low == 0 && high == 16777215
-}
-
-/// Whether it begins at the first port of a protocol and ends at a last one.
-fn are_all_ports(low: u32, high: u32) -> bool
-    ensures { result ≡ are_all_ports low high }
-{
-    low % 65536 == 0 && high % 65536 == 65535
-}
-
-/// A protocol, by its name where it has one.
-fn push_protocol_name(alloc: Global, text: &mut Vec<u8>, number: u32) -> Result<(), Memory>
-    ensures { OnOk result (text.new.items ≡ text.old.items ++ spaced (protocol_text number ∷ [])) }
-{
-    match protocol_name(number) {
-        Some(name) => push_word(text, name),
-        None => push_number_word(alloc, text, number),
-    }
-}
-
-/// The protocol of a range of services.
-fn push_protocol(alloc: Global, text: &mut Vec<u8>, low: u32, high: u32) -> Result<(), Memory>
-    ensures { OnOk result
-        (text.new.items ≡ text.old.items ++ spaced (protocol_word low high ∷ [])) }
-{
-    if are_all(low, high) {
-        return push_word(text, b"ip");
-    }
-    push_protocol_name(alloc, text, low / 65536)
-}
-
-/// The destination ports of a range of services, if they aren't all.
-fn push_ports(alloc: Global, text: &mut Vec<u8>, low: u32, high: u32) -> Result<(), Memory>
-    ensures { OnOk result (text.new.items ≡ text.old.items ++ spaced (port_words low high)) }
-{
-    if are_all_ports(low, high) {
-        return Ok(());
-    }
-    if low == high {
-        push_word(text, b"eq")?;
-        return push_number_word(alloc, text, low % 65536);
-    }
-    push_word(text, b"range")?;
-    push_number_word(alloc, text, low % 65536)?;
-    push_number_word(alloc, text, high % 65536)
-}
-
-/// An entry of a packet list without its number.
-fn push_packet(alloc: Global, text: &mut Vec<u8>, entry: &PacketText) -> Result<(), Memory>
-    ensures { OnOk result (text.new.items ≡ text.old.items ++ spaced (packet_words entry.now)) }
-{
-    push_verdict(text, entry.permit)?;
-    push_protocol(alloc, text, entry.low, entry.high)?;
-    push_side(alloc, text, &entry.from)?;
-    push_side(alloc, text, &entry.to)?;
-    push_ports(alloc, text, entry.low, entry.high)
-}
-
-/// The number before an entry, if it has one.
-fn push_order(alloc: Global, text: &mut Vec<u8>, order: Option<u32>) -> Result<(), Memory>
-    ensures { OnOk result (text.new.items ≡ text.old.items ++ spaced (order_words order)) }
-{
-    match order {
-        Some(number) => push_number_word(alloc, text, number),
-        None => Ok(()),
-    }
-}
-
-/// An entry of a packet list, in its block.
-pub fn push_entry(
-    alloc: Global,
-    text: &mut Vec<u8>,
-    order: Option<u32>,
+    number: &Name,
     entry: &PacketText,
 ) -> Result<(), Memory>
-    ensures { OnOk result
-        (text.new.items ≡ text.old.items ++ spaced (entry_words order entry.now)) }
+    ensures { OnOk result (text.new.items
+        ≡ text.old.items ++ plain_line blocks.Top (ListLine number.now entry.now)) }
 {
-    push_order(alloc, text, order)?;
-    push_packet(alloc, text, entry)
+    let extended = list_kind(number.bytes()).unwrap_or(false);
+    push_top(alloc, text, b"access-list", &[Word::Text(number.bytes())])?;
+    push_entry(alloc, text, extended, entry)
 }
 
-/// An entry of a numbered packet list, as a line.
-pub fn push_list_line(
+/// Adds an entry of a prefix list.
+fn print_prefix_line(
     alloc: Global,
     text: &mut Vec<u8>,
-    name: &[u8],
-    entry: &PacketText,
-) -> Result<(), Memory>
-    ensures { OnOk result
-        (text.new.items ≡ text.old.items ++ top_line (list_line_words name.now entry.now)) }
-{
-    text.extend_from_slice(b"access-list")?;
-    push_word(text, name)?;
-    push_packet(alloc, text, entry)
-}
-
-/// The number of an entry of a prefix list, if it has one.
-fn push_sequence(alloc: Global, text: &mut Vec<u8>, order: Option<u32>) -> Result<(), Memory>
-    ensures { OnOk result (text.new.items ≡ text.old.items ++ spaced (sequence_words order)) }
-{
-    match order {
-        Some(number) => {
-            push_word(text, b"seq")?;
-            push_number_word(alloc, text, number)
-        }
-        None => Ok(()),
-    }
-}
-
-/// An entry of a prefix list, of one prefix alone.
-pub fn push_prefix_line(
-    alloc: Global,
-    text: &mut Vec<u8>,
-    name: &[u8],
+    name: &Name,
     order: Option<u32>,
-    permit: bool,
-    prefix: &Prefix,
+    entry: &RouteText,
 ) -> Result<(), Memory>
-    ensures { OnOk result (text.new.items ≡ text.old.items ++
-        top_line (prefix_line_words name.now order permit prefix.now)) }
+    ensures { OnOk result (text.new.items
+        ≡ text.old.items ++ plain_line blocks.Top (PrefixLine name.now order entry.now)) }
 {
-    text.extend_from_slice(b"ip")?;
-    push_word(text, b"prefix-list")?;
-    push_word(text, name)?;
+    let words = [Word::Text(b"prefix-list"), Word::Text(name.bytes())];
+    push_top(alloc, text, b"ip", &words)?;
     push_sequence(alloc, text, order)?;
-    push_verdict(text, permit)?;
-    push_prefix_word(alloc, text, prefix)
+    push_route(alloc, text, entry)
 }
 
-/// The entry of a prefix list that permits all.
-pub fn push_permit_all(
+/// Adds a top line.
+fn print_top(alloc: Global, text: &mut Vec<u8>, command: &Command) -> Result<(), Memory>
+    ensures { OnOk result
+        (text.new.items ≡ text.old.items ++ plain_line blocks.Top command.now) }
+{
+    match command {
+        Command::Hostname(name) => {
+            push_top(alloc, text, b"hostname", &[Word::Text(name.bytes())])
+        }
+        Command::Interface(name) => {
+            push_top(alloc, text, b"interface", &[Word::Text(name.bytes())])
+        }
+        Command::RouterOspf(number) => {
+            let words = [Word::Text(b"ospf"), Word::Number(*number)];
+            push_top(alloc, text, b"router", &words)
+        }
+        Command::RouterBgp(number) => {
+            let words = [Word::Text(b"bgp"), Word::Number(*number)];
+            push_top(alloc, text, b"router", &words)
+        }
+        Command::ListBlock(extended, name) => {
+            let kind = either(*extended, b"extended", b"standard");
+            let words = [Word::Text(b"access-list"), kind, Word::Text(name.bytes())];
+            push_top(alloc, text, b"ip", &words)
+        }
+        Command::ListLine(number, entry) => print_list_line(alloc, text, number, entry),
+        Command::PrefixLine(name, order, entry) => {
+            print_prefix_line(alloc, text, name, *order, entry)
+        }
+        _ => Ok(()),
+    }
+}
+
+/// Adds a line of an interface's block.
+fn print_interface(alloc: Global, text: &mut Vec<u8>, command: &Command) -> Result<(), Memory>
+    ensures { OnOk result
+        (text.new.items ≡ text.old.items ++ plain_line blocks.Interface command.now) }
+{
+    match command {
+        Command::Address(address, len) => {
+            let (address, mask) = (Word::Address(*address), Word::Address(mask(*len)));
+            let words = [Word::Text(b"ip"), Word::Text(b"address"), address, mask];
+            push_words(alloc, text, &words)
+        }
+        Command::NoAddress => {
+            let words = [Word::Text(b"no"), Word::Text(b"ip"), Word::Text(b"address")];
+            push_words(alloc, text, &words)
+        }
+        Command::Shutdown(down) => push_unless(alloc, text, *down, &[Word::Text(b"shutdown")]),
+        Command::Bandwidth(number) => {
+            let words = [Word::Text(b"bandwidth"), Word::Number(*number)];
+            push_words(alloc, text, &words)
+        }
+        Command::Cost(number) => {
+            let cost = Word::Number(*number);
+            let words = [
+                Word::Text(b"ip"),
+                Word::Text(b"ospf"),
+                Word::Text(b"cost"),
+                cost,
+            ];
+            push_words(alloc, text, &words)
+        }
+        Command::Area(area) => {
+            let (process, area) = (Word::Number(area.process), Word::Number(area.area));
+            let (ip, ospf) = (Word::Text(b"ip"), Word::Text(b"ospf"));
+            push_words(alloc, text, &[ip, ospf, process, Word::Text(b"area"), area])
+        }
+        Command::Point(point) => {
+            let network = either(*point, b"point-to-point", b"broadcast");
+            let (ip, ospf) = (Word::Text(b"ip"), Word::Text(b"ospf"));
+            push_words(alloc, text, &[ip, ospf, Word::Text(b"network"), network])
+        }
+        Command::Group(name, inbound) => {
+            let (name, direction) = (Word::Text(name.bytes()), either(*inbound, b"in", b"out"));
+            let words = [
+                Word::Text(b"ip"),
+                Word::Text(b"access-group"),
+                name,
+                direction,
+            ];
+            push_words(alloc, text, &words)
+        }
+        _ => Ok(()),
+    }
+}
+
+/// Adds a line of an OSPF process.
+fn print_ospf(alloc: Global, text: &mut Vec<u8>, command: &Command) -> Result<(), Memory>
+    ensures { OnOk result
+        (text.new.items ≡ text.old.items ++ plain_line blocks.Ospf command.now) }
+{
+    match command {
+        Command::Covers(prefix, area) => {
+            let wildcard = Word::Address(wildcard(prefix.len));
+            let (address, area) = (Word::Address(prefix.addr), Word::Number(*area));
+            let words = [
+                Word::Text(b"network"),
+                address,
+                wildcard,
+                Word::Text(b"area"),
+                area,
+            ];
+            push_words(alloc, text, &words)
+        }
+        Command::Passive(passive, name) => {
+            let words = [Word::Text(b"passive-interface"), interface_word(name)];
+            push_unless(alloc, text, *passive, &words)
+        }
+        Command::Reference(number) => {
+            let reference = Word::Text(b"reference-bandwidth");
+            let words = [Word::Text(b"auto-cost"), reference, Word::Number(*number)];
+            push_words(alloc, text, &words)
+        }
+        Command::RouterId(address) => {
+            let words = [Word::Text(b"router-id"), Word::Address(*address)];
+            push_words(alloc, text, &words)
+        }
+        _ => Ok(()),
+    }
+}
+
+/// An interface that is passive, or each one where none is named.
+fn interface_word(name: &Option<Name>) -> Word<'_>
+    ensures { text_of result ≡ interface_word name.now }
+{
+    match name {
+        Some(name) => Word::Text(name.bytes()),
+        None => Word::Text(b"default"),
+    }
+}
+
+/// Adds a line of a BGP process.
+fn print_bgp(alloc: Global, text: &mut Vec<u8>, command: &Command) -> Result<(), Memory>
+    ensures { OnOk result
+        (text.new.items ≡ text.old.items ++ plain_line blocks.Bgp command.now) }
+{
+    match command {
+        Command::RemoteAs(peer, number) => {
+            let (peer, number) = (Word::Address(*peer), Word::Number(*number));
+            let words = [
+                Word::Text(b"neighbor"),
+                peer,
+                Word::Text(b"remote-as"),
+                number,
+            ];
+            push_words(alloc, text, &words)
+        }
+        Command::NeighborDown(peer, down) => {
+            let peer = Word::Address(*peer);
+            let words = [Word::Text(b"neighbor"), peer, Word::Text(b"shutdown")];
+            push_unless(alloc, text, *down, &words)
+        }
+        Command::NeighborList(peer, name) => {
+            let (peer, name) = (Word::Address(*peer), Word::Text(name.bytes()));
+            let (neighbor, list) = (Word::Text(b"neighbor"), Word::Text(b"prefix-list"));
+            push_words(
+                alloc,
+                text,
+                &[neighbor, peer, list, name, Word::Text(b"in")],
+            )
+        }
+        Command::Tells(prefix) => {
+            let (address, mask) = (Word::Address(prefix.addr), Word::Address(mask(prefix.len)));
+            let words = [Word::Text(b"network"), address, Word::Text(b"mask"), mask];
+            push_words(alloc, text, &words)
+        }
+        Command::RouterId(address) => {
+            let id = Word::Address(*address);
+            push_words(
+                alloc,
+                text,
+                &[Word::Text(b"bgp"), Word::Text(b"router-id"), id],
+            )
+        }
+        _ => Ok(()),
+    }
+}
+
+/// Adds an entry of a list's block.
+fn print_entry(
     alloc: Global,
     text: &mut Vec<u8>,
-    name: &[u8],
-    order: u32,
+    extended: bool,
+    command: &Command,
 ) -> Result<(), Memory>
     ensures { OnOk result
-        (text.new.items ≡ text.old.items ++ top_line (permit_all_words name.now order)) }
+        (text.new.items ≡ text.old.items ++ plain_line (list_block extended) command.now) }
 {
-    text.extend_from_slice(b"ip")?;
-    push_word(text, b"prefix-list")?;
-    push_word(text, name)?;
-    push_word(text, b"seq")?;
-    push_number_word(alloc, text, order)?;
-    text.extend_from_slice(b" permit 0.0.0.0/0 le 32")?;
-    Ok(())
+    match command {
+        Command::Entry(order, entry) => {
+            push_order(alloc, text, *order)?;
+            push_entry(alloc, text, extended, entry)
+        }
+        _ => Ok(()),
+    }
+}
+
+/// Adds the plain line of a command in a block of this kind, and nothing where it stands in no such
+/// block.
+pub fn print(
+    alloc: Global,
+    text: &mut Vec<u8>,
+    within: BlockKind,
+    command: &Command,
+) -> Result<(), Memory>
+    ensures { OnOk result (text.new.items ≡ text.old.items ++ plain_line within command.now) }
+{
+    match within {
+        BlockKind::Top => print_top(alloc, text, command),
+        BlockKind::Interface => print_interface(alloc, text, command),
+        BlockKind::Ospf => print_ospf(alloc, text, command),
+        BlockKind::Bgp => print_bgp(alloc, text, command),
+        BlockKind::Extended => print_entry(alloc, text, true, command),
+        BlockKind::Standard => print_entry(alloc, text, false, command),
+        BlockKind::Inert => Ok(()),
+    }
 }

@@ -11,8 +11,10 @@ use Rattle.net_model.specs.declared.lists.PacketList.{PacketList}
 use Rattle.net_model.specs.declared.lists.RouteList.{RouteList}
 use Rattle.net_model.specs.declared.policies.Class.{Class}
 use Rattle.net_model.specs.declared.rows.Network.{Network}
-use Rattle.ios_lines.specs.Written.{spaced}
-use Rattle.ios_words.specs.Printed.{entry_words, list_line_words, prefix_line_words, top_line}
+use Rattle.ios_words.specs.declared.commands.Command.TheVariants as commands
+use Rattle.ios_words.specs.declared.kinds.BlockKind.TheVariants as blocks
+use Rattle.ios_words.specs.Plain.{plain_line}
+use Rattle.ios_words.specs.Printed.{route_text}
 use Rattle.ios_config.specs.declared.settings.ListForm.{ListForm}
 use Rattle.ios_config.specs.declared.settings.ListForm.TheVariants.{Block, Lines, PrefixLines}
 use Rattle.net_build.specs.declared.built.Places.{Places}
@@ -31,8 +33,10 @@ order_at place step at = if place.numbered then Some (step * at) else None
 
 -- the line of an entry of a packet list that is written in this form
 abbrev pub packet_line : ListForm → List ℕ → Option ℕ → PacketEntry → List ℕ
-packet_line Block name order entry = spaced (entry_words order (packet_text entry))
-packet_line Lines name order entry = top_line (list_line_words name (packet_text entry))
+packet_line Block name order entry =
+    plain_line blocks.Extended (commands.Entry order (packet_text entry))
+packet_line Lines name order entry =
+    plain_line blocks.Top (commands.ListLine name (packet_text entry))
 packet_line PrefixLines name order entry = []
 
 -- the line of the new entry at this place of a packet list, which turns its answer for a class
@@ -44,8 +48,8 @@ class_line place list entry =
 -- the line of the new entry at this place of a route list, which turns its answer for a prefix
 abbrev pub prefix_line : ListPlace → RouteList → ℕ × Prefix → List ℕ
 prefix_line place list entry =
-    top_line (prefix_line_words list.name (order_at place 5 entry.0)
-    (opposite_route_entry list.entries entry.1).permit entry.1)
+    plain_line blocks.Top (commands.PrefixLine list.name (order_at place 5 entry.0)
+    (route_text (opposite_route_entry list.entries entry.1).permit entry.1))
 
 -- the lines of the new entries of a packet list
 abbrev pub class_lines : ListPlace → PacketList → List Class → List (List ℕ)

@@ -7,8 +7,9 @@ use Rattle.net_model.specs.declared.rows.FaceRow.{FaceRow}
 use Rattle.net_model.specs.declared.rows.SessionRow.{SessionRow}
 use Rattle.net_model.specs.declared.rows.Network.{Network}
 use Rattle.net_model.specs.Routing.{session_at}
-use Rattle.ios_lines.specs.Written.{spaced}
-use Rattle.ios_words.specs.Printed.{passive_words, neighbor_words}
+use Rattle.ios_words.specs.declared.commands.Command.TheVariants as commands
+use Rattle.ios_words.specs.declared.kinds.BlockKind.TheVariants as blocks
+use Rattle.ios_words.specs.Plain.{plain_line}
 use Rattle.edit_list.specs.declared.edit_kinds.Edit.{Edit}
 use Rattle.edit_list.specs.Changes.{session_change}
 use Rattle.arc_base.specs.Numbered.{of_number}
@@ -16,8 +17,10 @@ use Rattle.arc_base.specs.Numbered.{of_number}
 -- the line that turns the session of an interface: under OSPF it makes it passive or active, under
 -- eBGP it shuts its neighbour down or up
 abbrev pub turning_line : Protocol → FaceRow → Option SessionRow → Option (List ℕ)
-turning_line Ospf row session = Some (spaced (passive_words (not row.passive) row.name))
-turning_line Bgp row session = option_map (λ s. spaced (neighbor_words s.peer (not s.down))) session
+turning_line Ospf row session =
+    Some (plain_line blocks.Ospf (commands.Passive (not row.passive) (Some row.name)))
+turning_line Bgp row session =
+    option_map (λ s. plain_line blocks.Bgp (commands.NeighborDown s.peer (not s.down))) session
 
 -- the line that turns the session of the interface at this place
 abbrev pub session_line : Network → ℕ → Option (List ℕ)

@@ -8,12 +8,12 @@ ghost use Rattle.line_patcher.specs.EntryLines.{packet_place, route_place, first
 ghost use Rattle.line_patcher.specs.EntryLines.{new_numbers};
 
 use crate::additions::NewNumber;
+use crate::printed::{printed, route_text};
 use arc_base::limits::EDIT_LIMIT;
 use arc_base::{Memory, Name, Prefix};
 use edit_space::{opposite_packet_entry, opposite_route_entry};
 use ios_config::ListForm;
-use ios_words::PacketText;
-use ios_words::printing::{push_entry, push_list_line, push_prefix_line};
+use ios_words::{BlockKind, Command, PacketText};
 use net_build::{ListPlace, Places};
 use net_model::{Class, PacketEntry, PacketList, RouteList};
 use std::alloc::Global;
@@ -53,13 +53,17 @@ fn packet_line(
 ) -> Result<Name, Memory>
     ensures { IfOk result (λ line. line ≡ packet_line form name.now order entry.now) }
 {
-    let mut text = Vec::new(alloc);
     match form {
-        ListForm::Block => push_entry(alloc, &mut text, order, &packet_text(entry))?,
-        ListForm::Lines => push_list_line(alloc, &mut text, name, &packet_text(entry))?,
-        ListForm::PrefixLines => (),
+        ListForm::Block => {
+            let command = Command::Entry(order, packet_text(entry));
+            printed(alloc, BlockKind::Extended, &command)
+        }
+        ListForm::Lines => {
+            let command = Command::ListLine(Name::make(alloc, name)?, packet_text(entry));
+            printed(alloc, BlockKind::Top, &command)
+        }
+        ListForm::PrefixLines => Ok(Name::of(Vec::new(alloc))),
     }
-    Ok(Name::of(text))
 }
 
 /// The line of a new entry of a packet list, which turns its answer for a class.
@@ -91,9 +95,9 @@ fn prefix_line(
 {
     let permit = opposite_route_entry(list, prefix).permit;
     let order = order_at(place, 5, at);
-    let mut text = Vec::new(alloc);
-    push_prefix_line(alloc, &mut text, list.name.bytes(), order, permit, &prefix)?;
-    Ok(Name::of(text))
+    let name = Name::make(alloc, list.name.bytes())?;
+    let command = Command::PrefixLine(name, order, route_text(permit, &prefix));
+    printed(alloc, BlockKind::Top, &command)
 }
 
 fn first_line(place: &ListPlace) -> u32

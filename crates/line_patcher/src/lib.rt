@@ -9,6 +9,7 @@ mod entries;
 mod new_lists;
 mod patches;
 mod plans;
+mod printed;
 mod sessions;
 mod texts;
 

@@ -3,25 +3,23 @@ ghost use Rattle.std.specs.Prelude.{false, ◌≡◌, ◌<◌, ◌≤◌, ◌+�
 ghost use Rattle.std.specs.Prelude.{length, All, IfOk, OnOk};
 ghost use Rattle.std.specs.List.{filter_map, zip, enumerate_from};
 ghost use Rattle.net_model.specs.Routing.{session_at};
-ghost use Rattle.ios_lines.specs.Written.{spaced};
-ghost use Rattle.ios_words.specs.Printed.{permit_all_words, list_head_words, entry_words, top_line};
-ghost use Rattle.net_rules.specs.Lists.{packet_text};
+ghost use Rattle.ios_words.specs.Printed.{all_routes};
 ghost use Rattle.edit_list.specs.After.{class_entry, every_packet};
 ghost use Rattle.edit_space.specs.Working.{AreChanges};
 ghost use Rattle.line_patcher.specs.NewListLines.{deny_line, new_route_lines, deny_class_line};
 ghost use Rattle.line_patcher.specs.NewListLines.{new_packet_lines, new_list_lines, filter_line};
-ghost use Rattle.line_patcher.specs.NewListLines.{group_line_among};
+ghost use Rattle.line_patcher.specs.NewListLines.{group_line_among, entry_line, head_line};
+ghost use Rattle.line_patcher.specs.NewListLines.{permit_all_line};
 ghost use Rattle.line_patcher.specs.Working.{face_of};
 
 use crate::entries::packet_text;
+use crate::printed::{printed, route_text};
 use arc_base::groups::things_at;
 use arc_base::limits::EDIT_LIMIT;
 use arc_base::{Memory, Name, Prefix};
 use edit_list::NewList;
 use edit_space::{Changes, any};
-use ios_words::printing::{
-    push_entry, push_group, push_list_head, push_neighbor_list, push_permit_all, push_prefix_line,
-};
+use ios_words::{BlockKind, Command, RouteText};
 use net_build::FacePlace;
 use net_model::{Class, Network, PacketEntry, Service};
 use std::alloc::Global;
@@ -31,18 +29,30 @@ fn deny_line(alloc: Global, name: &[u8], place: u32, prefix: &Prefix) -> Result<
     requires { 5 * place < 2 ^ 32 }
     ensures { IfOk result (λ line. line ≡ deny_line name.now (place, prefix.now)) }
 {
-    let mut text = Vec::new(alloc);
-    push_prefix_line(alloc, &mut text, name, Some(5 * place), false, prefix)?;
-    Ok(Name::of(text))
+    let name = Name::make(alloc, name)?;
+    let command = Command::PrefixLine(name, Some(5 * place), route_text(false, prefix));
+    printed(alloc, BlockKind::Top, &command)
 }
 
 /// The line of a new route list that permits all prefixes.
 fn permit_all_line(alloc: Global, name: &[u8], number: u32) -> Result<Name, Memory>
-    ensures { IfOk result (λ line. line ≡ top_line (permit_all_words name.now number)) }
+    ensures { IfOk result (λ line. line ≡ permit_all_line name.now number) }
 {
-    let mut text = Vec::new(alloc);
-    push_permit_all(alloc, &mut text, name, number)?;
-    Ok(Name::of(text))
+    let name = Name::make(alloc, name)?;
+    let command = Command::PrefixLine(name, Some(number), all_routes());
+    printed(alloc, BlockKind::Top, &command)
+}
+
+/// The entry of all prefixes.
+fn all_routes() -> RouteText
+    ensures { result ≡ all_routes }
+{
+    RouteText {
+        permit: true,
+        prefix: any(),
+        low: 0,
+        high: 32,
+    }
 }
 
 /// Adds the lines that deny prefixes.
@@ -81,11 +91,10 @@ fn push_route_list(
 
 /// An entry of a new packet list.
 fn entry_line(alloc: Global, entry: &PacketEntry) -> Result<Name, Memory>
-    ensures { IfOk result (λ line. line ≡ spaced (entry_words None (packet_text entry.now))) }
+    ensures { IfOk result (λ line. line ≡ entry_line entry.now) }
 {
-    let mut text = Vec::new(alloc);
-    push_entry(alloc, &mut text, None, &packet_text(entry))?;
-    Ok(Name::of(text))
+    let command = Command::Entry(None, packet_text(entry));
+    printed(alloc, BlockKind::Extended, &command)
 }
 
 /// The entry of a new packet list that denies a class.
@@ -113,11 +122,10 @@ fn every_packet() -> PacketEntry
 }
 
 fn head_line(alloc: Global, name: &[u8]) -> Result<Name, Memory>
-    ensures { IfOk result (λ line. line ≡ top_line (list_head_words name.now)) }
+    ensures { IfOk result (λ line. line ≡ head_line name.now) }
 {
-    let mut text = Vec::new(alloc);
-    push_list_head(&mut text, name)?;
-    Ok(Name::of(text))
+    let command = Command::ListBlock(true, Name::make(alloc, name)?);
+    printed(alloc, BlockKind::Top, &command)
 }
 
 /// Adds the lines that deny classes.
@@ -230,9 +238,8 @@ fn filter_line(
     let Some(session) = net.session_at(face) else {
         return Ok(None);
     };
-    let mut text = Vec::new(alloc);
-    push_neighbor_list(alloc, &mut text, session.peer, name)?;
-    Ok(Some(Name::of(text)))
+    let command = Command::NeighborList(session.peer, Name::make(alloc, name)?);
+    Ok(Some(printed(alloc, BlockKind::Bgp, &command)?))
 }
 
 /// Adds the lines that bind new route lists.
@@ -268,9 +275,9 @@ fn group_line(
     let Some(place) = faces.get(face.0 as usize) else {
         return Ok(None);
     };
-    let mut text = Vec::new(alloc);
-    push_group(&mut text, name)?;
-    Ok(Some((place.last, Name::of(text))))
+    let command = Command::Group(Name::make(alloc, name)?, true);
+    let line = printed(alloc, BlockKind::Interface, &command)?;
+    Ok(Some((place.last, line)))
 }
 
 /// Adds the lines that bind new packet lists.

@@ -1,33 +1,34 @@
 //! The lines that turn sessions.
-ghost use Rattle.std.specs.Prelude.{◌≡◌, ◌++◌, not, IfOk, OnOk};
+ghost use Rattle.std.specs.Prelude.{◌≡◌, ◌++◌, not, Some, IfOk, OnOk};
 ghost use Rattle.std.specs.List.{filter_map};
-ghost use Rattle.ios_lines.specs.Written.{spaced};
-ghost use Rattle.ios_words.specs.Printed.{passive_words, neighbor_words};
+ghost use Rattle.ios_words.specs.declared.commands.Command.TheVariants.{Passive, NeighborDown};
+ghost use Rattle.ios_words.specs.declared.kinds.BlockKind.TheVariants as blocks;
+ghost use Rattle.ios_words.specs.Plain.{plain_line};
 ghost use Rattle.line_patcher.specs.SessionLines.{session_line};
 
+use crate::printed::printed;
 use arc_base::{Face, Memory, Name};
-use ios_words::printing::{push_neighbor, push_passive};
+use ios_words::{BlockKind, Command};
 use net_model::{FaceRow, Network, Protocol, SessionRow};
 use std::alloc::Global;
 
 /// Whether the interface is passive, turned.
 fn passive_line(alloc: Global, row: &FaceRow) -> Result<Name, Memory>
-    ensures { IfOk result (λ line.
-        line ≡ spaced (passive_words (not row.now.passive) row.now.name)) }
+    ensures { IfOk result (λ line. line ≡
+        plain_line blocks.Ospf (Passive (not row.now.passive) (Some row.now.name))) }
 {
-    let mut text = Vec::new(alloc);
-    push_passive(&mut text, !row.passive, row.name.bytes())?;
-    Ok(Name::of(text))
+    let name = Name::make(alloc, row.name.bytes())?;
+    let command = Command::Passive(!row.passive, Some(name));
+    printed(alloc, BlockKind::Ospf, &command)
 }
 
 /// Whether the neighbour is shut down, turned.
 fn neighbor_line(alloc: Global, session: &SessionRow) -> Result<Name, Memory>
-    ensures { IfOk result (λ line.
-        line ≡ spaced (neighbor_words session.now.peer (not session.now.down))) }
+    ensures { IfOk result (λ line. line ≡
+        plain_line blocks.Bgp (NeighborDown session.now.peer (not session.now.down))) }
 {
-    let mut text = Vec::new(alloc);
-    push_neighbor(alloc, &mut text, session.peer, !session.down)?;
-    Ok(Name::of(text))
+    let command = Command::NeighborDown(session.peer, !session.down);
+    printed(alloc, BlockKind::Bgp, &command)
 }
 
 /// The line that turns the session of an interface of the network.

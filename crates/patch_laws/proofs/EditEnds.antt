@@ -8,13 +8,11 @@ use Rattle.arc_base.proofs.Items.{Contains-cases, Contains-none, from_map}
 use Rattle.net_model.specs.declared.rows.Network.{Network}
 use Rattle.ios_lines.specs.declared.line.Lines.{Lines}
 use Rattle.ios_lines.specs.Texts.{text_lines}
-use Rattle.ios_lines.specs.Written.{spaced}
 use Rattle.ios_words.specs.declared.commands.Command.{Command}
 use Rattle.ios_words.specs.declared.commands.Command.TheVariants as commands
 use Rattle.ios_words.specs.declared.kinds.BlockKind.{BlockKind}
 use Rattle.ios_words.specs.declared.kinds.BlockKind.TheVariants as kinds
 use Rattle.arc_base.specs.NameForms.{is_name}
-use Rattle.ios_words.specs.Printed.{group_words}
 use Rattle.ios_config.specs.declared.commands.FileCommand.{FileCommand}
 use Rattle.ios_config.specs.declared.settings.ProcessKind.{ProcessKind}
 use Rattle.ios_config.specs.Appended.{HasBlock, IsLineOf}
@@ -27,7 +25,7 @@ use Rattle.edit_list.specs.declared.list_kinds.NewList.{NewList}
 use Rattle.edit_list.specs.declared.list_kinds.NewList.TheVariants.{Route, Packet}
 use Rattle.arc_base.specs.Numbered.{of_number}
 use Rattle.edit_list.proofs.NewListFacts.{picked_from}
-use Rattle.line_patcher.specs.NewListLines.{face_places, filter_lines}
+use Rattle.line_patcher.specs.NewListLines.{face_places, filter_lines, group_line}
 use Rattle.line_patcher.specs.SessionLines.{session_lines}
 use Rattle.settings_edit_laws.specs.Additions.{process_lines}
 use Rattle.edit_list.specs.NewLists.{named_lists}
@@ -96,11 +94,11 @@ module _ (net : Network) (places : List Places) (chosen : List Edit) (router : �
   group-inner c among w named in_named e = by named.0 named.1 in_named e
     where
       placed : (name : List ℕ) (h : (face : ℕ) × HasFace net places router cs face) → IsTrue (is_name name) →
-          option_map {U = ℕ × Written} (λ (place : FacePlace). (place.last, record { line = spaced (group_words name); command = commands.Group name true })) (slice_get (face_places places) h.0) ≡ Some (c.line, w) → IsInnerOf cs c w
+          option_map {U = ℕ × Written} (λ (place : FacePlace). (place.last, record { line = group_line name; command = commands.Group name true })) (slice_get (face_places places) h.0) ≡ Some (c.line, w) → IsInnerOf cs c w
       placed name h named_so is =
           let f = h.1 in
           let b = face-blocks (text_lines text) cs f.face file.stand f.among in
-          let new : Written = record { line = spaced (group_words name); command = commands.Group name true } in
+          let new : Written = record { line = group_line name; command = commands.Group name true } in
           let got : Some (f.face.last, new) ≡ Some (c.line, w) = sym (ap (option_map {U = ℕ × Written} (λ (place : FacePlace). (place.last, new))) f.place_is) ∙ is in
           let both : (f.face.last, new) ≡ (c.line, w) = same_Some (f.face.last, new) (c.line, w) got in
           let same : b.last ≡ c = one-command (text_lines text) cs b.last c file.stand b.block.last_among among (sym b.last_line ∙ ap (λ (p : ℕ × Written). p.0) both) in

@@ -13,13 +13,14 @@ use Rattle.net_model.specs.declared.lists.RouteList.{RouteList}
 use Rattle.net_model.specs.declared.policies.Class.{Class}
 use Rattle.net_model.specs.declared.rows.Network.{Network}
 use Rattle.ios_lines.specs.declared.line.Lines.{Lines}
-use Rattle.ios_lines.specs.Written.{spaced}
 use Rattle.ios_words.specs.declared.kinds.BlockKind.TheVariants as kinds
 use Rattle.ios_words.specs.Forms.{IsOrder}
 use Rattle.arc_base.specs.NameForms.{is_name}
 use Rattle.ios_words.specs.Numbers.{list_kind}
-use Rattle.ios_words.specs.Printed.{top_line, entry_words, prefix_line_words, permit_all_words, list_head_words}
-use Rattle.ios_words.proofs.PrintedLines.{entry-line, list_head-line, prefix_line-line, permit_all-line, closing-line}
+use Rattle.ios_words.specs.declared.commands.Command.TheVariants as commands
+use Rattle.ios_words.specs.Plain.{plain_words}
+use Rattle.ios_words.specs.Printed.{all_routes, route_text}
+use Rattle.ios_words.proofs.PlainLines.{all-routes-line, closing-line, read-plain, route-line}
 use Rattle.ios_config.specs.declared.commands.FileCommand.{FileCommand}
 use Rattle.ios_config.specs.declared.settings.ListForm.{ListForm}
 use Rattle.ios_config.specs.declared.settings.ListForm.TheVariants as forms
@@ -159,29 +160,29 @@ module _ (net : Network) (places : List Places) (chosen : List Edit) (router : �
 -- the lines of new lists may be put in
 deny-fit : (name : List ℕ) → IsTrue (is_name name) → name ≢ codes "sequence-number" → (entry : ℕ × Prefix) → 1 ≤ entry.0 → entry.0 ≤ 16384 → IsFit (deny_line name entry)
 deny-fit name is other entry low high =
-    let line = prefix_line-line name (Some (5 * entry.0)) false entry.1 is other ((omega arith), (omega arith)) in
-    written-fit (prefix_line_words name (Some (5 * entry.0)) false entry.1) (deny_line name entry) line.written (omega arith)
+    let line = route-line name (Some (5 * entry.0)) false entry.1 is other ((omega arith), (omega arith)) in
+    written-fit (plain_words kinds.Top (commands.PrefixLine name (Some (5 * entry.0)) (route_text false entry.1))) (deny_line name entry) line.written (omega arith)
 
-permit-fit : (name : List ℕ) → IsTrue (is_name name) → name ≢ codes "sequence-number" → (number : ℕ) → 1 ≤ number → number ≤ 100000 → IsFit (top_line (permit_all_words name number))
+permit-fit : (name : List ℕ) → IsTrue (is_name name) → name ≢ codes "sequence-number" → (number : ℕ) → 1 ≤ number → number ≤ 100000 → IsFit (permit_all_line name number)
 permit-fit name is other number low high =
-    let line = permit_all-line name number is other ((omega arith), (omega arith)) in
-    written-fit (permit_all_words name number) (top_line (permit_all_words name number)) line.written (omega arith)
+    let line = all-routes-line name (Some number) is other ((omega arith), (omega arith)) in
+    written-fit (plain_words kinds.Top (commands.PrefixLine name (Some number) all_routes)) (permit_all_line name number) line.written (omega arith)
 
 route-fit : (name : List ℕ) → IsTrue (is_name name) → name ≢ codes "sequence-number" → (k : ℕ) (prefixes : List Prefix) (last : ℕ) → 1 ≤ k → k + length prefixes ≤ 16385 → 1 ≤ last → last ≤ 100000 →
-    AllByRecursion IsFit (map (deny_line name) (enumerate_from k prefixes) ++ top_line (permit_all_words name last) ∷ [])
+    AllByRecursion IsFit (map (deny_line name) (enumerate_from k prefixes) ++ permit_all_line name last ∷ [])
 route-fit name is other k [] last low high some few = (permit-fit name is other last some few, tt)
 route-fit name is other k (p ∷ prefixes) last low high some few = (deny-fit name is other (k, p) low (omega arith), route-fit name is other (k + 1) prefixes last (omega arith) (omega arith) some few)
 
-entry-fit : (entry : PacketEntry) → IsTrue (is_writable entry.service) → IsFit (spaced (entry_words None (packet_text entry)))
+entry-fit : (entry : PacketEntry) → IsTrue (is_writable entry.service) → IsFit (entry_line entry)
 entry-fit entry writable =
-    let line = entry-line None (packet_text entry) writable tt in
-    written-fit (entry_words None (packet_text entry)) (spaced (entry_words None (packet_text entry))) line.written (omega arith)
+    let line = read-plain kinds.Extended (commands.Entry None (packet_text entry)) writable tt tt in
+    written-fit (plain_words kinds.Extended (commands.Entry None (packet_text entry))) (entry_line entry) line.written (omega arith)
 
 mark-fit : IsFit (codes "!")
 mark-fit = written-fit (codes "!" ∷ []) (codes "!") closing-line.written (omega arith)
 
 packet-fit : (classes : List Class) → ((class : Class) → Contains classes class → IsTrue (is_writable class.service)) →
-    AllByRecursion IsFit (map deny_class_line classes ++ spaced (entry_words None (packet_text every_packet)) ∷ codes "!" ∷ [])
+    AllByRecursion IsFit (map deny_class_line classes ++ entry_line every_packet ∷ codes "!" ∷ [])
 packet-fit [] writable = (entry-fit every_packet refl, (mark-fit, tt))
 packet-fit (class ∷ classes) writable =
     (entry-fit (class_entry false class) (writable class (Contains-head class classes)), packet-fit classes (λ c there. writable c (Contains-tail class c classes there)))
@@ -191,5 +192,5 @@ new-lines-fit chosen (Route face) name is =
     let few = is.few face.0 in
     route-fit name is.name is.other 1 (new_prefixes chosen face.0) (5 * (length (new_prefixes chosen face.0) + 1)) (omega arith) (omega arith) (omega arith) (omega arith)
 new-lines-fit chosen (Packet face) name is =
-    let head = list_head-line name is.name in
-    (written-fit (list_head_words name) (top_line (list_head_words name)) head.written (omega arith), packet-fit (new_classes chosen face.0) (is.writable face.0))
+    let head = read-plain kinds.Top (commands.ListBlock true name) tt is.name tt in
+    (written-fit (plain_words kinds.Top (commands.ListBlock true name)) (head_line name) head.written (omega arith), packet-fit (new_classes chosen face.0) (is.writable face.0))

@@ -13,8 +13,6 @@ use Rattle.net_model.specs.declared.rows.Network.{Network}
 use Rattle.net_model.proofs.Readings.{item_at_place}
 use Rattle.ios_lines.specs.declared.line.Lines.{Lines}
 use Rattle.ios_lines.specs.Texts.{text_lines}
-use Rattle.ios_lines.specs.Written.{spaced}
-use Rattle.ios_words.specs.Printed.{group_words}
 use Rattle.ios_words.specs.declared.commands.Command.{Command}
 use Rattle.ios_words.specs.declared.commands.Command.TheVariants as commands
 use Rattle.ios_words.specs.declared.kinds.BlockKind.TheVariants as kinds
@@ -41,7 +39,7 @@ use Rattle.arc_base.specs.Numbered.{if_number, of_number}
 use Rattle.edit_list.proofs.NewListFacts.{new_lists_apart, pairs_picked}
 use Rattle.line_patcher.specs.declared.additions.NewNumber.{NewNumber}
 use Rattle.line_patcher.specs.Additions.{numbers_at}
-use Rattle.line_patcher.specs.NewListLines.{face_places}
+use Rattle.line_patcher.specs.NewListLines.{face_places, group_line}
 use Rattle.settings_edit_laws.specs.Additions.{list_for, new_inbound}
 use Rattle.settings_edit_laws.specs.Plain.{said}
 use Rattle.settings_edit_laws.specs.SettingsAfter.{face_with}
@@ -277,12 +275,12 @@ module _ (net : Network) (places : List Places) (chosen : List Edit) (router : �
     bound-here (Packet face, n) there =
         let h = f.faces face n there in
         let e = face-blocks (text_lines text) cs h.face f.stand h.among in
-        let w : Written = record { line = spaced (group_words n); command = commands.Group n true } in
+        let w : Written = record { line = group_line n; command = commands.Group n true } in
         ap (λ (o : Option FacePlace). option_map plainly (option_and_then (if_number b.last.line) (option_map (λ (place : FacePlace). (place.last, w)) o))) h.place_is ∙
         ap (λ (c : Bool). option_map plainly (if c then Some w else None)) (last-is-named h.face e h.row.name h.name) ∙ by (bytes_eq h.row.name name) ∙
         ap (λ (o : Option FaceRow). option_map binding (option_and_then (λ (row : FaceRow). if bytes_eq row.name name then Some n else None) o)) (sym h.at)
       where
-        by : (c : Bool) → option_map plainly (if c then Some (record { line = spaced (group_words n); command = commands.Group n true }) else None) ≡ option_map binding (if c then Some n else None)
+        by : (c : Bool) → option_map plainly (if c then Some (record { line = group_line n; command = commands.Group n true }) else None) ≡ option_map binding (if c then Some n else None)
         by true = refl
         by false = refl
 

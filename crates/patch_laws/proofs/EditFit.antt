@@ -15,10 +15,8 @@ use Rattle.ios_lines.specs.declared.line.Lines.{Lines}
 use Rattle.ios_lines.specs.Ended.{IsEnded, IsUnended, IsFree, HasNoReturn, ended_row}
 use Rattle.ios_lines.specs.Rewritten.{rewritten}
 use Rattle.ios_lines.specs.Texts.{part}
-use Rattle.ios_lines.specs.Written.{spaced}
 use Rattle.ios_lines.proofs.EndedLines.{rows-make}
 use Rattle.ios_lines.proofs.Slices.{length-slice_range}
-use Rattle.ios_words.specs.Printed.{group_words}
 use Rattle.ios_words.proofs.PlainWords.{decimal-plain}
 use Rattle.ios_words.specs.declared.commands.Command.TheVariants as commands
 use Rattle.ios_words.specs.declared.commands.RouteText.{RouteText}
@@ -36,7 +34,7 @@ use Rattle.edit_list.proofs.NewListFacts.{picked_from}
 use Rattle.line_patcher.specs.declared.additions.NewNumber.{NewNumber}
 use Rattle.line_patcher.specs.Additions.{all_at, lines_before, lines_after, numbers_at}
 use Rattle.line_patcher.specs.EntryLines.{edited_packet_lists, edited_route_lists, packet_list_entries, route_list_entries}
-use Rattle.line_patcher.specs.NewListLines.{face_places, filter_lines, group_line_among, group_lines, lines_of_new_lists, new_list_lines}
+use Rattle.line_patcher.specs.NewListLines.{face_places, filter_lines, group_line, group_line_among, group_lines, lines_of_new_lists, new_list_lines}
 use Rattle.line_patcher.specs.Patches.{end_of, line_end, row_bytes}
 use Rattle.line_patcher.specs.SessionLines.{session_lines}
 use Rattle.edit_list.specs.NewLists.{named_lists}
@@ -117,9 +115,9 @@ module _ (sequences : (ws : List (List ℕ)) (list : List ℕ) (n : ℕ) (entry 
   group-fit : (named : NewList × List ℕ) → Contains (named_lists net chosen router) named → (item : ℕ × List ℕ) → group_line_among (face_places places) named.0 named.1 ≡ Some item → IsFit item.1
   group-fit named among item e = by named.0 e
     where
-      place-by : (o : Option FacePlace) → option_map (λ (place : FacePlace). (place.last, spaced (group_words named.1))) o ≡ Some item → IsFit item.1
+      place-by : (o : Option FacePlace) → option_map (λ (place : FacePlace). (place.last, group_line named.1)) o ≡ Some item → IsFit item.1
       place-by None is = absurd (none-some item is)
-      place-by (Some place) is = subst IsFit (ap (λ (p : ℕ × List ℕ). p.1) (same_Some (place.last, spaced (group_words named.1)) item is)) (group-lines-fit named.1 0 (are-named net places chosen router text lines cs file named among)).1
+      place-by (Some place) is = subst IsFit (ap (λ (p : ℕ × List ℕ). p.1) (same_Some (place.last, group_line named.1) item is)) (group-lines-fit named.1 0 (are-named net places chosen router text lines cs file named among)).1
 
       by : (list : NewList) → group_line_among (face_places places) list named.1 ≡ Some item → IsFit item.1
       by (Route face) is = absurd (none-some item is)

@@ -13,8 +13,6 @@ use Rattle.net_model.specs.declared.rows.Network.{Network}
 use Rattle.ios_lines.specs.declared.line.Line.{Line}
 use Rattle.ios_lines.specs.declared.line.Lines.{Lines}
 use Rattle.ios_lines.specs.Texts.{text_lines}
-use Rattle.ios_lines.specs.Written.{spaced}
-use Rattle.ios_words.specs.Printed.{group_words}
 use Rattle.ios_words.specs.declared.commands.Command.{Command}
 use Rattle.ios_words.specs.declared.commands.Command.TheVariants as commands
 use Rattle.ios_config.specs.declared.commands.FileCommand.{FileCommand}
@@ -32,7 +30,7 @@ use Rattle.arc_base.specs.Numbered.{of_number}
 use Rattle.line_patcher.specs.declared.additions.NewNumber.{NewNumber}
 use Rattle.line_patcher.specs.Additions.{all_at, lines_before, lines_after, numbers_at}
 use Rattle.line_patcher.specs.EntryLines.{at_front, first_line, class_lines, prefix_lines, packet_list_entries, route_list_entries, packet_place, route_place, edited_packet_lists, edited_route_lists}
-use Rattle.line_patcher.specs.NewListLines.{face_places, group_line_among, lines_of_new_lists, filter_lines}
+use Rattle.line_patcher.specs.NewListLines.{face_places, group_line, group_line_among, lines_of_new_lists, filter_lines}
 use Rattle.line_patcher.specs.Patches.{line_end, row_bytes}
 use Rattle.line_patcher.specs.SessionLines.{session_lines}
 use Rattle.settings_edit_laws.specs.Additions.{process_lines}
@@ -137,10 +135,10 @@ module _ (net : Network) (places : List Places) (chosen : List Edit) (router : �
   group-bytes ((Packet face, name) ∷ ns) = by (slice_get (face_places places) face.0) (group-bytes ns)
     where
       by : (o : Option FacePlace) → bytes_at (filter_map (λ (named : NewList × List ℕ). group_written (face_places places) named.0 named.1) ns) ≡ filter_map (λ (named : NewList × List ℕ). group_line_among (face_places places) named.0 named.1) ns →
-          bytes_at (cons_option (option_map (λ (place : FacePlace). (place.last, record { line = spaced (group_words name); command = commands.Group name true })) o) (filter_map (λ (named : NewList × List ℕ). group_written (face_places places) named.0 named.1) ns))
-          ≡ cons_option (option_map (λ (place : FacePlace). (place.last, spaced (group_words name))) o) (filter_map (λ (named : NewList × List ℕ). group_line_among (face_places places) named.0 named.1) ns)
+          bytes_at (cons_option (option_map (λ (place : FacePlace). (place.last, record { line = group_line name; command = commands.Group name true })) o) (filter_map (λ (named : NewList × List ℕ). group_written (face_places places) named.0 named.1) ns))
+          ≡ cons_option (option_map (λ (place : FacePlace). (place.last, group_line name)) o) (filter_map (λ (named : NewList × List ℕ). group_line_among (face_places places) named.0 named.1) ns)
       by None rest = rest
-      by (Some place) rest = ap (λ (ls : List (ℕ × List ℕ)). (place.last, spaced (group_words name)) ∷ ls) rest
+      by (Some place) rest = ap (λ (ls : List (ℕ × List ℕ)). (place.last, group_line name) ∷ ls) rest
 
   abbrev site : FileCommand → Site
   site c = put net places own chosen router text lines (new_key lines) c

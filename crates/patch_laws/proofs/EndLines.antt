@@ -13,14 +13,13 @@ use Rattle.net_model.specs.declared.rows.Protocol.{Protocol}
 use Rattle.net_model.specs.declared.rows.Protocol.TheVariants.{Ospf, Bgp}
 use Rattle.net_model.specs.Routing.{session_at}
 use Rattle.net_model.specs.Validity.{FitsProtocol}
-use Rattle.ios_lines.specs.Written.{spaced}
 use Rattle.arc_base.specs.NameForms.{is_name}
 use Rattle.arc_base.proofs.Zips.{AllByRecursion-append}
-use Rattle.ios_words.specs.Printed.{neighbor_list_words, group_words}
+use Rattle.ios_words.specs.Plain.{plain_line, plain_words}
 use Rattle.ios_words.specs.declared.commands.Command.{Command}
 use Rattle.ios_words.specs.declared.commands.Command.TheVariants as commands
 use Rattle.ios_words.specs.declared.kinds.BlockKind.TheVariants as kinds
-use Rattle.ios_words.proofs.PrintedLines.{neighbor_list-line, group-line}
+use Rattle.ios_words.proofs.PlainLines.{read-plain}
 use Rattle.ios_config.specs.declared.commands.FileCommand.{FileCommand}
 use Rattle.ios_config.specs.declared.settings.FaceText.{FaceText}
 use Rattle.ios_config.specs.declared.settings.ProcessKind.{ProcessKind}
@@ -89,22 +88,23 @@ module _ (net : Network) (writable : IsWritable net) (fits : FitsProtocol net.pr
   of-named (lists.Packet face) name is = tt
   of-named (lists.Route face) name is = by (session_at net face) refl
     where
-      by : (o : Option SessionRow) → session_at net face ≡ o → Match LineIs (option_map (λ (s : SessionRow). spaced (neighbor_list_words s.peer name)) o) (option_map (λ (s : SessionRow). commands.NeighborList s.peer name) o)
+      by : (o : Option SessionRow) → session_at net face ≡ o → Match LineIs (option_map (λ (s : SessionRow). plain_line kinds.Bgp (commands.NeighborList s.peer name)) o) (option_map (λ (s : SessionRow). commands.NeighborList s.peer name) o)
       by None at = tt
       by (Some s) at =
           let small : s.peer < 2 ^ 32 = writable.peers s (session_in (λ (t : SessionRow). t.face.0 == face.0) net.sessions s at) in
-          subst (λ (q : Protocol). IsLineOf (spaced (neighbor_list_words s.peer name)) (process_kind q) block (commands.NeighborList s.peer name) × IsQuiet (commands.NeighborList s.peer name)) (sym (runs-bgp face s at))
-          (inner_is kinds.Bgp block (neighbor_list_words s.peer name) (commands.NeighborList s.peer name) (neighbor_list-line s.peer name small is) refl (record { stands = refl; excludes = refl; unnamed = refl }))
+          let line = read-plain kinds.Bgp (commands.NeighborList s.peer name) tt is small in
+          subst (λ (q : Protocol). IsLineOf (plain_line kinds.Bgp (commands.NeighborList s.peer name)) (process_kind q) block (commands.NeighborList s.peer name) × IsQuiet (commands.NeighborList s.peer name)) (sym (runs-bgp face s at))
+          (inner_is kinds.Bgp block (commands.NeighborList s.peer name) line line.kind refl (record { stands = refl; excludes = refl; unnamed = refl }))
 
   filter-fit : (list : NewList) (name line : List ℕ) → IsTrue (is_name name) → patched.filter_line net list name ≡ Some line → IsFit line
   filter-fit (lists.Packet face) name line is e = absurd (none-some line e)
   filter-fit (lists.Route face) name line is e = by (session_at net face) refl e
     where
-      by : (o : Option SessionRow) → session_at net face ≡ o → option_map (λ (s : SessionRow). spaced (neighbor_list_words s.peer name)) o ≡ Some line → IsFit line
+      by : (o : Option SessionRow) → session_at net face ≡ o → option_map (λ (s : SessionRow). plain_line kinds.Bgp (commands.NeighborList s.peer name)) o ≡ Some line → IsFit line
       by None at e = absurd (none-some line e)
       by (Some s) at e =
           let small : s.peer < 2 ^ 32 = writable.peers s (session_in (λ (t : SessionRow). t.face.0 == face.0) net.sessions s at) in
-          subst IsFit (same_Some (spaced (neighbor_list_words s.peer name)) line e) (written-fit (neighbor_list_words s.peer name) (spaced (neighbor_list_words s.peer name)) (neighbor_list-line s.peer name small is).written (omega arith))
+          subst IsFit (same_Some (plain_line kinds.Bgp (commands.NeighborList s.peer name)) line e) (written-fit (plain_words kinds.Bgp (commands.NeighborList s.peer name)) (plain_line kinds.Bgp (commands.NeighborList s.peer name)) (read-plain kinds.Bgp (commands.NeighborList s.peer name) tt is small).written (omega arith))
 
   lines-read : (chosen : List Edit) → AreNamed net chosen router → AreLinesIn (process_kind net.protocol) block (session_lines net chosen router ++ patched.filter_lines net chosen router) (process_lines net chosen router)
   lines-read chosen named =
@@ -123,8 +123,8 @@ process-lines-read net chosen router block writable fits named = (lines-read net
 -- a line that binds a new packet list
 pub group-lines-fit : GroupLinesAreFit
 group-lines-fit name block is =
-    let line = group-line name is in
-    (inner_is kinds.Interface block (group_words name) (commands.Group name true) line refl (record { stands = refl; excludes = refl; unnamed = refl }), written-fit (group_words name) (spaced (group_words name)) line.written (omega arith))
+    let line = read-plain kinds.Interface (commands.Group name true) tt is tt in
+    (inner_is kinds.Interface block (commands.Group name true) line line.kind refl (record { stands = refl; excludes = refl; unnamed = refl }), written-fit (plain_words kinds.Interface (commands.Group name true)) (plain_line kinds.Interface (commands.Group name true)) line.written (omega arith))
 
 -- the last line of bare commands
 last-zero : (cs : List FileCommand) (k : ℕ) → option_map_or (λ (c : FileCommand). c.line) (slice_get (map bare cs) k) 0 ≡ 0

@@ -19,7 +19,7 @@ use Rattle.ios_lines.specs.Kinds.{kind, is_mark}
 use Rattle.ios_lines.specs.Rewritten.{rewritten, IsRewritten}
 use Rattle.ios_lines.specs.Texts.{part, text_lines}
 use Rattle.arc_base.specs.Words.{words}
-use Rattle.ios_lines.specs.Written.{spaced, is_plain}
+use Rattle.ios_lines.specs.Written.{is_plain}
 use Rattle.ios_lines.proofs.Replacements.{kind-there}
 use Rattle.ios_lines.proofs.RewrittenLines.{a-word-replaced}
 use Rattle.ios_words.specs.declared.commands.Command.{Command}
@@ -28,9 +28,10 @@ use Rattle.ios_words.specs.declared.commands.PacketText.{PacketText}
 use Rattle.ios_words.specs.declared.kinds.BlockKind.TheVariants as kinds
 use Rattle.ios_words.specs.Commands.{ReadBy}
 use Rattle.ios_words.specs.Language.{rows}
-use Rattle.ios_words.specs.Printed.{entry_words, list_line_words, prefix_line_words, top_line, route_text}
+use Rattle.ios_words.specs.Plain.{plain_line, plain_words}
+use Rattle.ios_words.specs.Printed.{route_text}
 use Rattle.ios_words.proofs.PlainWords.{decimal-plain}
-use Rattle.ios_words.proofs.PrintedLines.{entry-line, list_line-line, prefix_line-line}
+use Rattle.ios_words.proofs.PlainLines.{listed-line, read-plain, route-line}
 use Rattle.ios_words.proofs.RenumberedLines as renumbering
 use Rattle.ios_config.specs.Groups.{Block}
 use Rattle.net_build.specs.declared.built.ListPlace.{ListPlace}
@@ -52,45 +53,45 @@ prefix-bytes place list (e ∷ es) = ap (λ ls. prefix_line place list e ∷ ls)
 pub entries-lines : EntriesHaveTheirLines
 entries-lines place packets classes routes prefixes = (class-bytes place packets (enumerate_from 1 classes), prefix-bytes place routes (enumerate_from 1 prefixes))
 
-some-spaced : (order : Option ℕ) (entry : PacketText) → 0 < length (spaced (entry_words order entry))
+some-spaced : (order : Option ℕ) (entry : PacketText) → 0 < length (plain_line kinds.Extended (commands.Entry order entry))
 some-spaced None entry = omega arith
 some-spaced (Some n) entry = omega arith
 
 pub block-entries : BlockEntriesAreRead
 block-entries name order entry writable fits =
-    let line = entry-line order (packet_text entry) writable fits in (
+    let line = read-plain kinds.Extended (commands.Entry order (packet_text entry)) writable fits tt in (
       record {
         inner = line.kind;
         reads = subst (λ (ws : List (List ℕ)). ReadBy true ws (rows kinds.Extended) (commands.Entry order (packet_text entry))) (sym line.written.words) line.reads;
         part = λ block. refl;
       },
-      written-fit (entry_words order (packet_text entry)) (spaced (entry_words order (packet_text entry))) line.written (some-spaced order (packet_text entry)),
+      written-fit (plain_words kinds.Extended (commands.Entry order (packet_text entry))) (plain_line kinds.Extended (commands.Entry order (packet_text entry))) line.written (some-spaced order (packet_text entry)),
     )
 
 pub list-entries : ListEntriesAreRead
 list-entries name order entry writable extended =
-    let line = list_line-line name (packet_text entry) writable extended in (
+    let line = listed-line name (packet_text entry) writable extended in (
       record {
         single = line.kind;
         reads = subst (λ (ws : List (List ℕ)). ReadBy false ws (rows kinds.Top) (commands.ListLine name (packet_text entry))) (sym line.written.words) line.reads;
         name = name;
         part = inl refl;
       },
-      written-fit (list_line_words name (packet_text entry)) (top_line (list_line_words name (packet_text entry))) line.written (omega arith),
+      written-fit (plain_words kinds.Top (commands.ListLine name (packet_text entry))) (plain_line kinds.Top (commands.ListLine name (packet_text entry))) line.written (omega arith),
     )
 
 pub prefix-entries : PrefixEntriesAreRead
 prefix-entries place list entry is other fits =
     let permit = (opposite_route_entry list.entries entry.1).permit in
     let order = order_at place 5 entry.0 in
-    let line = prefix_line-line list.name order permit entry.1 is other fits in (
+    let line = route-line list.name order permit entry.1 is other fits in (
       record {
         single = line.kind;
         reads = subst (λ (ws : List (List ℕ)). ReadBy false ws (rows kinds.Top) (commands.PrefixLine list.name order (route_text permit entry.1))) (sym line.written.words) line.reads;
         name = list.name;
         part = inr refl;
       },
-      written-fit (prefix_line_words list.name order permit entry.1) (top_line (prefix_line_words list.name order permit entry.1)) line.written (omega arith),
+      written-fit (plain_words kinds.Top (commands.PrefixLine list.name order (route_text permit entry.1))) (plain_line kinds.Top (commands.PrefixLine list.name order (route_text permit entry.1))) line.written (omega arith),
     )
 
 -- the words of a row of which the first is a number

@@ -8,15 +8,13 @@ use Rattle.arc_base.specs.declared.prefix.Prefix.{Prefix}
 use Rattle.arc_base.proofs.Items.{Contains-head, Contains-tail}
 use Rattle.net_model.specs.declared.lists.PacketEntry.{PacketEntry}
 use Rattle.net_model.specs.declared.policies.Class.{Class}
-use Rattle.ios_lines.specs.Written.{spaced}
 use Rattle.ios_words.specs.Commands.{ReadBy}
 use Rattle.ios_words.specs.Language.{rows}
 use Rattle.arc_base.specs.NameForms.{is_name}
 use Rattle.arc_base.proofs.Zips.{AllByRecursion-append}
-use Rattle.ios_words.specs.Printed.{entry_words, list_head_words, permit_all_words, top_line}
 use Rattle.ios_words.specs.declared.commands.Command.TheVariants as commands
 use Rattle.ios_words.specs.declared.kinds.BlockKind.TheVariants as kinds
-use Rattle.ios_words.proofs.PrintedLines.{entry-line, list_head-line, prefix_line-line, permit_all-line, closing-line}
+use Rattle.ios_words.proofs.PlainLines.{all-routes-line, closing-line, read-plain, route-line}
 use Rattle.ios_config.specs.declared.commands.FileCommand.{FileCommand}
 use Rattle.ios_config.specs.Groups.{Block, is_same, part_in, part_of}
 use Rattle.net_rules.specs.Lists.{packet_text}
@@ -26,7 +24,7 @@ use Rattle.edit_list.specs.Writable.{is_writable}
 use Rattle.edit_list.specs.declared.edit_kinds.Edit.{Edit}
 use Rattle.edit_list.specs.declared.list_kinds.NewList.{NewList}
 use Rattle.edit_list.specs.declared.list_kinds.NewList.TheVariants.{Route, Packet}
-use Rattle.line_patcher.specs.NewListLines.{deny_line, deny_class_line, new_list_lines}
+use Rattle.line_patcher.specs.NewListLines.{deny_line, deny_class_line, entry_line, head_line, permit_all_line, new_list_lines}
 use Rattle.line_edit_laws.specs.Sites as edits
 use Rattle.line_edit_laws.specs.Sites.{Written, Chunk, Single, NewBlock, bytes_of, chunk_lines, chunk_commands, in_block, AreChunks, IsSingleLine, IsBlockLine, IsNewBlock}
 use Rattle.patch_laws.specs.NewListSites.{deny_written, permit_all_written, route_written, packet_written, head_written, new_chunks, list_chunks, IsNewName}
@@ -35,19 +33,19 @@ use Rattle.patch_laws.specs.Laws.{NewListsAreChunks, NewListsHaveTheirLines}
 -- an entry of a new route list
 prefix-single : (name : List ℕ) → IsTrue (is_name name) → name ≢ codes "sequence-number" → (entry : ℕ × Prefix) → 1 ≤ entry.0 → entry.0 ≤ 16384 → IsSingleLine (deny_written name entry)
 prefix-single name is other entry low high =
-    let line = prefix_line-line name (Some (5 * entry.0)) false entry.1 is other ((omega arith), (omega arith)) in
+    let line = route-line name (Some (5 * entry.0)) false entry.1 is other ((omega arith), (omega arith)) in
     record { single = line.kind; reads = subst (λ (ws : List (List ℕ)). ReadBy false ws (rows kinds.Top) (deny_written name entry).command) (sym line.written.words) line.reads; name = name; part = inr refl }
 
 all-single : (name : List ℕ) → IsTrue (is_name name) → name ≢ codes "sequence-number" → (number : ℕ) → 1 ≤ number → number ≤ 100000 → IsSingleLine (permit_all_written name number)
 all-single name is other number low high =
-    let line = permit_all-line name number is other ((omega arith), (omega arith)) in
+    let line = all-routes-line name (Some number) is other ((omega arith), (omega arith)) in
     record { single = line.kind; reads = subst (λ (ws : List (List ℕ)). ReadBy false ws (rows kinds.Top) (permit_all_written name number).command) (sym line.written.words) line.reads; name = name; part = inr refl }
 
 -- the lines of a new packet list
 entry-block-line : (entry : PacketEntry) → IsTrue (is_writable entry.service) →
-    IsBlockLine kinds.Extended (record { line = spaced (entry_words None (packet_text entry)); command = commands.Entry None (packet_text entry) })
+    IsBlockLine kinds.Extended (record { line = entry_line entry; command = commands.Entry None (packet_text entry) })
 entry-block-line entry writable =
-    let line = entry-line None (packet_text entry) writable tt in
+    let line = read-plain kinds.Extended (commands.Entry None (packet_text entry)) writable tt tt in
     record { inner = line.kind; reads = subst (λ (ws : List (List ℕ)). ReadBy true ws (rows kinds.Extended) (commands.Entry None (packet_text entry))) (sym line.written.words) line.reads; part = λ block. refl }
 
 packet-lines : (classes : List Class) → ((class : Class) → Contains classes class → IsTrue (is_writable class.service)) → AllByRecursion (IsBlockLine kinds.Extended) (packet_written classes)
@@ -109,7 +107,7 @@ one-chunk chosen number key later (Route face) name is high fresh =
     let few = is.few face.0 in
     single-chunks number later (route_written name (new_prefixes chosen face.0)) (route-singles name is.name is.other 1 (new_prefixes chosen face.0) (5 * (length (new_prefixes chosen face.0) + 1)) (omega arith) (omega arith) (omega arith) (omega arith))
 one-chunk chosen number key later (Packet face) name is high fresh =
-    let head = list_head-line name is.name in (
+    let head = read-plain kinds.Top (commands.ListBlock true name) tt is.name tt in (
       record {
         heads = head.kind;
         reads = subst (λ (ws : List (List ℕ)). ReadBy false ws (rows kinds.Top) (commands.ListBlock true name)) (sym head.written.words) head.reads;
@@ -140,11 +138,11 @@ single-lines : (ws : List Written) → flat_map chunk_lines (map Single ws) ≡ 
 single-lines [] = refl
 single-lines (w ∷ ws) = ap (λ ls. w.line ∷ ls) (single-lines ws)
 
-route-bytes : (name : List ℕ) (entries : List (ℕ × Prefix)) (last : ℕ) → bytes_of (map (deny_written name) entries ++ permit_all_written name last ∷ []) ≡ map (deny_line name) entries ++ top_line (permit_all_words name last) ∷ []
+route-bytes : (name : List ℕ) (entries : List (ℕ × Prefix)) (last : ℕ) → bytes_of (map (deny_written name) entries ++ permit_all_written name last ∷ []) ≡ map (deny_line name) entries ++ permit_all_line name last ∷ []
 route-bytes name [] last = refl
 route-bytes name (e ∷ entries) last = ap (λ ls. deny_line name e ∷ ls) (route-bytes name entries last)
 
-packet-bytes : (classes : List Class) (more : List (List ℕ)) → bytes_of (packet_written classes) ++ more ≡ map deny_class_line classes ++ spaced (entry_words None (packet_text every_packet)) ∷ more
+packet-bytes : (classes : List Class) (more : List (List ℕ)) → bytes_of (packet_written classes) ++ more ≡ map deny_class_line classes ++ entry_line every_packet ∷ more
 packet-bytes [] more = refl
 packet-bytes (c ∷ classes) more = ap (λ ls. deny_class_line c ∷ ls) (packet-bytes classes more)
 
@@ -152,7 +150,7 @@ one-lines : (chosen : List Edit) (key : ℕ) (list : NewList) (name : List ℕ) 
 one-lines chosen key (Route face) name =
     single-lines (route_written name (new_prefixes chosen face.0)) ∙ route-bytes name (enumerate_from 1 (new_prefixes chosen face.0)) (5 * (length (new_prefixes chosen face.0) + 1))
 one-lines chosen key (Packet face) name =
-    append-nil (chunk_lines (NewBlock key (head_written name) (packet_written (new_classes chosen face.0)) (codes "!"))) ∙ ap (λ ls. top_line (list_head_words name) ∷ ls) (packet-bytes (new_classes chosen face.0) (codes "!" ∷ []))
+    append-nil (chunk_lines (NewBlock key (head_written name) (packet_written (new_classes chosen face.0)) (codes "!"))) ∙ ap (λ ls. head_line name ∷ ls) (packet-bytes (new_classes chosen face.0) (codes "!" ∷ []))
 
 pub new-chunk-lines : NewListsHaveTheirLines
 new-chunk-lines chosen key [] = refl

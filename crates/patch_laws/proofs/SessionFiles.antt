@@ -17,8 +17,10 @@ use Rattle.arc_base.proofs.Zips.{AllZip-right}
 use Rattle.line_patcher.specs.SessionLines.{session_lines}
 use Rattle.line_patcher.specs.Patches.{ArePatched, patched_file}
 use Rattle.patch_laws.specs.Fits.{IsFit}
-use Rattle.ios_words.proofs.PrintedLines.{passive-line, neighbor-line}
-use Rattle.ios_words.specs.Printed.{passive_words, neighbor_words}
+use Rattle.ios_words.specs.declared.commands.Command.TheVariants as commands
+use Rattle.ios_words.specs.declared.kinds.BlockKind.TheVariants as kinds
+use Rattle.ios_words.specs.Plain.{plain_line, plain_words}
+use Rattle.ios_words.proofs.PlainLines.{read-plain}
 use Rattle.ios_lines.specs.Written.{spaced, IsWritten}
 use Rattle.net_model.specs.declared.rows.Protocol.{Protocol}
 use Rattle.net_model.specs.declared.rows.Protocol.TheVariants.{Ospf, Bgp}
@@ -46,19 +48,19 @@ pub written-fit : (ws : List (List ℕ)) (line : List ℕ) → IsWritten line ws
 written-fit ws line w some = record { free = w.free; no_return = w.no_return; some = some }
 
 module _ (net : Network) (writable : IsWritable net) where
-  passive-fit : (place : ℕ) (row : FaceRow) → slice_get net.faces place ≡ Some row → (b : Bool) → IsFit (spaced (passive_words b row.name))
-  passive-fit place row at true = written-fit (passive_words true row.name) (spaced (passive_words true row.name)) (passive-line true row.name (writable.faces place row at)).written (omega arith)
-  passive-fit place row at false = written-fit (passive_words false row.name) (spaced (passive_words false row.name)) (passive-line false row.name (writable.faces place row at)).written (omega arith)
+  passive-fit : (place : ℕ) (row : FaceRow) → slice_get net.faces place ≡ Some row → (b : Bool) → IsFit (plain_line kinds.Ospf (commands.Passive b (Some row.name)))
+  passive-fit place row at true = written-fit (plain_words kinds.Ospf (commands.Passive true (Some row.name))) (plain_line kinds.Ospf (commands.Passive true (Some row.name))) (read-plain kinds.Ospf (commands.Passive true (Some row.name)) tt (writable.faces place row at) tt).written (omega arith)
+  passive-fit place row at false = written-fit (plain_words kinds.Ospf (commands.Passive false (Some row.name))) (plain_line kinds.Ospf (commands.Passive false (Some row.name))) (read-plain kinds.Ospf (commands.Passive false (Some row.name)) tt (writable.faces place row at) tt).written (omega arith)
 
-  neighbor-fit : (s : SessionRow) → Contains net.sessions s → (b : Bool) → IsFit (spaced (neighbor_words s.peer b))
-  neighbor-fit s there true = written-fit (neighbor_words s.peer true) (spaced (neighbor_words s.peer true)) (neighbor-line s.peer true (writable.peers s there)).written (omega arith)
-  neighbor-fit s there false = written-fit (neighbor_words s.peer false) (spaced (neighbor_words s.peer false)) (neighbor-line s.peer false (writable.peers s there)).written (omega arith)
+  neighbor-fit : (s : SessionRow) → Contains net.sessions s → (b : Bool) → IsFit (plain_line kinds.Bgp (commands.NeighborDown s.peer b))
+  neighbor-fit s there true = written-fit (plain_words kinds.Bgp (commands.NeighborDown s.peer true)) (plain_line kinds.Bgp (commands.NeighborDown s.peer true)) (read-plain kinds.Bgp (commands.NeighborDown s.peer true) tt tt (writable.peers s there)).written (omega arith)
+  neighbor-fit s there false = written-fit (plain_words kinds.Bgp (commands.NeighborDown s.peer false)) (plain_line kinds.Bgp (commands.NeighborDown s.peer false)) (read-plain kinds.Bgp (commands.NeighborDown s.peer false) tt tt (writable.peers s there)).written (omega arith)
 
   turning-fit : (place : ℕ) (row : FaceRow) → slice_get net.faces place ≡ Some row → (p : Protocol) (o : Option SessionRow) → session_at net (record { 0 = place }) ≡ o → (line : List ℕ) → line_of p row o ≡ Some line → IsFit line
-  turning-fit place row at Ospf o is line e = subst IsFit (same_Some (spaced (passive_words (not row.passive) row.name)) line e) (passive-fit place row at (not row.passive))
+  turning-fit place row at Ospf o is line e = subst IsFit (same_Some (plain_line kinds.Ospf (commands.Passive (not row.passive) (Some row.name))) line e) (passive-fit place row at (not row.passive))
   turning-fit place row at Bgp None is line e = absurd (none-some line e)
   turning-fit place row at Bgp (Some s) is line e =
-      subst IsFit (same_Some (spaced (neighbor_words s.peer (not s.down))) line e) (neighbor-fit s (session_in (λ (t : SessionRow). t.face.0 == place) net.sessions s is) (not s.down))
+      subst IsFit (same_Some (plain_line kinds.Bgp (commands.NeighborDown s.peer (not s.down))) line e) (neighbor-fit s (session_in (λ (t : SessionRow). t.face.0 == place) net.sessions s is) (not s.down))
 
   session-line-fit : (place : ℕ) (line : List ℕ) → session_line net place ≡ Some line → IsFit line
   session-line-fit place line = by (slice_get net.faces place) refl

@@ -10,15 +10,15 @@ use Rattle.net_model.specs.declared.rows.Network.{Network}
 use Rattle.net_model.specs.declared.rows.Protocol.{Protocol}
 use Rattle.net_model.specs.declared.rows.Protocol.TheVariants.{Ospf, Bgp}
 use Rattle.net_model.specs.Routing.{session_at}
-use Rattle.ios_lines.specs.Written.{spaced}
+use Rattle.ios_lines.specs.Kinds.{IsInner}
 use Rattle.ios_words.specs.Commands.{is_extended_block, ReadBy}
 use Rattle.ios_words.specs.Language.{rows}
-use Rattle.ios_words.specs.Printed.{passive_words, neighbor_words, IsInnerLine}
+use Rattle.ios_words.specs.Plain.{plain_line, IsReadAs}
 use Rattle.ios_words.specs.declared.commands.Command.{Command}
 use Rattle.ios_words.specs.declared.commands.Command.TheVariants as commands
 use Rattle.ios_words.specs.declared.kinds.BlockKind.{BlockKind}
 use Rattle.ios_words.specs.declared.kinds.BlockKind.TheVariants as kinds
-use Rattle.ios_words.proofs.PrintedLines.{passive-line, neighbor-line}
+use Rattle.ios_words.proofs.PlainLines.{read-plain}
 use Rattle.ios_config.specs.declared.settings.Given.{Given}
 use Rattle.ios_config.specs.declared.settings.ListText.{ListText}
 use Rattle.ios_config.specs.Appended.{IsLineOf}
@@ -77,9 +77,10 @@ session_in {X} p (y ∷ xs) x e = by (p y) e (session_in p xs x)
     by false e later = Contains-tail y x xs (later e)
 
 -- a written line of a process is one of its block
-pub inner_is : (within : BlockKind) (block : ℕ) (ws : List (List ℕ)) (command : Command) → IsInnerLine within ws command → part_in block command ≡ Block block → IsQuiet command → IsLineOf (spaced ws) within block command × IsQuiet command
-inner_is within block ws command l part quiet = (
-  record { inner = l.kind; reads = subst (λ (w : List (List ℕ)). ReadBy (is_extended_block within) w (rows within) command) (sym l.written.words) l.reads; part = part },
+pub inner_is : (within : BlockKind) (block : ℕ) (command : Command) → IsReadAs within command → IsInner (plain_line within command) → part_in block command ≡ Block block → IsQuiet command →
+    IsLineOf (plain_line within command) within block command × IsQuiet command
+inner_is within block command l inner part quiet = (
+  record { inner = inner; reads = subst (λ (w : List (List ℕ)). ReadBy (is_extended_block within) w (rows within) command) (sym l.written.words) l.reads; part = part },
   quiet,
 )
 
@@ -89,16 +90,17 @@ module _ (net : Network) (writable : IsWritable net) (router block : ℕ) where
 
   of_face : (place : ℕ) (row : FaceRow) → slice_get net.faces place ≡ Some row → (p : Protocol) → net.protocol ≡ p → Match LineIs (patched.turning_line p row (session_at net (record { 0 = place }))) (session_line p net place row)
   of_face place row at Ospf is =
-      subst (λ (q : Protocol). IsLineOf (spaced (passive_words (not row.passive) row.name)) (process_kind q) block (commands.Passive (not row.passive) (Some row.name)) × IsQuiet (commands.Passive (not row.passive) (Some row.name))) (sym is)
-      (inner_is kinds.Ospf block (passive_words (not row.passive) row.name) (commands.Passive (not row.passive) (Some row.name)) (passive-line (not row.passive) row.name (writable.faces place row at)) refl (record { stands = refl; excludes = refl; unnamed = refl }))
+      let line = read-plain kinds.Ospf (commands.Passive (not row.passive) (Some row.name)) tt (writable.faces place row at) tt in
+      subst (λ (q : Protocol). IsLineOf (plain_line kinds.Ospf (commands.Passive (not row.passive) (Some row.name))) (process_kind q) block (commands.Passive (not row.passive) (Some row.name)) × IsQuiet (commands.Passive (not row.passive) (Some row.name))) (sym is)
+      (inner_is kinds.Ospf block (commands.Passive (not row.passive) (Some row.name)) line line.kind refl (record { stands = refl; excludes = refl; unnamed = refl }))
   of_face place row at Bgp is = by (session_at net (record { 0 = place })) refl
     where
-      by : (o : Option SessionRow) → session_at net (record { 0 = place }) ≡ o → Match LineIs (option_map (λ (s : SessionRow). spaced (neighbor_words s.peer (not s.down))) o) (option_map (λ (s : SessionRow). commands.NeighborDown s.peer (not s.down)) o)
+      by : (o : Option SessionRow) → session_at net (record { 0 = place }) ≡ o → Match LineIs (option_map (λ (s : SessionRow). plain_line kinds.Bgp (commands.NeighborDown s.peer (not s.down))) o) (option_map (λ (s : SessionRow). commands.NeighborDown s.peer (not s.down)) o)
       by None e = tt
       by (Some s) e =
-          subst (λ (q : Protocol). IsLineOf (spaced (neighbor_words s.peer (not s.down))) (process_kind q) block (commands.NeighborDown s.peer (not s.down)) × IsQuiet (commands.NeighborDown s.peer (not s.down))) (sym is)
-          (inner_is kinds.Bgp block (neighbor_words s.peer (not s.down)) (commands.NeighborDown s.peer (not s.down))
-          (neighbor-line s.peer (not s.down) (writable.peers s (session_in (λ (t : SessionRow). t.face.0 == place) net.sessions s e))) refl (record { stands = refl; excludes = refl; unnamed = refl }))
+          let line = read-plain kinds.Bgp (commands.NeighborDown s.peer (not s.down)) tt tt (writable.peers s (session_in (λ (t : SessionRow). t.face.0 == place) net.sessions s e)) in
+          subst (λ (q : Protocol). IsLineOf (plain_line kinds.Bgp (commands.NeighborDown s.peer (not s.down))) (process_kind q) block (commands.NeighborDown s.peer (not s.down)) × IsQuiet (commands.NeighborDown s.peer (not s.down))) (sym is)
+          (inner_is kinds.Bgp block (commands.NeighborDown s.peer (not s.down)) line line.kind refl (record { stands = refl; excludes = refl; unnamed = refl }))
 
   of_edit : (e : Edit) → Match LineIs (option_and_then (λ (face : ℕ). patched.session_line net face) (option_and_then (if_number router) (patched.turned_face net e))) (turning_line net router e)
   of_edit (edits.RouteList list prefix) = tt

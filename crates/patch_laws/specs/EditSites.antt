@@ -5,8 +5,6 @@ use Rattle.std.specs.List.{enumerate_from, filter_map, flat_map, zip}
 use Rattle.std.specs.Option.{option_map_or}
 use Rattle.net_model.specs.declared.rows.Network.{Network}
 use Rattle.ios_lines.specs.declared.line.Lines.{Lines}
-use Rattle.ios_lines.specs.Written.{spaced}
-use Rattle.ios_words.specs.Printed.{group_words}
 use Rattle.ios_words.specs.declared.commands.Command.{Command}
 use Rattle.ios_words.specs.declared.commands.Command.TheVariants as commands
 use Rattle.ios_config.specs.declared.commands.FileCommand.{FileCommand}
@@ -21,7 +19,7 @@ use Rattle.line_patcher.specs.declared.additions.NewNumber.{NewNumber}
 use Rattle.line_patcher.specs.Additions.{lines_after, numbers_at}
 use Rattle.line_patcher.specs.EntryLines.{first_line, for_packet_list, for_route_list}
 use Rattle.line_patcher.specs.EntryLines.{edited_packet_lists, edited_route_lists}
-use Rattle.line_patcher.specs.NewListLines.{face_places, filter_lines}
+use Rattle.line_patcher.specs.NewListLines.{face_places, filter_lines, group_line}
 use Rattle.line_patcher.specs.Patches.{line_end}
 use Rattle.line_patcher.specs.SessionLines.{session_lines}
 use Rattle.settings_edit_laws.specs.Additions.{process_lines}
@@ -73,7 +71,7 @@ abbrev pub group_written : List FacePlace → NewList → List ℕ → Option (�
 group_written faces (Route face) name = None
 group_written faces (Packet face) name =
     option_map (λ place.
-    (place.last, record { line = spaced (group_words name); command = commands.Group name true }))
+    (place.last, record { line = group_line name; command = commands.Group name true }))
     (slice_get faces face.0)
 
 -- what comes after lines: the lines of the process after its last command line, and bindings after

@@ -5,9 +5,7 @@ use Rattle.net_model.specs.declared.rows.Network.{Network}
 use Rattle.net_model.specs.declared.rows.Protocol.{Protocol}
 use Rattle.net_model.specs.declared.rows.Protocol.TheVariants.{Ospf, Bgp}
 use Rattle.net_model.specs.Validity.{FitsProtocol}
-use Rattle.ios_lines.specs.Written.{spaced}
 use Rattle.arc_base.specs.NameForms.{is_name}
-use Rattle.ios_words.specs.Printed.{group_words}
 use Rattle.ios_words.specs.declared.commands.Command.{Command}
 use Rattle.ios_words.specs.declared.commands.Command.TheVariants as commands
 use Rattle.ios_words.specs.declared.kinds.BlockKind.{BlockKind}
@@ -19,7 +17,7 @@ use Rattle.ios_config.specs.ProcessLines.{AreLinesIn, IsQuiet}
 use Rattle.ios_config.specs.Texts.{face_of, process_of}
 use Rattle.edit_list.specs.declared.edit_kinds.Edit.{Edit}
 use Rattle.edit_list.specs.declared.list_kinds.NewList.{NewList}
-use Rattle.line_patcher.specs.NewListLines.{filter_lines}
+use Rattle.line_patcher.specs.NewListLines.{filter_lines, group_line}
 use Rattle.line_patcher.specs.SessionLines.{session_lines}
 use Rattle.settings_edit_laws.specs.Additions.{process_lines, new_inbound}
 use Rattle.edit_list.specs.NewLists.{named_lists}
@@ -56,8 +54,8 @@ ProcessLinesAreRead =
 abbrev pub GroupLinesAreFit : Type 0
 GroupLinesAreFit =
     (name : List ℕ) (block : ℕ) → IsTrue (is_name name) →
-    (IsLineOf (spaced (group_words name)) kinds.Interface block (commands.Group name true) ×
-    IsQuiet (commands.Group name true)) × IsFit (spaced (group_words name))
+    (IsLineOf (group_line name) kinds.Interface block (commands.Group name true) ×
+    IsQuiet (commands.Group name true)) × IsFit (group_line name)
 
 -- a process with these commands at its end is the process after the edits
 abbrev pub ProcessesGrow : Type 0

@@ -5,10 +5,8 @@ use Rattle.std.specs.List.{AllByRecursion, enumerate_from, flat_map}
 use Rattle.arc_base.specs.declared.limits.TheConstants.{ENTRY_LIMIT}
 use Rattle.arc_base.specs.declared.prefix.Prefix.{Prefix}
 use Rattle.net_model.specs.declared.policies.Class.{Class}
-use Rattle.ios_lines.specs.Written.{spaced}
 use Rattle.ios_words.specs.declared.commands.Command.TheVariants as commands
 use Rattle.arc_base.specs.NameForms.{is_name}
-use Rattle.ios_words.specs.Printed.{permit_all_words, list_head_words, entry_words, top_line}
 use Rattle.ios_words.specs.Printed.{route_text, all_routes}
 use Rattle.net_rules.specs.Lists.{packet_text}
 use Rattle.edit_list.specs.After.{class_entry, every_packet}
@@ -17,7 +15,8 @@ use Rattle.edit_list.specs.declared.edit_kinds.Edit.{Edit}
 use Rattle.edit_list.specs.declared.list_kinds.NewList.{NewList}
 use Rattle.edit_list.specs.declared.list_kinds.NewList.TheVariants.{Route, Packet}
 use Rattle.edit_list.specs.Writable.{is_writable}
-use Rattle.line_patcher.specs.NewListLines.{deny_line, deny_class_line}
+use Rattle.line_patcher.specs.NewListLines.{deny_line, deny_class_line, entry_line}
+use Rattle.line_patcher.specs.NewListLines.{head_line, permit_all_line}
 use Rattle.settings_edit_laws.specs.Plain.{plain_list}
 use Rattle.settings_edit_laws.specs.SettingsAfter.{new_list_text}
 use Rattle.ios_config.specs.declared.commands.FileCommand.{FileCommand}
@@ -35,7 +34,7 @@ deny_written name entry = record {
 
 abbrev pub permit_all_written : List ℕ → ℕ → Written
 permit_all_written name number = record {
-  line = top_line (permit_all_words name number);
+  line = permit_all_line name number;
   command = commands.PrefixLine name (Some number) all_routes;
 }
 
@@ -53,13 +52,13 @@ deny_class_written class = record {
 
 abbrev pub packet_written : List Class → List Written
 packet_written classes = map deny_class_written classes ++ record {
-  line = spaced (entry_words None (packet_text every_packet));
+  line = entry_line every_packet;
   command = commands.Entry None (packet_text every_packet);
 } ∷ []
 
 abbrev pub head_written : List ℕ → Written
 head_written name =
-    record { line = top_line (list_head_words name); command = commands.ListBlock true name }
+    record { line = head_line name; command = commands.ListBlock true name }
 
 -- the chunks of a new list of this name; the block of a packet list has this number here
 abbrev pub new_chunks : List Edit → ℕ → NewList → List ℕ → List Chunk

@@ -19,8 +19,10 @@ use Rattle.net_model.specs.Routing.{session_at}
 use Rattle.net_model.specs.Validity.{IsValid, IsValidPacketList, IsValidRouteList}
 use Rattle.net_model.proofs.Readings.{item_at_place}
 use Rattle.net_rules.specs.Lists.{packet_text}
-use Rattle.ios_lines.specs.Written.{spaced}
-use Rattle.ios_words.specs.Printed.{entry_words, group_words, neighbor_list_words, neighbor_words, passive_words, permit_all_words, top_line}
+use Rattle.ios_words.specs.declared.commands.Command.TheVariants as commands
+use Rattle.ios_words.specs.declared.kinds.BlockKind.TheVariants as kinds
+use Rattle.ios_words.specs.Plain.{plain_line}
+use Rattle.ios_words.specs.Printed.{all_routes, route_text}
 use Rattle.ios_config.specs.declared.settings.ListForm.{ListForm}
 use Rattle.ios_config.specs.declared.settings.ListForm.TheVariants.{Block, Lines, PrefixLines}
 use Rattle.net_build.specs.declared.built.ListPlace.{ListPlace}
@@ -37,13 +39,13 @@ use Rattle.edit_list.proofs.Counts.{few_picked}
 use Rattle.line_patcher.specs.declared.additions.NewNumber.{NewNumber}
 use Rattle.line_patcher.specs.Additions.{lines_after, lines_before, numbers_at}
 use Rattle.line_patcher.specs.EntryLines.{first_line, class_line, edited_packet_lists, edited_route_lists, new_number, new_numbers, order_at, packet_line, packet_list_entries, packet_list_numbers, packet_place, prefix_line, route_list_entries, route_list_numbers, route_place, is_packet_form, at_front, class_lines, prefix_lines}
-use Rattle.line_patcher.specs.NewListLines.{deny_class_line, deny_line, face_places, filter_line, group_line_among, new_list_lines, new_packet_lines, new_route_lines}
+use Rattle.line_patcher.specs.NewListLines.{entry_line, group_line, permit_all_line, deny_class_line, deny_line, face_places, filter_line, group_line_among, new_list_lines, new_packet_lines, new_route_lines}
 use Rattle.line_patcher.specs.SessionLines.{session_line, turned_faces, turning_line}
 use Rattle.settings_edit_laws.specs.Premises.{IsWritable}
 use Rattle.patch_laws.specs.NewListSites.{IsNewName}
 use Rattle.patch_laws.proofs.SessionReads.{session_in}
 use Rattle.patch_size_laws.proofs.Keyed.{total, total-append, total-flat, total-map, total-le, total-times, total-ones, picked-few, zip-few, flat-all, both-all}
-use Rattle.patch_size_laws.proofs.LineSizes.{IsSmallOrder, entry-line-few, list-line-few, prefix-line-few, permit-all-few, list-head-few, group-few, neighbor-list-few, passive-few, neighbor-few}
+use Rattle.patch_size_laws.proofs.LineSizes.{IsSmallOrder, entry-line-few, list-line-few, prefix-line-few, list-head-few, group-few, neighbor-list-few, passive-few, neighbor-few}
 use Rattle.patch_size_laws.proofs.RowSizes.{cost, cost_of, put, IsSmall}
 
 -- ---- counted things
@@ -117,12 +119,12 @@ module _ (net : Network) (valid : IsValid net) (writable : IsWritable net) (chos
   session-few : (face : ℕ) (line : List ℕ) → session_line net face ≡ Some line → cost_of line ≤ 512
   session-few face line is = of-row (slice_get net.faces face) refl is
     where
-      of-session : (o : Option SessionRow) → ((s : SessionRow) → o ≡ Some s → s.peer < 2 ^ 32) → option_map (λ (s : SessionRow). spaced (neighbor_words s.peer (not s.down))) o ≡ Some line → cost_of line ≤ 512
+      of-session : (o : Option SessionRow) → ((s : SessionRow) → o ≡ Some s → s.peer < 2 ^ 32) → option_map (λ (s : SessionRow). plain_line kinds.Bgp (commands.NeighborDown s.peer (not s.down))) o ≡ Some line → cost_of line ≤ 512
       of-session None small e = absurd (none-some line e)
-      of-session (Some s) small e = omega (arith, ap length (same_Some (spaced (neighbor_words s.peer (not s.down))) line e), neighbor-few s.peer (not s.down) (small s refl))
+      of-session (Some s) small e = omega (arith, ap length (same_Some (plain_line kinds.Bgp (commands.NeighborDown s.peer (not s.down))) line e), neighbor-few s.peer (not s.down) (small s refl))
 
       of-protocol : (p : Protocol) (row : FaceRow) → length row.name ≤ 64 → turning_line p row (session_at net (record { 0 = face })) ≡ Some line → cost_of line ≤ 512
-      of-protocol Ospf row short e = omega (arith, ap length (same_Some (spaced (passive_words (not row.passive) row.name)) line e), passive-few (not row.passive) row.name short)
+      of-protocol Ospf row short e = omega (arith, ap length (same_Some (plain_line kinds.Ospf (commands.Passive (not row.passive) (Some row.name))) line e), passive-few (not row.passive) row.name short)
       of-protocol Bgp row short e = of-session (session_at net (record { 0 = face })) (λ s at. writable.peers s (session_in (λ (t : SessionRow). t.face.0 == face) net.sessions s at)) e
 
       of-row : (o : Option FaceRow) → slice_get net.faces face ≡ o → option_and_then (λ (row : FaceRow). turning_line net.protocol row (session_at net (record { 0 = face }))) o ≡ Some line → cost_of line ≤ 512
@@ -153,7 +155,7 @@ module _ (net : Network) (valid : IsValid net) (writable : IsWritable net) (chos
 
   prefix-line-cost : (place : ListPlace) (list : RouteList) (e : ℕ × Prefix) → length list.name ≤ 64 → e.0 ≤ 8192 → cost_of (prefix_line place list e) ≤ 512
   prefix-line-cost place list e short low =
-      omega (arith, prefix-line-few list.name (order_at place 5 e.0) (opposite_route_entry list.entries e.1).permit e.1 short (order-small place.numbered 5 e.0 (omega arith) low))
+      omega (arith, prefix-line-few list.name (order_at place 5 e.0) (route_text (opposite_route_entry list.entries e.1).permit e.1) short (order-small place.numbered 5 e.0 (omega arith) low) e.1.length e.1.length)
 
   packet-entries-few : (own : Places) (id : ℕ) → put (packet_list_entries net own chosen id) ≤ 512 * length (list_classes chosen id)
   packet-entries-few own id = of-list (slice_get net.packet_lists id) refl
@@ -199,18 +201,18 @@ module _ (net : Network) (valid : IsValid net) (writable : IsWritable net) (chos
 
   route-lines-few : (name : List ℕ) (prefixes : List Prefix) → length name ≤ 64 → length prefixes ≤ 8192 → cost (new_route_lines name prefixes) ≤ 118 * length prefixes + 115
   route-lines-few name prefixes short low =
-      let last : List ℕ = top_line (permit_all_words name (5 * (length prefixes + 1))) in
+      let last : List ℕ = permit_all_line name (5 * (length prefixes + 1)) in
       omega (
         arith,
         total-append cost_of (map (deny_line name) (enumerate_from 1 prefixes)) (last ∷ []),
         total-map cost_of (deny_line name) (enumerate_from 1 prefixes),
-        counted-few (λ e. cost_of (deny_line name e)) 118 1 8192 prefixes (λ e within. omega (arith, prefix-line-few name (Some (5 * e.0)) false e.1 short (omega (arith, within)))) (omega (arith, low)),
-        permit-all-few name (5 * (length prefixes + 1)) short (omega (arith, low)),
+        counted-few (λ e. cost_of (deny_line name e)) 130 1 8192 prefixes (λ e within. omega (arith, prefix-line-few name (Some (5 * e.0)) (route_text false e.1) short (omega (arith, within)) e.1.length e.1.length)) (omega (arith, low)),
+        prefix-line-few name (Some (5 * (length prefixes + 1))) all_routes short (omega (arith, low)) (omega arith) (omega arith),
       )
 
   packet-lines-few : (name : List ℕ) (classes : List Class) → length name ≤ 64 → cost (new_packet_lines name classes) ≤ 103 * length classes + 198
   packet-lines-few name classes short =
-      let every : List ℕ = spaced (entry_words None (packet_text every_packet)) in
+      let every : List ℕ = entry_line every_packet in
       omega (
         arith,
         list-head-few name short,
@@ -233,7 +235,7 @@ module _ (net : Network) (valid : IsValid net) (writable : IsWritable net) (chos
   one-named faces (Route face) name short some = by (session_at net face) refl
     where
       by : (o : Option SessionRow) → session_at net face ≡ o →
-          cost (new_route_lines name (new_prefixes chosen face.0)) + (cost (cons_option (option_map (λ (s : SessionRow). spaced (neighbor_list_words s.peer name)) o) []) + 0) ≤ 512 * length (new_prefixes chosen face.0)
+          cost (new_route_lines name (new_prefixes chosen face.0)) + (cost (cons_option (option_map (λ (s : SessionRow). plain_line kinds.Bgp (commands.NeighborList s.peer name)) o) []) + 0) ≤ 512 * length (new_prefixes chosen face.0)
       by None at = omega (arith, some, route-lines-few name (new_prefixes chosen face.0) short (omega (arith, new-prefixes-few face.0, few)))
       by (Some s) at =
           omega (
@@ -245,7 +247,7 @@ module _ (net : Network) (valid : IsValid net) (writable : IsWritable net) (chos
   one-named faces (Packet face) name short some = by (slice_get faces face.0)
     where
       by : (o : Option FacePlace) →
-          cost (new_packet_lines name (new_classes chosen face.0)) + (0 + put (cons_option (option_map (λ (place : FacePlace). (place.last, spaced (group_words name))) o) [])) ≤ 512 * length (new_classes chosen face.0)
+          cost (new_packet_lines name (new_classes chosen face.0)) + (0 + put (cons_option (option_map (λ (place : FacePlace). (place.last, group_line name)) o) [])) ≤ 512 * length (new_classes chosen face.0)
       by None = omega (arith, some, packet-lines-few name (new_classes chosen face.0) short)
       by (Some place) = omega (arith, some, packet-lines-few name (new_classes chosen face.0) short, group-few name short)
 

@@ -1,160 +1,16 @@
 -- How long the lines are that edits put into files.
-use Rattle.std.proofs.Common.{◌≡◌, ℕ, ◌+◌, ◌-◌, ◌^◌, ◌<◌, ◌≤◌, ◌==◌, Bool, true, false, if◌then◌else◌, List, [], ◌∷◌, ◌++◌, length, length-append, refl, sym, subst, arith, codes, decimal}
-use Rattle.std.specs.Prelude.{Option, Some, None, nat_le, find}
-use Rattle.std.specs.Option.{option_map_or}
-use Rattle.std.specs.Net.Text.{dotted_text}
-use Rattle.std.proofs.lemmas.Bool.{leb-true}
-use Rattle.std.proofs.lemmas.Fmt.{length-decimal-le}
-use Rattle.std.proofs.Math.Nat.{one-le-pow, pow-le-pow_right}
-use Rattle.arc_base.specs.declared.prefix.Prefix.{Prefix}
-use Rattle.arc_base.specs.PrefixText.{address_text, prefix_text}
-use Rattle.arc_base.proofs.AddressTexts.{IsDotted-address_text}
+use Rattle.std.proofs.Common.{ℕ, ◌+◌, ◌^◌, ◌<◌, ◌≤◌, ◌==◌, Bool, true, false, if◌then◌else◌, List, [], ◌∷◌, ◌++◌, length, arith, codes, decimal}
+use Rattle.std.specs.Prelude.{Option, Some, None}
+use Rattle.arc_base.specs.PrefixText.{address_text, number_of, prefix_text}
 use Rattle.ios_lines.specs.Written.{spaced}
 use Rattle.ios_words.specs.declared.commands.PacketText.{PacketText}
-use Rattle.ios_words.specs.Printed.{entry_words, group_words, list_head_words, list_line_words, neighbor_list_words, neighbor_words, order_words, packet_words, passive_words, permit_all_words, prefix_line_words, sequence_words, side_words, top_line, unless, verdict_word}
-use Rattle.ios_words.specs.Services.{are_all, are_all_ports, port, port_words, protocol, protocol_names, protocol_text, protocol_word}
-use Rattle.ios_words.proofs.PrintedServices.{found-both}
-
--- words, each after a space
-word-more : (w : List ℕ) (ws : List (List ℕ)) → length (spaced (w ∷ ws)) ≡ 1 + length w + length (spaced ws)
-word-more w ws = omega (arith, length-append w (spaced ws))
-
-words-more : (xs ys : List (List ℕ)) → length (spaced (xs ++ ys)) ≡ length (spaced xs) + length (spaced ys)
-words-more [] ys = omega arith
-words-more (x ∷ xs) ys = omega (arith, word-more x (xs ++ ys), word-more x xs, words-more xs ys)
-
-top-few : (w : List ℕ) (ws : List (List ℕ)) → length (top_line (w ∷ ws)) ≡ length w + length (spaced ws)
-top-few w ws = length-append w (spaced ws)
-
--- ---- words
-
-byte-few : (n : ℕ) → n < 256 → length (decimal n) ≤ 3
-byte-few n h = length-decimal-le 3 n (omega arith) (omega arith) (omega arith)
-
-address-few : (addr : ℕ) → addr < 2 ^ 32 → length (address_text addr) ≤ 15
-address-few addr small =
-    let dotted = IsDotted-address_text addr small in
-    let a = decimal dotted.a in
-    let b = decimal dotted.b in
-    let c = decimal dotted.c in
-    let d = decimal dotted.d in
-    let size : length (dotted_text dotted.a dotted.b dotted.c dotted.d) ≤ 15 =
-    omega (
-      arith,
-      byte-few dotted.a dotted.fit.0,
-      byte-few dotted.b dotted.fit.1,
-      byte-few dotted.c dotted.fit.2,
-      byte-few dotted.d dotted.fit.3,
-      length-append (a ++ codes "." ++ b ++ codes "." ++ c ++ codes ".") d,
-      length-append (a ++ codes "." ++ b ++ codes "." ++ c) (codes "."),
-      length-append (a ++ codes "." ++ b ++ codes ".") c,
-      length-append (a ++ codes "." ++ b) (codes "."),
-      length-append (a ++ codes ".") b,
-      length-append a (codes "."),
-    ) in
-    subst (λ (t : List ℕ). length t ≤ 15) (sym dotted.spelled) size
-
-prefix-few : (p : Prefix) → length (prefix_text p) ≤ 18
-prefix-few p =
-    let low : p.len ≤ 32 = p.length in
-    omega (
-      arith,
-      length-append (address_text p.addr ++ codes "/") (decimal p.len),
-      length-append (address_text p.addr) (codes "/"),
-      address-few p.addr p.in_range,
-      length-decimal-le 2 p.len (omega arith) (omega arith) (omega arith),
-    )
-
-pub number-few : (n : ℕ) → n < 1000000 → length (decimal n) ≤ 6
-number-few n h = length-decimal-le 6 n (omega arith) (omega arith) (omega arith)
-
-wild-small : (n : ℕ) → 2 ^ (32 - n) - 1 < 2 ^ 32
-wild-small n =
-    let some : 1 ≤ 2 ^ (32 - n) = one-le-pow (32 - n) 2 (omega arith) in
-    let few : 2 ^ (32 - n) ≤ 2 ^ 32 = pow-le-pow_right {n = 2} (omega arith) {i = 32 - n} {j = 32} (omega arith) in
-    omega arith
-
--- one side of an entry
-side-few : (p : Prefix) → length (spaced (side_words p)) ≤ 32
-side-few p = by (p.len == 0) (p.len == 32)
-  where
-    by : (a b : Bool) → length (spaced (if a then codes "any" ∷ [] else (if b then codes "host" ∷ address_text p.addr ∷ [] else address_text p.addr ∷ address_text (2 ^ (32 - p.len) - 1) ∷ []))) ≤ 32
-    by true b = omega arith
-    by false true = omega (arith, word-more (codes "host") (address_text p.addr ∷ []), word-more (address_text p.addr) [], address-few p.addr p.in_range)
-    by false false =
-        omega (
-          arith,
-          word-more (address_text p.addr) (address_text (2 ^ (32 - p.len) - 1) ∷ []),
-          word-more (address_text (2 ^ (32 - p.len) - 1)) [],
-          address-few p.addr p.in_range,
-          address-few (2 ^ (32 - p.len) - 1) (wild-small p.len),
-        )
-
-abbrev is_short_row : ℕ × List ℕ → Bool
-is_short_row row = nat_le (length row.1) 4
-
--- the protocol and the ports of an entry
-protocol-few : (n : ℕ) → n < 256 → length (protocol_text n) ≤ 4
-protocol-few n small = by (find (λ row. row.0 == n) protocol_names) refl
-  where
-    by : (o : Option (ℕ × List ℕ)) → find (λ row. row.0 == n) protocol_names ≡ o → length (option_map_or (λ row. row.1) o (decimal n)) ≤ 4
-    by None e = omega (arith, byte-few n small)
-    by (Some row) e = leb-true (length row.1) 4 (found-both (λ row. row.0 == n) is_short_row protocol_names row e refl).1
-
-verdict-few : (b : Bool) → length (verdict_word b) ≤ 6
-verdict-few true = omega arith
-verdict-few false = omega arith
-
-module _ (entry : PacketText) where
-  high-small : entry.high < 2 ^ 24
-  high-small = entry.in_range
-
-  low-small : entry.low < 2 ^ 24
-  low-small = let ordered : entry.low ≤ entry.high = entry.ordered in omega (arith, ordered, high-small)
-
-  protocol-word-few : length (protocol_word entry.low entry.high) ≤ 4
-  protocol-word-few = by (are_all entry.low entry.high)
-    where
-      by : (b : Bool) → length (if b then codes "ip" else protocol_text (protocol entry.low)) ≤ 4
-      by true = omega arith
-      by false = let low = low-small in protocol-few (protocol entry.low) (omega (arith, low))
-
-  port-few : (n : ℕ) → length (decimal (port n)) ≤ 5
-  port-few n = length-decimal-le 5 (port n) (omega arith) (omega arith) (omega arith)
-
-  ports-few : length (spaced (port_words entry.low entry.high)) ≤ 18
-  ports-few = by (are_all_ports entry.low entry.high) (entry.low == entry.high)
-    where
-      by : (a b : Bool) → length (spaced (if a then [] else (if b then codes "eq" ∷ decimal (port entry.low) ∷ [] else codes "range" ∷ decimal (port entry.low) ∷ decimal (port entry.high) ∷ []))) ≤ 18
-      by true b = omega arith
-      by false true = omega (arith, word-more (codes "eq") (decimal (port entry.low) ∷ []), word-more (decimal (port entry.low)) [], port-few entry.low)
-      by false false =
-          omega (
-            arith,
-            word-more (codes "range") (decimal (port entry.low) ∷ decimal (port entry.high) ∷ []),
-            word-more (decimal (port entry.low)) (decimal (port entry.high) ∷ []),
-            word-more (decimal (port entry.high)) [],
-            port-few entry.low,
-            port-few entry.high,
-          )
-
-  packet-few : length (spaced (packet_words entry)) ≤ 94
-  packet-few =
-      let sides : List (List ℕ) = side_words entry.from ++ side_words entry.to ++ port_words entry.low entry.high in
-      omega (
-        arith,
-        word-more (verdict_word entry.permit) (protocol_word entry.low entry.high ∷ sides),
-        word-more (protocol_word entry.low entry.high) sides,
-        words-more (side_words entry.from ++ side_words entry.to) (port_words entry.low entry.high),
-        words-more (side_words entry.from) (side_words entry.to),
-        verdict-few entry.permit,
-        protocol-word-few,
-        side-few entry.from,
-        side-few entry.to,
-        ports-few,
-      )
-
--- ---- lines
+use Rattle.ios_words.specs.declared.commands.Command.TheVariants as commands
+use Rattle.ios_words.specs.declared.commands.RouteText.{RouteText}
+use Rattle.ios_words.specs.declared.kinds.BlockKind.TheVariants as kinds
+use Rattle.ios_words.specs.Numbers.{list_kind}
+use Rattle.ios_words.specs.Plain.{plain_line}
+use Rattle.ios_words.specs.Printed.{entry_words, length_words, order_words, packet_words, route_words, sequence_words, side_words, unless, verdict_word}
+use Rattle.ios_words.proofs.WordSizes.{address-few, length-few, number-few, packet-few, prefix-few, side-few, top-few, verdict-few, word-more, words-more}
 
 abbrev pub IsSmallOrder : Option ℕ → Type 0
 IsSmallOrder None = Unit {0}
@@ -168,50 +24,66 @@ sequence-few : (order : Option ℕ) → IsSmallOrder order → length (spaced (s
 sequence-few None small = omega arith
 sequence-few (Some n) small = omega (arith, word-more (codes "seq") (decimal n ∷ []), word-more (decimal n) [], number-few n small)
 
-pub entry-line-few : (order : Option ℕ) (entry : PacketText) → IsSmallOrder order → length (spaced (entry_words order entry)) ≤ 101
+pub entry-line-few : (order : Option ℕ) (entry : PacketText) → IsSmallOrder order → length (plain_line kinds.Extended (commands.Entry order entry)) ≤ 101
 entry-line-few order entry small = omega (arith, words-more (order_words order) (packet_words entry), order-few order small, packet-few entry)
 
-pub list-line-few : (name : List ℕ) (entry : PacketText) → length name ≤ 64 → length (top_line (list_line_words name entry)) ≤ 170
-list-line-few name entry few = omega (arith, top-few (codes "access-list") (name ∷ packet_words entry), word-more name (packet_words entry), packet-few entry)
+-- an entry of a list of any kind
+listed-few : (o : Option Bool) (entry : PacketText) → length (spaced (entry_words o entry)) ≤ 94
+listed-few (Some true) entry = packet-few entry
+listed-few (Some false) entry = omega (arith, word-more (verdict_word entry.permit) (side_words entry.from), verdict-few entry.permit, side-few entry.from)
+listed-few None entry = omega (arith, word-more (verdict_word entry.permit) (side_words entry.from), verdict-few entry.permit, side-few entry.from)
 
-pub prefix-line-few : (name : List ℕ) (order : Option ℕ) (permit : Bool) (prefix : Prefix) → length name ≤ 64 → IsSmallOrder order → length (top_line (prefix_line_words name order permit prefix)) ≤ 116
-prefix-line-few name order permit prefix few small =
-    let rest : List (List ℕ) = verdict_word permit ∷ prefix_text prefix ∷ [] in
+pub list-line-few : (name : List ℕ) (entry : PacketText) → length name ≤ 64 → length (plain_line kinds.Top (commands.ListLine name entry)) ≤ 170
+list-line-few name entry few =
+    let words : List (List ℕ) = entry_words (list_kind (number_of name)) entry in
+    omega (arith, top-few (codes "access-list") (name ∷ words), word-more name words, listed-few (list_kind (number_of name)) entry)
+
+-- the lengths of an entry of a prefix list
+lengths-few : (len low high : ℕ) → low ≤ 32 → high ≤ 32 → length (spaced (length_words len low high)) ≤ 12
+lengths-few len low high few most = by (low == len) (high == len) (high == 32)
+  where
+    by : (a b c : Bool) → length (spaced (if a then (if b then [] else codes "le" ∷ decimal high ∷ []) else (codes "ge" ∷ decimal low ∷ (if c then [] else codes "le" ∷ decimal high ∷ [])))) ≤ 12
+    by true true c = omega arith
+    by true false c = omega (arith, word-more (codes "le") (decimal high ∷ []), word-more (decimal high) [], length-few high most)
+    by false b true = omega (arith, word-more (codes "ge") (decimal low ∷ []), word-more (decimal low) [], length-few low few)
+    by false b false =
+        omega (
+          arith,
+          word-more (codes "ge") (decimal low ∷ codes "le" ∷ decimal high ∷ []),
+          word-more (decimal low) (codes "le" ∷ decimal high ∷ []),
+          word-more (codes "le") (decimal high ∷ []),
+          word-more (decimal high) [],
+          length-few low few,
+          length-few high most,
+        )
+
+pub prefix-line-few : (name : List ℕ) (order : Option ℕ) (route : RouteText) → length name ≤ 64 → IsSmallOrder order → route.low ≤ 32 → route.high ≤ 32 → length (plain_line kinds.Top (commands.PrefixLine name order route)) ≤ 128
+prefix-line-few name order route few small low high =
+    let lasts : List (List ℕ) = length_words route.prefix.len route.low route.high in
+    let rest : List (List ℕ) = route_words route in
     omega (
       arith,
       top-few (codes "ip") (codes "prefix-list" ∷ name ∷ sequence_words order ++ rest),
       word-more (codes "prefix-list") (name ∷ sequence_words order ++ rest),
       word-more name (sequence_words order ++ rest),
       words-more (sequence_words order) rest,
-      word-more (verdict_word permit) (prefix_text prefix ∷ []),
-      word-more (prefix_text prefix) [],
+      word-more (verdict_word route.permit) (prefix_text route.prefix ∷ lasts),
+      word-more (prefix_text route.prefix) lasts,
       sequence-few order small,
-      verdict-few permit,
-      prefix-few prefix,
+      verdict-few route.permit,
+      prefix-few route.prefix,
+      lengths-few route.prefix.len route.low route.high low high,
     )
 
-pub permit-all-few : (name : List ℕ) (order : ℕ) → length name ≤ 64 → order < 1000000 → length (top_line (permit_all_words name order)) ≤ 113
-permit-all-few name order few small =
-    let last : List (List ℕ) = codes "permit" ∷ codes "0.0.0.0/0" ∷ codes "le" ∷ codes "32" ∷ [] in
-    omega (
-      arith,
-      top-few (codes "ip") (codes "prefix-list" ∷ name ∷ codes "seq" ∷ decimal order ∷ last),
-      word-more (codes "prefix-list") (name ∷ codes "seq" ∷ decimal order ∷ last),
-      word-more name (codes "seq" ∷ decimal order ∷ last),
-      word-more (codes "seq") (decimal order ∷ last),
-      word-more (decimal order) last,
-      number-few order small,
-    )
-
-pub list-head-few : (name : List ℕ) → length name ≤ 64 → length (top_line (list_head_words name)) ≤ 90
+pub list-head-few : (name : List ℕ) → length name ≤ 64 → length (plain_line kinds.Top (commands.ListBlock true name)) ≤ 90
 list-head-few name few =
     omega (arith, top-few (codes "ip") (codes "access-list" ∷ codes "extended" ∷ name ∷ []), word-more (codes "access-list") (codes "extended" ∷ name ∷ []), word-more (codes "extended") (name ∷ []), word-more name [])
 
-pub group-few : (name : List ℕ) → length name ≤ 64 → length (spaced (group_words name)) ≤ 90
+pub group-few : (name : List ℕ) → length name ≤ 64 → length (plain_line kinds.Interface (commands.Group name true)) ≤ 90
 group-few name few =
     omega (arith, word-more (codes "ip") (codes "access-group" ∷ name ∷ codes "in" ∷ []), word-more (codes "access-group") (name ∷ codes "in" ∷ []), word-more name (codes "in" ∷ []))
 
-pub neighbor-list-few : (peer : ℕ) (name : List ℕ) → peer < 2 ^ 32 → length name ≤ 64 → length (spaced (neighbor_list_words peer name)) ≤ 110
+pub neighbor-list-few : (peer : ℕ) (name : List ℕ) → peer < 2 ^ 32 → length name ≤ 64 → length (plain_line kinds.Bgp (commands.NeighborList peer name)) ≤ 110
 neighbor-list-few peer name small few =
     omega (
       arith,
@@ -226,9 +98,9 @@ unless-few : (b : Bool) (ws : List (List ℕ)) → length (spaced (unless b ws))
 unless-few true ws = omega arith
 unless-few false ws = omega (arith, word-more (codes "no") ws)
 
-pub passive-few : (b : Bool) (name : List ℕ) → length name ≤ 64 → length (spaced (passive_words b name)) ≤ 90
+pub passive-few : (b : Bool) (name : List ℕ) → length name ≤ 64 → length (plain_line kinds.Ospf (commands.Passive b (Some name))) ≤ 90
 passive-few b name few = omega (arith, unless-few b (codes "passive-interface" ∷ name ∷ []), word-more (codes "passive-interface") (name ∷ []), word-more name [])
 
-pub neighbor-few : (peer : ℕ) (b : Bool) → peer < 2 ^ 32 → length (spaced (neighbor_words peer b)) ≤ 90
+pub neighbor-few : (peer : ℕ) (b : Bool) → peer < 2 ^ 32 → length (plain_line kinds.Bgp (commands.NeighborDown peer b)) ≤ 90
 neighbor-few peer b small =
     omega (arith, unless-few b (codes "neighbor" ∷ address_text peer ∷ codes "shutdown" ∷ []), word-more (codes "neighbor") (address_text peer ∷ codes "shutdown" ∷ []), word-more (address_text peer) (codes "shutdown" ∷ []), address-few peer small)

@@ -16,7 +16,7 @@ use Rattle.line_patcher.specs.declared.additions.NewNumber.{NewNumber}
 use Rattle.line_patcher.specs.Patches.{end_of, line_end, row_bytes, ended, following, patched_row, patched_text}
 use Rattle.line_patcher.proofs.RowsWithin.{rows-few}
 use Rattle.patch_size_laws.proofs.Keyed.{total, keyed, keyed-few, apart-range, numbered-all}
-use Rattle.patch_size_laws.proofs.LineSizes.{number-few}
+use Rattle.ios_words.proofs.WordSizes.{number-few}
 
 -- what a line costs that is put in: its bytes, and an end of at most two
 abbrev pub cost_of : List ℕ → ℕ
