@@ -25,12 +25,11 @@ use Rattle.net_rules.specs.Settings.{IsPrefixAt}
 use Rattle.net_rules.specs.Sites.{Site, sites, full_name, ends_of}
 use Rattle.net_rules.proofs.Distinct.{at_Contains, Contains-at}
 use Rattle.net_gen.specs.Plans.{numbers, link_count, a_router, b_router, port}
-use Rattle.net_gen.specs.RouterFiles.{host_name, face_name}
+use Rattle.net_gen.specs.RouterFiles.{host_name, face_name, address}
 use Rattle.net_gen.specs.Generated.{link_text, IsHostNetwork, Asked, asked, asked_around, Asks}
 use Rattle.generated_network_laws.proofs.Faces.{site_at, has-site}
 use Rattle.generated_network_laws.proofs.FilesClear.{protocol-is}
 use Rattle.arc_base.proofs.Zips.{AllZip-left, AllZip-right}
-use Rattle.generated_network_laws.proofs.LineReads.{address}
 use Rattle.generated_network_laws.proofs.LinksClear.{all_links, block_of, prefix-facts, earlier-end}
 use Rattle.generated_network_laws.proofs.Once.{face-name-one}
 use Rattle.generated_network_laws.proofs.Plans.{in-range, port-some, port-few, a-has, b-has, next-is, count-few}

@@ -1,5 +1,5 @@
 -- The commands of a generated file, line by line.
-use Rattle.std.proofs.Common.{◌≡◌, ℕ, suc, ◌+◌, ◌*◌, ◌<◌, ◌==◌, Bool, true, false, List, [], ◌∷◌, ◌++◌, length, codes, refl, sym, ap, subst, ◌∙◌, arith, if◌then◌else◌, append-nil, append_assoc}
+use Rattle.std.proofs.Common.{◌≡◌, ℕ, suc, ◌+◌, ◌*◌, ◌^◌, ◌<◌, ◌≤◌, ◌==◌, Bool, true, false, List, [], ◌∷◌, ◌++◌, length, codes, refl, sym, ap, subst, ◌∙◌, arith, if◌then◌else◌, append-nil, append_assoc}
 use Rattle.std.specs.List.{AllByRecursion, flat_map}
 use Rattle.std.proofs.lemmas.List.{length_push}
 use Rattle.std.proofs.lemmas.List.Elements.{Contains-push}
@@ -10,8 +10,8 @@ use Rattle.ios_words.proofs.PlainLines.{closing-line}
 use Rattle.ios_config.specs.declared.commands.FileCommand.{FileCommand}
 use Rattle.ios_config.specs.Inserted.{command_at}
 use Rattle.net_gen.specs.Plans.{a_router, port}
-use Rattle.net_gen.specs.RouterFiles.{host_name, face_name, name_line, face_line, address_line, face_lines, name_lines, host_lines, link_lines, process_lines}
-use Rattle.generated_network_laws.proofs.LineReads.{IsWithin, address, name-read, face-read, host-address-read, link-address-read, ospf-read, covers-read, end-read}
+use Rattle.net_gen.specs.RouterFiles.{host_name, face_name, address, name_line, face_line, address_line, process_line, covers_line, face_lines, name_lines, host_lines, link_lines, process_lines}
+use Rattle.generated_network_laws.proofs.LineReads.{name-read, face-read, address-read, process-read, covers-read, end-read}
 use Rattle.generated_network_laws.proofs.AddedLines.{AreRead, head-more, single-more, closing-more, inner-more}
 use Rattle.generated_network_laws.proofs.Texts.{IsPlain}
 
@@ -66,44 +66,43 @@ push-two xs a b = simp append_assoc
 
 module _ (lines : List (List ℕ)) (cs : List FileCommand) (block : ℕ) (r : AreRead lines cs block) where
   -- the lines of an interface
-  face-more : (number b c d len : ℕ) (mask : List ℕ) → number < 64 → IsWithin blocks.Interface (address_line b c d mask) (commands.Address (address b c d) len) →
-      AreRead (lines ++ face_lines number b c d mask) (cs ++ face_commands (length lines) (face_name number) (address b c d) len) 0
-  face-more number b c d len mask few reads =
+  face-more : (number addr len : ℕ) → number < 64 → addr < 2 ^ 32 → 1 ≤ len → len ≤ 32 → AreRead (lines ++ face_lines number addr len) (cs ++ face_commands (length lines) (face_name number) addr len) 0
+  face-more number addr len few small some most =
       let at = length lines in
       let head = command_at (at + 1) (at + 1) (commands.Interface (face_name number)) in
       let one = head-more lines cs block r (face_line number) (commands.Interface (face_name number)) (face-read number few) in
-      let two = inner-more (lines ++ face_line number ∷ []) (cs ++ head ∷ []) (at + 1) one (address_line b c d mask) blocks.Interface (commands.Address (address b c d) len) head reads
+      let two = inner-more (lines ++ face_line number ∷ []) (cs ++ head ∷ []) (at + 1) one (address_line addr len) blocks.Interface (commands.Address addr len) head (address-read addr len small some most)
       (λ (none : at + 1 ≡ 0). absurd (omega arith)) (Contains-push cs head) refl refl (λ (other : blocks.Interface ≡ blocks.Inert). absurd cc) in
-      let next = command_at (length (lines ++ face_line number ∷ []) + 1) (at + 1) (commands.Address (address b c d) len) in
-      let three = closing-more ((lines ++ face_line number ∷ []) ++ address_line b c d mask ∷ []) ((cs ++ head ∷ []) ++ next ∷ []) (at + 1) two (codes "!") mark-plain closing-line.kind in
+      let next = command_at (length (lines ++ face_line number ∷ []) + 1) (at + 1) (commands.Address addr len) in
+      let three = closing-more ((lines ++ face_line number ∷ []) ++ address_line addr len ∷ []) ((cs ++ head ∷ []) ++ next ∷ []) (at + 1) two (codes "!") mark-plain closing-line.kind in
       let place : length (lines ++ face_line number ∷ []) + 1 ≡ at + 2 = let long = length_push lines (face_line number) in omega arith in
-      same-read _ (lines ++ face_lines number b c d mask) _ (cs ++ face_commands at (face_name number) (address b c d) len) 0
-      (push-three lines (face_line number) (address_line b c d mask) (codes "!"))
-      (push-two cs head next ∙ ap (λ (k : ℕ). cs ++ head ∷ command_at k (at + 1) (commands.Address (address b c d) len) ∷ []) place) three
+      same-read _ (lines ++ face_lines number addr len) _ (cs ++ face_commands at (face_name number) addr len) 0
+      (push-three lines (face_line number) (address_line addr len) (codes "!"))
+      (push-two cs head next ∙ ap (λ (k : ℕ). cs ++ head ∷ command_at k (at + 1) (commands.Address addr len) ∷ []) place) three
 
   -- the lines of the process, and the last line
   last-more : AreRead (lines ++ process_lines) (cs ++ last_commands (length lines)) (length lines + 4)
   last-more =
       let at = length lines in
       let head = command_at (at + 1) (at + 1) (commands.RouterOspf 1) in
-      let l1 = lines ++ codes "router ospf 1" ∷ [] in
-      let one = head-more lines cs block r (codes "router ospf 1") (commands.RouterOspf 1) ospf-read in
-      let two = inner-more l1 (cs ++ head ∷ []) (at + 1) one (codes " network 0.0.0.0 255.255.255.255 area 0") blocks.Ospf (commands.Covers whole 0) head covers-read
+      let l1 = lines ++ process_line ∷ [] in
+      let one = head-more lines cs block r process_line (commands.RouterOspf 1) process-read in
+      let two = inner-more l1 (cs ++ head ∷ []) (at + 1) one covers_line blocks.Ospf (commands.Covers whole 0) head covers-read
       (λ (none : at + 1 ≡ 0). absurd (omega arith)) (Contains-push cs head) refl refl (λ (other : blocks.Ospf ≡ blocks.Inert). absurd cc) in
       let covers = command_at (length l1 + 1) (at + 1) (commands.Covers whole 0) in
-      let l2 = l1 ++ codes " network 0.0.0.0 255.255.255.255 area 0" ∷ [] in
+      let l2 = l1 ++ covers_line ∷ [] in
       let c2 = (cs ++ head ∷ []) ++ covers ∷ [] in
       let three = closing-more l2 c2 (at + 1) two (codes "!") mark-plain closing-line.kind in
       let l3 = l2 ++ codes "!" ∷ [] in
       let four = head-more l3 c2 0 three (codes "end") commands.Inert end-read in
-      let long1 : length l1 ≡ at + 1 = length_push lines (codes "router ospf 1") in
-      let long2 : length l2 ≡ length l1 + 1 = length_push l1 (codes " network 0.0.0.0 255.255.255.255 area 0") in
+      let long1 : length l1 ≡ at + 1 = length_push lines process_line in
+      let long2 : length l2 ≡ length l1 + 1 = length_push l1 covers_line in
       let long3 : length l3 ≡ length l2 + 1 = length_push l2 (codes "!") in
       let place : length l1 + 1 ≡ at + 2 = omega arith in
       let last : length l3 + 1 ≡ at + 4 = omega arith in
       subst (λ (k : ℕ). AreRead (lines ++ process_lines) (cs ++ last_commands at) k) last
       (same-read (l3 ++ codes "end" ∷ []) (lines ++ process_lines) (c2 ++ command_at (length l3 + 1) (length l3 + 1) commands.Inert ∷ []) (cs ++ last_commands at) (length l3 + 1)
-      (push-four lines (codes "router ospf 1") (codes " network 0.0.0.0 255.255.255.255 area 0") (codes "!") (codes "end"))
+      (push-four lines process_line covers_line (codes "!") (codes "end"))
       (push-three cs head covers (command_at (length l3 + 1) (length l3 + 1) commands.Inert)
       ∙ ap (λ (k : ℕ). cs ++ head ∷ command_at k (at + 1) (commands.Covers whole 0) ∷ command_at (length l3 + 1) (length l3 + 1) commands.Inert ∷ []) place
       ∙ ap (λ (k : ℕ). cs ++ head ∷ command_at (at + 2) (at + 1) (commands.Covers whole 0) ∷ command_at k k commands.Inert ∷ []) last) four)
@@ -115,9 +114,9 @@ module _ (lines : List (List ℕ)) (cs : List FileCommand) (block : ℕ) (r : Ar
 abbrev pub IsSmall : ℕ → ℕ → ℕ → Type 0
 IsSmall n router link = (link < 256) × (port n router link < 64)
 
-end-small : (b : Bool) → (if b then 1 else 2) < 256
-end-small true = omega arith
-end-small false = omega arith
+end-small : (link : ℕ) → link < 256 → (b : Bool) → address 0 link (if b then 1 else 2) < 2 ^ 32
+end-small link few true = omega (arith, few)
+end-small link few false = omega (arith, few)
 
 -- the lines of the interfaces over links
 links-more : (n router : ℕ) (links : List ℕ) → AllByRecursion (IsSmall n router) links → (lines : List (List ℕ)) (cs : List FileCommand) → AreRead lines cs 0 →
@@ -126,10 +125,10 @@ links-more n router [] small lines cs r = same-read lines (lines ++ []) cs (cs +
 links-more n router (link ∷ links) small lines cs r =
     let end = end_of n router link in
     let at = length lines in
-    let one = face-more lines cs 0 r (port n router link) 0 link end 30 (codes "255.255.255.252") small.0.1 (link-address-read link end small.0.0 (end-small (a_router n link == router))) in
+    let one = face-more lines cs 0 r (port n router link) (address 0 link end) 30 small.0.1 (end-small link small.0.0 (a_router n link == router)) (omega arith) (omega arith) in
     let more = lines ++ link_lines n router link in
     let rest = links-more n router links small.1 more (cs ++ link_face_commands n router at link) one in
-    let long : length more ≡ at + 3 = three lines (face_line (port n router link)) (address_line 0 link end (codes "255.255.255.252")) (codes "!") in
+    let long : length more ≡ at + 3 = three lines (face_line (port n router link)) (address_line (address 0 link end) 30) (codes "!") in
     same-read _ (lines ++ flat_map (link_lines n router) (link ∷ links)) _ (cs ++ link_commands n router at (link ∷ links)) 0
     (append_assoc lines (link_lines n router link) (flat_map (link_lines n router) links))
     (append_assoc cs (link_face_commands n router at link) (link_commands n router (length more) links)
@@ -159,7 +158,7 @@ file-read n router links few small =
     let one = single-more [] [] 0 nothing-read (name_line router) (commands.Hostname (host_name router)) (name-read router few) in
     let two = closing-more (name_line router ∷ []) (name_command router ∷ []) 0 one (codes "!") mark-plain closing-line.kind in
     let first = name_lines router in
-    let three = face-more first (name_command router ∷ []) 0 two 0 router 0 1 24 (codes "255.255.255.0") (omega arith) (host-address-read router (omega arith)) in
+    let three = face-more first (name_command router ∷ []) 0 two 0 (address router 0 1) 24 (omega arith) (omega (arith, few)) (omega arith) (omega arith) in
     let hosts = first ++ host_lines router in
     let c3 = name_command router ∷ host_commands router in
     let four = links-more n router links small hosts c3 three in

@@ -23,10 +23,9 @@ use Rattle.net_rules.specs.Settings.{lines_of, is_point_to_point}
 use Rattle.net_rules.specs.Sites.{Site, sites}
 use Rattle.net_rules.specs.Stops.{RefusesListStopsSession}
 use Rattle.net_gen.specs.Plans.{numbers, link_count, has_end, port}
-use Rattle.net_gen.specs.RouterFiles.{host_name, face_name}
+use Rattle.net_gen.specs.RouterFiles.{host_name, face_name, address}
 use Rattle.generated_network_laws.proofs.Faces.{HasSite, site-is}
 use Rattle.generated_network_laws.proofs.Files.{end_of}
-use Rattle.generated_network_laws.proofs.LineReads.{address}
 use Rattle.generated_network_laws.proofs.Items.{of-any, only}
 use Rattle.generated_network_laws.proofs.Once.{host-name-one}
 use Rattle.generated_network_laws.proofs.Plans.{in-range, mapped-at, passed-few, count-few}

@@ -22,11 +22,11 @@ use Rattle.net_rules.specs.Settings.{address_of, IsPrefixAt}
 use Rattle.net_rules.specs.Sites.{Site, sites, full_name, full_names, two_ends, ends_of}
 use Rattle.net_rules.proofs.SiteFacts.{name_at_site}
 use Rattle.net_gen.specs.Plans.{numbers, link_count, a_router, b_router, has_end, port}
+use Rattle.net_gen.specs.RouterFiles.{address}
 use Rattle.net_gen.specs.Generated.{link_text}
 use Rattle.generated_network_laws.proofs.Faces.{site-is, end_name, has-end-name, link-site}
 use Rattle.generated_network_laws.proofs.Files.{end_of}
 use Rattle.arc_base.proofs.Zips.{AllZip-left}
-use Rattle.generated_network_laws.proofs.LineReads.{address}
 use Rattle.generated_network_laws.proofs.Once.{face-name-one, host-name-one}
 use Rattle.generated_network_laws.proofs.Plans.{in-range, mapped-at, port-few, port-one, a-has, b-has, two-ends, count-few}
 use Rattle.generated_network_laws.proofs.Said.{all_settings}

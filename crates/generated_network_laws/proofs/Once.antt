@@ -15,10 +15,9 @@ use Rattle.ios_config.specs.declared.commands.FileCommand.{FileCommand}
 use Rattle.ios_config.specs.Inserted.{command_at}
 use Rattle.ios_config.specs.Twice.{Stand, Interface, Ospf, stand_of, excluded, Clash, StandOnce}
 use Rattle.net_gen.specs.Plans.{numbers, link_count, has_end, port}
-use Rattle.net_gen.specs.RouterFiles.{host_name, face_name}
+use Rattle.net_gen.specs.RouterFiles.{host_name, face_name, address}
 use Rattle.generated_network_laws.proofs.Files.{end_of, link_commands, last_commands, end_commands, name_command, host_commands, file_commands}
 use Rattle.generated_network_laws.proofs.Items.{only, none}
-use Rattle.generated_network_laws.proofs.LineReads.{address}
 use Rattle.generated_network_laws.proofs.Plans.{port-some, port-few, port-rises}
 
 -- names with different numbers differ

@@ -23,6 +23,7 @@ use Rattle.net_rules.specs.Rows.{IsFaceRow, IsLinkRow, AreRows}
 use Rattle.net_rules.specs.Settings.{address_of, CommandCovers, IsEnabled, IsPrefixAt, is_passive, is_up, lines_of}
 use Rattle.net_rules.specs.Sites.{Site, sites, full_name, full_names, ends_of}
 use Rattle.net_gen.specs.Generated.{link_text, IsHostNetwork}
+use Rattle.net_gen.specs.RouterFiles.{address}
 use Rattle.net_gen.specs.Plans.{link_count, a_router, b_router, has_end}
 use Rattle.generated_network_laws.specs.Plans.{IsEndAt, JoinsRouters, HasHostNetwork}
 use Rattle.generated_network_laws.proofs.EndpointsClear.{host-place}
@@ -31,7 +32,6 @@ use Rattle.generated_network_laws.proofs.Files.{end_of}
 use Rattle.generated_network_laws.proofs.FilesClear.{protocol-is}
 use Rattle.generated_network_laws.proofs.Items.{any-of}
 use Rattle.arc_base.proofs.Zips.{AllZip-left, AllZip-right}
-use Rattle.generated_network_laws.proofs.LineReads.{address}
 use Rattle.generated_network_laws.proofs.LinksClear.{all_links, prefix-facts, site-of-row}
 use Rattle.generated_network_laws.proofs.Plans.{mapped-at, a-has, b-has, two-ends, count-few}
 use Rattle.generated_network_laws.proofs.Said.{links_of, settings_of, all_settings}

@@ -9,17 +9,7 @@ use Rattle.arc_base.proofs.Items as items
 use Rattle.net_gen.specs.Plans.{numbers, link_count, next, a_router, b_router, has_end, port}
 use Rattle.net_gen.proofs.Counted.{length_kept, length_left}
 
--- the numbers of a list of numbers in order
-pub range-at : (a m k : ℕ) (x : ℕ) → slice_get (range_with_len a m) k ≡ Some x → (k < m) × (x ≡ a + k)
-range-at a zero k x is = absurd (none-some x is)
-range-at a (suc m) zero x is = let same : a ≡ x = same_Some a x is in (omega arith, omega arith)
-range-at a (suc m) (suc k) x is = let deeper = range-at (a + 1) m k x is in let low = deeper.0 in let same = deeper.1 in (omega arith, omega arith)
-
-pub at-range : (a m k : ℕ) → k < m → slice_get (range_with_len a m) k ≡ Some (a + k)
-at-range a zero k low = absurd (omega arith)
-at-range a (suc m) zero low = ap Some (omega arith)
-at-range a (suc m) (suc k) low = at-range (a + 1) m k (omega arith) ∙ ap Some (omega arith)
-
+-- the items of a list over numbers in order
 pub mapped-at : {X : Type 0} (f : ℕ → X) (a m k : ℕ) (x : X) → slice_get (map f (range_with_len a m)) k ≡ Some x → (k < m) × (f (a + k) ≡ x)
 mapped-at f a zero k x is = absurd (none-some x is)
 mapped-at f a (suc m) zero x is = (omega arith, ap f (omega arith) ∙ same_Some (f a) x is)

@@ -20,9 +20,8 @@ use Rattle.ios_config.specs.Values.{Says, last_setting, hostname}
 use Rattle.ios_config.proofs.JoinedParts.{distinct-next}
 use Rattle.ios_config.proofs.Values.{last_setting-more}
 use Rattle.net_gen.specs.Plans.{port}
-use Rattle.net_gen.specs.RouterFiles.{host_name, face_name}
+use Rattle.net_gen.specs.RouterFiles.{host_name, face_name, address}
 use Rattle.generated_network_laws.proofs.Files.{end_of, link_face_commands, link_commands, process_commands, end_commands, last_commands, name_command, host_commands, file_commands}
-use Rattle.generated_network_laws.proofs.LineReads.{address}
 use Rattle.generated_network_laws.proofs.AddedLines.{all-weaker}
 
 -- the part is the block of a later head than this

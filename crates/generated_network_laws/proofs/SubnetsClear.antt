@@ -19,13 +19,12 @@ use Rattle.net_rules.specs.Sites.{Site, sites, full_names}
 use Rattle.net_rules.proofs.Distinct.{one_place, Contains-at}
 use Rattle.net_rules.proofs.SiteFacts.{name_at_site}
 use Rattle.net_gen.specs.Plans.{link_count, a_router, has_end}
-use Rattle.net_gen.specs.RouterFiles.{host_name, face_name}
+use Rattle.net_gen.specs.RouterFiles.{host_name, face_name, address}
 use Rattle.net_gen.specs.Generated.{link_text}
 use Rattle.generated_network_laws.proofs.Faces.{IsOverLink, HasSite, site-is, end_name, name-of, names-apart, one-site}
 use Rattle.generated_network_laws.proofs.Files.{end_of}
 use Rattle.generated_network_laws.proofs.Items.{any-of}
 use Rattle.arc_base.proofs.Zips.{AllZip-right}
-use Rattle.generated_network_laws.proofs.LineReads.{address}
 use Rattle.generated_network_laws.proofs.LinksClear.{all_links, block_of, prefix-facts, site-of-row}
 use Rattle.generated_network_laws.proofs.Plans.{at-mapped, ends-are, count-few}
 use Rattle.generated_network_laws.proofs.Said.{all_settings}

@@ -1,12 +1,9 @@
 -- The prefix of a length that holds an address.
-use Rattle.std.proofs.Common.{◌≡◌, ℕ, ◌-◌, ◌/◌, ◌%◌, ◌^◌, ◌<◌, ◌≤◌, arith, sym, subst}
+use Rattle.std.proofs.Common.{◌≡◌, ℕ, ◌-◌, ◌/◌, ◌%◌, ◌^◌, ◌≤◌, arith, sym, subst}
 use Rattle.std.proofs.Math.Nat.{mul-mod_left}
 use Rattle.arc_base.specs.declared.prefix.Prefix.{Prefix}
-use Rattle.ios_words.specs.Prefixes.{cleared, holding, small}
+use Rattle.ios_words.specs.Prefixes.{cleared, holding}
 use Rattle.arc_base.proofs.SamePrefix.{same_prefix}
-
-pub cleared-small : (rest addr : ℕ) → cleared rest addr < 2 ^ 32
-cleared-small rest addr = small rest addr
 
 -- the bits past the length are clear
 pub cleared-clear : (addr len n : ℕ) → len ≤ 32 → n ≡ cleared (32 - len) addr → n % 2 ^ (32 - len) ≡ 0

@@ -7,15 +7,18 @@ use Rattle.std.specs.Str.{bytes_eq}
 use Rattle.arc_base.specs.declared.prefix.Prefix.{Prefix}
 use Rattle.arc_base.specs.PrefixText.{address_text, number_of}
 use Rattle.arc_base.proofs.NumberTexts.{number_of-decimal}
-use Rattle.ios_lines.specs.Kinds.{IsInner, IsSingle, is_mark}
+use Rattle.ios_lines.specs.declared.kind.Kind.TheVariants.{Comment}
+use Rattle.ios_lines.specs.Kinds.{IsInner, IsSingle, is_mark, kind, top_kind}
 use Rattle.ios_lines.specs.Written.{ArePlain, IsWritten, is_plain, spaced}
 use Rattle.ios_lines.proofs.WrittenLines.{indented-inner, indented-written, top-kinds, top-written}
+use Rattle.ios_words.specs.declared.commands.Command.{Command}
 use Rattle.ios_words.specs.declared.commands.Command.TheVariants as commands
 use Rattle.ios_words.specs.declared.commands.PacketText.{PacketText}
 use Rattle.ios_words.specs.declared.commands.RouteText.{RouteText}
+use Rattle.ios_words.specs.declared.kinds.BlockKind.{BlockKind}
 use Rattle.ios_words.specs.declared.kinds.BlockKind.TheVariants as blocks
 use Rattle.ios_words.specs.Forms.{AreLengths, IsExtended, IsFrom, IsListNumber, IsOrder, IsStandard}
-use Rattle.ios_words.specs.Commands.{ReadBy}
+use Rattle.ios_words.specs.Commands.{is_extended_block, ReadBy}
 use Rattle.ios_words.specs.Language.{rows}
 use Rattle.arc_base.specs.NameForms.{is_name}
 use Rattle.ios_words.specs.Numbers.{is_extended, is_from, is_standard, list_kind, mask}
@@ -27,7 +30,7 @@ use Rattle.ios_words.proofs.PrintedServices.{services_in}
 use Rattle.ios_words.proofs.ServicesBetween.{is-between}
 use Rattle.ios_words.proofs.Printed.{entry-read, list_line-read}
 use Rattle.ios_words.proofs.PlainParts.{digits-mark, packet-plain, plain-append, side-plain, verdict-mark, verdict-plain}
-use Rattle.ios_words.specs.Plain.{FitsIn, IsReadAs, PlainLinesAreRead}
+use Rattle.ios_words.specs.Plain.{plain_line, plain_words, FitsIn, HasKind, IsReadAs, PlainLinesAreRead}
 use Rattle.ios_words.proofs.ListReads.{list-line-read, prefix-line-read, standard-read, standard_text}
 use Rattle.ios_words.proofs.PlainReads.{address, area, bandwidth, bgp-id, cost, covers, group, hostname, interface, list-head, neighbor-down, neighbor-list, no-address, ospf-id, passive-default, passive-named, point, reference, remote-as, router-bgp, router-ospf, shutdown, tells}
 use Rattle.ios_words.proofs.PlainSteps.{mask-small, wildcard-small}
@@ -43,6 +46,14 @@ standard-plain permit from = (verdict-plain permit, side-plain from)
 -- the plain words of a line in a block, of which the first is no mark
 inner : (word : List ℕ) (ws : List (List ℕ)) → ArePlain (word ∷ ws) → is_mark word ≡ false → IsWritten (spaced (word ∷ ws)) (word ∷ ws) × IsInner (spaced (word ∷ ws))
 inner word ws plain unmarked = (indented-written (word ∷ ws) plain, indented-inner word ws plain unmarked)
+
+-- and those of a top line
+top : (word : List ℕ) (ws : List (List ℕ)) → is_plain word ≡ true → ArePlain ws → IsWritten (word ++ spaced ws) (word ∷ ws) × (kind (word ++ spaced ws) ≡ cond (is_mark word) Comment (top_kind (word ∷ ws)))
+top word ws first rest = (top-written word ws first rest, top-kinds word ws first rest)
+
+made : (within : BlockKind) (command : Command) → IsWritten (plain_line within command) (plain_words within command) × HasKind within command (plain_line within command) →
+    ReadBy (is_extended_block within) (plain_words within command) (rows within) command → IsReadAs within command
+made within command line reads = record { written = line.0; kind = line.1; reads = reads }
 
 -- a name that is not a word fails the test of it
 other-name : (name word : List ℕ) → name ≢ word → bytes_eq name word ≡ false
@@ -198,98 +209,38 @@ standard-line (Some n) e fits ranged =
     }
 
 pub read-plain : PlainLinesAreRead
-read-plain blocks.Top (commands.Hostname name) stands form fit =
-    let rest : ArePlain (name ∷ []) = (name-plain name form, tt) in
-    record { written = top-written (codes "hostname") (name ∷ []) refl rest; kind = top-kinds (codes "hostname") (name ∷ []) refl rest; reads = hostname name form }
-read-plain blocks.Top (commands.Interface name) stands form fit =
-    let rest : ArePlain (name ∷ []) = (face-plain name form, tt) in
-    record { written = top-written (codes "interface") (name ∷ []) refl rest; kind = top-kinds (codes "interface") (name ∷ []) refl rest; reads = interface name form }
-read-plain blocks.Top (commands.RouterOspf n) stands form fit =
-    let rest : ArePlain (codes "ospf" ∷ decimal n ∷ []) = (refl, (few 1 65535 n form (omega arith), tt)) in
-    record { written = top-written (codes "router") (codes "ospf" ∷ decimal n ∷ []) refl rest; kind = top-kinds (codes "router") (codes "ospf" ∷ decimal n ∷ []) refl rest; reads = router-ospf n form }
-read-plain blocks.Top (commands.RouterBgp n) stands form fit =
-    let rest : ArePlain (codes "bgp" ∷ decimal n ∷ []) = (refl, (few 1 4294967295 n form (omega arith), tt)) in
-    record { written = top-written (codes "router") (codes "bgp" ∷ decimal n ∷ []) refl rest; kind = top-kinds (codes "router") (codes "bgp" ∷ decimal n ∷ []) refl rest; reads = router-bgp n form }
-read-plain blocks.Top (commands.ListBlock true name) stands form fit =
-    let rest : ArePlain (codes "access-list" ∷ codes "extended" ∷ name ∷ []) = (refl, (refl, (name-plain name form, tt))) in
-    record { written = top-written (codes "ip") (codes "access-list" ∷ codes "extended" ∷ name ∷ []) refl rest; kind = top-kinds (codes "ip") (codes "access-list" ∷ codes "extended" ∷ name ∷ []) refl rest; reads = list-head true name form }
-read-plain blocks.Top (commands.ListBlock false name) stands form fit =
-    let rest : ArePlain (codes "access-list" ∷ codes "standard" ∷ name ∷ []) = (refl, (refl, (name-plain name form, tt))) in
-    record { written = top-written (codes "ip") (codes "access-list" ∷ codes "standard" ∷ name ∷ []) refl rest; kind = top-kinds (codes "ip") (codes "access-list" ∷ codes "standard" ∷ name ∷ []) refl rest; reads = list-head false name form }
+read-plain blocks.Top (commands.Hostname name) stands form fit = made blocks.Top (commands.Hostname name) (top (codes "hostname") (name ∷ []) refl (name-plain name form, tt)) (hostname name form)
+read-plain blocks.Top (commands.Interface name) stands form fit = made blocks.Top (commands.Interface name) (top (codes "interface") (name ∷ []) refl (face-plain name form, tt)) (interface name form)
+read-plain blocks.Top (commands.RouterOspf n) stands form fit = made blocks.Top (commands.RouterOspf n) (top (codes "router") (codes "ospf" ∷ decimal n ∷ []) refl (refl, (few 1 65535 n form (omega arith), tt))) (router-ospf n form)
+read-plain blocks.Top (commands.RouterBgp n) stands form fit = made blocks.Top (commands.RouterBgp n) (top (codes "router") (codes "bgp" ∷ decimal n ∷ []) refl (refl, (few 1 4294967295 n form (omega arith), tt))) (router-bgp n form)
+read-plain blocks.Top (commands.ListBlock true name) stands form fit = made blocks.Top (commands.ListBlock true name) (top (codes "ip") (codes "access-list" ∷ codes "extended" ∷ name ∷ []) refl (refl, (refl, (name-plain name form, tt)))) (list-head true name form)
+read-plain blocks.Top (commands.ListBlock false name) stands form fit = made blocks.Top (commands.ListBlock false name) (top (codes "ip") (codes "access-list" ∷ codes "standard" ∷ name ∷ []) refl (refl, (refl, (name-plain name form, tt)))) (list-head false name form)
 read-plain blocks.Top (commands.ListLine text e) stands form fit = list-line text e stands form
 read-plain blocks.Top (commands.PrefixLine name order e) stands form fit = prefix-line name order e stands form.0 form.1 form.2
-read-plain blocks.Interface (commands.Address addr len) stands form fit =
-    let line = inner (codes "ip") (codes "address" ∷ address_text addr ∷ address_text (mask len) ∷ []) (refl, (refl, (address-plain addr fit, (address-plain (mask len) (mask-small len), tt)))) refl in
-    record { written = line.0; kind = line.1; reads = address addr len fit form }
-read-plain blocks.Interface commands.NoAddress stands form fit =
-    let line = inner (codes "no") (codes "ip" ∷ codes "address" ∷ []) (refl, (refl, (refl, tt))) refl in
-    record { written = line.0; kind = line.1; reads = no-address }
-read-plain blocks.Interface (commands.Shutdown true) stands form fit =
-    let line = inner (codes "shutdown") ([]) (refl, tt) refl in
-    record { written = line.0; kind = line.1; reads = shutdown true }
-read-plain blocks.Interface (commands.Shutdown false) stands form fit =
-    let line = inner (codes "no") (codes "shutdown" ∷ []) (refl, (refl, tt)) refl in
-    record { written = line.0; kind = line.1; reads = shutdown false }
-read-plain blocks.Interface (commands.Bandwidth n) stands form fit =
-    let line = inner (codes "bandwidth") (decimal n ∷ []) (refl, (few 1 100000000 n form (omega arith), tt)) refl in
-    record { written = line.0; kind = line.1; reads = bandwidth n form }
-read-plain blocks.Interface (commands.Cost n) stands form fit =
-    let line = inner (codes "ip") (codes "ospf" ∷ codes "cost" ∷ decimal n ∷ []) (refl, (refl, (refl, (few 1 65535 n form (omega arith), tt)))) refl in
-    record { written = line.0; kind = line.1; reads = cost n form }
-read-plain blocks.Interface (commands.Area a) stands form fit =
-    let line = inner (codes "ip") (codes "ospf" ∷ decimal a.process ∷ codes "area" ∷ decimal a.area ∷ []) (refl, (refl, (few 1 65535 a.process form (omega arith), (refl, (decimal-plain a.area (omega (arith, fit)), tt))))) refl in
-    record { written = line.0; kind = line.1; reads = area a form fit }
-read-plain blocks.Interface (commands.Point true) stands form fit =
-    let line = inner (codes "ip") (codes "ospf" ∷ codes "network" ∷ codes "point-to-point" ∷ []) (refl, (refl, (refl, (refl, tt)))) refl in
-    record { written = line.0; kind = line.1; reads = point true }
-read-plain blocks.Interface (commands.Point false) stands form fit =
-    let line = inner (codes "ip") (codes "ospf" ∷ codes "network" ∷ codes "broadcast" ∷ []) (refl, (refl, (refl, (refl, tt)))) refl in
-    record { written = line.0; kind = line.1; reads = point false }
-read-plain blocks.Interface (commands.Group name true) stands form fit =
-    let line = inner (codes "ip") (codes "access-group" ∷ name ∷ codes "in" ∷ []) (refl, (refl, (name-plain name form, (refl, tt)))) refl in
-    record { written = line.0; kind = line.1; reads = group name true form }
-read-plain blocks.Interface (commands.Group name false) stands form fit =
-    let line = inner (codes "ip") (codes "access-group" ∷ name ∷ codes "out" ∷ []) (refl, (refl, (name-plain name form, (refl, tt)))) refl in
-    record { written = line.0; kind = line.1; reads = group name false form }
-read-plain blocks.Ospf (commands.Covers p n) stands form fit =
-    let line = inner (codes "network") (address_text p.addr ∷ address_text (2 ^ (32 - p.len) - 1) ∷ codes "area" ∷ decimal n ∷ []) (refl, (address-plain p.addr p.in_range, (address-plain (2 ^ (32 - p.len) - 1) (wildcard-small p.len), (refl, (decimal-plain n (omega (arith, fit)), tt))))) refl in
-    record { written = line.0; kind = line.1; reads = covers p n fit }
-read-plain blocks.Ospf (commands.Passive true (Some name)) stands form fit =
-    let line = inner (codes "passive-interface") (name ∷ []) (refl, (face-plain name form, tt)) refl in
-    record { written = line.0; kind = line.1; reads = passive-named true name form }
-read-plain blocks.Ospf (commands.Passive false (Some name)) stands form fit =
-    let line = inner (codes "no") (codes "passive-interface" ∷ name ∷ []) (refl, (refl, (face-plain name form, tt))) refl in
-    record { written = line.0; kind = line.1; reads = passive-named false name form }
-read-plain blocks.Ospf (commands.Passive true None) stands form fit =
-    let line = inner (codes "passive-interface") (codes "default" ∷ []) (refl, (refl, tt)) refl in
-    record { written = line.0; kind = line.1; reads = passive-default true }
-read-plain blocks.Ospf (commands.Passive false None) stands form fit =
-    let line = inner (codes "no") (codes "passive-interface" ∷ codes "default" ∷ []) (refl, (refl, (refl, tt))) refl in
-    record { written = line.0; kind = line.1; reads = passive-default false }
-read-plain blocks.Ospf (commands.Reference n) stands form fit =
-    let line = inner (codes "auto-cost") (codes "reference-bandwidth" ∷ decimal n ∷ []) (refl, (refl, (few 1 4294967 n form (omega arith), tt))) refl in
-    record { written = line.0; kind = line.1; reads = reference n form }
-read-plain blocks.Ospf (commands.RouterId addr) stands form fit =
-    let line = inner (codes "router-id") (address_text addr ∷ []) (refl, (address-plain addr fit, tt)) refl in
-    record { written = line.0; kind = line.1; reads = ospf-id addr fit }
-read-plain blocks.Bgp (commands.RemoteAs addr n) stands form fit =
-    let line = inner (codes "neighbor") (address_text addr ∷ codes "remote-as" ∷ decimal n ∷ []) (refl, (address-plain addr fit, (refl, (few 1 4294967295 n form (omega arith), tt)))) refl in
-    record { written = line.0; kind = line.1; reads = remote-as addr n fit form }
-read-plain blocks.Bgp (commands.NeighborDown addr true) stands form fit =
-    let line = inner (codes "neighbor") (address_text addr ∷ codes "shutdown" ∷ []) (refl, (address-plain addr fit, (refl, tt))) refl in
-    record { written = line.0; kind = line.1; reads = neighbor-down addr true fit }
-read-plain blocks.Bgp (commands.NeighborDown addr false) stands form fit =
-    let line = inner (codes "no") (codes "neighbor" ∷ address_text addr ∷ codes "shutdown" ∷ []) (refl, (refl, (address-plain addr fit, (refl, tt)))) refl in
-    record { written = line.0; kind = line.1; reads = neighbor-down addr false fit }
-read-plain blocks.Bgp (commands.NeighborList addr name) stands form fit =
-    let line = inner (codes "neighbor") (address_text addr ∷ codes "prefix-list" ∷ name ∷ codes "in" ∷ []) (refl, (address-plain addr fit, (refl, (name-plain name form, (refl, tt))))) refl in
-    record { written = line.0; kind = line.1; reads = neighbor-list addr name fit form }
-read-plain blocks.Bgp (commands.Tells p) stands form fit =
-    let line = inner (codes "network") (address_text p.addr ∷ codes "mask" ∷ address_text (mask p.len) ∷ []) (refl, (address-plain p.addr p.in_range, (refl, (address-plain (mask p.len) (mask-small p.len), tt)))) refl in
-    record { written = line.0; kind = line.1; reads = tells p }
-read-plain blocks.Bgp (commands.RouterId addr) stands form fit =
-    let line = inner (codes "bgp") (codes "router-id" ∷ address_text addr ∷ []) (refl, (refl, (address-plain addr fit, tt))) refl in
-    record { written = line.0; kind = line.1; reads = bgp-id addr fit }
+read-plain blocks.Interface (commands.Address addr len) stands form fit = made blocks.Interface (commands.Address addr len) (inner (codes "ip") (codes "address" ∷ address_text addr ∷ address_text (mask len) ∷ []) (refl, (refl, (address-plain addr fit, (address-plain (mask len) (mask-small len), tt)))) refl) (address addr len fit form)
+read-plain blocks.Interface commands.NoAddress stands form fit = made blocks.Interface commands.NoAddress (inner (codes "no") (codes "ip" ∷ codes "address" ∷ []) (refl, (refl, (refl, tt))) refl) (no-address)
+read-plain blocks.Interface (commands.Shutdown true) stands form fit = made blocks.Interface (commands.Shutdown true) (inner (codes "shutdown") ([]) (refl, tt) refl) (shutdown true)
+read-plain blocks.Interface (commands.Shutdown false) stands form fit = made blocks.Interface (commands.Shutdown false) (inner (codes "no") (codes "shutdown" ∷ []) (refl, (refl, tt)) refl) (shutdown false)
+read-plain blocks.Interface (commands.Bandwidth n) stands form fit = made blocks.Interface (commands.Bandwidth n) (inner (codes "bandwidth") (decimal n ∷ []) (refl, (few 1 100000000 n form (omega arith), tt)) refl) (bandwidth n form)
+read-plain blocks.Interface (commands.Cost n) stands form fit = made blocks.Interface (commands.Cost n) (inner (codes "ip") (codes "ospf" ∷ codes "cost" ∷ decimal n ∷ []) (refl, (refl, (refl, (few 1 65535 n form (omega arith), tt)))) refl) (cost n form)
+read-plain blocks.Interface (commands.Area a) stands form fit = made blocks.Interface (commands.Area a) (inner (codes "ip") (codes "ospf" ∷ decimal a.process ∷ codes "area" ∷ decimal a.area ∷ []) (refl, (refl, (few 1 65535 a.process form (omega arith), (refl, (decimal-plain a.area (omega (arith, fit)), tt))))) refl) (area a form fit)
+read-plain blocks.Interface (commands.Point true) stands form fit = made blocks.Interface (commands.Point true) (inner (codes "ip") (codes "ospf" ∷ codes "network" ∷ codes "point-to-point" ∷ []) (refl, (refl, (refl, (refl, tt)))) refl) (point true)
+read-plain blocks.Interface (commands.Point false) stands form fit = made blocks.Interface (commands.Point false) (inner (codes "ip") (codes "ospf" ∷ codes "network" ∷ codes "broadcast" ∷ []) (refl, (refl, (refl, (refl, tt)))) refl) (point false)
+read-plain blocks.Interface (commands.Group name true) stands form fit = made blocks.Interface (commands.Group name true) (inner (codes "ip") (codes "access-group" ∷ name ∷ codes "in" ∷ []) (refl, (refl, (name-plain name form, (refl, tt)))) refl) (group name true form)
+read-plain blocks.Interface (commands.Group name false) stands form fit = made blocks.Interface (commands.Group name false) (inner (codes "ip") (codes "access-group" ∷ name ∷ codes "out" ∷ []) (refl, (refl, (name-plain name form, (refl, tt)))) refl) (group name false form)
+read-plain blocks.Ospf (commands.Covers p n) stands form fit = made blocks.Ospf (commands.Covers p n) (inner (codes "network") (address_text p.addr ∷ address_text (2 ^ (32 - p.len) - 1) ∷ codes "area" ∷ decimal n ∷ []) (refl, (address-plain p.addr p.in_range, (address-plain (2 ^ (32 - p.len) - 1) (wildcard-small p.len), (refl, (decimal-plain n (omega (arith, fit)), tt))))) refl) (covers p n fit)
+read-plain blocks.Ospf (commands.Passive true (Some name)) stands form fit = made blocks.Ospf (commands.Passive true (Some name)) (inner (codes "passive-interface") (name ∷ []) (refl, (face-plain name form, tt)) refl) (passive-named true name form)
+read-plain blocks.Ospf (commands.Passive false (Some name)) stands form fit = made blocks.Ospf (commands.Passive false (Some name)) (inner (codes "no") (codes "passive-interface" ∷ name ∷ []) (refl, (refl, (face-plain name form, tt))) refl) (passive-named false name form)
+read-plain blocks.Ospf (commands.Passive true None) stands form fit = made blocks.Ospf (commands.Passive true None) (inner (codes "passive-interface") (codes "default" ∷ []) (refl, (refl, tt)) refl) (passive-default true)
+read-plain blocks.Ospf (commands.Passive false None) stands form fit = made blocks.Ospf (commands.Passive false None) (inner (codes "no") (codes "passive-interface" ∷ codes "default" ∷ []) (refl, (refl, (refl, tt))) refl) (passive-default false)
+read-plain blocks.Ospf (commands.Reference n) stands form fit = made blocks.Ospf (commands.Reference n) (inner (codes "auto-cost") (codes "reference-bandwidth" ∷ decimal n ∷ []) (refl, (refl, (few 1 4294967 n form (omega arith), tt))) refl) (reference n form)
+read-plain blocks.Ospf (commands.RouterId addr) stands form fit = made blocks.Ospf (commands.RouterId addr) (inner (codes "router-id") (address_text addr ∷ []) (refl, (address-plain addr fit, tt)) refl) (ospf-id addr fit)
+read-plain blocks.Bgp (commands.RemoteAs addr n) stands form fit = made blocks.Bgp (commands.RemoteAs addr n) (inner (codes "neighbor") (address_text addr ∷ codes "remote-as" ∷ decimal n ∷ []) (refl, (address-plain addr fit, (refl, (few 1 4294967295 n form (omega arith), tt)))) refl) (remote-as addr n fit form)
+read-plain blocks.Bgp (commands.NeighborDown addr true) stands form fit = made blocks.Bgp (commands.NeighborDown addr true) (inner (codes "neighbor") (address_text addr ∷ codes "shutdown" ∷ []) (refl, (address-plain addr fit, (refl, tt))) refl) (neighbor-down addr true fit)
+read-plain blocks.Bgp (commands.NeighborDown addr false) stands form fit = made blocks.Bgp (commands.NeighborDown addr false) (inner (codes "no") (codes "neighbor" ∷ address_text addr ∷ codes "shutdown" ∷ []) (refl, (refl, (address-plain addr fit, (refl, tt)))) refl) (neighbor-down addr false fit)
+read-plain blocks.Bgp (commands.NeighborList addr name) stands form fit = made blocks.Bgp (commands.NeighborList addr name) (inner (codes "neighbor") (address_text addr ∷ codes "prefix-list" ∷ name ∷ codes "in" ∷ []) (refl, (address-plain addr fit, (refl, (name-plain name form, (refl, tt))))) refl) (neighbor-list addr name fit form)
+read-plain blocks.Bgp (commands.Tells p) stands form fit = made blocks.Bgp (commands.Tells p) (inner (codes "network") (address_text p.addr ∷ codes "mask" ∷ address_text (mask p.len) ∷ []) (refl, (address-plain p.addr p.in_range, (refl, (address-plain (mask p.len) (mask-small p.len), tt)))) refl) (tells p)
+read-plain blocks.Bgp (commands.RouterId addr) stands form fit = made blocks.Bgp (commands.RouterId addr) (inner (codes "bgp") (codes "router-id" ∷ address_text addr ∷ []) (refl, (refl, (address-plain addr fit, tt))) refl) (bgp-id addr fit)
 read-plain blocks.Extended (commands.Entry order e) stands form fit = extended-line order e stands form
 read-plain blocks.Standard (commands.Entry order e) stands form fit = standard-line order e stands form
 read-plain _ _ stands form fit = absurd stands

@@ -66,10 +66,6 @@ port-is n p most =
     let front : service / 65536 * 65536 ≡ n * 65536 = ap (λ m. m * 65536) (protocol-is n p most) in
     omega (arith, parts, front)
 
-or-first : (a b : Bool) → a ≡ true → (a || b) ≡ true
-or-first true b is = refl
-or-first false b is = absurd cc
-
 or-second : (a b : Bool) → b ≡ true → (a || b) ≡ true
 or-second true b is = refl
 or-second false b is = is

@@ -29,4 +29,5 @@ mod words;
 pub use commands::{AreaText, Command, PacketText, RouteText};
 pub use interpreting::command;
 pub use kinds::{BlockKind, WordFault};
+pub use prefixes::whole;
 pub use printing::print;

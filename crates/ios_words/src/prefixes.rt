@@ -1,6 +1,6 @@
 //! Prefixes as router files write them: an address, and how long the prefix is that holds it.
 ghost use Rattle.std.specs.Prelude.{◌≡◌, ◌-◌, ◌≤◌, IfSome};
-ghost use Rattle.ios_words.specs.Prefixes.{cleared, holding};
+ghost use Rattle.ios_words.specs.Prefixes.{cleared, holding, whole};
 ghost use Rattle.ios_words.specs.Values.{route_of, both, class_prefix};
 
 use crate::numbers::{class_length, number_in};
@@ -15,6 +15,13 @@ pub(crate) fn holding(address: u32, len: u8) -> Prefix
         addr: cleared(address, 32 - len),
         len,
     }
+}
+
+/// The prefix of all addresses.
+pub fn whole() -> Prefix
+    ensures { result ≡ whole }
+{
+    holding(0, 0)
 }
 
 /// An address with its last `rest` bits cleared.

@@ -11,11 +11,12 @@ ghost use Rattle.ios_words.specs.Services.{port_words};
 ghost use Rattle.ios_words.specs.Views.{text_of};
 
 use crate::commands::{PacketText, RouteText};
+use crate::printed_words::Word::{Address, Number, Route, Text};
 use crate::protocols::protocol_name;
 use arc_base::{Memory, Prefix, push_address, push_number, push_prefix};
 use std::alloc::Global;
 
-/// A word of a line.
+/// A word of a line, or fixed words with one space between two.
 #[derive(Clone, Copy, Debug)]
 pub(crate) enum Word<'a> {
     Text(&'a [u8]),
@@ -30,13 +31,13 @@ fn push_word(alloc: Global, text: &mut Vec<u8>, word: &Word) -> Result<(), Memor
 {
     text.push(b' ')?;
     match word {
-        Word::Text(word) => {
+        Text(word) => {
             text.extend_from_slice(word)?;
             Ok(())
         }
-        Word::Number(number) => push_number(alloc, text, u64::from(*number)),
-        Word::Address(address) => push_address(alloc, text, *address),
-        Word::Route(prefix) => push_prefix(alloc, text, prefix),
+        Number(number) => push_number(alloc, text, u64::from(*number)),
+        Address(address) => push_address(alloc, text, *address),
+        Route(prefix) => push_prefix(alloc, text, prefix),
     }
 }
 
@@ -63,7 +64,7 @@ pub(crate) fn push_unless(
     if is {
         return push_words(alloc, text, words);
     }
-    push_words(alloc, text, &[Word::Text(b"no")])?;
+    push_words(alloc, text, &[Text(b"no")])?;
     push_words(alloc, text, words)
 }
 
@@ -89,7 +90,7 @@ pub(crate) fn wildcard(len: u8) -> u32
     ((1u64 << (32 - len)) - 1) as u32
 }
 
-/// The mask of so many ones.
+/// The mask of this many ones.
 pub(crate) fn mask(ones: u8) -> u32
     ensures { result ≡ mask ones }
 {
@@ -101,13 +102,13 @@ fn push_side(alloc: Global, text: &mut Vec<u8>, prefix: &Prefix) -> Result<(), M
     ensures { OnOk result (text.new.items ≡ text.old.items ++ spaced (side_words prefix.now)) }
 {
     if prefix.len == 0 {
-        return push_words(alloc, text, &[Word::Text(b"any")]);
+        return push_words(alloc, text, &[Text(b"any")]);
     }
-    let address = Word::Address(prefix.addr);
+    let address = Address(prefix.addr);
     if prefix.len == 32 {
-        return push_words(alloc, text, &[Word::Text(b"host"), address]);
+        return push_words(alloc, text, &[Text(b"host"), address]);
     }
-    push_words(alloc, text, &[address, Word::Address(wildcard(prefix.len))])
+    push_words(alloc, text, &[address, Address(wildcard(prefix.len))])
 }
 
 /// Whether the range from the one service to the other is that of all services.
@@ -129,8 +130,8 @@ fn push_protocol_name(alloc: Global, text: &mut Vec<u8>, number: u32) -> Result<
     ensures { OnOk result (text.new.items ≡ text.old.items ++ spaced (protocol_text number ∷ [])) }
 {
     match protocol_name(number) {
-        Some(name) => push_word(alloc, text, &Word::Text(name)),
-        None => push_word(alloc, text, &Word::Number(number)),
+        Some(name) => push_word(alloc, text, &Text(name)),
+        None => push_word(alloc, text, &Number(number)),
     }
 }
 
@@ -140,7 +141,7 @@ fn push_protocol(alloc: Global, text: &mut Vec<u8>, low: u32, high: u32) -> Resu
         (text.new.items ≡ text.old.items ++ spaced (protocol_word low high ∷ [])) }
 {
     if are_all(low, high) {
-        return push_word(alloc, text, &Word::Text(b"ip"));
+        return push_word(alloc, text, &Text(b"ip"));
     }
     push_protocol_name(alloc, text, low / 65536)
 }
@@ -152,22 +153,18 @@ fn push_ports(alloc: Global, text: &mut Vec<u8>, low: u32, high: u32) -> Result<
     if are_all_ports(low, high) {
         return Ok(());
     }
-    let first = Word::Number(low % 65536);
+    let first = Number(low % 65536);
     if low == high {
-        return push_words(alloc, text, &[Word::Text(b"eq"), first]);
+        return push_words(alloc, text, &[Text(b"eq"), first]);
     }
-    push_words(
-        alloc,
-        text,
-        &[Word::Text(b"range"), first, Word::Number(high % 65536)],
-    )
+    push_words(alloc, text, &[Text(b"range"), first, Number(high % 65536)])
 }
 
 /// One of two words.
 pub(crate) fn either(is: bool, word: &'static [u8], other: &'static [u8]) -> Word<'static>
     ensures { text_of result ≡ (if is then word.now else other.now) }
 {
-    Word::Text(if is { word } else { other })
+    Text(if is { word } else { other })
 }
 
 /// Permit or deny.
@@ -214,7 +211,7 @@ pub(crate) fn push_order(
     ensures { OnOk result (text.new.items ≡ text.old.items ++ spaced (order_words order)) }
 {
     match order {
-        Some(number) => push_words(alloc, text, &[Word::Number(number)]),
+        Some(number) => push_words(alloc, text, &[Number(number)]),
         None => Ok(()),
     }
 }
@@ -228,7 +225,7 @@ pub(crate) fn push_sequence(
     ensures { OnOk result (text.new.items ≡ text.old.items ++ spaced (sequence_words order)) }
 {
     match order {
-        Some(number) => push_words(alloc, text, &[Word::Text(b"seq"), Word::Number(number)]),
+        Some(number) => push_words(alloc, text, &[Text(b"seq"), Number(number)]),
         None => Ok(()),
     }
 }
@@ -240,11 +237,7 @@ fn push_most(alloc: Global, text: &mut Vec<u8>, meant: u8, high: u8) -> Result<(
     if high == meant {
         return Ok(());
     }
-    push_words(
-        alloc,
-        text,
-        &[Word::Text(b"le"), Word::Number(u32::from(high))],
-    )
+    push_words(alloc, text, &[Text(b"le"), Number(u32::from(high))])
 }
 
 /// Adds the lengths of the routes inside a prefix of this length.
@@ -254,11 +247,7 @@ fn push_lengths(alloc: Global, text: &mut Vec<u8>, len: u8, low: u8, high: u8) -
     if low == len {
         return push_most(alloc, text, len, high);
     }
-    push_words(
-        alloc,
-        text,
-        &[Word::Text(b"ge"), Word::Number(u32::from(low))],
-    )?;
+    push_words(alloc, text, &[Text(b"ge"), Number(u32::from(low))])?;
     push_most(alloc, text, 32, high)
 }
 
@@ -266,10 +255,6 @@ fn push_lengths(alloc: Global, text: &mut Vec<u8>, len: u8, low: u8, high: u8) -
 pub(crate) fn push_route(alloc: Global, text: &mut Vec<u8>, entry: &RouteText) -> Result<(), Memory>
     ensures { OnOk result (text.new.items ≡ text.old.items ++ spaced (route_words entry.now)) }
 {
-    push_words(
-        alloc,
-        text,
-        &[verdict(entry.permit), Word::Route(entry.prefix)],
-    )?;
+    push_words(alloc, text, &[verdict(entry.permit), Route(entry.prefix)])?;
     push_lengths(alloc, text, entry.prefix.len, entry.low, entry.high)
 }

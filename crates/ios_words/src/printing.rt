@@ -10,8 +10,9 @@ ghost use Rattle.ios_words.specs.Views.{list_block, text_of};
 use crate::commands::{Command, PacketText, RouteText};
 use crate::kinds::BlockKind;
 use crate::numbers::list_kind;
+use crate::printed_words::Word::{self, Address, Number, Text};
 use crate::printed_words::{
-    Word, either, mask, push_entry, push_order, push_route, push_sequence, push_top, push_unless,
+    either, mask, push_entry, push_order, push_route, push_sequence, push_top, push_unless,
     push_words, wildcard,
 };
 use arc_base::{Memory, Name};
@@ -28,7 +29,7 @@ fn print_list_line(
         ≡ text.old.items ++ plain_line blocks.Top (ListLine number.now entry.now)) }
 {
     let extended = list_kind(number.bytes()).unwrap_or(false);
-    push_top(alloc, text, b"access-list", &[Word::Text(number.bytes())])?;
+    push_top(alloc, text, b"access-list", &[Text(number.bytes())])?;
     push_entry(alloc, text, extended, entry)
 }
 
@@ -43,8 +44,7 @@ fn print_prefix_line(
     ensures { OnOk result (text.new.items
         ≡ text.old.items ++ plain_line blocks.Top (PrefixLine name.now order entry.now)) }
 {
-    let words = [Word::Text(b"prefix-list"), Word::Text(name.bytes())];
-    push_top(alloc, text, b"ip", &words)?;
+    push_top(alloc, text, b"ip prefix-list", &[Text(name.bytes())])?;
     push_sequence(alloc, text, order)?;
     push_route(alloc, text, entry)
 }
@@ -55,24 +55,13 @@ fn print_top(alloc: Global, text: &mut Vec<u8>, command: &Command) -> Result<(),
         (text.new.items ≡ text.old.items ++ plain_line blocks.Top command.now) }
 {
     match command {
-        Command::Hostname(name) => {
-            push_top(alloc, text, b"hostname", &[Word::Text(name.bytes())])
-        }
-        Command::Interface(name) => {
-            push_top(alloc, text, b"interface", &[Word::Text(name.bytes())])
-        }
-        Command::RouterOspf(number) => {
-            let words = [Word::Text(b"ospf"), Word::Number(*number)];
-            push_top(alloc, text, b"router", &words)
-        }
-        Command::RouterBgp(number) => {
-            let words = [Word::Text(b"bgp"), Word::Number(*number)];
-            push_top(alloc, text, b"router", &words)
-        }
+        Command::Hostname(name) => push_top(alloc, text, b"hostname", &[Text(name.bytes())]),
+        Command::Interface(name) => push_top(alloc, text, b"interface", &[Text(name.bytes())]),
+        Command::RouterOspf(number) => push_top(alloc, text, b"router ospf", &[Number(*number)]),
+        Command::RouterBgp(number) => push_top(alloc, text, b"router bgp", &[Number(*number)]),
         Command::ListBlock(extended, name) => {
             let kind = either(*extended, b"extended", b"standard");
-            let words = [Word::Text(b"access-list"), kind, Word::Text(name.bytes())];
-            push_top(alloc, text, b"ip", &words)
+            push_top(alloc, text, b"ip access-list", &[kind, Text(name.bytes())])
         }
         Command::ListLine(number, entry) => print_list_line(alloc, text, number, entry),
         Command::PrefixLine(name, order, entry) => {
@@ -89,83 +78,27 @@ fn print_interface(alloc: Global, text: &mut Vec<u8>, command: &Command) -> Resu
 {
     match command {
         Command::Address(address, len) => {
-            let (address, mask) = (Word::Address(*address), Word::Address(mask(*len)));
-            let words = [Word::Text(b"ip"), Word::Text(b"address"), address, mask];
+            let words = [Text(b"ip address"), Address(*address), Address(mask(*len))];
             push_words(alloc, text, &words)
         }
-        Command::NoAddress => {
-            let words = [Word::Text(b"no"), Word::Text(b"ip"), Word::Text(b"address")];
-            push_words(alloc, text, &words)
-        }
-        Command::Shutdown(down) => push_unless(alloc, text, *down, &[Word::Text(b"shutdown")]),
+        Command::NoAddress => push_words(alloc, text, &[Text(b"no ip address")]),
+        Command::Shutdown(down) => push_unless(alloc, text, *down, &[Text(b"shutdown")]),
         Command::Bandwidth(number) => {
-            let words = [Word::Text(b"bandwidth"), Word::Number(*number)];
-            push_words(alloc, text, &words)
+            push_words(alloc, text, &[Text(b"bandwidth"), Number(*number)])
         }
-        Command::Cost(number) => {
-            let cost = Word::Number(*number);
-            let words = [
-                Word::Text(b"ip"),
-                Word::Text(b"ospf"),
-                Word::Text(b"cost"),
-                cost,
-            ];
-            push_words(alloc, text, &words)
-        }
+        Command::Cost(number) => push_words(alloc, text, &[Text(b"ip ospf cost"), Number(*number)]),
         Command::Area(area) => {
-            let (process, area) = (Word::Number(area.process), Word::Number(area.area));
-            let (ip, ospf) = (Word::Text(b"ip"), Word::Text(b"ospf"));
-            push_words(alloc, text, &[ip, ospf, process, Word::Text(b"area"), area])
+            let (process, area) = (Number(area.process), Number(area.area));
+            let words = [Text(b"ip ospf"), process, Text(b"area"), area];
+            push_words(alloc, text, &words)
         }
         Command::Point(point) => {
             let network = either(*point, b"point-to-point", b"broadcast");
-            let (ip, ospf) = (Word::Text(b"ip"), Word::Text(b"ospf"));
-            push_words(alloc, text, &[ip, ospf, Word::Text(b"network"), network])
+            push_words(alloc, text, &[Text(b"ip ospf network"), network])
         }
         Command::Group(name, inbound) => {
-            let (name, direction) = (Word::Text(name.bytes()), either(*inbound, b"in", b"out"));
-            let words = [
-                Word::Text(b"ip"),
-                Word::Text(b"access-group"),
-                name,
-                direction,
-            ];
-            push_words(alloc, text, &words)
-        }
-        _ => Ok(()),
-    }
-}
-
-/// Adds a line of an OSPF process.
-fn print_ospf(alloc: Global, text: &mut Vec<u8>, command: &Command) -> Result<(), Memory>
-    ensures { OnOk result
-        (text.new.items ≡ text.old.items ++ plain_line blocks.Ospf command.now) }
-{
-    match command {
-        Command::Covers(prefix, area) => {
-            let wildcard = Word::Address(wildcard(prefix.len));
-            let (address, area) = (Word::Address(prefix.addr), Word::Number(*area));
-            let words = [
-                Word::Text(b"network"),
-                address,
-                wildcard,
-                Word::Text(b"area"),
-                area,
-            ];
-            push_words(alloc, text, &words)
-        }
-        Command::Passive(passive, name) => {
-            let words = [Word::Text(b"passive-interface"), interface_word(name)];
-            push_unless(alloc, text, *passive, &words)
-        }
-        Command::Reference(number) => {
-            let reference = Word::Text(b"reference-bandwidth");
-            let words = [Word::Text(b"auto-cost"), reference, Word::Number(*number)];
-            push_words(alloc, text, &words)
-        }
-        Command::RouterId(address) => {
-            let words = [Word::Text(b"router-id"), Word::Address(*address)];
-            push_words(alloc, text, &words)
+            let (name, direction) = (Text(name.bytes()), either(*inbound, b"in", b"out"));
+            push_words(alloc, text, &[Text(b"ip access-group"), name, direction])
         }
         _ => Ok(()),
     }
@@ -176,8 +109,35 @@ fn interface_word(name: &Option<Name>) -> Word<'_>
     ensures { text_of result ≡ interface_word name.now }
 {
     match name {
-        Some(name) => Word::Text(name.bytes()),
-        None => Word::Text(b"default"),
+        Some(name) => Text(name.bytes()),
+        None => Text(b"default"),
+    }
+}
+
+/// Adds a line of an OSPF process.
+fn print_ospf(alloc: Global, text: &mut Vec<u8>, command: &Command) -> Result<(), Memory>
+    ensures { OnOk result
+        (text.new.items ≡ text.old.items ++ plain_line blocks.Ospf command.now) }
+{
+    match command {
+        Command::Covers(prefix, area) => {
+            let (address, area) = (Address(prefix.addr), Number(*area));
+            let wildcard = Address(wildcard(prefix.len));
+            let words = [Text(b"network"), address, wildcard, Text(b"area"), area];
+            push_words(alloc, text, &words)
+        }
+        Command::Passive(passive, name) => {
+            let words = [Text(b"passive-interface"), interface_word(name)];
+            push_unless(alloc, text, *passive, &words)
+        }
+        Command::Reference(number) => {
+            let words = [Text(b"auto-cost reference-bandwidth"), Number(*number)];
+            push_words(alloc, text, &words)
+        }
+        Command::RouterId(address) => {
+            push_words(alloc, text, &[Text(b"router-id"), Address(*address)])
+        }
+        _ => Ok(()),
     }
 }
 
@@ -188,41 +148,27 @@ fn print_bgp(alloc: Global, text: &mut Vec<u8>, command: &Command) -> Result<(),
 {
     match command {
         Command::RemoteAs(peer, number) => {
-            let (peer, number) = (Word::Address(*peer), Word::Number(*number));
-            let words = [
-                Word::Text(b"neighbor"),
-                peer,
-                Word::Text(b"remote-as"),
-                number,
-            ];
+            let (peer, number) = (Address(*peer), Number(*number));
+            let words = [Text(b"neighbor"), peer, Text(b"remote-as"), number];
             push_words(alloc, text, &words)
         }
         Command::NeighborDown(peer, down) => {
-            let peer = Word::Address(*peer);
-            let words = [Word::Text(b"neighbor"), peer, Word::Text(b"shutdown")];
+            let words = [Text(b"neighbor"), Address(*peer), Text(b"shutdown")];
             push_unless(alloc, text, *down, &words)
         }
         Command::NeighborList(peer, name) => {
-            let (peer, name) = (Word::Address(*peer), Word::Text(name.bytes()));
-            let (neighbor, list) = (Word::Text(b"neighbor"), Word::Text(b"prefix-list"));
-            push_words(
-                alloc,
-                text,
-                &[neighbor, peer, list, name, Word::Text(b"in")],
-            )
+            let (peer, name) = (Address(*peer), Text(name.bytes()));
+            let (neighbor, list) = (Text(b"neighbor"), Text(b"prefix-list"));
+            let words = [neighbor, peer, list, name, Text(b"in")];
+            push_words(alloc, text, &words)
         }
         Command::Tells(prefix) => {
-            let (address, mask) = (Word::Address(prefix.addr), Word::Address(mask(prefix.len)));
-            let words = [Word::Text(b"network"), address, Word::Text(b"mask"), mask];
+            let (address, mask) = (Address(prefix.addr), Address(mask(prefix.len)));
+            let words = [Text(b"network"), address, Text(b"mask"), mask];
             push_words(alloc, text, &words)
         }
         Command::RouterId(address) => {
-            let id = Word::Address(*address);
-            push_words(
-                alloc,
-                text,
-                &[Word::Text(b"bgp"), Word::Text(b"router-id"), id],
-            )
+            push_words(alloc, text, &[Text(b"bgp router-id"), Address(*address)])
         }
         _ => Ok(()),
     }
@@ -238,16 +184,14 @@ fn print_entry(
     ensures { OnOk result
         (text.new.items ≡ text.old.items ++ plain_line (list_block extended) command.now) }
 {
-    match command {
-        Command::Entry(order, entry) => {
-            push_order(alloc, text, *order)?;
-            push_entry(alloc, text, extended, entry)
-        }
-        _ => Ok(()),
-    }
+    let Command::Entry(order, entry) = command else {
+        return Ok(());
+    };
+    push_order(alloc, text, *order)?;
+    push_entry(alloc, text, extended, entry)
 }
 
-/// Adds the plain line of a command in a block of this kind, and nothing where it stands in no such
+/// Adds the plain line of a command in a block of this kind, and nothing if it occurs in no such
 /// block.
 pub fn print(
     alloc: Global,

@@ -4,16 +4,12 @@ use Rattle.std.specs.List.{filter_map, flat_map, cons_option, enumerate_from, zi
 use Rattle.std.specs.Prelude.{Option, Some, None}
 use Rattle.std.proofs.lemmas.List.{append-nil, take_more, take_all, map-append}
 use Rattle.std.proofs.lemmas.List.Concat.{flat_map-append}
-use Rattle.std.proofs.Common.{Bool, true, false, not}
 use Rattle.arc_base.proofs.Grouped.{picked_more}
 use Rattle.edit_list.proofs.PriceSteps.{pair_at, pairs_length}
 
 -- what a list has after what it had before, with a piece more
 pub grown : {X : Type 0} (old a b piece now next : List X) → now ≡ old ++ a → next ≡ now ++ piece → b ≡ a ++ piece → next ≡ old ++ b
 grown old a b piece now next was put more = put ∙ ap (λ l. l ++ piece) was ∙ append_assoc old a piece ∙ ap (λ l. old ++ l) (sym more)
-
-pub begun : {X : Type 0} (old : List X) → old ≡ old ++ []
-begun old = sym (append-nil old)
 
 -- items with their numbers, and one more
 pub numbered_append : {X : Type 0} (n : ℕ) (xs : List X) (x : X) → enumerate_from n (xs ++ x ∷ []) ≡ enumerate_from n xs ++ (n + length xs, x) ∷ []
@@ -36,14 +32,6 @@ pub pieces_numbered_more : {X Y : Type 0} (f : ℕ × X → List Y) (n : ℕ) (x
 pieces_numbered_more f n xs i x within is =
     ap (flat_map f) (numbered_more n xs i x within is) ∙ flat_map-append f (enumerate_from n (take i xs)) ((n + i, x) ∷ []) ∙ ap (λ l. flat_map f (enumerate_from n (take i xs)) ++ l) (append-nil (f (n + i, x)))
 
--- a mapped item more, and a piece more
-pub mapped_more : {X Y : Type 0} (f : X → Y) (xs : List X) (i : ℕ) (x : X) → i < length xs → x ≡ get_or xs i x → map f (take (i + 1) xs) ≡ map f (take i xs) ++ f x ∷ []
-mapped_more f xs i x within is = ap (map f) (take_more xs i x within ∙ ap (λ y. take i xs ++ y ∷ []) (sym is)) ∙ map-append f (take i xs) (x ∷ [])
-
-pub pieces_more : {X Y : Type 0} (f : X → List Y) (xs : List X) (i : ℕ) (x : X) → i < length xs → x ≡ get_or xs i x → flat_map f (take (i + 1) xs) ≡ flat_map f (take i xs) ++ f x
-pieces_more f xs i x within is =
-    ap (flat_map f) (take_more xs i x within ∙ ap (λ y. take i xs ++ y ∷ []) (sym is)) ∙ flat_map-append f (take i xs) (x ∷ []) ∙ ap (λ l. flat_map f (take i xs) ++ l) (append-nil (f x))
-
 -- what is picked, after what there was before
 pub picked_grown : {X Y : Type 0} (h : X → Option Y) (xs : List X) (i : ℕ) (x : X) (old now next : List Y) (y : Y) → i < length xs → x ≡ get_or xs i x → h x ≡ Some y → now ≡ old ++ filter_map h (take i xs) → next ≡ now ++ y ∷ [] →
     next ≡ old ++ filter_map h (take (i + 1) xs)
@@ -54,31 +42,11 @@ pub picked_none : {X Y : Type 0} (h : X → Option Y) (xs : List X) (i : ℕ) (x
 picked_none h xs i x old now within is none was =
     was ∙ ap (λ l. old ++ l) (sym (picked_more h xs i x within is ∙ ap (λ o. filter_map h (take i xs) ++ cons_option o []) none ∙ append-nil (filter_map h (take i xs))))
 
--- a mapped item more, and a piece more, after what there was before
-pub mapped_grown : {X Y : Type 0} (f : X → Y) (xs : List X) (i : ℕ) (x : X) (old now next : List Y) (y : Y) → i < length xs → x ≡ get_or xs i x → y ≡ f x → now ≡ old ++ map f (take i xs) → next ≡ now ++ y ∷ [] → next ≡ old ++ map f (take (i + 1) xs)
-mapped_grown f xs i x old now next y within is one was put =
-    grown old (map f (take i xs)) (map f (take (i + 1) xs)) (y ∷ []) now next was put (mapped_more f xs i x within is ∙ ap (λ z. map f (take i xs) ++ z ∷ []) (sym one))
-
+-- a numbered item more, after what there was before
 pub numbered_grown : {X Y : Type 0} (f : ℕ × X → Y) (n : ℕ) (xs : List X) (i : ℕ) (x : X) (old now next : List Y) (y : Y) → i < length xs → x ≡ get_or xs i x → y ≡ f (n + i, x) → now ≡ old ++ map f (enumerate_from n (take i xs)) → next ≡ now ++ y ∷ [] →
     next ≡ old ++ map f (enumerate_from n (take (i + 1) xs))
 numbered_grown f n xs i x old now next y within is one was put =
     grown old (map f (enumerate_from n (take i xs))) (map f (enumerate_from n (take (i + 1) xs))) (y ∷ []) now next was put (map_numbered_more f n xs i x within is ∙ ap (λ z. map f (enumerate_from n (take i xs)) ++ z ∷ []) (sym one))
-
-pub piece_grown : {X Y : Type 0} (f : X → List Y) (xs : List X) (i : ℕ) (x : X) (old now next : List Y) → i < length xs → x ≡ get_or xs i x → now ≡ old ++ flat_map f (take i xs) → next ≡ now ++ f x → next ≡ old ++ flat_map f (take (i + 1) xs)
-piece_grown f xs i x old now next within is was put = grown old (flat_map f (take i xs)) (flat_map f (take (i + 1) xs)) (f x) now next was put (pieces_more f xs i x within is)
-
--- all items are taken
-pub all_taken : {X Y : Type 0} (g : List X → List Y) (xs : List X) (i : ℕ) (old now : List Y) → length xs ≤ i → now ≡ old ++ g (take i xs) → now ≡ old ++ g xs
-all_taken g xs i old now past was = was ∙ ap (λ l. old ++ g l) (take_all i xs past)
-
--- what a test that comes out otherwise says
-pub not-true : (b : Bool) → not b ≡ true → b ≡ false
-not-true true e = sym e
-not-true false e = refl
-
-pub not-false : (b : Bool) → not b ≡ false → b ≡ true
-not-false true e = refl
-not-false false e = sym e
 
 -- pairs, one more
 pub zip_more : {X Y : Type 0} (xs : List X) (ys : List Y) (i : ℕ) (x : X) (y : Y) (now next : List (X × Y)) (p : X × Y) → length ys ≡ length xs → i < length xs → x ≡ get_or xs i x → y ≡ get_or ys i y → p ≡ (x, y) → now ≡ take i (zip xs ys) → next ≡ now ++ p ∷ [] →

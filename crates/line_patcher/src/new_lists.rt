@@ -19,7 +19,7 @@ use arc_base::limits::EDIT_LIMIT;
 use arc_base::{Memory, Name, Prefix};
 use edit_list::NewList;
 use edit_space::{Changes, any};
-use ios_words::{BlockKind, Command, RouteText};
+use ios_words::{BlockKind, Command, RouteText, whole};
 use net_build::FacePlace;
 use net_model::{Class, Network, PacketEntry, Service};
 use std::alloc::Global;
@@ -49,7 +49,7 @@ fn all_routes() -> RouteText
 {
     RouteText {
         permit: true,
-        prefix: any(),
+        prefix: whole(),
         low: 0,
         high: 32,
     }

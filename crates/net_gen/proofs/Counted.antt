@@ -90,15 +90,3 @@ file_text n router =
     text_of-append (name_lines router) (host_lines router ++ (links ++ process_lines))
     ∙ ap (λ (t : List ℕ). text_of (name_lines router) ++ t) (text_of-append (host_lines router) (links ++ process_lines)
     ∙ ap (λ (t : List ℕ). text_of (host_lines router) ++ t) (text_of-append links process_lines))
-
--- two lines, and three
-pub two_lines : (start one now a b : List ℕ) → one ≡ start ++ ended a → now ≡ one ++ ended b → now ≡ start ++ text_of (a ∷ b ∷ [])
-two_lines start one now a b first second =
-    second ∙ ap (λ (t : List ℕ). t ++ ended b) first ∙ append_assoc start (ended a) (ended b)
-    ∙ ap (λ (t : List ℕ). start ++ (ended a ++ t)) (sym (append-nil (ended b)))
-
-pub three_lines : (start one two now a b c : List ℕ) → one ≡ start ++ ended a → two ≡ one ++ ended b → now ≡ two ++ ended c → now ≡ start ++ text_of (a ∷ b ∷ c ∷ [])
-three_lines start one two now a b c first second third =
-    third ∙ ap (λ (t : List ℕ). t ++ ended c) (two_lines start one two a b first second)
-    ∙ append_assoc start (text_of (a ∷ b ∷ [])) (ended c)
-    ∙ ap (λ (t : List ℕ). start ++ t) (sym (text_of-append (a ∷ b ∷ []) (c ∷ []) ∙ ap (λ (t : List ℕ). text_of (a ∷ b ∷ []) ++ t) (append-nil (ended c))))

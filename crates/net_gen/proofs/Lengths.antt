@@ -1,12 +1,18 @@
 -- How long the texts of a generated network are, and how many of each there are.
-use Rattle.std.proofs.Common.{◌≡◌, ℕ, zero, suc, ◌+◌, ◌*◌, ◌^◌, ◌<◌, ◌≤◌, Bool, true, false, cond, List, [], ◌∷◌, ◌++◌, length, length-append, refl, ◌∙◌, ap, arith}
+use Rattle.std.proofs.Common.{◌≡◌, ℕ, zero, suc, ◌+◌, ◌-◌, ◌*◌, ◌^◌, ◌<◌, ◌≤◌, Bool, true, false, cond, List, [], ◌∷◌, ◌++◌, length, length-append, ◌∙◌, ap, arith}
 use Rattle.std.specs.Prelude.{map, filter, All, codes, decimal, ◌==◌, if◌then◌else◌}
 use Rattle.std.specs.List.{flat_map, range_with_len}
 use Rattle.std.proofs.lemmas.Fmt.{length-decimal-le}
 use Rattle.std.proofs.lemmas.List.FromFn.{length-range_with_len, length-map-range_with_len}
 use Rattle.std.proofs.lemmas.List.Elements.{All-cons}
+use Rattle.arc_base.specs.PrefixText.{address_text}
+use Rattle.ios_words.specs.Numbers.{mask}
+use Rattle.ios_words.specs.Prefixes.{whole}
+use Rattle.ios_words.specs.Printed.{wildcard_text}
+use Rattle.ios_words.proofs.PlainSteps.{mask-small, wildcard-small}
+use Rattle.ios_words.proofs.WordSizes.{address-few, top-few, word-more}
 use Rattle.net_gen.specs.Plans.{numbers, link_count, a_router, has_end, port}
-use Rattle.net_gen.specs.RouterFiles.{name_line, face_line, address_line, face_lines, name_lines, host_lines, link_lines, links_lines, process_lines, router_lines, ended, text_of}
+use Rattle.net_gen.specs.RouterFiles.{host_name, face_name, address, name_line, face_line, address_line, process_line, covers_line, face_lines, name_lines, host_lines, link_lines, links_lines, process_lines, router_lines, ended, text_of}
 use Rattle.net_gen.specs.Generated.{asked, asked_around, router_texts}
 use Rattle.net_gen.proofs.Counted.{text_of-append, file_text}
 
@@ -26,45 +32,37 @@ port_at_most n router link = omega (arith, filtered_at_most (has_end n router) (
 three_digits : (n : ℕ) → n < 1000 → length (decimal n) ≤ 3
 three_digits n few = length-decimal-le 3 n (omega arith) (omega (arith, few)) (omega (arith, few))
 
-end_at_most : (b : Bool) → (if b then 1 else 2) < 1000
-end_at_most true = omega arith
-end_at_most false = omega arith
-
-address_length : (b c d : ℕ) (mask : List ℕ) → b < 1000 → c < 1000 → d < 1000 → length mask ≤ 15 → length (address_line b c d mask) ≤ 42
-unfolding address_line
-address_length b c d mask few_b few_c few_d short =
-    let t1 : List ℕ = codes " ip address 10." ++ decimal b in
-    let t2 : List ℕ = t1 ++ codes "." in
-    let t3 : List ℕ = t2 ++ decimal c in
-    let t4 : List ℕ = t3 ++ codes "." in
-    let t5 : List ℕ = t4 ++ decimal d in
-    let t6 : List ℕ = t5 ++ codes " " in
-    omega (
-      arith,
-      short,
-      three_digits b few_b,
-      three_digits c few_c,
-      three_digits d few_d,
-      length-append (codes " ip address 10.") (decimal b),
-      length-append t1 (codes "."),
-      length-append t2 (decimal c),
-      length-append t3 (codes "."),
-      length-append t4 (decimal d),
-      length-append t5 (codes " "),
-      length-append t6 mask,
-    )
+end_small : (link : ℕ) → link < 256 → (b : Bool) → address 0 link (if b then 1 else 2) < 2 ^ 32
+end_small link few true = omega (arith, few)
+end_small link few false = omega (arith, few)
 
 -- the lines of an interface are short
-face_length : (number b c d : ℕ) (mask : List ℕ) → number < 1000 → b < 1000 → c < 1000 → d < 1000 → length mask ≤ 15 → length (text_of (face_lines number b c d mask)) ≤ 80
-face_length number b c d mask few few_b few_c few_d short =
+address_length : (addr len : ℕ) → addr < 2 ^ 32 → length (address_line addr len) ≤ 43
+address_length addr len small =
+    let text : List ℕ = address_text addr in
+    let ones : List ℕ = address_text (mask len) in
+    omega (
+      arith,
+      word-more (codes "ip") (codes "address" ∷ text ∷ ones ∷ []),
+      word-more (codes "address") (text ∷ ones ∷ []),
+      word-more text (ones ∷ []),
+      word-more ones [],
+      address-few addr small,
+      address-few (mask len) (mask-small len),
+    )
+
+face_length : (number addr len : ℕ) → number < 1000 → addr < 2 ^ 32 → length (text_of (face_lines number addr len)) ≤ 80
+face_length number addr len few small =
     let head : List ℕ = face_line number in
-    let address : List ℕ = address_line b c d mask in
+    let address : List ℕ = address_line addr len in
     let last : List ℕ = codes "!\n" in
     omega (
       arith,
       three_digits number few,
-      address_length b c d mask few_b few_c few_d short,
-      length-append (codes "interface GigabitEthernet0/") (decimal number),
+      address_length addr len small,
+      top-few (codes "interface") (face_name number ∷ []),
+      word-more (face_name number) [],
+      length-append (codes "GigabitEthernet0/") (decimal number),
       length-append head (codes "\n"),
       length-append address (codes "\n"),
       length-append (ended address) last,
@@ -72,19 +70,18 @@ face_length number b c d mask few few_b few_c few_d short =
     )
 
 module _ (n router : ℕ) where
-  link_length : (link : ℕ) → link < 1000 → length (text_of (link_lines n router link)) ≤ 80
+  link_length : (link : ℕ) → link < 256 → length (text_of (link_lines n router link)) ≤ 80
   link_length link few =
-      face_length (port n router link) 0 link (if a_router n link == router then 1 else 2) (codes "255.255.255.252")
-      (omega (arith, few, port_at_most n router link)) (omega arith) few (end_at_most (a_router n link == router)) (omega arith)
+      face_length (port n router link) (address 0 link (if a_router n link == router then 1 else 2)) 30 (omega (arith, few, port_at_most n router link)) (end_small link few (a_router n link == router))
 
-  kept_length : (b : Bool) (link : ℕ) (links : List ℕ) → link < 1000 →
+  kept_length : (b : Bool) (link : ℕ) (links : List ℕ) → link < 256 →
       length (text_of (flat_map (link_lines n router) (cond b (link ∷ links) links))) ≤ 80 + length (text_of (flat_map (link_lines n router) links))
   kept_length true link links few =
       let rest = flat_map (link_lines n router) links in
       omega (arith, link_length link few, ap length (text_of-append (link_lines n router link) rest), length-append (text_of (link_lines n router link)) (text_of rest))
   kept_length false link links few = omega arith
 
-  links_length : (a k : ℕ) → a + k ≤ 1000 → length (text_of (links_lines n router (range_with_len a k))) ≤ 80 * k
+  links_length : (a k : ℕ) → a + k ≤ 256 → length (text_of (links_lines n router (range_with_len a k))) ≤ 80 * k
   links_length a zero few = omega arith
   links_length a (suc k) few =
       omega (arith, kept_length (has_end n router a) a (filter (has_end n router) (range_with_len (a + 1) k)) (omega (arith, few)), links_length (a + 1) k (omega (arith, few)))
@@ -92,20 +89,52 @@ module _ (n router : ℕ) where
 names_length : (router : ℕ) → router < 1000 → length (text_of (name_lines router)) ≤ 16
 names_length router few =
     let name : List ℕ = name_line router in
-    omega (arith, three_digits router few, length-append (codes "hostname r") (decimal router), length-append name (codes "\n"), length-append (ended name) (codes "!\n"))
+    omega (
+      arith,
+      three_digits router few,
+      top-few (codes "hostname") (host_name router ∷ []),
+      word-more (host_name router) [],
+      length-append (codes "r") (decimal router),
+      length-append name (codes "\n"),
+      length-append (ended name) (codes "!\n"),
+    )
 
-text_short : (n router : ℕ) → n ≤ 40 → router < 1000 → length (text_of (router_lines n router)) ≤ 8192
+process_length : length (text_of process_lines) ≤ 100
+process_length =
+    let first : List ℕ = address_text whole.addr in
+    let rest : List ℕ = wildcard_text whole in
+    let last : List ℕ = codes "!\nend\n" in
+    omega (
+      arith,
+      top-few (codes "router") (codes "ospf" ∷ decimal 1 ∷ []),
+      word-more (codes "ospf") (decimal 1 ∷ []),
+      word-more (decimal 1) [],
+      three_digits 1 (omega arith),
+      word-more (codes "network") (first ∷ rest ∷ codes "area" ∷ decimal 0 ∷ []),
+      word-more first (rest ∷ codes "area" ∷ decimal 0 ∷ []),
+      word-more rest (codes "area" ∷ decimal 0 ∷ []),
+      word-more (codes "area") (decimal 0 ∷ []),
+      word-more (decimal 0) [],
+      three_digits 0 (omega arith),
+      address-few whole.addr whole.in_range,
+      address-few (2 ^ (32 - whole.len) - 1) (wildcard-small whole.len),
+      length-append process_line (codes "\n"),
+      length-append covers_line (codes "\n"),
+      length-append (ended covers_line) last,
+      length-append (ended process_line) (ended covers_line ++ last),
+    )
+
+text_short : (n router : ℕ) → n ≤ 40 → router < 256 → length (text_of (router_lines n router)) ≤ 8192
 text_short n router few few_router =
     let names : List ℕ = text_of (name_lines router) in
     let host : List ℕ = text_of (host_lines router) in
     let links : List ℕ = text_of (links_lines n router (numbers (link_count n))) in
     let process : List ℕ = text_of process_lines in
-    let process_length : length process ≡ 60 = refl in
     omega (
       arith,
       few,
-      names_length router few_router,
-      face_length 0 router 0 1 (codes "255.255.255.0") (omega arith) few_router (omega arith) (omega arith) (omega arith),
+      names_length router (omega (arith, few_router)),
+      face_length 0 (address router 0 1) 24 (omega arith) (omega (arith, few_router)),
       links_length n router 1 (link_count n) (omega (arith, few)),
       ap length (file_text n router),
       process_length,
@@ -114,7 +143,7 @@ text_short n router few few_router =
       length-append names (host ++ (links ++ process)),
     )
 
-texts_from : (n a k : ℕ) → n ≤ 40 → a + k ≤ 1000 → All (λ (text : List ℕ). length text ≤ 8192) (map (λ (router : ℕ). text_of (router_lines n router)) (range_with_len a k))
+texts_from : (n a k : ℕ) → n ≤ 40 → a + k ≤ 256 → All (λ (text : List ℕ). length text ≤ 8192) (map (λ (router : ℕ). text_of (router_lines n router)) (range_with_len a k))
 texts_from n a zero few within = λ i d l. absurd (omega (arith, l))
 texts_from n a (suc k) few within =
     All-cons (λ (text : List ℕ). length text ≤ 8192) (text_of (router_lines n a)) (map (λ (router : ℕ). text_of (router_lines n router)) (range_with_len (a + 1) k))

@@ -117,9 +117,6 @@ heads-made (commands.RouterOspf number) head rest is = (_, Contains-head _ [], r
 heads-made (commands.RouterBgp number) head rest is = (_, Contains-head _ [], refl)
 heads-made _ head rest is = absurd cc
 
-face-heads : (command : Command) (name : List ℕ) → command ≡ commands.Interface name → heads_process command ≡ false
-face-heads command name is = ap heads_process is
-
 from-distinct : (ps : List Part) (p : Part) → Contains (distinct ps) p → Contains ps p
 from-distinct [] p there = there
 from-distinct (q ∷ ps) p there = ⊎_elim

@@ -56,9 +56,6 @@ named (Some g) = refl
 abbrev IsUnnamed : FileCommand → Type 0
 IsUnnamed v = hostname v.command ≡ None
 
-abbrev host : List FileCommand → Option (Given (List ℕ))
-host cs = last_setting hostname (map bare cs)
-
 all-stay : (front vs back : List FileCommand) → ((v : FileCommand) → Contains vs v → IsUnnamed v) → last_setting hostname (map bare front ++ (map bare vs ++ map bare back)) ≡ last_setting hostname (map bare front ++ map bare back)
 all-stay front [] back silent = refl
 all-stay front (v ∷ vs) back silent =

@@ -28,7 +28,7 @@ use Rattle.ios_config.specs.Appended.{IsLineOf}
 use Rattle.ios_config.specs.Bare.{bare}
 use Rattle.ios_config.specs.Effects.{face_bound}
 use Rattle.ios_config.specs.ProcessLines.{IsQuiet, AreLinesIn}
-use Rattle.ios_config.specs.Texts.{given, last_line, face_of, face_text, process_of, process_by, process_text}
+use Rattle.ios_config.specs.Texts.{given, last_line, face_text, process_by, process_text}
 use Rattle.ios_config.specs.Texts as faces
 use Rattle.ios_config.proofs.EffectsOnGroups.{last-binding}
 use Rattle.edit_list.specs.declared.edit_kinds.Edit.{Edit}

@@ -33,7 +33,6 @@ use Rattle.ios_words.specs.Printed.{route_text}
 use Rattle.ios_words.proofs.PlainWords.{decimal-plain}
 use Rattle.ios_words.proofs.PlainLines.{listed-line, read-plain, route-line}
 use Rattle.ios_words.proofs.RenumberedLines as renumbering
-use Rattle.ios_config.specs.Groups.{Block}
 use Rattle.net_build.specs.declared.built.ListPlace.{ListPlace}
 use Rattle.net_rules.specs.Lists.{packet_text}
 use Rattle.edit_list.specs.After.{opposite_route_entry}

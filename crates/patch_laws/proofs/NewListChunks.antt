@@ -26,7 +26,7 @@ use Rattle.edit_list.specs.declared.list_kinds.NewList.{NewList}
 use Rattle.edit_list.specs.declared.list_kinds.NewList.TheVariants.{Route, Packet}
 use Rattle.line_patcher.specs.NewListLines.{deny_line, deny_class_line, entry_line, head_line, permit_all_line, new_list_lines}
 use Rattle.line_edit_laws.specs.Sites as edits
-use Rattle.line_edit_laws.specs.Sites.{Written, Chunk, Single, NewBlock, bytes_of, chunk_lines, chunk_commands, in_block, AreChunks, IsSingleLine, IsBlockLine, IsNewBlock}
+use Rattle.line_edit_laws.specs.Sites.{Written, Chunk, Single, NewBlock, bytes_of, chunk_lines, chunk_commands, in_block, AreChunks, IsSingleLine, IsBlockLine}
 use Rattle.patch_laws.specs.NewListSites.{deny_written, permit_all_written, route_written, packet_written, head_written, new_chunks, list_chunks, IsNewName}
 use Rattle.patch_laws.specs.Laws.{NewListsAreChunks, NewListsHaveTheirLines}
 

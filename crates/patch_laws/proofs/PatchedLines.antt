@@ -128,9 +128,6 @@ module _ (text end : List ℕ) (before : List (ℕ × List ℕ)) (numbers : List
   around_by true row = hanging_around end (bytes_at row) (of_number row.0 before) (of_number row.0 after)
   around_by false row = ended_around end (row_at row) (of_number row.0 before) (of_number row.0 after)
 
-  abbrev around : ℕ × Line → List Ended
-  around row = around_by (row.1.end == 0) row
-
   abbrev FitsHere : ℕ × Line → Type 0
   FitsHere row = Fits text end before numbers after row
 

@@ -21,7 +21,7 @@ use Rattle.ios_words.specs.declared.commands.Command.TheVariants as commands
 use Rattle.ios_words.specs.declared.kinds.BlockKind.TheVariants as kinds
 use Rattle.ios_words.specs.Plain.{plain_line, plain_words}
 use Rattle.ios_words.proofs.PlainLines.{read-plain}
-use Rattle.ios_lines.specs.Written.{spaced, IsWritten}
+use Rattle.ios_lines.specs.Written.{IsWritten}
 use Rattle.net_model.specs.declared.rows.Protocol.{Protocol}
 use Rattle.net_model.specs.declared.rows.Protocol.TheVariants.{Ospf, Bgp}
 use Rattle.net_model.specs.declared.rows.FaceRow.{FaceRow}

@@ -199,7 +199,7 @@ module _ (net : Network) (valid : IsValid net) (writable : IsWritable net) (chos
 
   -- ---- new lists
 
-  route-lines-few : (name : List ℕ) (prefixes : List Prefix) → length name ≤ 64 → length prefixes ≤ 8192 → cost (new_route_lines name prefixes) ≤ 118 * length prefixes + 115
+  route-lines-few : (name : List ℕ) (prefixes : List Prefix) → length name ≤ 64 → length prefixes ≤ 8192 → cost (new_route_lines name prefixes) ≤ 130 * length prefixes + 130
   route-lines-few name prefixes short low =
       let last : List ℕ = permit_all_line name (5 * (length prefixes + 1)) in
       omega (

@@ -3,10 +3,10 @@
 mod rows;
 
 use ios_lines::cut;
-use ios_words::{BlockKind, Command, WordFault, command, print};
+use ios_words::{BlockKind, Command, WordFault, command};
 use rows::{
-    BGP, EXTENDED, FAULTY_OUTSIDE, FAULTY_SERVICES, INERT, INTERFACE, OSPF, OUTSIDE, PLAIN,
-    SERVICES, STANDARD,
+    BGP, EXTENDED, FAULTY_OUTSIDE, FAULTY_SERVICES, INERT, INTERFACE, OSPF, OUTSIDE, SERVICES,
+    STANDARD,
 };
 use std::alloc::Global;
 use std::test::Fail;
@@ -68,26 +68,6 @@ fn lines_say_what_the_language_has(rt: HostRuntime) -> Result<(), Fail> {
     }
     for row in SERVICES.lines().chain(FAULTY_SERVICES.lines()) {
         assert!(rt; has_services(rt.alloc(), row)?, "{row}");
-    }
-    Ok(())
-}
-
-/// Whether the command of a plain line is printed as that line.
-fn is_printed(alloc: Global, within: BlockKind, line: &str) -> Result<bool, Fail> {
-    let Ok(command) = said(alloc, line.as_bytes(), within) else {
-        return Ok(false);
-    };
-    let mut text = Vec::new(alloc);
-    print(alloc, &mut text, within, &command)?;
-    Ok(text.as_slice().trim_ascii() == line.as_bytes())
-}
-
-#[test]
-fn commands_are_printed_as_their_plain_lines(rt: HostRuntime) -> Result<(), Fail> {
-    for (within, lines) in PLAIN {
-        for line in lines.lines() {
-            assert!(rt; is_printed(rt.alloc(), *within, line)?, "{line}");
-        }
     }
     Ok(())
 }

@@ -1,12 +1,10 @@
 -- The settings of a file without the numbers of its lines and without those of the entries of its
 -- lists.
-use Rattle.std.specs.Prelude.{false, None, map, option_map}
+use Rattle.std.specs.Prelude.{false, None, map}
 use Rattle.ios_words.specs.declared.commands.Command.{Command}
 use Rattle.ios_words.specs.declared.commands.Command.TheVariants as commands
-use Rattle.ios_config.specs.declared.settings.Config.{Config}
 use Rattle.ios_config.specs.declared.settings.Given.{Given}
 use Rattle.ios_config.specs.declared.settings.ListText.{ListText}
-use Rattle.ios_config.specs.Bare.{bare_face, bare_process, bare_setting}
 
 -- the command without the number that an entry has of its own
 abbrev pub without_number : Command → Command
@@ -30,13 +28,4 @@ plain_list l = record {
   form = l.form;
   numbered = false;
   entries = map plain_entry l.entries;
-}
-
--- the settings of a file without their numbers
-abbrev pub plain_config : Config → Config
-plain_config c = record {
-  hostname = option_map bare_setting c.hostname;
-  faces = map bare_face c.faces;
-  lists = map plain_list c.lists;
-  process = map bare_process c.process;
 }

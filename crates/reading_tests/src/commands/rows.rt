@@ -1,6 +1,4 @@
-//! Lines of the language, one a row, each with what it says behind an arrow, and plain lines.
-
-use ios_words::BlockKind;
+//! Lines of the language, one a row, each with what it says behind an arrow.
 
 /// Lines outside of blocks.
 pub const OUTSIDE: &str = "\
@@ -266,42 +264,3 @@ permit tcp any any range 5 4 => (7, 0)
 permit tcp any any range www telnet => (7, 0)
 permit tcp any any range www www www => (8, 0)
 permit tcp any any log eq 80 => (6, 0)";
-
-/// The plain lines of each command.
-pub const PLAIN: &[(BlockKind, &str)] = &[
-    (
-        BlockKind::Top,
-        "hostname r\ninterface Serial0/10\nrouter ospf 1\nrouter bgp 4294967295\n\
-         ip access-list extended 101\nip access-list standard A\n\
-         access-list 101 permit ip any host 10.0.0.1\naccess-list 101 deny tcp any any eq 80\n\
-         access-list 1 deny host 10.0.0.7\nip prefix-list P permit 10.0.0.0/8\n\
-         ip prefix-list P seq 5 deny 10.0.0.0/8 ge 16\n\
-         ip prefix-list P seq 5 deny 10.0.0.0/8 ge 16 le 24\n\
-         ip prefix-list P deny 0.0.0.0/0 le 32",
-    ),
-    (
-        BlockKind::Interface,
-        "ip address 10.0.0.1 255.255.255.252\nno ip address\nshutdown\nno shutdown\n\
-         bandwidth 64\nip ospf cost 10\nip ospf 1 area 0\nip ospf network point-to-point\n\
-         ip ospf network broadcast\nip access-group A in\nip access-group A out",
-    ),
-    (
-        BlockKind::Ospf,
-        "network 10.0.0.0 0.255.255.255 area 0\npassive-interface default\n\
-         no passive-interface Serial0\nauto-cost reference-bandwidth 1000\nrouter-id 1.2.3.4",
-    ),
-    (
-        BlockKind::Bgp,
-        "neighbor 10.0.0.2 remote-as 65002\nneighbor 10.0.0.2 shutdown\n\
-         no neighbor 10.0.0.2 shutdown\nneighbor 10.0.0.2 prefix-list P in\n\
-         network 10.0.0.0 mask 255.0.0.0\nbgp router-id 1.2.3.4",
-    ),
-    (
-        BlockKind::Extended,
-        "permit ip any any\n10 deny udp 10.0.0.0 0.0.0.255 any range 1 9\n20 permit gre any any",
-    ),
-    (
-        BlockKind::Standard,
-        "permit any\n10 deny 10.0.0.0 0.0.0.255",
-    ),
-];

@@ -12,8 +12,8 @@ returns c =
     let name : List ℕ = c.args.name.now in
     let order = sequence_words c.args.order in
     let route = route_words c.args.entry.now in
-    let first : top ≡ start ++ (codes "ip" ++ spaced (codes "prefix-list" ∷ name ∷ [])) =
-    c.in_ok-push_top.ensures ∙ ap (λ (w : List ℕ). start ++ (codes "ip" ++ spaced (codes "prefix-list" ∷ w ∷ []))) c.bytes.ensures in
+    let first : top ≡ start ++ (codes "ip prefix-list" ++ spaced (name ∷ [])) =
+    c.in_ok-push_top.ensures ∙ ap (λ (w : List ℕ). start ++ (codes "ip prefix-list" ++ spaced (w ∷ []))) c.bytes.ensures in
     on_ok_weaker c.push_route.result
-    (λ is. top-and start top _ (codes "ip") (codes "prefix-list" ∷ name ∷ []) (order ++ route) first (more _ _ _ order route c.in_ok-push_sequence.ensures is))
+    (λ is. top-and start top _ (codes "ip prefix-list") (name ∷ []) (order ++ route) first (more _ _ _ order route c.in_ok-push_sequence.ensures is))
     c.push_route.ensures
