@@ -51,9 +51,9 @@ inner word ws plain unmarked = (indented-written (word ∷ ws) plain, indented-i
 top : (word : List ℕ) (ws : List (List ℕ)) → is_plain word ≡ true → ArePlain ws → IsWritten (word ++ spaced ws) (word ∷ ws) × (kind (word ++ spaced ws) ≡ cond (is_mark word) Comment (top_kind (word ∷ ws)))
 top word ws first rest = (top-written word ws first rest, top-kinds word ws first rest)
 
-made : (within : BlockKind) (command : Command) → IsWritten (plain_line within command) (plain_words within command) × HasKind within command (plain_line within command) →
+read-as : (within : BlockKind) (command : Command) → IsWritten (plain_line within command) (plain_words within command) × HasKind within command (plain_line within command) →
     ReadBy (is_extended_block within) (plain_words within command) (rows within) command → IsReadAs within command
-made within command line reads = record { written = line.0; kind = line.1; reads = reads }
+read-as within command line reads = record { written = line.0; kind = line.1; reads = reads }
 
 -- a name that is not a word fails the test of it
 other-name : (name word : List ℕ) → name ≢ word → bytes_eq name word ≡ false
@@ -209,38 +209,38 @@ standard-line (Some n) e fits ranged =
     }
 
 pub read-plain : PlainLinesAreRead
-read-plain blocks.Top (commands.Hostname name) stands form fit = made blocks.Top (commands.Hostname name) (top (codes "hostname") (name ∷ []) refl (name-plain name form, tt)) (hostname name form)
-read-plain blocks.Top (commands.Interface name) stands form fit = made blocks.Top (commands.Interface name) (top (codes "interface") (name ∷ []) refl (face-plain name form, tt)) (interface name form)
-read-plain blocks.Top (commands.RouterOspf n) stands form fit = made blocks.Top (commands.RouterOspf n) (top (codes "router") (codes "ospf" ∷ decimal n ∷ []) refl (refl, (few 1 65535 n form (omega arith), tt))) (router-ospf n form)
-read-plain blocks.Top (commands.RouterBgp n) stands form fit = made blocks.Top (commands.RouterBgp n) (top (codes "router") (codes "bgp" ∷ decimal n ∷ []) refl (refl, (few 1 4294967295 n form (omega arith), tt))) (router-bgp n form)
-read-plain blocks.Top (commands.ListBlock true name) stands form fit = made blocks.Top (commands.ListBlock true name) (top (codes "ip") (codes "access-list" ∷ codes "extended" ∷ name ∷ []) refl (refl, (refl, (name-plain name form, tt)))) (list-head true name form)
-read-plain blocks.Top (commands.ListBlock false name) stands form fit = made blocks.Top (commands.ListBlock false name) (top (codes "ip") (codes "access-list" ∷ codes "standard" ∷ name ∷ []) refl (refl, (refl, (name-plain name form, tt)))) (list-head false name form)
+read-plain blocks.Top (commands.Hostname name) stands form fit = read-as blocks.Top (commands.Hostname name) (top (codes "hostname") (name ∷ []) refl (name-plain name form, tt)) (hostname name form)
+read-plain blocks.Top (commands.Interface name) stands form fit = read-as blocks.Top (commands.Interface name) (top (codes "interface") (name ∷ []) refl (face-plain name form, tt)) (interface name form)
+read-plain blocks.Top (commands.RouterOspf n) stands form fit = read-as blocks.Top (commands.RouterOspf n) (top (codes "router") (codes "ospf" ∷ decimal n ∷ []) refl (refl, (few 1 65535 n form (omega arith), tt))) (router-ospf n form)
+read-plain blocks.Top (commands.RouterBgp n) stands form fit = read-as blocks.Top (commands.RouterBgp n) (top (codes "router") (codes "bgp" ∷ decimal n ∷ []) refl (refl, (few 1 4294967295 n form (omega arith), tt))) (router-bgp n form)
+read-plain blocks.Top (commands.ListBlock true name) stands form fit = read-as blocks.Top (commands.ListBlock true name) (top (codes "ip") (codes "access-list" ∷ codes "extended" ∷ name ∷ []) refl (refl, (refl, (name-plain name form, tt)))) (list-head true name form)
+read-plain blocks.Top (commands.ListBlock false name) stands form fit = read-as blocks.Top (commands.ListBlock false name) (top (codes "ip") (codes "access-list" ∷ codes "standard" ∷ name ∷ []) refl (refl, (refl, (name-plain name form, tt)))) (list-head false name form)
 read-plain blocks.Top (commands.ListLine text e) stands form fit = list-line text e stands form
 read-plain blocks.Top (commands.PrefixLine name order e) stands form fit = prefix-line name order e stands form.0 form.1 form.2
-read-plain blocks.Interface (commands.Address addr len) stands form fit = made blocks.Interface (commands.Address addr len) (inner (codes "ip") (codes "address" ∷ address_text addr ∷ address_text (mask len) ∷ []) (refl, (refl, (address-plain addr fit, (address-plain (mask len) (mask-small len), tt)))) refl) (address addr len fit form)
-read-plain blocks.Interface commands.NoAddress stands form fit = made blocks.Interface commands.NoAddress (inner (codes "no") (codes "ip" ∷ codes "address" ∷ []) (refl, (refl, (refl, tt))) refl) (no-address)
-read-plain blocks.Interface (commands.Shutdown true) stands form fit = made blocks.Interface (commands.Shutdown true) (inner (codes "shutdown") ([]) (refl, tt) refl) (shutdown true)
-read-plain blocks.Interface (commands.Shutdown false) stands form fit = made blocks.Interface (commands.Shutdown false) (inner (codes "no") (codes "shutdown" ∷ []) (refl, (refl, tt)) refl) (shutdown false)
-read-plain blocks.Interface (commands.Bandwidth n) stands form fit = made blocks.Interface (commands.Bandwidth n) (inner (codes "bandwidth") (decimal n ∷ []) (refl, (few 1 100000000 n form (omega arith), tt)) refl) (bandwidth n form)
-read-plain blocks.Interface (commands.Cost n) stands form fit = made blocks.Interface (commands.Cost n) (inner (codes "ip") (codes "ospf" ∷ codes "cost" ∷ decimal n ∷ []) (refl, (refl, (refl, (few 1 65535 n form (omega arith), tt)))) refl) (cost n form)
-read-plain blocks.Interface (commands.Area a) stands form fit = made blocks.Interface (commands.Area a) (inner (codes "ip") (codes "ospf" ∷ decimal a.process ∷ codes "area" ∷ decimal a.area ∷ []) (refl, (refl, (few 1 65535 a.process form (omega arith), (refl, (decimal-plain a.area (omega (arith, fit)), tt))))) refl) (area a form fit)
-read-plain blocks.Interface (commands.Point true) stands form fit = made blocks.Interface (commands.Point true) (inner (codes "ip") (codes "ospf" ∷ codes "network" ∷ codes "point-to-point" ∷ []) (refl, (refl, (refl, (refl, tt)))) refl) (point true)
-read-plain blocks.Interface (commands.Point false) stands form fit = made blocks.Interface (commands.Point false) (inner (codes "ip") (codes "ospf" ∷ codes "network" ∷ codes "broadcast" ∷ []) (refl, (refl, (refl, (refl, tt)))) refl) (point false)
-read-plain blocks.Interface (commands.Group name true) stands form fit = made blocks.Interface (commands.Group name true) (inner (codes "ip") (codes "access-group" ∷ name ∷ codes "in" ∷ []) (refl, (refl, (name-plain name form, (refl, tt)))) refl) (group name true form)
-read-plain blocks.Interface (commands.Group name false) stands form fit = made blocks.Interface (commands.Group name false) (inner (codes "ip") (codes "access-group" ∷ name ∷ codes "out" ∷ []) (refl, (refl, (name-plain name form, (refl, tt)))) refl) (group name false form)
-read-plain blocks.Ospf (commands.Covers p n) stands form fit = made blocks.Ospf (commands.Covers p n) (inner (codes "network") (address_text p.addr ∷ address_text (2 ^ (32 - p.len) - 1) ∷ codes "area" ∷ decimal n ∷ []) (refl, (address-plain p.addr p.in_range, (address-plain (2 ^ (32 - p.len) - 1) (wildcard-small p.len), (refl, (decimal-plain n (omega (arith, fit)), tt))))) refl) (covers p n fit)
-read-plain blocks.Ospf (commands.Passive true (Some name)) stands form fit = made blocks.Ospf (commands.Passive true (Some name)) (inner (codes "passive-interface") (name ∷ []) (refl, (face-plain name form, tt)) refl) (passive-named true name form)
-read-plain blocks.Ospf (commands.Passive false (Some name)) stands form fit = made blocks.Ospf (commands.Passive false (Some name)) (inner (codes "no") (codes "passive-interface" ∷ name ∷ []) (refl, (refl, (face-plain name form, tt))) refl) (passive-named false name form)
-read-plain blocks.Ospf (commands.Passive true None) stands form fit = made blocks.Ospf (commands.Passive true None) (inner (codes "passive-interface") (codes "default" ∷ []) (refl, (refl, tt)) refl) (passive-default true)
-read-plain blocks.Ospf (commands.Passive false None) stands form fit = made blocks.Ospf (commands.Passive false None) (inner (codes "no") (codes "passive-interface" ∷ codes "default" ∷ []) (refl, (refl, (refl, tt))) refl) (passive-default false)
-read-plain blocks.Ospf (commands.Reference n) stands form fit = made blocks.Ospf (commands.Reference n) (inner (codes "auto-cost") (codes "reference-bandwidth" ∷ decimal n ∷ []) (refl, (refl, (few 1 4294967 n form (omega arith), tt))) refl) (reference n form)
-read-plain blocks.Ospf (commands.RouterId addr) stands form fit = made blocks.Ospf (commands.RouterId addr) (inner (codes "router-id") (address_text addr ∷ []) (refl, (address-plain addr fit, tt)) refl) (ospf-id addr fit)
-read-plain blocks.Bgp (commands.RemoteAs addr n) stands form fit = made blocks.Bgp (commands.RemoteAs addr n) (inner (codes "neighbor") (address_text addr ∷ codes "remote-as" ∷ decimal n ∷ []) (refl, (address-plain addr fit, (refl, (few 1 4294967295 n form (omega arith), tt)))) refl) (remote-as addr n fit form)
-read-plain blocks.Bgp (commands.NeighborDown addr true) stands form fit = made blocks.Bgp (commands.NeighborDown addr true) (inner (codes "neighbor") (address_text addr ∷ codes "shutdown" ∷ []) (refl, (address-plain addr fit, (refl, tt))) refl) (neighbor-down addr true fit)
-read-plain blocks.Bgp (commands.NeighborDown addr false) stands form fit = made blocks.Bgp (commands.NeighborDown addr false) (inner (codes "no") (codes "neighbor" ∷ address_text addr ∷ codes "shutdown" ∷ []) (refl, (refl, (address-plain addr fit, (refl, tt)))) refl) (neighbor-down addr false fit)
-read-plain blocks.Bgp (commands.NeighborList addr name) stands form fit = made blocks.Bgp (commands.NeighborList addr name) (inner (codes "neighbor") (address_text addr ∷ codes "prefix-list" ∷ name ∷ codes "in" ∷ []) (refl, (address-plain addr fit, (refl, (name-plain name form, (refl, tt))))) refl) (neighbor-list addr name fit form)
-read-plain blocks.Bgp (commands.Tells p) stands form fit = made blocks.Bgp (commands.Tells p) (inner (codes "network") (address_text p.addr ∷ codes "mask" ∷ address_text (mask p.len) ∷ []) (refl, (address-plain p.addr p.in_range, (refl, (address-plain (mask p.len) (mask-small p.len), tt)))) refl) (tells p)
-read-plain blocks.Bgp (commands.RouterId addr) stands form fit = made blocks.Bgp (commands.RouterId addr) (inner (codes "bgp") (codes "router-id" ∷ address_text addr ∷ []) (refl, (refl, (address-plain addr fit, tt))) refl) (bgp-id addr fit)
+read-plain blocks.Interface (commands.Address addr len) stands form fit = read-as blocks.Interface (commands.Address addr len) (inner (codes "ip") (codes "address" ∷ address_text addr ∷ address_text (mask len) ∷ []) (refl, (refl, (address-plain addr fit, (address-plain (mask len) (mask-small len), tt)))) refl) (address addr len fit form)
+read-plain blocks.Interface commands.NoAddress stands form fit = read-as blocks.Interface commands.NoAddress (inner (codes "no") (codes "ip" ∷ codes "address" ∷ []) (refl, (refl, (refl, tt))) refl) (no-address)
+read-plain blocks.Interface (commands.Shutdown true) stands form fit = read-as blocks.Interface (commands.Shutdown true) (inner (codes "shutdown") ([]) (refl, tt) refl) (shutdown true)
+read-plain blocks.Interface (commands.Shutdown false) stands form fit = read-as blocks.Interface (commands.Shutdown false) (inner (codes "no") (codes "shutdown" ∷ []) (refl, (refl, tt)) refl) (shutdown false)
+read-plain blocks.Interface (commands.Bandwidth n) stands form fit = read-as blocks.Interface (commands.Bandwidth n) (inner (codes "bandwidth") (decimal n ∷ []) (refl, (few 1 100000000 n form (omega arith), tt)) refl) (bandwidth n form)
+read-plain blocks.Interface (commands.Cost n) stands form fit = read-as blocks.Interface (commands.Cost n) (inner (codes "ip") (codes "ospf" ∷ codes "cost" ∷ decimal n ∷ []) (refl, (refl, (refl, (few 1 65535 n form (omega arith), tt)))) refl) (cost n form)
+read-plain blocks.Interface (commands.Area a) stands form fit = read-as blocks.Interface (commands.Area a) (inner (codes "ip") (codes "ospf" ∷ decimal a.process ∷ codes "area" ∷ decimal a.area ∷ []) (refl, (refl, (few 1 65535 a.process form (omega arith), (refl, (decimal-plain a.area (omega (arith, fit)), tt))))) refl) (area a form fit)
+read-plain blocks.Interface (commands.Point true) stands form fit = read-as blocks.Interface (commands.Point true) (inner (codes "ip") (codes "ospf" ∷ codes "network" ∷ codes "point-to-point" ∷ []) (refl, (refl, (refl, (refl, tt)))) refl) (point true)
+read-plain blocks.Interface (commands.Point false) stands form fit = read-as blocks.Interface (commands.Point false) (inner (codes "ip") (codes "ospf" ∷ codes "network" ∷ codes "broadcast" ∷ []) (refl, (refl, (refl, (refl, tt)))) refl) (point false)
+read-plain blocks.Interface (commands.Group name true) stands form fit = read-as blocks.Interface (commands.Group name true) (inner (codes "ip") (codes "access-group" ∷ name ∷ codes "in" ∷ []) (refl, (refl, (name-plain name form, (refl, tt)))) refl) (group name true form)
+read-plain blocks.Interface (commands.Group name false) stands form fit = read-as blocks.Interface (commands.Group name false) (inner (codes "ip") (codes "access-group" ∷ name ∷ codes "out" ∷ []) (refl, (refl, (name-plain name form, (refl, tt)))) refl) (group name false form)
+read-plain blocks.Ospf (commands.Covers p n) stands form fit = read-as blocks.Ospf (commands.Covers p n) (inner (codes "network") (address_text p.addr ∷ address_text (2 ^ (32 - p.len) - 1) ∷ codes "area" ∷ decimal n ∷ []) (refl, (address-plain p.addr p.in_range, (address-plain (2 ^ (32 - p.len) - 1) (wildcard-small p.len), (refl, (decimal-plain n (omega (arith, fit)), tt))))) refl) (covers p n fit)
+read-plain blocks.Ospf (commands.Passive true (Some name)) stands form fit = read-as blocks.Ospf (commands.Passive true (Some name)) (inner (codes "passive-interface") (name ∷ []) (refl, (face-plain name form, tt)) refl) (passive-named true name form)
+read-plain blocks.Ospf (commands.Passive false (Some name)) stands form fit = read-as blocks.Ospf (commands.Passive false (Some name)) (inner (codes "no") (codes "passive-interface" ∷ name ∷ []) (refl, (refl, (face-plain name form, tt))) refl) (passive-named false name form)
+read-plain blocks.Ospf (commands.Passive true None) stands form fit = read-as blocks.Ospf (commands.Passive true None) (inner (codes "passive-interface") (codes "default" ∷ []) (refl, (refl, tt)) refl) (passive-default true)
+read-plain blocks.Ospf (commands.Passive false None) stands form fit = read-as blocks.Ospf (commands.Passive false None) (inner (codes "no") (codes "passive-interface" ∷ codes "default" ∷ []) (refl, (refl, (refl, tt))) refl) (passive-default false)
+read-plain blocks.Ospf (commands.Reference n) stands form fit = read-as blocks.Ospf (commands.Reference n) (inner (codes "auto-cost") (codes "reference-bandwidth" ∷ decimal n ∷ []) (refl, (refl, (few 1 4294967 n form (omega arith), tt))) refl) (reference n form)
+read-plain blocks.Ospf (commands.RouterId addr) stands form fit = read-as blocks.Ospf (commands.RouterId addr) (inner (codes "router-id") (address_text addr ∷ []) (refl, (address-plain addr fit, tt)) refl) (ospf-id addr fit)
+read-plain blocks.Bgp (commands.RemoteAs addr n) stands form fit = read-as blocks.Bgp (commands.RemoteAs addr n) (inner (codes "neighbor") (address_text addr ∷ codes "remote-as" ∷ decimal n ∷ []) (refl, (address-plain addr fit, (refl, (few 1 4294967295 n form (omega arith), tt)))) refl) (remote-as addr n fit form)
+read-plain blocks.Bgp (commands.NeighborDown addr true) stands form fit = read-as blocks.Bgp (commands.NeighborDown addr true) (inner (codes "neighbor") (address_text addr ∷ codes "shutdown" ∷ []) (refl, (address-plain addr fit, (refl, tt))) refl) (neighbor-down addr true fit)
+read-plain blocks.Bgp (commands.NeighborDown addr false) stands form fit = read-as blocks.Bgp (commands.NeighborDown addr false) (inner (codes "no") (codes "neighbor" ∷ address_text addr ∷ codes "shutdown" ∷ []) (refl, (refl, (address-plain addr fit, (refl, tt)))) refl) (neighbor-down addr false fit)
+read-plain blocks.Bgp (commands.NeighborList addr name) stands form fit = read-as blocks.Bgp (commands.NeighborList addr name) (inner (codes "neighbor") (address_text addr ∷ codes "prefix-list" ∷ name ∷ codes "in" ∷ []) (refl, (address-plain addr fit, (refl, (name-plain name form, (refl, tt))))) refl) (neighbor-list addr name fit form)
+read-plain blocks.Bgp (commands.Tells p) stands form fit = read-as blocks.Bgp (commands.Tells p) (inner (codes "network") (address_text p.addr ∷ codes "mask" ∷ address_text (mask p.len) ∷ []) (refl, (address-plain p.addr p.in_range, (refl, (address-plain (mask p.len) (mask-small p.len), tt)))) refl) (tells p)
+read-plain blocks.Bgp (commands.RouterId addr) stands form fit = read-as blocks.Bgp (commands.RouterId addr) (inner (codes "bgp") (codes "router-id" ∷ address_text addr ∷ []) (refl, (refl, (address-plain addr fit, tt))) refl) (bgp-id addr fit)
 read-plain blocks.Extended (commands.Entry order e) stands form fit = extended-line order e stands form
 read-plain blocks.Standard (commands.Entry order e) stands form fit = standard-line order e stands form
 read-plain _ _ stands form fit = absurd stands

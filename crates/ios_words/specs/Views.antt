@@ -32,7 +32,7 @@ abbrev pub line_values : Result Found WordFault → Result Values WordFault
 line_values (Ok found) = Ok (values_of found)
 line_values (Err fault) = Err fault
 
--- a word that is printed
+-- a word, or fixed words, that are printed
 abbrev pub text_of : Word → List ℕ
 text_of (Text text) = text.now
 text_of (Number number) = decimal number

@@ -1,7 +1,7 @@
 //! The words of a router file's lines: which row of the language a line matches, and what it says
 //! by that row. The language is a table of rows, and a line is read by one matcher over it. A line
 //! that no row matches is unknown; one that rows match, but none with every word, has a faulty
-//! word, which is answered by its place.
+//! word, which is answered by its place. `print` writes the plain line of a command.
 #![tactic(auto)]
 
 mod block_rows;

@@ -10,9 +10,9 @@ ghost use Rattle.ios_words.specs.Views.{list_block, text_of};
 use crate::commands::{Command, PacketText, RouteText};
 use crate::kinds::BlockKind;
 use crate::numbers::list_kind;
-use crate::printed_words::Word::{self, Address, Number, Text};
+use crate::printed_words::Word::{Address, Number, Text};
 use crate::printed_words::{
-    either, mask, push_entry, push_order, push_route, push_sequence, push_top, push_unless,
+    Word, either, mask, push_entry, push_order, push_route, push_sequence, push_top, push_unless,
     push_words, wildcard,
 };
 use arc_base::{Memory, Name};
