@@ -10,6 +10,7 @@ use Rattle.ios_words.specs.declared.kinds.BlockKind.TheVariants as kinds
 use Rattle.ios_words.specs.declared.commands.Command.{Command}
 use Rattle.ios_words.specs.Commands.{is_extended_block, ReadBy}
 use Rattle.ios_words.specs.Language.{rows}
+use Rattle.ios_words.specs.Plain.{plain_line}
 use Rattle.ios_config.specs.declared.commands.FileCommand.{FileCommand}
 use Rattle.ios_config.specs.Commands.{opened_by}
 use Rattle.ios_config.specs.Groups.{Block, Lines, PrefixLines, is_same, part_in, part_of}
@@ -18,6 +19,10 @@ use Rattle.ios_config.specs.Groups.{Block, Lines, PrefixLines, is_same, part_in,
 pub record Written : Type 0 where
   pub line : List ℕ
   pub command : Command
+
+-- a command with its plain line in a block of this kind
+abbrev pub written : BlockKind → Command → Written
+written within command = record { line = plain_line within command; command = command }
 
 -- what is added before a top line: a line of a list that is written as lines, or a block with a
 -- line that closes it

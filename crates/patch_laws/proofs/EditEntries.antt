@@ -18,7 +18,6 @@ use Rattle.ios_words.specs.Forms.{IsOrder}
 use Rattle.arc_base.specs.NameForms.{is_name}
 use Rattle.ios_words.specs.Numbers.{list_kind}
 use Rattle.ios_words.specs.declared.commands.Command.TheVariants as commands
-use Rattle.ios_words.specs.Plain.{plain_words}
 use Rattle.ios_words.specs.Printed.{all_routes, route_text}
 use Rattle.ios_words.proofs.PlainLines.{all-routes-line, closing-line, read-plain, route-line}
 use Rattle.ios_config.specs.declared.commands.FileCommand.{FileCommand}
@@ -50,7 +49,7 @@ use Rattle.patch_laws.proofs.EditBusy.{packets-of, routes-of}
 use Rattle.patch_laws.proofs.EditLists.{packets-have, routes-have}
 use Rattle.patch_laws.proofs.EditRenumber.{at-enumerated, few-classes, few-prefixes}
 use Rattle.patch_laws.proofs.EntrySites.{block-entries, list-entries, prefix-entries}
-use Rattle.patch_laws.proofs.SessionFiles.{written-fit}
+use Rattle.patch_laws.proofs.PlainWritten.{plain-fit}
 
 -- what all of some items have
 pub all-from : {X : Type 0} (P : X → Type 0) (xs : List X) → ((x : X) → Contains xs x → P x) → AllByRecursion P xs
@@ -160,13 +159,11 @@ module _ (net : Network) (places : List Places) (chosen : List Edit) (router : �
 -- the lines of new lists may be put in
 deny-fit : (name : List ℕ) → IsTrue (is_name name) → name ≢ codes "sequence-number" → (entry : ℕ × Prefix) → 1 ≤ entry.0 → entry.0 ≤ 16384 → IsFit (deny_line name entry)
 deny-fit name is other entry low high =
-    let line = route-line name (Some (5 * entry.0)) false entry.1 is other ((omega arith), (omega arith)) in
-    written-fit (plain_words kinds.Top (commands.PrefixLine name (Some (5 * entry.0)) (route_text false entry.1))) (deny_line name entry) line.written (omega arith)
+    plain-fit kinds.Top (commands.PrefixLine name (Some (5 * entry.0)) (route_text false entry.1)) (route-line name (Some (5 * entry.0)) false entry.1 is other ((omega arith), (omega arith))) (omega arith)
 
 permit-fit : (name : List ℕ) → IsTrue (is_name name) → name ≢ codes "sequence-number" → (number : ℕ) → 1 ≤ number → number ≤ 100000 → IsFit (permit_all_line name number)
 permit-fit name is other number low high =
-    let line = all-routes-line name (Some number) is other ((omega arith), (omega arith)) in
-    written-fit (plain_words kinds.Top (commands.PrefixLine name (Some number) all_routes)) (permit_all_line name number) line.written (omega arith)
+    plain-fit kinds.Top (commands.PrefixLine name (Some number) all_routes) (all-routes-line name (Some number) is other ((omega arith), (omega arith))) (omega arith)
 
 route-fit : (name : List ℕ) → IsTrue (is_name name) → name ≢ codes "sequence-number" → (k : ℕ) (prefixes : List Prefix) (last : ℕ) → 1 ≤ k → k + length prefixes ≤ 16385 → 1 ≤ last → last ≤ 100000 →
     AllByRecursion IsFit (map (deny_line name) (enumerate_from k prefixes) ++ permit_all_line name last ∷ [])
@@ -175,11 +172,10 @@ route-fit name is other k (p ∷ prefixes) last low high some few = (deny-fit na
 
 entry-fit : (entry : PacketEntry) → IsTrue (is_writable entry.service) → IsFit (entry_line entry)
 entry-fit entry writable =
-    let line = read-plain kinds.Extended (commands.Entry None (packet_text entry)) writable tt tt in
-    written-fit (plain_words kinds.Extended (commands.Entry None (packet_text entry))) (entry_line entry) line.written (omega arith)
+    plain-fit kinds.Extended (commands.Entry None (packet_text entry)) (read-plain kinds.Extended (commands.Entry None (packet_text entry)) writable tt tt) (omega arith)
 
 mark-fit : IsFit (codes "!")
-mark-fit = written-fit (codes "!" ∷ []) (codes "!") closing-line.written (omega arith)
+mark-fit = record { free = closing-line.written.free; no_return = closing-line.written.no_return; some = omega arith }
 
 packet-fit : (classes : List Class) → ((class : Class) → Contains classes class → IsTrue (is_writable class.service)) →
     AllByRecursion IsFit (map deny_class_line classes ++ entry_line every_packet ∷ codes "!" ∷ [])
@@ -192,5 +188,4 @@ new-lines-fit chosen (Route face) name is =
     let few = is.few face.0 in
     route-fit name is.name is.other 1 (new_prefixes chosen face.0) (5 * (length (new_prefixes chosen face.0) + 1)) (omega arith) (omega arith) (omega arith) (omega arith)
 new-lines-fit chosen (Packet face) name is =
-    let head = read-plain kinds.Top (commands.ListBlock true name) tt is.name tt in
-    (written-fit (plain_words kinds.Top (commands.ListBlock true name)) (head_line name) head.written (omega arith), packet-fit (new_classes chosen face.0) (is.writable face.0))
+    (plain-fit kinds.Top (commands.ListBlock true name) (read-plain kinds.Top (commands.ListBlock true name) tt is.name tt) (omega arith), packet-fit (new_classes chosen face.0) (is.writable face.0))

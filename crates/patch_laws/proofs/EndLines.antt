@@ -15,7 +15,7 @@ use Rattle.net_model.specs.Routing.{session_at}
 use Rattle.net_model.specs.Validity.{FitsProtocol}
 use Rattle.arc_base.specs.NameForms.{is_name}
 use Rattle.arc_base.proofs.Zips.{AllByRecursion-append}
-use Rattle.ios_words.specs.Plain.{plain_line, plain_words}
+use Rattle.ios_words.specs.Plain.{plain_line}
 use Rattle.ios_words.specs.declared.commands.Command.{Command}
 use Rattle.ios_words.specs.declared.commands.Command.TheVariants as commands
 use Rattle.ios_words.specs.declared.kinds.BlockKind.TheVariants as kinds
@@ -43,7 +43,8 @@ use Rattle.settings_edit_laws.specs.Premises.{IsWritable}
 use Rattle.settings_edit_laws.specs.SettingsAfter.{face_with, process_with}
 use Rattle.patch_laws.specs.EndLines.{AreNamed, process_kind, ProcessLinesAreRead, GroupLinesAreFit, ProcessesGrow, FacesGrow}
 use Rattle.patch_laws.specs.Fits.{IsFit}
-use Rattle.patch_laws.proofs.SessionFiles.{written-fit, sessions-fit}
+use Rattle.patch_laws.proofs.PlainWritten.{plain-fit}
+use Rattle.patch_laws.proofs.SessionFiles.{sessions-fit}
 use Rattle.patch_laws.proofs.SessionReads.{Match, inner_is, session_in, session-lines-read}
 
 -- two things that are picked of each item go together
@@ -104,7 +105,7 @@ module _ (net : Network) (writable : IsWritable net) (fits : FitsProtocol net.pr
       by None at e = absurd (none-some line e)
       by (Some s) at e =
           let small : s.peer < 2 ^ 32 = writable.peers s (session_in (λ (t : SessionRow). t.face.0 == face.0) net.sessions s at) in
-          subst IsFit (same_Some (plain_line kinds.Bgp (commands.NeighborList s.peer name)) line e) (written-fit (plain_words kinds.Bgp (commands.NeighborList s.peer name)) (plain_line kinds.Bgp (commands.NeighborList s.peer name)) (read-plain kinds.Bgp (commands.NeighborList s.peer name) tt is small).written (omega arith))
+          subst IsFit (same_Some (plain_line kinds.Bgp (commands.NeighborList s.peer name)) line e) (plain-fit kinds.Bgp (commands.NeighborList s.peer name) (read-plain kinds.Bgp (commands.NeighborList s.peer name) tt is small) (omega arith))
 
   lines-read : (chosen : List Edit) → AreNamed net chosen router → AreLinesIn (process_kind net.protocol) block (session_lines net chosen router ++ patched.filter_lines net chosen router) (process_lines net chosen router)
   lines-read chosen named =
@@ -124,7 +125,7 @@ process-lines-read net chosen router block writable fits named = (lines-read net
 pub group-lines-fit : GroupLinesAreFit
 group-lines-fit name block is =
     let line = read-plain kinds.Interface (commands.Group name true) tt is tt in
-    (inner_is kinds.Interface block (commands.Group name true) line line.kind refl (record { stands = refl; excludes = refl; unnamed = refl }), written-fit (plain_words kinds.Interface (commands.Group name true)) (plain_line kinds.Interface (commands.Group name true)) line.written (omega arith))
+    (inner_is kinds.Interface block (commands.Group name true) line line.kind refl (record { stands = refl; excludes = refl; unnamed = refl }), plain-fit kinds.Interface (commands.Group name true) line (omega arith))
 
 -- the last line of bare commands
 last-zero : (cs : List FileCommand) (k : ℕ) → option_map_or (λ (c : FileCommand). c.line) (slice_get (map bare cs) k) 0 ≡ 0

@@ -28,7 +28,7 @@ use Rattle.ios_words.specs.declared.commands.PacketText.{PacketText}
 use Rattle.ios_words.specs.declared.kinds.BlockKind.TheVariants as kinds
 use Rattle.ios_words.specs.Commands.{ReadBy}
 use Rattle.ios_words.specs.Language.{rows}
-use Rattle.ios_words.specs.Plain.{plain_line, plain_words}
+use Rattle.ios_words.specs.Plain.{plain_line}
 use Rattle.ios_words.specs.Printed.{route_text}
 use Rattle.ios_words.proofs.PlainWords.{decimal-plain}
 use Rattle.ios_words.proofs.PlainLines.{listed-line, read-plain, route-line}
@@ -39,7 +39,7 @@ use Rattle.edit_list.specs.After.{opposite_route_entry}
 use Rattle.line_patcher.specs.EntryLines.{order_at, class_line, prefix_line}
 use Rattle.line_edit_laws.specs.Sites.{bytes_of}
 use Rattle.patch_laws.specs.EntrySites.{class_written, prefix_written, EntriesHaveTheirLines, BlockEntriesAreRead, ListEntriesAreRead, PrefixEntriesAreRead, EntriesAreRenumbered}
-use Rattle.patch_laws.proofs.SessionFiles.{written-fit}
+use Rattle.patch_laws.proofs.PlainWritten.{plain-entry, plain-fit, plain-single}
 
 class-bytes : (place : ListPlace) (list : PacketList) (es : List (ℕ × Class)) → bytes_of (map (class_written place list) es) ≡ map (class_line place list) es
 class-bytes place list [] = refl
@@ -58,40 +58,20 @@ some-spaced (Some n) entry = omega arith
 
 pub block-entries : BlockEntriesAreRead
 block-entries name order entry writable fits =
-    let line = read-plain kinds.Extended (commands.Entry order (packet_text entry)) writable fits tt in (
-      record {
-        inner = line.kind;
-        reads = subst (λ (ws : List (List ℕ)). ReadBy true ws (rows kinds.Extended) (commands.Entry order (packet_text entry))) (sym line.written.words) line.reads;
-        part = λ block. refl;
-      },
-      written-fit (plain_words kinds.Extended (commands.Entry order (packet_text entry))) (plain_line kinds.Extended (commands.Entry order (packet_text entry))) line.written (some-spaced order (packet_text entry)),
-    )
+    let line = read-plain kinds.Extended (commands.Entry order (packet_text entry)) writable fits tt in
+    (plain-entry order (packet_text entry) line, plain-fit kinds.Extended (commands.Entry order (packet_text entry)) line (some-spaced order (packet_text entry)))
 
 pub list-entries : ListEntriesAreRead
 list-entries name order entry writable extended =
-    let line = listed-line name (packet_text entry) writable extended in (
-      record {
-        single = line.kind;
-        reads = subst (λ (ws : List (List ℕ)). ReadBy false ws (rows kinds.Top) (commands.ListLine name (packet_text entry))) (sym line.written.words) line.reads;
-        name = name;
-        part = inl refl;
-      },
-      written-fit (plain_words kinds.Top (commands.ListLine name (packet_text entry))) (plain_line kinds.Top (commands.ListLine name (packet_text entry))) line.written (omega arith),
-    )
+    let line = listed-line name (packet_text entry) writable extended in
+    (plain-single name (commands.ListLine name (packet_text entry)) line line.kind (inl refl), plain-fit kinds.Top (commands.ListLine name (packet_text entry)) line (omega arith))
 
 pub prefix-entries : PrefixEntriesAreRead
 prefix-entries place list entry is other fits =
     let permit = (opposite_route_entry list.entries entry.1).permit in
     let order = order_at place 5 entry.0 in
-    let line = route-line list.name order permit entry.1 is other fits in (
-      record {
-        single = line.kind;
-        reads = subst (λ (ws : List (List ℕ)). ReadBy false ws (rows kinds.Top) (commands.PrefixLine list.name order (route_text permit entry.1))) (sym line.written.words) line.reads;
-        name = list.name;
-        part = inr refl;
-      },
-      written-fit (plain_words kinds.Top (commands.PrefixLine list.name order (route_text permit entry.1))) (plain_line kinds.Top (commands.PrefixLine list.name order (route_text permit entry.1))) line.written (omega arith),
-    )
+    let line = route-line list.name order permit entry.1 is other fits in
+    (plain-single list.name (commands.PrefixLine list.name order (route_text permit entry.1)) line line.kind (inr refl), plain-fit kinds.Top (commands.PrefixLine list.name order (route_text permit entry.1)) line (omega arith))
 
 -- the words of a row of which the first is a number
 first-other : (ws : List (List ℕ)) (w : List ℕ) (other : List ℕ) → slice_get ws 0 ≡ Some w → (rest : List (List ℕ)) × (ws ≡ w ∷ rest) × (changes.replaced 0 other ws ≡ other ∷ rest)

@@ -1,3 +1,4 @@
+pub mod PlainWritten
 pub mod PatchedLines
 pub mod RowLines
 pub mod SessionReads

@@ -8,8 +8,6 @@ use Rattle.arc_base.specs.declared.prefix.Prefix.{Prefix}
 use Rattle.arc_base.proofs.Items.{Contains-head, Contains-tail}
 use Rattle.net_model.specs.declared.lists.PacketEntry.{PacketEntry}
 use Rattle.net_model.specs.declared.policies.Class.{Class}
-use Rattle.ios_words.specs.Commands.{ReadBy}
-use Rattle.ios_words.specs.Language.{rows}
 use Rattle.arc_base.specs.NameForms.{is_name}
 use Rattle.arc_base.proofs.Zips.{AllByRecursion-append}
 use Rattle.ios_words.specs.declared.commands.Command.TheVariants as commands
@@ -27,26 +25,24 @@ use Rattle.edit_list.specs.declared.list_kinds.NewList.TheVariants.{Route, Packe
 use Rattle.line_patcher.specs.NewListLines.{deny_line, deny_class_line, entry_line, head_line, permit_all_line, new_list_lines}
 use Rattle.line_edit_laws.specs.Sites as edits
 use Rattle.line_edit_laws.specs.Sites.{Written, Chunk, Single, NewBlock, bytes_of, chunk_lines, chunk_commands, in_block, AreChunks, IsSingleLine, IsBlockLine}
-use Rattle.patch_laws.specs.NewListSites.{deny_written, permit_all_written, route_written, packet_written, head_written, new_chunks, list_chunks, IsNewName}
+use Rattle.patch_laws.specs.NewListSites.{deny_written, permit_all_written, route_written, entry_written, packet_written, head_written, new_chunks, list_chunks, IsNewName}
 use Rattle.patch_laws.specs.Laws.{NewListsAreChunks, NewListsHaveTheirLines}
+use Rattle.patch_laws.proofs.PlainWritten.{plain-entry, plain-reads, plain-single}
 
 -- an entry of a new route list
 prefix-single : (name : List ℕ) → IsTrue (is_name name) → name ≢ codes "sequence-number" → (entry : ℕ × Prefix) → 1 ≤ entry.0 → entry.0 ≤ 16384 → IsSingleLine (deny_written name entry)
 prefix-single name is other entry low high =
     let line = route-line name (Some (5 * entry.0)) false entry.1 is other ((omega arith), (omega arith)) in
-    record { single = line.kind; reads = subst (λ (ws : List (List ℕ)). ReadBy false ws (rows kinds.Top) (deny_written name entry).command) (sym line.written.words) line.reads; name = name; part = inr refl }
+    plain-single name (deny_written name entry).command line line.kind (inr refl)
 
 all-single : (name : List ℕ) → IsTrue (is_name name) → name ≢ codes "sequence-number" → (number : ℕ) → 1 ≤ number → number ≤ 100000 → IsSingleLine (permit_all_written name number)
 all-single name is other number low high =
     let line = all-routes-line name (Some number) is other ((omega arith), (omega arith)) in
-    record { single = line.kind; reads = subst (λ (ws : List (List ℕ)). ReadBy false ws (rows kinds.Top) (permit_all_written name number).command) (sym line.written.words) line.reads; name = name; part = inr refl }
+    plain-single name (permit_all_written name number).command line line.kind (inr refl)
 
 -- the lines of a new packet list
-entry-block-line : (entry : PacketEntry) → IsTrue (is_writable entry.service) →
-    IsBlockLine kinds.Extended (record { line = entry_line entry; command = commands.Entry None (packet_text entry) })
-entry-block-line entry writable =
-    let line = read-plain kinds.Extended (commands.Entry None (packet_text entry)) writable tt tt in
-    record { inner = line.kind; reads = subst (λ (ws : List (List ℕ)). ReadBy true ws (rows kinds.Extended) (commands.Entry None (packet_text entry))) (sym line.written.words) line.reads; part = λ block. refl }
+entry-block-line : (entry : PacketEntry) → IsTrue (is_writable entry.service) → IsBlockLine kinds.Extended (entry_written entry)
+entry-block-line entry writable = plain-entry None (packet_text entry) (read-plain kinds.Extended (commands.Entry None (packet_text entry)) writable tt tt)
 
 packet-lines : (classes : List Class) → ((class : Class) → Contains classes class → IsTrue (is_writable class.service)) → AllByRecursion (IsBlockLine kinds.Extended) (packet_written classes)
 packet-lines [] writable = (entry-block-line every_packet refl, tt)
@@ -110,7 +106,7 @@ one-chunk chosen number key later (Packet face) name is high fresh =
     let head = read-plain kinds.Top (commands.ListBlock true name) tt is.name tt in (
       record {
         heads = head.kind;
-        reads = subst (λ (ws : List (List ℕ)). ReadBy false ws (rows kinds.Top) (commands.ListBlock true name)) (sym head.written.words) head.reads;
+        reads = plain-reads kinds.Top (commands.ListBlock true name) head;
         within = kinds.Extended;
         opens = refl;
         known = λ same. absurd (apart same);

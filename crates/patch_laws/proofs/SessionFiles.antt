@@ -1,5 +1,5 @@
 -- Lines that turn sessions may be put into a file; and what a patched file is.
-use Rattle.std.proofs.Common.{◌≡◌, ℕ, ◌<◌, Option, Some, None, List, [], ◌∷◌, length, refl, ◌∙◌, ap, subst, arith}
+use Rattle.std.proofs.Common.{◌≡◌, ℕ, Option, Some, None, List, [], ◌∷◌, refl, ◌∙◌, ap, subst, arith}
 use Rattle.std.specs.Prelude.{Contains, IsSomeAnd, slice_get}
 use Rattle.std.specs.List.{AllByRecursion, filter_map}
 use Rattle.std.proofs.lemmas.Option.{none-some, same_Some, slice_get-map}
@@ -19,9 +19,9 @@ use Rattle.line_patcher.specs.Patches.{ArePatched, patched_file}
 use Rattle.patch_laws.specs.Fits.{IsFit}
 use Rattle.ios_words.specs.declared.commands.Command.TheVariants as commands
 use Rattle.ios_words.specs.declared.kinds.BlockKind.TheVariants as kinds
-use Rattle.ios_words.specs.Plain.{plain_line, plain_words}
+use Rattle.ios_words.specs.Plain.{plain_line}
 use Rattle.ios_words.proofs.PlainLines.{read-plain}
-use Rattle.ios_lines.specs.Written.{IsWritten}
+use Rattle.patch_laws.proofs.PlainWritten.{plain-fit}
 use Rattle.net_model.specs.declared.rows.Protocol.{Protocol}
 use Rattle.net_model.specs.declared.rows.Protocol.TheVariants.{Ospf, Bgp}
 use Rattle.net_model.specs.declared.rows.FaceRow.{FaceRow}
@@ -43,18 +43,14 @@ all-picked {X} {Y} P h (x ∷ xs) each = by (h x) refl (all-picked P h xs each)
     by None e rest = rest
     by (Some y) e rest = (each x y e, rest)
 
--- a line of plain words may be put in
-pub written-fit : (ws : List (List ℕ)) (line : List ℕ) → IsWritten line ws → 0 < length line → IsFit line
-written-fit ws line w some = record { free = w.free; no_return = w.no_return; some = some }
-
 module _ (net : Network) (writable : IsWritable net) where
   passive-fit : (place : ℕ) (row : FaceRow) → slice_get net.faces place ≡ Some row → (b : Bool) → IsFit (plain_line kinds.Ospf (commands.Passive b (Some row.name)))
-  passive-fit place row at true = written-fit (plain_words kinds.Ospf (commands.Passive true (Some row.name))) (plain_line kinds.Ospf (commands.Passive true (Some row.name))) (read-plain kinds.Ospf (commands.Passive true (Some row.name)) tt (writable.faces place row at) tt).written (omega arith)
-  passive-fit place row at false = written-fit (plain_words kinds.Ospf (commands.Passive false (Some row.name))) (plain_line kinds.Ospf (commands.Passive false (Some row.name))) (read-plain kinds.Ospf (commands.Passive false (Some row.name)) tt (writable.faces place row at) tt).written (omega arith)
+  passive-fit place row at true = plain-fit kinds.Ospf (commands.Passive true (Some row.name)) (read-plain kinds.Ospf (commands.Passive true (Some row.name)) tt (writable.faces place row at) tt) (omega arith)
+  passive-fit place row at false = plain-fit kinds.Ospf (commands.Passive false (Some row.name)) (read-plain kinds.Ospf (commands.Passive false (Some row.name)) tt (writable.faces place row at) tt) (omega arith)
 
   neighbor-fit : (s : SessionRow) → Contains net.sessions s → (b : Bool) → IsFit (plain_line kinds.Bgp (commands.NeighborDown s.peer b))
-  neighbor-fit s there true = written-fit (plain_words kinds.Bgp (commands.NeighborDown s.peer true)) (plain_line kinds.Bgp (commands.NeighborDown s.peer true)) (read-plain kinds.Bgp (commands.NeighborDown s.peer true) tt tt (writable.peers s there)).written (omega arith)
-  neighbor-fit s there false = written-fit (plain_words kinds.Bgp (commands.NeighborDown s.peer false)) (plain_line kinds.Bgp (commands.NeighborDown s.peer false)) (read-plain kinds.Bgp (commands.NeighborDown s.peer false) tt tt (writable.peers s there)).written (omega arith)
+  neighbor-fit s there true = plain-fit kinds.Bgp (commands.NeighborDown s.peer true) (read-plain kinds.Bgp (commands.NeighborDown s.peer true) tt tt (writable.peers s there)) (omega arith)
+  neighbor-fit s there false = plain-fit kinds.Bgp (commands.NeighborDown s.peer false) (read-plain kinds.Bgp (commands.NeighborDown s.peer false) tt tt (writable.peers s there)) (omega arith)
 
   turning-fit : (place : ℕ) (row : FaceRow) → slice_get net.faces place ≡ Some row → (p : Protocol) (o : Option SessionRow) → session_at net (record { 0 = place }) ≡ o → (line : List ℕ) → line_of p row o ≡ Some line → IsFit line
   turning-fit place row at Ospf o is line e = subst IsFit (same_Some (plain_line kinds.Ospf (commands.Passive (not row.passive) (Some row.name))) line e) (passive-fit place row at (not row.passive))

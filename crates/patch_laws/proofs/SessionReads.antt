@@ -11,14 +11,13 @@ use Rattle.net_model.specs.declared.rows.Protocol.{Protocol}
 use Rattle.net_model.specs.declared.rows.Protocol.TheVariants.{Ospf, Bgp}
 use Rattle.net_model.specs.Routing.{session_at}
 use Rattle.ios_lines.specs.Kinds.{IsInner}
-use Rattle.ios_words.specs.Commands.{is_extended_block, ReadBy}
-use Rattle.ios_words.specs.Language.{rows}
 use Rattle.ios_words.specs.Plain.{plain_line, IsReadAs}
 use Rattle.ios_words.specs.declared.commands.Command.{Command}
 use Rattle.ios_words.specs.declared.commands.Command.TheVariants as commands
 use Rattle.ios_words.specs.declared.kinds.BlockKind.{BlockKind}
 use Rattle.ios_words.specs.declared.kinds.BlockKind.TheVariants as kinds
 use Rattle.ios_words.proofs.PlainLines.{read-plain}
+use Rattle.patch_laws.proofs.PlainWritten.{plain-reads}
 use Rattle.ios_config.specs.declared.settings.Given.{Given}
 use Rattle.ios_config.specs.declared.settings.ListText.{ListText}
 use Rattle.ios_config.specs.Appended.{IsLineOf}
@@ -80,7 +79,7 @@ session_in {X} p (y ∷ xs) x e = by (p y) e (session_in p xs x)
 pub inner_is : (within : BlockKind) (block : ℕ) (command : Command) → IsReadAs within command → IsInner (plain_line within command) → part_in block command ≡ Block block → IsQuiet command →
     IsLineOf (plain_line within command) within block command × IsQuiet command
 inner_is within block command l inner part quiet = (
-  record { inner = inner; reads = subst (λ (w : List (List ℕ)). ReadBy (is_extended_block within) w (rows within) command) (sym l.written.words) l.reads; part = part },
+  record { inner = inner; reads = plain-reads within command l; part = part },
   quiet,
 )
 

@@ -19,7 +19,7 @@ use Rattle.line_patcher.specs.declared.additions.NewNumber.{NewNumber}
 use Rattle.line_patcher.specs.Additions.{lines_after, numbers_at}
 use Rattle.line_patcher.specs.EntryLines.{first_line, for_packet_list, for_route_list}
 use Rattle.line_patcher.specs.EntryLines.{edited_packet_lists, edited_route_lists}
-use Rattle.line_patcher.specs.NewListLines.{face_places, filter_lines, group_line}
+use Rattle.line_patcher.specs.NewListLines.{face_places, filter_lines}
 use Rattle.line_patcher.specs.Patches.{line_end}
 use Rattle.line_patcher.specs.SessionLines.{session_lines}
 use Rattle.settings_edit_laws.specs.Additions.{process_lines}
@@ -70,8 +70,7 @@ process_written net chosen router =
 abbrev pub group_written : List FacePlace → NewList → List ℕ → Option (ℕ × Written)
 group_written faces (Route face) name = None
 group_written faces (Packet face) name =
-    option_map (λ place.
-    (place.last, record { line = group_line name; command = commands.Group name true }))
+    option_map (λ place. (place.last, written kinds.Interface (commands.Group name true)))
     (slice_get faces face.0)
 
 -- what comes after lines: the lines of the process after its last command line, and bindings after

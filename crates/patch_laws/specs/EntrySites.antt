@@ -37,7 +37,7 @@ use Rattle.edit_list.specs.After.{opposite_packet_entry, opposite_route_entry}
 use Rattle.edit_list.specs.Writable.{is_writable}
 use Rattle.line_patcher.specs.EntryLines.{order_at, packet_line, prefix_line, class_lines}
 use Rattle.line_patcher.specs.EntryLines.{prefix_lines}
-use Rattle.line_edit_laws.specs.Sites.{Written, Site, bytes_of, IsSingleLine, IsBlockLine}
+use Rattle.line_edit_laws.specs.Sites.{Written, written, Site, bytes_of, IsSingleLine, IsBlockLine}
 use Rattle.line_edit_laws.specs.Sites.{IsOfBlock}
 use Rattle.line_edit_laws.specs.Sites.{IsRewrittenFor}
 use Rattle.patch_laws.specs.Fits.{IsFit}
@@ -61,12 +61,10 @@ class_written place list entry =
     (opposite_packet_entry list.entries entry.1)
 
 abbrev pub prefix_written : ListPlace → RouteList → ℕ × Prefix → Written
-prefix_written place list entry = record {
-  line = prefix_line place list entry;
-  command =
-      commands.PrefixLine list.name (order_at place 5 entry.0)
-      (route_text (opposite_route_entry list.entries entry.1).permit entry.1);
-}
+prefix_written place list entry =
+    written kinds.Top
+    (commands.PrefixLine list.name (order_at place 5 entry.0)
+    (route_text (opposite_route_entry list.entries entry.1).permit entry.1))
 
 -- they are the lines that a patch adds there
 abbrev pub EntriesHaveTheirLines : Type 0

@@ -4,8 +4,10 @@ use Rattle.std.specs.Prelude.{◌++◌, map, length, codes, Contains, IsTrue}
 use Rattle.std.specs.List.{AllByRecursion, enumerate_from, flat_map}
 use Rattle.arc_base.specs.declared.limits.TheConstants.{ENTRY_LIMIT}
 use Rattle.arc_base.specs.declared.prefix.Prefix.{Prefix}
+use Rattle.net_model.specs.declared.lists.PacketEntry.{PacketEntry}
 use Rattle.net_model.specs.declared.policies.Class.{Class}
 use Rattle.ios_words.specs.declared.commands.Command.TheVariants as commands
+use Rattle.ios_words.specs.declared.kinds.BlockKind.TheVariants as kinds
 use Rattle.arc_base.specs.NameForms.{is_name}
 use Rattle.ios_words.specs.Printed.{route_text, all_routes}
 use Rattle.net_rules.specs.Lists.{packet_text}
@@ -15,28 +17,23 @@ use Rattle.edit_list.specs.declared.edit_kinds.Edit.{Edit}
 use Rattle.edit_list.specs.declared.list_kinds.NewList.{NewList}
 use Rattle.edit_list.specs.declared.list_kinds.NewList.TheVariants.{Route, Packet}
 use Rattle.edit_list.specs.Writable.{is_writable}
-use Rattle.line_patcher.specs.NewListLines.{deny_line, deny_class_line, entry_line}
-use Rattle.line_patcher.specs.NewListLines.{head_line, permit_all_line}
 use Rattle.settings_edit_laws.specs.Plain.{plain_list}
 use Rattle.settings_edit_laws.specs.SettingsAfter.{new_list_text}
 use Rattle.ios_config.specs.declared.commands.FileCommand.{FileCommand}
 use Rattle.ios_config.specs.Groups.{Block, is_same, part_of}
 use Rattle.ios_config.specs.Texts.{face_of, list_of, process_of}
-use Rattle.line_edit_laws.specs.Sites.{Written, Chunk, Single, NewBlock, chunk_commands}
+use Rattle.line_edit_laws.specs.Sites.{Written, written, Chunk, Single, NewBlock, chunk_commands}
 use Rattle.patch_laws.specs.Grown.{new_groups}
 
 -- the entries of a new route list, counted from 1
 abbrev pub deny_written : List ℕ → ℕ × Prefix → Written
-deny_written name entry = record {
-  line = deny_line name entry;
-  command = commands.PrefixLine name (Some (5 * entry.0)) (route_text false entry.1);
-}
+deny_written name entry =
+    written kinds.Top
+    (commands.PrefixLine name (Some (5 * entry.0)) (route_text false entry.1))
 
 abbrev pub permit_all_written : List ℕ → ℕ → Written
-permit_all_written name number = record {
-  line = permit_all_line name number;
-  command = commands.PrefixLine name (Some number) all_routes;
-}
+permit_all_written name number =
+    written kinds.Top (commands.PrefixLine name (Some number) all_routes)
 
 abbrev pub route_written : List ℕ → List Prefix → List Written
 route_written name prefixes =
@@ -44,21 +41,17 @@ route_written name prefixes =
     permit_all_written name (5 * (length prefixes + 1)) ∷ []
 
 -- the entries of a new packet list, and its head
+abbrev pub entry_written : PacketEntry → Written
+entry_written entry = written kinds.Extended (commands.Entry None (packet_text entry))
+
 abbrev pub deny_class_written : Class → Written
-deny_class_written class = record {
-  line = deny_class_line class;
-  command = commands.Entry None (packet_text (class_entry false class));
-}
+deny_class_written class = entry_written (class_entry false class)
 
 abbrev pub packet_written : List Class → List Written
-packet_written classes = map deny_class_written classes ++ record {
-  line = entry_line every_packet;
-  command = commands.Entry None (packet_text every_packet);
-} ∷ []
+packet_written classes = map deny_class_written classes ++ entry_written every_packet ∷ []
 
 abbrev pub head_written : List ℕ → Written
-head_written name =
-    record { line = head_line name; command = commands.ListBlock true name }
+head_written name = written kinds.Top (commands.ListBlock true name)
 
 -- the chunks of a new list of this name; the block of a packet list has this number here
 abbrev pub new_chunks : List Edit → ℕ → NewList → List ℕ → List Chunk
