@@ -7,8 +7,7 @@ use Rattle.std.specs.Str.{bytes_eq}
 use Rattle.arc_base.specs.declared.prefix.Prefix.{Prefix}
 use Rattle.arc_base.specs.PrefixText.{address_text, number_of}
 use Rattle.arc_base.proofs.NumberTexts.{number_of-decimal}
-use Rattle.ios_lines.specs.declared.kind.Kind.TheVariants.{Comment}
-use Rattle.ios_lines.specs.Kinds.{IsInner, IsSingle, is_mark, kind, top_kind}
+use Rattle.ios_lines.specs.Kinds.{IsInner, IsSingle, is_mark, kind, words_kind}
 use Rattle.ios_lines.specs.Written.{ArePlain, IsWritten, is_plain, spaced}
 use Rattle.ios_lines.proofs.WrittenLines.{indented-inner, indented-written, top-kinds, top-written}
 use Rattle.ios_words.specs.declared.commands.Command.{Command}
@@ -48,7 +47,7 @@ inner : (word : List ℕ) (ws : List (List ℕ)) → ArePlain (word ∷ ws) → 
 inner word ws plain unmarked = (indented-written (word ∷ ws) plain, indented-inner word ws plain unmarked)
 
 -- and those of a top line
-top : (word : List ℕ) (ws : List (List ℕ)) → is_plain word ≡ true → ArePlain ws → IsWritten (word ++ spaced ws) (word ∷ ws) × (kind (word ++ spaced ws) ≡ cond (is_mark word) Comment (top_kind (word ∷ ws)))
+top : (word : List ℕ) (ws : List (List ℕ)) → is_plain word ≡ true → ArePlain ws → IsWritten (word ++ spaced ws) (word ∷ ws) × (kind (word ++ spaced ws) ≡ words_kind false (word ∷ ws))
 top word ws first rest = (top-written word ws first rest, top-kinds word ws first rest)
 
 read-as : (within : BlockKind) (command : Command) → IsWritten (plain_line within command) (plain_words within command) × HasKind within command (plain_line within command) →
