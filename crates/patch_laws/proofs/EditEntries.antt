@@ -37,7 +37,7 @@ use Rattle.edit_list.specs.After.{class_entry, every_packet, opposite_packet_ent
 use Rattle.edit_list.specs.Writable.{is_writable}
 use Rattle.edit_list.specs.Changes.{list_prefixes, list_classes, new_prefixes, new_classes}
 use Rattle.line_patcher.specs.EntryLines.{first_line, order_at, packet_line, edited_packet_lists, edited_route_lists}
-use Rattle.line_patcher.specs.NewListLines.{deny_line, deny_class_line, new_list_lines}
+use Rattle.line_patcher.specs.NewListLines.{deny_line, deny_class_line, new_list_lines, permit_all_line, entry_line}
 use Rattle.line_edit_laws.specs.Sites.{Written, IsBlockLine, IsSingleLine}
 use Rattle.patch_laws.specs.EditFiles.{HasPacketList, HasRouteList, IsEditedFile}
 use Rattle.patch_laws.specs.EditSiteLaws.{own_places}

@@ -7,6 +7,7 @@ use Rattle.net_model.specs.declared.rows.Network.{Network}
 use Rattle.ios_lines.specs.declared.line.Lines.{Lines}
 use Rattle.ios_words.specs.declared.commands.Command.{Command}
 use Rattle.ios_words.specs.declared.commands.Command.TheVariants as commands
+use Rattle.ios_words.specs.declared.kinds.BlockKind.TheVariants as kinds
 use Rattle.ios_config.specs.declared.commands.FileCommand.{FileCommand}
 use Rattle.net_build.specs.declared.built.FacePlace.{FacePlace}
 use Rattle.net_build.specs.declared.built.Places.{Places}
@@ -24,7 +25,7 @@ use Rattle.line_patcher.specs.Patches.{line_end}
 use Rattle.line_patcher.specs.SessionLines.{session_lines}
 use Rattle.settings_edit_laws.specs.Additions.{process_lines}
 use Rattle.edit_list.specs.NewLists.{named_lists}
-use Rattle.line_edit_laws.specs.Sites.{Written, Chunk, Single, Site, chunk_commands, own_commands}
+use Rattle.line_edit_laws.specs.Sites.{Written, written, Chunk, Single, Site, chunk_commands, own_commands}
 use Rattle.patch_laws.specs.EntrySites.{class_written, prefix_written}
 use Rattle.patch_laws.specs.Fits.{row_line}
 use Rattle.patch_laws.specs.NewListSites.{list_chunks}
