@@ -1,5 +1,5 @@
 -- Sides that arcs keep to, as the check of a cut goes over the links.
-use Rattle.std.proofs.Common.{◌≡◌, ◌≢◌, ℕ, ◌<◌, ◌≤◌, ◌↔◌, Bool, true, false, IsTrue, List, length, map, All, Contains, refl, sym, ap, ◌∙◌, subst, arith}
+use Rattle.std.proofs.Common.{◌≡◌, ◌≢◌, ℕ, ◌<◌, ◌≤◌, ◌↔◌, Bool, true, IsTrue, List, length, map, All, Contains, refl, sym, ap, ◌∙◌, subst, arith}
 use Rattle.std.specs.List.Sorted.{IsStrictlyIncreasing}
 use Rattle.std.proofs.lemmas.Option.{slice_get_within}
 use Rattle.std.proofs.lemmas.List.Elements.{All-contains}
@@ -13,14 +13,11 @@ use Rattle.net_model.specs.Forwarding.{Ends, source_router, target_router}
 use Rattle.net_model.specs.Policies.{IsClear}
 use Rattle.net_model.specs.Witnesses.{IsOn}
 use Rattle.net_model.proofs.Arcs.{IsArc-unique}
-use Rattle.arc_nodecut.specs.Hops.{IsHop, IsNoHop}
+use Rattle.arc_nodecut.specs.Hops.{IsHop}
 use Rattle.arc_nodecut.specs.CutParts.{KeepsOver, KeepsBoth, IsInner, IsOff}
 use Rattle.arc_nodecut.specs.NodeWitnesses.{JoinsEnds, PartsAt, IsRightCut}
 
 module _ (net : Network) (to : Prefix) (routers : List Router) (side : List Bool) (link : ℕ) (from_a : Bool) where
-  pub none_keeps : IsNoHop net to link from_a → IsTrue true ↔ KeepsOver net to routers side link from_a
-  none_keeps none = (λ t arc is_arc routed over way on free. absurd (none arc is_arc routed over way), λ keeps. refl)
-
   module _ (tail head : Router) (hop : IsHop net to link from_a tail.0 head.0) where
     one : (arc : Arc) → IsArc net arc → arc.link ≡ link → arc.from_a ≡ from_a → hop.arc ≡ arc
     one arc is_arc over way = IsArc-unique net hop.arc arc hop.is_arc is_arc (hop.over ∙ sym over) (hop.direction ∙ sym way)
@@ -50,13 +47,6 @@ module _ (net : Network) (to : Prefix) (routers : List Router) (side : List Bool
     )
 
 module _ (net : Network) (to : Prefix) (routers : List Router) (side : List Bool) where
-  both_of : (link : ℕ) → KeepsOver net to routers side link true → KeepsOver net to routers side link false → KeepsBoth net to routers side link
-  both_of link forth back true = forth
-  both_of link forth back false = back
-
-  pub both_if : (link : ℕ) → KeepsOver net to routers side link true → (b : Bool) → (IsTrue b ↔ KeepsOver net to routers side link false) → IsTrue b ↔ KeepsBoth net to routers side link
-  both_if link forth b tells = (λ t. both_of link forth (tells.0 t), λ both. tells.1 (both false))
-
   pub all_keep : (n : ℕ) → length net.links ≤ n → ((link : ℕ) → link < n → KeepsBoth net to routers side link) → (link : ℕ) → KeepsBoth net to routers side link
   all_keep n all keeps link from_a arc is_arc routed over way on free =
       keeps link (omega (arith, slice_get_within net.links arc.link arc.row is_arc.link, over, all)) from_a arc is_arc routed over way on free

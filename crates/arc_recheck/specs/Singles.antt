@@ -54,7 +54,8 @@ abbrev pub IsAloneAnswer : Network → Policy → Option (List Link) → Type 0
 IsAloneAnswer net policy found = MatchOption found (HoldsNot net policy) (HoldsBut net policy)
 
 -- the policy has at most CLASS_LIMIT classes
-pub record PolicyHasFewClasses (net : Network) (policies : List Policy) (policy : Policy) : Type 0 where
+pub record PolicyHasFewClasses (net : Network) (policies : List Policy)
+    (policy : Policy) : Type 0 where
   pub count : ℕ
   pub classes : HasClasses net policies policy count
   pub few : count ≤ CLASS_LIMIT

@@ -7,6 +7,7 @@ use Rattle.proof_log.specs.declared.steps.Step.{Step}
 use Rattle.proof_log.specs.declared.steps.Step.TheVariants.{Add, Drop, Bound}
 use Rattle.proof_check.specs.Knowledge.{Knowledge, start, step_fault, after, is_empty}
 use Rattle.clean_logs.specs.Lemmas.{IsNew}
+use Rattle.clean_logs.specs.declared.kept.TheConstants.{KEPT_LEMMAS}
 
 -- the ids of the clauses that were added, the latest first
 abbrev pub added_after : List ℕ → Step → List ℕ
@@ -31,10 +32,11 @@ dropped_by drops [] = drops
 dropped_by drops (s ∷ steps) = dropped_by (drops_after drops s) steps
 
 -- An added clause is new and not empty. Only added clauses are dropped, and the j-th step that
--- drops names none of the 1,000 j that were added last.
+-- drops names none of the KEPT_LEMMAS times j that were added last.
 abbrev pub IsCleanStep : Knowledge → List ℕ → ℕ → Step → Type 0
 IsCleanStep k added drops (Add id lits hints) = IsFalse (is_empty lits) × IsNew k.clause lits hints
-IsCleanStep k added drops (Drop ids) = All (λ id. Contains (drop (1000 * (drops + 1)) added) id) ids
+IsCleanStep k added drops (Drop ids) =
+    All (λ id. Contains (drop (KEPT_LEMMAS * (drops + 1)) added) id) ids
 IsCleanStep k added drops (Bound id price) = Unit {0}
 
 -- the steps are accepted and clean, after others that added these clauses and dropped so often

@@ -3,4 +3,7 @@
 //! the contract of a function that does nothing.
 #![tactic(auto)]
 
+mod kept;
 pub mod laws;
+
+pub use kept::KEPT_LEMMAS;

@@ -1,5 +1,5 @@
 -- The lines of a text that are no comments, one by one.
-use Rattle.std.proofs.Common.{◌≡◌, ℕ, ◌+◌, ℤ, true, false, cond, List, [], ◌∷◌, ◌++◌, refl, ap, sym, ◌∙◌, append_assoc, Some, IsFalse, ◌||◌}
+use Rattle.std.proofs.Common.{◌≡◌, ℕ, ◌+◌, ℤ, false, cond, List, [], ◌∷◌, ◌++◌, refl, ap, sym, ◌∙◌, append_assoc, Some, IsFalse, ◌||◌}
 use Rattle.std.specs.List.{list_any}
 use Rattle.std.proofs.lemmas.List.Elements.{filter_map-append}
 use Rattle.arc_base.specs.WordNumbers.{number}
@@ -13,9 +13,6 @@ use Rattle.cnf_types.proofs.Growing.{onto_nothing}
 
 pub content_line : (n : ℕ) (line : List ℕ) (ls : List (List ℕ)) → is_comment line ≡ false → content n (line ∷ ls) ≡ (n + 1, line) ∷ content (n + 1) ls
 content_line n line ls e = rw e refl
-
-pub content_comment : (n : ℕ) (line : List ℕ) (ls : List (List ℕ)) → is_comment line ≡ true → content n (line ∷ ls) ≡ content (n + 1) ls
-content_comment n line ls e = rw e refl
 
 -- a line whose words are numbers goes before the first bad line
 pub bad_later : (vars n : ℕ) (line bytes : List ℕ) (ls rest : List (List ℕ)) → rest ≡ line ∷ ls → is_comment line ≡ false → bytes ≡ without_return line → IsFalse (list_any (is_bad vars) (words bytes)) → first_bad vars (content (n + 1) ls) ≡ first_bad vars (content n rest)

@@ -16,7 +16,7 @@ pub enum CnfFault {
     Count(u32),
     /// A count passes its limit: V, or the number of literals.
     TooLarge(LimitKind, u64),
-    /// Want of memory.
+    /// Out of memory.
     Memory,
 }
 

@@ -26,7 +26,7 @@ pub enum CommandKind {
 #[derive(Clone, Copy, Debug)]
 pub struct CommandOption {
     pub name: &'static str,
-    /// What stands for its value.
+    /// The word for its value in the usage line.
     pub value: &'static str,
 }
 
@@ -36,13 +36,13 @@ pub struct CommandForm {
     pub kind: CommandKind,
     /// The first word.
     pub name: &'static str,
-    /// What stands for the words that follow it, in order.
+    /// The words for the arguments that follow it, in order.
     pub places: &'static [&'static str],
     /// The options that must be given.
     pub needed: &'static [CommandOption],
     /// The options that may be left out.
     pub optional: &'static [CommandOption],
-    /// What all these stand for.
+    /// What these words mean.
     pub meaning: &'static str,
 }
 

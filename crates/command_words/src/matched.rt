@@ -56,7 +56,7 @@ macro_rules! read {
     };
 }
 
-/// The same of a value that needs memory.
+/// The value that is read with memory, and else the end of the reading.
 macro_rules! made {
     ($read:expr) => {
         match $read {

@@ -44,28 +44,11 @@ module _ (net : Network) (edits : List Edit) where
       ap (map (edit_of net edits)) (filter-append filled before (line ∷ []))
       ∙ map-append (edit_of net edits) (filter filled before) (filter filled (line ∷ []))
 
-  -- a blank line names nothing
-  blank_names : (before : List (List ℕ)) (line : List ℕ) → is_blank_line line ≡ true → named_by net edits (before ++ line ∷ []) ≡ named_by net edits before
-  blank_names before line blank = names_more before line ∙ left (is_blank_line line) line (named_by net edits before) blank
-
   filled_names : (before : List (List ℕ)) (line : List ℕ) → is_blank_line line ≡ false → named_by net edits (before ++ line ∷ []) ≡ named_by net edits before ++ edit_of net edits line ∷ []
   filled_names before line filled = names_more before line ∙ kept (is_blank_line line) line (named_by net edits before) filled
 
   chosen_from : List (Option ℕ) → List Bool
   chosen_from names = map (λ place. list_any (is_at place) names) (range_with_len 0 (length edits))
-
-  -- lines that name the same
-  marked_by : (before after : List (List ℕ)) (flags : List Bool) → named_by net edits after ≡ named_by net edits before → AreMarked net edits before flags → AreMarked net edits after flags
-  marked_by before after flags same marked = record {
-    lines = record {
-      named = subst (All IsSome) (sym same) marked.lines.named;
-      once = subst (AllPairs ◌≢◌) (sym same) marked.lines.once;
-    };
-    chosen = marked.chosen ∙ ap (λ (names : List (Option ℕ)). map (λ place. list_any (is_at place) names) (range_with_len 0 (length edits))) (sym same);
-  }
-
-  pub blank_marked : (before : List (List ℕ)) (line : List ℕ) (flags : List Bool) → is_blank_line line ≡ true → AreMarked net edits before flags → AreMarked net edits (before ++ line ∷ []) flags
-  blank_marked before line flags blank marked = marked_by before (before ++ line ∷ []) flags (blank_names before line blank) marked
 
   -- a line that names no edit
   no_edit : (names : List (Option ℕ)) (o : Option ℕ) → o ≡ None → All IsSome (names ++ o ∷ []) → ⊥

@@ -14,9 +14,6 @@ module _ (suffix : List ℕ) where
   first_then true pair xs ys zs e = e
   first_then false pair xs ys zs e = ap (λ (ps : List (List ℕ × List ℕ)). pair ∷ ps) e
 
-  last_one : (same : Bool) (pair : List ℕ × List ℕ) → cond same [] (pair ∷ []) ≡ cond same [] (pair ∷ [])
-  last_one same pair = refl
-
   pub copies_push : (names olds news : List (List ℕ)) (name old new : List ℕ) → length olds ≡ length names → length news ≡ length names →
       copies suffix (names ++ name ∷ []) (olds ++ old ∷ []) (news ++ new ∷ []) ≡ copies suffix names olds news ++ one_copy suffix name old new
   copies_push [] [] [] name old new e f = refl

@@ -1,26 +1,22 @@
 -- Flows against the links that leave a side: no flow has more units than these, and a flow that cannot grow has as many.
-use Rattle.std.proofs.Common.{◌≡◌, ◌≢◌, ℕ, zero, suc, ◌+◌, ◌<◌, ◌≤◌, Bool, true, false, not, ◌&&◌, IsTrue, IsFalse, List, [], ◌∷◌, ◌++◌, length, get_or, set, map, All, AllPairs, Contains, inl, inr, ◌⊎◌, refl, sym, ap, ◌∙◌, subst, arith, Some, None, Option, filter_map, sum_by, get_or-set_same, get_or-set_other}
-use Rattle.std.specs.Prelude.{◌==◌, if◌then◌else◌}
+use Rattle.std.proofs.Common.{◌≡◌, ℕ, zero, suc, ◌+◌, ◌<◌, ◌≤◌, Bool, true, false, not, ◌&&◌, IsTrue, List, [], ◌∷◌, length, get_or, set, All, AllPairs, Contains, inl, inr, refl, sym, ap, ◌∙◌, subst, arith, Some, None, Option, sum_by, get_or-set_same, get_or-set_other}
+use Rattle.std.specs.Prelude.{if◌then◌else◌}
 use Rattle.std.specs.List.{cons_option}
-use Rattle.std.proofs.lemmas.Bool.{cases_eq, cases_lt, cases_Bool, eq-eqb, eqb-true, ne_eqb, false≢true, and_parts, and_from, not-true}
-use Rattle.std.proofs.lemmas.List.{get_or_past, set_past, get_or_default}
+use Rattle.std.proofs.lemmas.Bool.{cases_eq, cases_lt, cases_Bool, false≢true, and_parts, and_from, not-true}
+use Rattle.std.proofs.lemmas.List.{get_or_past, get_or_default}
 use Rattle.std.proofs.lemmas.List.Sums.{sum_by-cons, get_or-le-sum_by}
-use Rattle.std.proofs.lemmas.List.Elements.{All-contains, All-cons, All-nil}
+use Rattle.std.proofs.lemmas.List.Elements.{All-contains}
 use Rattle.arc_base.specs.declared.place.Link.{Link}
 use Rattle.graph_flow.specs.declared.arcs.Arc.{Arc}
-use Rattle.graph_flow.specs.Paths.{Path, Leads, Digraph, IsGraph, Joins, MayShare}
+use Rattle.graph_flow.specs.Paths.{Leads, Digraph, IsGraph, Joins, MayShare}
 use Rattle.graph_flow.specs.Sides.{Separates, Leaves, IsLeftOver, AreLeftOver, IsLeastSide}
-use Rattle.graph_flow.specs.Flows.{Units, unit_at, leaving, entering, only_at, IsFlow, IsGreatest, out_link, links_out}
+use Rattle.graph_flow.specs.Flows.{Units, unit_at, IsFlow, IsGreatest, out_link, links_out}
 use Rattle.graph_flow.specs.Residual.{reversed, residual}
-use Rattle.graph_flow.proofs.Lists.{Contains-here, Contains-there, Contains-none, Contains-cases, AllPairs-nil, AllPairs-cons, AllPairs-members, All-from_members}
+use Rattle.graph_flow.proofs.Lists.{Contains-none, Contains-cases, AllPairs-nil, AllPairs-cons, AllPairs-members, All-from_members}
 use Rattle.graph_flow.proofs.Ways.{stays_inside}
 use Rattle.graph_flow.proofs.Turns.{OnArcs, sum-entry}
 use Rattle.graph_flow.proofs.Sums.{ind, leads_out, leads_in, out_of_side}
 use Rattle.graph_flow.proofs.Residuals.{none_or_some, Source, residual-source, residual-free, residual-back, filter_map-member, filter_map-from, same_link}
-
--- the units lead out of the set
-pub leaves-ind : (side : ℕ → Bool) (arc : Arc) → Leaves side arc → leads_out side (Some arc) ≡ 1
-leaves-ind side arc l = ap ind (and_from (side arc.tail) (not (side arc.head)) l.from_inside (ap not l.to_outside))
 
 leaves-test : (side : ℕ → Bool) (arc : Arc) → (side arc.tail && not (side arc.head)) ≡ true → Leaves side arc
 leaves-test side arc e =

@@ -1,27 +1,27 @@
 -- How a path of units is found and taken out of a flow, and what is then left.
-use Rattle.std.proofs.Common.{◌≡◌, ◌≢◌, ℕ, zero, suc, ◌+◌, ◌-◌, ◌<◌, ◌≤◌, Bool, true, false, not, ◌&&◌, ◌||◌, IsTrue, IsFalse, IsSome, is_some, List, [], ◌∷◌, ◌++◌, length, get_or, set, take, drop, map, All, AllPairs, Contains, inl, inr, ◌⊎◌, refl, sym, ap, ◌∙◌, subst, arith, Some, None, Option, filter_map, sum_by}
+use Rattle.std.proofs.Common.{◌≡◌, ◌≢◌, ℕ, zero, suc, ◌+◌, ◌-◌, ◌<◌, ◌≤◌, Bool, true, false, not, ◌&&◌, ◌||◌, is_some, List, [], ◌∷◌, ◌++◌, length, get_or, set, take, drop, All, Contains, inl, inr, refl, sym, ap, ◌∙◌, subst, arith, Some, None, Option, filter_map, sum_by}
 use Rattle.std.specs.Prelude.{◌==◌, if◌then◌else◌}
-use Rattle.std.specs.List.{cons_option, flat_map}
-use Rattle.std.proofs.lemmas.Bool.{cases_eq, cases_lt, cases_Bool, eq-eqb, eqb-true, ne_eqb, false≢true, not-false, or_cases}
-use Rattle.std.proofs.lemmas.List.{get_or_past, set_past, take_more, get_or-take, take-append-drop, length-take, length-append, append-nil}
-use Rattle.std.proofs.lemmas.List.Sums.{sum_by-cons, sum_by-set, get_or-le-sum_by}
+use Rattle.std.specs.List.{cons_option}
+use Rattle.std.proofs.lemmas.Bool.{cases_lt, cases_Bool, eq-eqb, eqb-true, ne_eqb, false≢true, not-false, or_cases}
+use Rattle.std.proofs.lemmas.List.{set_past, take_more, get_or-take, take-append-drop, length-take, length-append, append-nil}
+use Rattle.std.proofs.lemmas.List.Sums.{sum_by-cons, get_or-le-sum_by}
 use Rattle.std.proofs.lemmas.List.Concat.{flat_map-append}
 use Rattle.std.proofs.lemmas.List.Quantifiers.{all_pairs_push}
-use Rattle.std.proofs.lemmas.List.Elements.{All-contains, All-push, All-weaker, All-nil, filter_map-append, Contains-get_or, Contains-append_cases}
+use Rattle.std.proofs.lemmas.List.Elements.{All-contains, All-push, All-weaker, filter_map-append, Contains-append_cases}
 use Rattle.arc_base.specs.declared.place.Link.{Link}
 use Rattle.graph_flow.specs.declared.arcs.Arc.{Arc}
-use Rattle.graph_flow.specs.Paths.{Path, Leads, Digraph, IsGraph, Joins, MayShare, nodes_of, links_of, all_links, IsPath, AreDisjointPaths}
+use Rattle.graph_flow.specs.Paths.{Path, Leads, Digraph, IsGraph, MayShare, nodes_of, links_of, all_links, IsPath, AreDisjointPaths}
 use Rattle.arc_base.specs.Lists.{AreDistinct}
-use Rattle.graph_flow.specs.Sides.{Separates, Leaves}
+use Rattle.graph_flow.specs.Sides.{Separates}
 use Rattle.graph_flow.specs.Flows.{Units, unit_at, unit_from, unit_to, leaving, entering, IsFlow}
 use Rattle.graph_flow.specs.Answers.{first_link, AreInOrder}
 use Rattle.graph_flow.specs.Residual.{may_pass, passed_by, passable, leaving_arc, cleared, TakesPath}
-use Rattle.graph_flow.proofs.Lists.{Contains-here, Contains-there, Contains-none, Contains-cases, AllPairs-append, AllPairs-nil, All-from_members}
+use Rattle.graph_flow.proofs.Lists.{Contains-here, AllPairs-append, All-from_members}
 use Rattle.graph_flow.proofs.Ways.{Path-over, Path-members, leads, leads-start, leads-closed, way_from_leads}
 use Rattle.graph_flow.proofs.Turns.{OnArcs, sum-entry}
-use Rattle.graph_flow.proofs.Sums.{ind, leads_out, leads_in}
+use Rattle.graph_flow.proofs.Sums.{ind, leads_out}
 use Rattle.graph_flow.proofs.Residuals.{none_or_some, filter_map-member, filter_map-from}
-use Rattle.graph_flow.proofs.Cuts.{is-none, both, sum-none, leaves-not, flow_out, unit_place, place_unit, place_below, ends_below}
+use Rattle.graph_flow.proofs.Cuts.{is-none, both, sum-none, leaves-not, flow_out, unit_place, place_unit, place_below}
 use Rattle.graph_flow.proofs.Takes.{carried, at-carried, cleared-sub, cleared-stays, cleared-none, length-cleared, IsLaden, laden, taken, laden-different, link_of_way}
 use Rattle.graph_flow.proofs.Grows.{none-enters, value-leaves}
 
@@ -259,19 +259,6 @@ pub record IsTaking (arcs : List Arc) (s t : ℕ) (units : Units) (left : Units)
   pub below : All (λ path. first_link path < link) paths
   pub past : (l : ℕ) (arc : Arc) → l < link → unit_at left l ≡ Some arc → arc.tail ≢ s
   pub size : length left ≡ length units
-
-pub taking-begins : (arcs : List Arc) (s t : ℕ) (units : Units) → IsFlow arcs s t (leaving units s) units → IsTaking arcs s t units units [] 0
-taking-begins arcs s t units flow = record {
-  flow = flow;
-  count = omega arith;
-  each = All-nil (λ path. IsPath arcs s path t);
-  disjoint = AllPairs-nil (λ (k l : Link). k ≢ l);
-  gone = λ k m. absurd (Contains-none k m);
-  order = AllPairs-nil (λ (p q : List Link). first_link p < first_link q);
-  below = All-nil (λ (path : List Link). first_link path < 0);
-  past = λ l arc b. absurd (omega arith);
-  size = refl;
-}
 
 -- the link carries no unit from the source
 pub taking-skips : (arcs : List Arc) (s t : ℕ) (units left : Units) (paths : List (List Link)) (link : ℕ) → IsTaking arcs s t units left paths link →

@@ -1,15 +1,15 @@
 -- What a search of the residual network says of a flow: it is greatest, or where one more unit goes.
-use Rattle.std.proofs.Common.{◌≡◌, ◌≢◌, ℕ, zero, suc, ◌+◌, ◌<◌, ◌≤◌, Bool, true, false, IsTrue, IsFalse, List, [], ◌∷◌, ◌++◌, length, get_or, map, All, AllPairs, Contains, inl, inr, ◌⊎◌, refl, sym, ap, ◌∙◌, subst, arith, Some, None, Option, if◌then◌else◌}
-use Rattle.std.proofs.lemmas.Bool.{cases_lt, cases_Bool, false≢true, ne_eqb, eq-eqb}
+use Rattle.std.proofs.Common.{◌≡◌, ◌≢◌, ℕ, ◌+◌, ◌<◌, ◌≤◌, false, IsFalse, List, length, map, All, inl, inr, refl, sym, ap, ◌∙◌, subst, arith, if◌then◌else◌}
+use Rattle.std.proofs.lemmas.Bool.{cases_lt, ne_eqb, eq-eqb}
 use Rattle.std.proofs.lemmas.List.{get_or_past, get_or-map, length-map}
 use Rattle.std.proofs.lemmas.List.Elements.{All-contains}
 use Rattle.arc_base.specs.declared.place.Link.{Link}
 use Rattle.graph_flow.specs.declared.arcs.Arc.{Arc}
 use Rattle.graph_flow.specs.declared.search.Mark.{Mark}
-use Rattle.graph_flow.specs.declared.search.Mark.TheVariants.{Unseen, Start, After}
-use Rattle.graph_flow.specs.Paths.{Digraph, IsGraph, nodes_of}
-use Rattle.graph_flow.specs.Sides.{Separates, IsLeastSide}
-use Rattle.graph_flow.specs.Flows.{Units, unit_at, leaving, entering, only_at, flagged, links_out, IsFlow, IsGreatest, EndsAt}
+use Rattle.graph_flow.specs.declared.search.Mark.TheVariants.{Unseen, After}
+use Rattle.graph_flow.specs.Paths.{Digraph, IsGraph}
+use Rattle.graph_flow.specs.Sides.{Separates}
+use Rattle.graph_flow.specs.Flows.{Units, leaving, entering, only_at, flagged, links_out, IsFlow, IsGreatest, EndsAt}
 use Rattle.graph_flow.specs.Residual.{residual, sent}
 use Rattle.graph_flow.specs.Marks.{is_seen, depth_of, mark_at, way_to, IsSpread}
 use Rattle.graph_flow.proofs.Turns.{OnArcs}

@@ -1,5 +1,5 @@
 -- How a search looks at the arcs of a node's row.
-use Rattle.std.proofs.Common.{◌≡◌, ◌≢◌, ℕ, zero, suc, ◌+◌, ◌<◌, ◌≤◌, Bool, true, false, ◌||◌, IsTrue, IsFalse, List, [], ◌∷◌, length, get_or, All, Contains, inl, inr, ◌⊎◌, refl, sym, ap, ◌∙◌, subst, arith, Some, None, Option, filter}
+use Rattle.std.proofs.Common.{◌≡◌, ℕ, ◌+◌, ◌<◌, ◌≤◌, Bool, true, false, ◌||◌, List, length, get_or, Contains, inl, inr, refl, sym, ap, ◌∙◌, subst, arith, Some, None, Option}
 use Rattle.std.specs.Prelude.{◌==◌, slice_index}
 use Rattle.std.proofs.lemmas.Bool.{cases_lt, eq-eqb}
 use Rattle.std.proofs.lemmas.List.{get_or_default}
@@ -8,7 +8,7 @@ use Rattle.graph_flow.specs.declared.arcs.Arc.{Arc}
 use Rattle.graph_flow.specs.declared.search.Mark.{Mark}
 use Rattle.graph_flow.specs.Paths.{Digraph, IsGraph, Joins}
 use Rattle.graph_flow.specs.Flows.{Units, unit_at}
-use Rattle.graph_flow.specs.Residual.{reversed, residual, residual_of, touching, touches}
+use Rattle.graph_flow.specs.Residual.{residual, residual_of, touching, touches}
 use Rattle.graph_flow.specs.Marks.{IsSearch}
 use Rattle.graph_flow.proofs.Lists.{filter-member, filter-from}
 use Rattle.graph_flow.proofs.Residuals.{Source, residual-source, filter_map-member, filter_map-from, back_cases}

@@ -1,7 +1,7 @@
 -- The ways that a finished search knows.
-use Rattle.std.proofs.Common.{◌≡◌, ◌≢◌, ℕ, zero, suc, ◌+◌, ◌<◌, ◌≤◌, Bool, true, false, IsTrue, IsFalse, IsSome, is_some, List, [], ◌∷◌, ◌++◌, length, get_or, map, replicate, reverse, append_assoc, All, AllPairs, Contains, inl, inr, ◌⊎◌, ◌↔◌, refl, sym, ap, ◌∙◌, subst, arith, Some, None, Option}
+use Rattle.std.proofs.Common.{◌≡◌, ◌≢◌, ℕ, zero, suc, ◌≤◌, Bool, true, false, IsTrue, is_some, List, [], ◌∷◌, ◌++◌, length, get_or, map, replicate, reverse, append_assoc, All, inl, inr, ◌⊎◌, refl, sym, ap, ◌∙◌, subst, arith, Some, None, Option}
 use Rattle.std.specs.Prelude.{if◌then◌else◌}
-use Rattle.std.proofs.lemmas.Bool.{cases_lt, cases_Bool, false≢true}
+use Rattle.std.proofs.lemmas.Bool.{cases_lt, false≢true}
 use Rattle.std.proofs.lemmas.List.{get_or_past, get_or-map, map_push, length-map, reverse-append}
 use Rattle.std.proofs.lemmas.List.Elements.{All-push, All-weaker, All-nil, All-cons}
 use Rattle.std.proofs.lemmas.List.Quantifiers.{all_pairs_push}
@@ -149,16 +149,6 @@ way-step marks steps at arc depth e =
     let after : IsAfter marks at arc depth = steps at arc depth e in
     let count : depth ≡ suc (depth_of (mark_at marks arc.tail)) = omega (arith, after.step) in
     ap (λ (m : Mark). way_by marks (depth_of m) m) e ∙ ap (λ (n : ℕ). way_by marks n (After arc depth)) count
-
-pub way-none : (marks : List Mark) (at : ℕ) → ((arc : Arc) (depth : ℕ) → mark_at marks at ≡ After arc depth → ⊥) → way_to marks at ≡ []
-way-none marks at never =
-    elim (mark-cases (mark_at marks at)) [
-      | inl e ↦ ap (λ (m : Mark). way_by marks (depth_of m) m) e
-      | inr more ↦ elim more [
-        | inl e ↦ ap (λ (m : Mark). way_by marks (depth_of m) m) e
-        | inr (arc, depth, e) ↦ absurd (never arc depth e)
-      ]
-    ]
 
 -- the arcs that are left and those gathered so far
 pub arcs-step : (marks : List Mark) (at : ℕ) (arc : Arc) (back : List Arc) → way_to marks at ≡ way_to marks arc.tail ++ arc ∷ [] →

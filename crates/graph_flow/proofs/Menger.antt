@@ -1,17 +1,17 @@
 -- The theorem of Menger for links, by flows that grow as long as the residual network leads to the target.
-use Rattle.std.proofs.Common.{◌≡◌, ◌≢◌, ℕ, zero, suc, ◌+◌, ◌<◌, ◌≤◌, Bool, true, false, IsTrue, IsFalse, List, [], ◌∷◌, ◌++◌, length, get_or, map, replicate, All, AllPairs, Contains, inl, inr, ◌⊎◌, ◌↔◌, refl, sym, ap, ◌∙◌, subst, arith, Some, None, Option, sum_by, filter}
+use Rattle.std.proofs.Common.{◌≡◌, ◌≢◌, ℕ, zero, suc, ◌+◌, ◌<◌, ◌≤◌, Bool, true, false, IsTrue, IsFalse, List, [], ◌∷◌, length, map, replicate, All, Contains, inl, inr, ◌⊎◌, refl, sym, ap, subst, arith, None, Option, filter}
 use Rattle.std.specs.Prelude.{◌==◌}
-use Rattle.std.proofs.lemmas.Bool.{cases_eq, cases_lt, cases_Bool}
+use Rattle.std.proofs.lemmas.Bool.{cases_lt, cases_Bool}
 use Rattle.std.proofs.lemmas.List.{get_or_past, get_or-replicate, length-replicate}
-use Rattle.std.proofs.lemmas.List.Elements.{All-contains, All-cons, All-nil, All-head, All-tail, filter_passes, Contains-append_left, Contains-append_right}
+use Rattle.std.proofs.lemmas.List.Elements.{All-contains, All-head, All-tail, filter_passes, Contains-append_left, Contains-append_right}
 use Rattle.arc_base.specs.declared.place.Link.{Link}
 use Rattle.graph_flow.specs.declared.arcs.Arc.{Arc}
-use Rattle.graph_flow.specs.Paths.{Path, Leads, Digraph, IsGraph, nodes_of, links_of, all_links, IsPath, AreDisjointPaths}
+use Rattle.graph_flow.specs.Paths.{Path, Leads, Digraph, IsGraph, links_of, all_links, IsPath, AreDisjointPaths}
 use Rattle.arc_base.specs.Lists.{AreDistinct}
-use Rattle.graph_flow.specs.Sides.{Separates, Leaves, AreLeftOver}
-use Rattle.graph_flow.specs.Flows.{Units, unit_at, unit_from, unit_to, leaving, entering, only_at, IsFlow, links_out}
+use Rattle.graph_flow.specs.Sides.{Separates, Leaves}
+use Rattle.graph_flow.specs.Flows.{Units, unit_at, unit_from, unit_to, leaving, entering, IsFlow, links_out}
 use Rattle.graph_flow.specs.Residual.{residual, sent}
-use Rattle.graph_flow.specs.Laws.{HavePaths, HaveSmallCut, PathsOrCut, NotBoth, ReachedAreListed}
+use Rattle.graph_flow.specs.Laws.{HaveSmallCut, PathsOrCut, NotBoth, ReachedAreListed}
 use Rattle.graph_flow.proofs.Lists.{Contains-here, Contains-there, Contains-none, Contains-cases, AllPairs-right, AllPairs-across, All-from_members, without, Without, filter-member}
 use Rattle.graph_flow.proofs.Ways.{leads, leads-start, leads-closed, way_from_leads, leads_from_way, simple_way, Simple, head_on_way}
 use Rattle.graph_flow.proofs.Turns.{OnArcs, length-sent}

@@ -1,15 +1,15 @@
 -- The arcs of the residual network: which there are, and what a way over them does to a flow.
-use Rattle.std.proofs.Common.{◌≡◌, ◌≢◌, ℕ, zero, suc, ◌+◌, ◌<◌, ◌≤◌, Bool, true, false, List, [], ◌∷◌, ◌++◌, length, get_or, map, All, AllPairs, Contains, inl, inr, ◌⊎◌, refl, sym, ap, ◌∙◌, subst, arith, Some, None, Option, filter_map}
+use Rattle.std.proofs.Common.{◌≡◌, ◌≢◌, ℕ, ◌+◌, ◌<◌, ◌≤◌, Bool, true, false, List, [], ◌∷◌, length, map, All, Contains, inl, inr, ◌⊎◌, refl, sym, ap, ◌∙◌, subst, arith, Some, None, Option, filter_map}
 use Rattle.std.specs.Prelude.{◌==◌, if◌then◌else◌}
 use Rattle.std.specs.List.{cons_option}
-use Rattle.std.proofs.lemmas.Bool.{cases_eq, cases_Bool, eq-eqb, eqb-true, ne_eqb, false≢true}
+use Rattle.std.proofs.lemmas.Bool.{cases_eq, eq-eqb, eqb-true, ne_eqb}
 use Rattle.std.proofs.lemmas.List.Elements.{All-contains, All-cons, All-nil}
 use Rattle.arc_base.specs.declared.place.Link.{Link}
 use Rattle.graph_flow.specs.declared.arcs.Arc.{Arc}
-use Rattle.graph_flow.specs.Paths.{Path, Digraph, IsGraph, Joins, MayShare, nodes_of}
+use Rattle.graph_flow.specs.Paths.{Path, Digraph, IsGraph, MayShare, nodes_of}
 use Rattle.arc_base.specs.Lists.{AreDistinct}
-use Rattle.graph_flow.specs.Flows.{Units, unit_at, leaving, entering, only_at, IsFlow}
-use Rattle.graph_flow.specs.Residual.{reversed, taken_back, residual_of, residual, turned, turn, sent}
+use Rattle.graph_flow.specs.Flows.{Units, unit_at, entering, only_at, IsFlow}
+use Rattle.graph_flow.specs.Residual.{reversed, taken_back, residual_of, residual, sent}
 use Rattle.graph_flow.proofs.Lists.{Contains-here, Contains-there, Contains-none, Contains-cases, AllPairs-nil, AllPairs-cons, AllPairs-head, AllPairs-tail, AllPairs-members, All-from_members}
 use Rattle.graph_flow.proofs.Ways.{Path-members, tail_on_way, head_on_way}
 use Rattle.graph_flow.proofs.Turns.{here, HasRoom, Shifts, OnArcs, IsRoute, OnArcs-sent, sent-shifts, entering-sent}

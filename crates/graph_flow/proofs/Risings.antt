@@ -1,8 +1,7 @@
 -- Lists that grow by the places at which a table holds something.
-use Rattle.std.proofs.Common.{◌≡◌, ℕ, ◌+◌, ◌<◌, ◌≤◌, ◌↔◌, ◌⊎◌, inl, inr, IsSome, List, [], ◌∷◌, ◌++◌, length, None, sym, ap, ◌∙◌, subst, arith}
+use Rattle.std.proofs.Common.{◌≡◌, ℕ, ◌+◌, ◌<◌, ◌↔◌, ◌⊎◌, inl, inr, IsSome, List, [], ◌∷◌, ◌++◌, None, sym, ap, ◌∙◌, subst, arith}
 use Rattle.std.specs.Prelude.{Contains, AllPairs, is_some}
 use Rattle.std.proofs.lemmas.Bool.{cases_lt, false≢true}
-use Rattle.std.proofs.lemmas.List.{get_or_past}
 use Rattle.std.proofs.lemmas.List.Elements.{Contains-append_left, Contains-append_right, Contains-append_cases}
 use Rattle.arc_base.specs.declared.place.Link.{Link}
 use Rattle.graph_flow.specs.Flows.{Units, unit_at}
@@ -16,12 +15,6 @@ Lower k l = k.0 < l.0
 pub record AreBelow (units : Units) (n : ℕ) (links : List Link) : Type 0 where
   pub rising : AllPairs Lower links
   pub exact : (link : Link) → Contains links link ↔ ((link.0 < n) × IsSome (unit_at units link.0))
-
-pub none-below : (units : Units) → AreBelow units 0 []
-none-below units = record {
-  rising = AllPairs-nil Lower;
-  exact = λ link. (λ has. absurd (Contains-none link has), λ low. absurd (omega (arith, low.0)));
-}
 
 below_or_at : (n m : ℕ) → m < n + 1 → (m < n) ⊎ (m ≡ n)
 below_or_at n m low = elim (cases_lt m n) [ inl below ↦ inl below | inr above ↦ inr (omega arith) ]
@@ -63,13 +56,3 @@ no-more units n links none is = record {
     ],
   );
 }
-
--- at the end of the table these are all
-pub all-below : (units : Units) (n : ℕ) (links : List Link) → length units ≤ n → AreBelow units n links → (link : Link) → Contains links link ↔ IsSome (unit_at units link.0)
-all-below units n links end is link = (
-  λ has. ((is.exact link).0 has).1,
-  λ some. elim (cases_lt link.0 n) [
-    | inl low ↦ (is.exact link).1 (low, some)
-    | inr past ↦ absurd (false≢true (sym (ap is_some (get_or_past units link.0 None (omega (arith, past, end)))) ∙ some))
-  ],
-)

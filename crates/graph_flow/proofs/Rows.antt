@@ -1,15 +1,15 @@
 -- How a graph keeps the rows of its nodes.
-use Rattle.std.proofs.Common.{◌≡◌, ◌≢◌, ℕ, zero, suc, ◌+◌, ◌<◌, ◌≤◌, ◌^◌, max, Bool, true, false, cond, ◌||◌, List, [], ◌∷◌, ◌++◌, length, get_or, set, replicate, All, AllPairs, inl, inr, ◌⊎◌, refl, sym, ap, ◌∙◌, subst, arith, filter, length-set, get_or-set_same, get_or-set_other, append-nil}
+use Rattle.std.proofs.Common.{◌≡◌, ◌≢◌, ℕ, ◌+◌, ◌<◌, ◌^◌, max, Bool, true, false, cond, ◌||◌, List, [], ◌∷◌, ◌++◌, length, get_or, set, replicate, All, AllPairs, inl, inr, refl, sym, ap, ◌∙◌, subst, arith, length-set, get_or-set_same, get_or-set_other, append-nil}
 use Rattle.std.specs.Prelude.{◌==◌}
 use Rattle.std.proofs.lemmas.Bool.{cases_eq, eq-eqb, ne_eqb}
-use Rattle.std.proofs.lemmas.List.{get_or-replicate, length-replicate, set-get_or, set-set, get_or_default}
+use Rattle.std.proofs.lemmas.List.{get_or-replicate, length-replicate, set-get_or, set-set}
 use Rattle.std.proofs.lemmas.List.Elements.{All-nil, All-push, All-weaker, filter-append}
 use Rattle.std.proofs.lemmas.List.Quantifiers.{all_pairs_push}
 use Rattle.graph_flow.specs.declared.arcs.Arc.{Arc}
 use Rattle.graph_flow.specs.declared.graph.Graph.TheInside.{Inside}
-use Rattle.graph_flow.specs.Paths.{Digraph, IsGraph, Joins, MayShare}
+use Rattle.graph_flow.specs.Paths.{Joins, MayShare}
 use Rattle.graph_flow.specs.Residual.{touches, touching, with_arc}
-use Rattle.graph_flow.specs.Adjacency.{IsKept, AreRows, digraph_of}
+use Rattle.graph_flow.specs.Adjacency.{IsKept, AreRows}
 use Rattle.graph_flow.proofs.Lists.{AllPairs-nil}
 
 -- a graph without arcs

@@ -1,15 +1,13 @@
 -- How a search goes on: what holds when it begins, after each arc that it follows, and at its end.
-use Rattle.std.proofs.Common.{◌≡◌, ◌≢◌, ℕ, zero, suc, ◌+◌, ◌*◌, ◌<◌, ◌≤◌, Bool, true, false, IsTrue, IsFalse, List, [], ◌∷◌, ◌++◌, length, get_or, set, replicate, All, Contains, inl, inr, ◌⊎◌, refl, sym, ap, ◌∙◌, subst, arith, sum_by, length-set, get_or-set_same, get_or-set_other, Some, None, Option}
+use Rattle.std.proofs.Common.{◌≡◌, ℕ, zero, suc, ◌+◌, ◌*◌, ◌<◌, ◌≤◌, Bool, IsTrue, IsFalse, List, [], ◌∷◌, length, get_or, set, Contains, inl, inr, ◌⊎◌, refl, sym, ap, ◌∙◌, subst, arith, sum_by, length-set, get_or-set_same, get_or-set_other}
 use Rattle.std.specs.Prelude.{slice_index, if◌then◌else◌}
 use Rattle.std.proofs.lemmas.Bool.{cases_eq, cases_lt, false≢true}
-use Rattle.std.proofs.lemmas.List.{get_or_past, get_or_default}
+use Rattle.std.proofs.lemmas.List.{get_or_past}
 use Rattle.std.proofs.lemmas.List.Sums.{sum_by-cons, sum_by-set, sum_by-le}
 use Rattle.graph_flow.specs.declared.arcs.Arc.{Arc}
 use Rattle.graph_flow.specs.declared.search.Mark.{Mark}
 use Rattle.graph_flow.specs.declared.search.Mark.TheVariants.{Unseen, Start, After}
-use Rattle.graph_flow.specs.Flows.{Units}
-use Rattle.graph_flow.specs.Residual.{residual, residual_of, touching, touches}
-use Rattle.graph_flow.specs.Marks.{is_seen, depth_of, mark_at, IsAfter, AreSteps, IsSpread, seen_once, IsSearch, Follows, Stays, Finds}
+use Rattle.graph_flow.specs.Marks.{is_seen, depth_of, mark_at, IsAfter, IsSpread, seen_once, IsSearch, Follows}
 
 -- the node was reached
 abbrev pub Seen : List Mark → ℕ → Type 0

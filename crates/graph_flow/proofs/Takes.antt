@@ -1,5 +1,5 @@
 -- Paths taken out of a flow, one after the other.
-use Rattle.std.proofs.Common.{◌≡◌, ◌≢◌, ℕ, zero, suc, ◌+◌, ◌<◌, ◌≤◌, Bool, true, false, IsTrue, IsFalse, List, [], ◌∷◌, ◌++◌, length, get_or, set, map, All, AllPairs, Contains, inl, inr, ◌⊎◌, refl, sym, ap, ◌∙◌, subst, arith, Some, None, Option, filter_map, sum_by, get_or-set_same, get_or-set_other, length-set}
+use Rattle.std.proofs.Common.{◌≡◌, ◌≢◌, ℕ, zero, suc, ◌+◌, ◌<◌, List, [], ◌∷◌, length, set, map, All, AllPairs, Contains, inl, inr, refl, sym, ap, ◌∙◌, subst, arith, Some, None, Option, filter_map, sum_by, get_or-set_same, get_or-set_other, length-set}
 use Rattle.std.proofs.lemmas.Bool.{cases_eq, cases_lt, cases_Bool}
 use Rattle.std.proofs.lemmas.List.{get_or_past, set_past}
 use Rattle.std.proofs.lemmas.List.Elements.{All-contains, All-cons, All-nil, All-head, All-tail, All-map, Contains-append_cases}
@@ -8,12 +8,12 @@ use Rattle.graph_flow.specs.declared.arcs.Arc.{Arc}
 use Rattle.graph_flow.specs.Paths.{Path, Digraph, IsGraph, nodes_of, links_of, all_links, IsPath, AreDisjointPaths}
 use Rattle.arc_base.specs.Lists.{AreDistinct}
 use Rattle.graph_flow.specs.Sides.{Separates}
-use Rattle.graph_flow.specs.Flows.{Units, unit_at, leaving, entering, only_at, IsFlow}
-use Rattle.graph_flow.specs.Residual.{reversed, cleared}
+use Rattle.graph_flow.specs.Flows.{Units, unit_at, IsFlow}
+use Rattle.graph_flow.specs.Residual.{cleared}
 use Rattle.graph_flow.proofs.Lists.{Contains-here, Contains-there, Contains-none, Contains-cases, AllPairs-nil, AllPairs-cons, AllPairs-head, AllPairs-tail, AllPairs-append, All-from_members}
-use Rattle.graph_flow.proofs.Ways.{Path-over, Path-members, head_on_way, leads, leads-start, leads-closed, way_from_leads, simple_way, Simple}
-use Rattle.graph_flow.proofs.Turns.{here, Shifts, Shifts-same, Shifts-then, take-shifts, OnArcs, some-inj}
-use Rattle.graph_flow.proofs.Sums.{leads_out, leads_in}
+use Rattle.graph_flow.proofs.Ways.{Path-over, head_on_way, leads, leads-start, leads-closed, way_from_leads, simple_way, Simple}
+use Rattle.graph_flow.proofs.Turns.{Shifts, Shifts-same, Shifts-then, take-shifts, OnArcs, some-inj}
+use Rattle.graph_flow.proofs.Sums.{leads_out}
 use Rattle.graph_flow.proofs.Residuals.{filter_map-member, filter_map-from, point-more}
 use Rattle.graph_flow.proofs.Cuts.{is-none, both, sum-none, leaves-not, flow_out, unit_place, place_unit, place_below}
 

@@ -1,13 +1,12 @@
 -- One more unit over an arc, and over the arcs of a way: what it changes at each node and each link.
-use Rattle.std.proofs.Common.{◌≡◌, ◌≢◌, ℕ, zero, suc, ◌+◌, ◌<◌, ◌≤◌, List, [], ◌∷◌, ◌++◌, length, get_or, set, All, AllPairs, Contains, inl, inr, ◌⊎◌, refl, sym, ap, ◌∙◌, subst, arith, Some, None, Option, sum_by, get_or-set_same, get_or-set_other, length-set}
+use Rattle.std.proofs.Common.{◌≡◌, ℕ, ◌+◌, ◌<◌, ◌≤◌, List, [], ◌∷◌, ◌++◌, length, set, All, AllPairs, Contains, inl, inr, ◌⊎◌, refl, sym, ap, ◌∙◌, subst, arith, Some, None, Option, sum_by, get_or-set_same, get_or-set_other, length-set}
 use Rattle.std.specs.Prelude.{◌==◌, if◌then◌else◌}
 use Rattle.std.proofs.lemmas.List.Sums.{sum_by-set}
 use Rattle.std.proofs.lemmas.List.Elements.{All-contains, All-head, All-tail}
-use Rattle.std.proofs.lemmas.Bool.{cases_eq, eq-eqb, ne_eqb, cases_lt}
-use Rattle.std.proofs.lemmas.List.{get_or_past, set_past}
+use Rattle.std.proofs.lemmas.Bool.{cases_eq, ne_eqb}
 use Rattle.graph_flow.specs.declared.arcs.Arc.{Arc}
-use Rattle.graph_flow.specs.Paths.{Path, Digraph, IsGraph, Joins, MayShare, nodes_of}
-use Rattle.graph_flow.specs.Flows.{Units, unit_at, unit_from, unit_to, leaving, entering, only_at, IsFlow}
+use Rattle.graph_flow.specs.Paths.{Path}
+use Rattle.graph_flow.specs.Flows.{Units, unit_at, unit_from, unit_to, leaving, entering}
 use Rattle.graph_flow.specs.Residual.{reversed, turned, turn, sent}
 use Rattle.graph_flow.proofs.Lists.{Contains-here, Contains-there, AllPairs-head, AllPairs-tail}
 

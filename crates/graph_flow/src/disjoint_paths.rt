@@ -18,7 +18,7 @@ use crate::units::into_paths;
 use arc_base::{Link, List, Memory};
 use std::alloc::Global;
 
-/// So many link-disjoint paths from `s` to `t`, or else the fewer links that leave the least source
+/// `want` link-disjoint paths from `s` to `t`, or else the fewer links that leave the least source
 /// side.
 pub fn disjoint(alloc: Global, g: &Graph, s: u32, t: u32, want: u32) -> Result<FlowAnswer, Memory>
     requires source { s < g.now.nodes }

@@ -1,6 +1,6 @@
 //! The links without which no path leads from one node to another.
-ghost use Rattle.std.specs.Prelude.{◌≡◌, ◌↔◌, ℕ, ◌<◌, IfOk, OnOk, IsTrue, IsSome, Some, None, AllPairs};
-ghost use Rattle.std.specs.Prelude.{Contains, vec_len, ◌++◌, ◌∷◌, [], ◌^◌, All, length};
+ghost use Rattle.std.specs.Prelude.{◌≡◌, ◌↔◌, ℕ, ◌<◌, IfOk, OnOk, IsTrue, IsSome, Some, None};
+ghost use Rattle.std.specs.Prelude.{AllPairs, Contains, vec_len, ◌++◌, ◌∷◌, [], ◌^◌, All, length};
 ghost use Rattle.graph_flow.specs.Paths.{IsGraph};
 ghost use Rattle.graph_flow.specs.Flows.{unit_at};
 ghost use Rattle.graph_flow.specs.Marks.{is_seen, mark_at, IsSpread};

@@ -180,7 +180,7 @@ impl Search {
         count
     }
 
-    /// Puts the head of an arc into the queue, where the arc leads from the node and its head was
+    /// Adds the head of an arc to the queue, where the arc leads from the node and its head was
     /// not seen before.
     fn follow(&mut self, arc: Arc, node: u32, count: usize) -> usize
         requires head { arc.head < vec_len self.old.marks }

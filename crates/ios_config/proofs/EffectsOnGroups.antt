@@ -113,7 +113,6 @@ pairs-inserted (b ∷ front) c back all before after =
 
 pub still-once : StillStandsOnce
 still-once place front c back once before after =
-    let none : Contains [] c → ⊥ = Contains-none c in
     let front_moved = map (command_moved place) front in
     pairs-inserted front_moved c (map (command_moved place) back)
     (subst (AllPairs Apart) (map-append (command_moved place) front back) (AllPairs-map Apart (command_moved place) (front ++ back) once))

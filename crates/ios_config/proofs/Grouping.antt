@@ -1,5 +1,5 @@
 -- One step of the grouping of commands.
-use Rattle.std.proofs.Common.{◌≡◌, ℕ, ◌+◌, ◌<◌, true, false, List, [], ◌∷◌, ◌++◌, map, length, get_or, set, take, sym, ◌∙◌, ap, subst, arith, if◌then◌else◌, Vec}
+use Rattle.std.proofs.Common.{◌≡◌, ℕ, ◌+◌, ◌<◌, true, false, List, [], ◌∷◌, ◌++◌, map, length, get_or, set, take, sym, ◌∙◌, ap, subst, if◌then◌else◌, Vec}
 use Rattle.std.specs.List.{list_any, position_or_len}
 use Rattle.std.specs.declared.alloc.Global.{Global}
 use denote.Ref.{Bor}
@@ -9,7 +9,7 @@ use Rattle.ios_config.specs.declared.commands.FileCommand.{FileCommand}
 use Rattle.ios_config.specs.declared.parts.Part as keys
 use Rattle.ios_config.specs.Groups.{is_same, part_of, distinct, members, groups}
 use Rattle.ios_config.specs.Seen.{part_seen, commands_seen, group_list}
-use Rattle.ios_config.proofs.Keys.{eq_part, eq_part-same, any_tied, position_tied, insert_tied, position_within, position_past}
+use Rattle.ios_config.proofs.Keys.{eq_part, eq_part-same, any_tied, position_tied, insert_tied, position_past}
 use Rattle.ios_config.proofs.PartLists.{distinct_more, groups_new, groups_old}
 
 -- the keys and the groups are those of these commands
@@ -38,10 +38,6 @@ module _ (cs : List FileCommand) (c : FileCommand) (ks ls : List keys.Part) (k :
       insert_tied eq_part part_seen is_same eq_part-same ks ls k added ∙
       (λ i. if list_any (is_same (key i)) (are.same_parts i) then are.same_parts i else are.same_parts i ++ key i ∷ []) ∙
       sym (ap distinct (map-append part_of cs (c ∷ [])) ∙ distinct_more (map part_of cs) (part_of c))
-
-  -- the place of a key that was there lies among the groups
-  pub old_within : list_any (eq_part k) ks ≡ true → position_or_len (eq_part k) ks < length gs
-  old_within e = let l : position_or_len (eq_part k) ks < length ks = position_within (eq_part k) ks e in let m : length ks ≡ length gs = long in omega arith
 
   -- that of a new one is the next
   pub new_next : list_any (eq_part k) ks ≡ false → position_or_len (eq_part k) ks ≡ length gs

@@ -81,10 +81,6 @@ joins-group place front c back part is beside =
     ∙ same-map (λ p. members (between place front c back) (part_moved place p)) (λ p. members_with place front c back p (is_same p part)) (distinct (map part_of (front ++ back)))
     (λ p. members-between place front c back p (is_same p part) (ap (is_same (part_moved place p)) is ∙ same-moved place p part))
 
--- what is made of parts that are split is split so
-split-map : {A B : Type 0} → (f : A → B) (xs ys : List A) → map f (xs ++ ys) ≡ map f xs ++ map f ys
-split-map f xs ys = map-append f xs ys
-
 none-members : (part : Part) (ds : List FileCommand) → list_any (is_same part) (map part_of ds) ≡ false → members ds part ≡ []
 none-members part [] none = refl
 none-members part (d ∷ ds) none =

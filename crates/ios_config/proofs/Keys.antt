@@ -1,5 +1,5 @@
 -- The keys of the code's indexes, which refer to names, and what they stand for.
-use Rattle.std.proofs.Common.{◌≡◌, ◌+◌, ◌<◌, ◌||◌, not, Bool, true, false, cond, List, [], ◌∷◌, ◌++◌, map, length, refl, sym, ◌∙◌, ap, arith, Decides, if◌then◌else◌, eq-eqb, eqb-true}
+use Rattle.std.proofs.Common.{◌≡◌, ◌+◌, ◌||◌, not, Bool, true, false, cond, List, [], ◌∷◌, ◌++◌, map, length, refl, sym, ◌∙◌, ap, arith, Decides, if◌then◌else◌, eq-eqb, eqb-true}
 use Rattle.std.specs.List.{list_any, position_or_len}
 use Rattle.std.proofs.lemmas.Bool.{false≢true}
 use Rattle.std.proofs.lemmas.Slice.Eq.{bytes_eq-Decides}
@@ -60,15 +60,6 @@ module _ {K X : Type 0} (eq : K → K → Bool) (seen : K → X) (same : X → X
       by : (b : Bool) → list_any (eq k) ks ≡ b → map seen (if b then ks else ks ++ k ∷ []) ≡ (if b then map seen ks else map seen ks ++ seen k ∷ [])
       by true e = refl
       by false e = map-append seen ks (k ∷ [])
-
--- a place that is found lies in the list, and else it is the length
-pub position_within : {X : Type 0} (p : X → Bool) (xs : List X) → list_any p xs ≡ true → position_or_len p xs < length xs
-position_within p [] e = absurd (false≢true e)
-position_within p (x ∷ xs) e = by (p x) refl (position_within p xs)
-  where
-    by : (b : Bool) → p x ≡ b → (list_any p xs ≡ true → position_or_len p xs < length xs) → cond (not b) (1 + position_or_len p xs) 0 < length (x ∷ xs)
-    by true h ih = omega arith
-    by false h ih = let l : position_or_len p xs < length xs = ih (ap (λ c. c || list_any p xs) (sym h) ∙ e) in omega arith
 
 pub position_past : {X : Type 0} (p : X → Bool) (xs : List X) → list_any p xs ≡ false → position_or_len p xs ≡ length xs
 position_past p [] e = refl

@@ -1,6 +1,5 @@
 -- What loops over groups and commands make, one more at a time.
 use Rattle.std.proofs.Common.{◌≡◌, ℕ, ◌+◌, ◌<◌, ◌≤◌, List, [], ◌∷◌, ◌++◌, length, get_or, take, map, sym, ◌∙◌, ap, Option, Some, None, true, false, if◌then◌else◌}
-use Rattle.std.specs.Prelude.{option_to_list}
 use denote.Ref.{Bor}
 use Rattle.ios_config.specs.declared.commands.FileCommand.{FileCommand}
 use Rattle.ios_words.specs.declared.commands.Command.{Command}
@@ -27,10 +26,6 @@ pieces_more f g now next xs i x h e is grown =
 -- all pieces
 pub pieces_all : {X Y Z : Type 0} (f : Y → List Z) (g : X → Y) (now : List Z) (xs : List X) (i : ℕ) → length xs ≤ i → now ≡ flat_map f (map g (take i xs)) → now ≡ flat_map f (map g xs)
 pieces_all f g now xs i h is = is ∙ ap (λ l. flat_map f (map g l)) (take_all i xs h)
-
--- a list with what an option holds, or without
-pub with_option : {Z : Type 0} (now next rest : List Z) (o : Option Z) → option_to_list o ≡ rest → next ≡ now ++ option_to_list o → next ≡ now ++ rest
-with_option now next rest o is grown = grown ∙ ap (λ l. now ++ l) is
 
 -- one more command that a reference leads to
 pub seen_more : (xs : List (Bor FileCommand)) (i : ℕ) (x : Bor FileCommand) → i < length xs → x ≡ get_or xs i x →

@@ -30,10 +30,6 @@ use Rattle.ios_config.proofs.HostnameStays.{hostname-stays}
 use Rattle.ios_config.proofs.InsertedCommands.{marks-split}
 use Rattle.ios_config.proofs.LineLists.{appended-in}
 
--- a process's block is no interface and no list
-no-kind : (a b : BlockKind) (command : Command) → opened_by command ≡ b → IsProcessKind b → (b ≡ a → ⊥) → opened_by command ≡ a → ⊥
-no-kind a b command opens is differ same = differ (sym opens ∙ same)
-
 no-face : (command : Command) (within : BlockKind) → opened_by command ≡ within → IsProcessKind within → (line : ℕ) (block : List FileCommand) → face_by command line block ≡ []
 no-face (commands.Interface name) within opens is line block = absurd (⊎_elim (λ (o : within ≡ kinds.Ospf). clash-ospf (opens ∙ o)) (λ (b : within ≡ kinds.Bgp). clash-bgp (opens ∙ b)) is)
   where

@@ -1,13 +1,12 @@
 -- What stands already, as the commands of a file come one by one.
-use Rattle.std.proofs.Common.{◌≡◌, ℕ, ◌+◌, ◌<◌, ◌≤◌, ◌⊎◌, inl, inr, ◌||◌, Bool, true, false, List, [], ◌∷◌, ◌++◌, map, length, get_or, take, drop, Some, None, refl, sym, ◌∙◌, ap, subst, arith, Decides, if◌then◌else◌}
+use Rattle.std.proofs.Common.{◌≡◌, ℕ, ◌+◌, ◌<◌, ◌⊎◌, inl, inr, ◌||◌, Bool, true, false, List, [], ◌∷◌, ◌++◌, map, length, get_or, take, drop, Some, None, refl, sym, ◌∙◌, ap, subst, arith, Decides, if◌then◌else◌}
 use Rattle.std.specs.Prelude.{Contains, Any, ◌↔◌}
 use Rattle.std.specs.List.{list_any}
-use Rattle.std.proofs.lemmas.Bool.{false≢true, cases_lt}
+use Rattle.std.proofs.lemmas.Bool.{false≢true}
 use Rattle.std.proofs.lemmas.List.{take-append-drop, drop_more, take_more, map-append, get_or_default}
 use Rattle.std.proofs.lemmas.List.Elements.{Contains-append_right, Contains-append_cases, Contains-push, Contains-append_left}
 use Rattle.std.proofs.lemmas.List.Quantifiers.{all_pairs_push}
 use Rattle.indexmap.specs.IndexSet.{insert_key}
-use Rattle.ios_words.specs.declared.commands.Command.{Command}
 use Rattle.ios_config.specs.declared.commands.FileCommand.{FileCommand}
 use Rattle.ios_config.specs.Twice.{Stand, stand_of, excluded, Clash, StandOnce, IsFirstDuplicate}
 use Rattle.ios_config.proofs.Falls.{any_to, any_from}
@@ -58,15 +57,6 @@ module _ {K X : Type 0} (eq : K → K → Bool) (seen : K → X) (same : (x y : 
 -- what stands in these names is what the commands make stand
 pub record Stands (names : List Stand) (before : List FileCommand) : Type 0 where
   pub exactly : (s : Stand) → Contains names s ↔ Any (λ b. stand_of b.command ≡ Some s) before
-
--- nothing stands before the first command
-pub stands_none : (names : List Stand) → names ≡ [] → Stands names []
-stands_none names none = record {
-  exactly = λ s. (
-    λ h. let k : Contains [] s = subst (λ (l : List Stand). Contains l s) none h in absurd (omega (arith, k.1)),
-    λ (h : Any (λ (b : FileCommand). stand_of b.command ≡ Some s) []). absurd (omega (arith, h.2)),
-  );
-}
 
 module _ (cs : List FileCommand) (i : ℕ) (c : FileCommand) (names : List Stand) (h : i < length cs) (is : c ≡ get_or cs i c) (stands : Stands names (take i cs)) where
   -- what may not stand already stands
@@ -123,24 +113,3 @@ module _ (cs : List FileCommand) (i : ℕ) (c : FileCommand) (names : List Stand
       ],
     );
   }
-
--- some of one, and of two
-pub some_of_one : {X : Type 0} (P : X → Type 0) (s : X) → P s ↔ Any P (s ∷ [])
-some_of_one P s = (λ p. (0, s, omega arith, refl, p), λ any. let z : any.0 ≡ 0 = omega (arith, any.2) in subst P (sym (ap (λ n. get_or (s ∷ []) n any.1) (sym z) ∙ any.3)) any.4)
-
-pub some_of_two : {X : Type 0} (P : X → Type 0) (s t : X) → (P s ⊎ P t) ↔ Any P (s ∷ t ∷ [])
-some_of_two {X} P s t = (
-  λ h. elim h [ inl p ↦ (0, s, omega arith, refl, p) | inr p ↦ (1, t, omega arith, refl, p) ],
-  λ any. by any (cases_lt any.0 1),
-)
-  where
-    by : (any : Any P (s ∷ t ∷ [])) → (any.0 < 1) ⊎ (1 ≤ any.0) → P s ⊎ P t
-    by any (inl l) = let z : any.0 ≡ 0 = omega arith in inl (subst P (sym (ap (λ n. get_or (s ∷ t ∷ []) n any.1) (sym z) ∙ any.3)) any.4)
-    by any (inr g) = let z : any.0 ≡ 1 = omega (arith, any.2) in inr (subst P (sym (ap (λ n. get_or (s ∷ t ∷ []) n any.1) (sym z) ∙ any.3)) any.4)
-
--- the test of what may not stand already, where that is one thing, and where it is two
-pub excluded_one : (names : List Stand) (s : Stand) (command : Command) (b : Bool) → excluded command ≡ s ∷ [] → (b ≡ true) ↔ Contains names s →
-    (b ≡ true) ↔ Any (Contains names) (excluded command)
-excluded_one names s command b is test =
-    let said = some_of_one (Contains names) s in
-    subst (λ (l : List Stand). (b ≡ true) ↔ Any (Contains names) l) (sym is) (λ t. said.0 (test.0 t), λ any. test.1 (said.1 any))

@@ -1,14 +1,14 @@
 -- One more command of a block: what it does to the settings.
 use Rattle.std.proofs.Common.{◌≡◌, ℕ, ◌-◌, List, [], ◌∷◌, ◌++◌, length, find, reverse, Option, Some, None, cond, is_some, refl, sym, ◌∙◌, ap, subst, arith}
-use Rattle.std.specs.Prelude.{option_and_then, option_map, slice_get}
+use Rattle.std.specs.Prelude.{option_and_then, slice_get}
 use Rattle.std.specs.Option.{option_map_or}
 use Rattle.std.proofs.lemmas.List.{reverse-append, length_push, get_or_push}
 use Rattle.std.proofs.lemmas.Option.{slice_get-get_or}
 use Rattle.ios_config.specs.declared.commands.FileCommand.{FileCommand}
 use Rattle.ios_config.specs.declared.settings.Given.{Given}
 use Rattle.ios_config.specs.declared.settings.FaceText.{FaceText}
-use Rattle.ios_config.specs.Values.{Says, given_at, last_setting, hostname, address, mask_length, shut_down, bandwidth, ospf_cost, ospf_area, point_to_point, inbound, outbound}
-use Rattle.ios_config.specs.Texts.{last_line, face_text, router_name}
+use Rattle.ios_config.specs.Values.{Says, given_at, last_setting, address, mask_length, shut_down, bandwidth, ospf_cost, ospf_area, point_to_point, inbound, outbound}
+use Rattle.ios_config.specs.Texts.{last_line, face_text}
 use Rattle.ios_config.specs.Updates.{replaced, SaysMore}
 
 -- the last command that says something gives the value
@@ -63,8 +63,3 @@ face_text-more name head cs c old new is said =
       list_in = list_in i;
       list_out = list_out i;
     }
-
--- the name of the router with one more command
-pub router_name-more : (cs : List FileCommand) (c : FileCommand) → router_name (cs ++ c ∷ []) ≡
-    option_map (λ (g : Given (List ℕ)). record { name = g.value; line = g.line }) (replaced c.line (hostname c.command) (last_setting hostname cs))
-router_name-more cs c = ap (option_map (λ (g : Given (List ℕ)). record { name = g.value; line = g.line })) (last_setting-more hostname cs c)

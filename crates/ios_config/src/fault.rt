@@ -8,7 +8,7 @@ use std::alloc::{AllocError, AllocFailed};
 pub enum ConfigFault {
     /// The first refusal of the file: its line, counted from 1, and why.
     Refused(u32, Kind),
-    /// Want of memory.
+    /// Out of memory.
     Memory,
 }
 

@@ -15,11 +15,6 @@ pub of_value : {A E : Type 0} → (P : A → Type 0) (r : Result A E) (x : A) �
 of_value P (Ok v) x is holds = subst P (sym is) holds
 of_value P (Err e) x is holds = tt
 
--- what follows from what holds of the value that a result gives
-pub of_fact : {A E : Type 0} → (P Q : A → Type 0) (r : Result A E) → IfOk r P → ((x : A) → P x → Q x) → IfOk r Q
-of_fact P Q (Ok v) holds follows = follows v holds
-of_fact P Q (Err e) holds follows = tt
-
 -- blanks before some bytes add no word
 words-after_blanks : (xs ys : List ℕ) → ((k : ℕ) → k < length xs → IsTrue (is_blank (slice_index xs k))) → words (xs ++ ys) ≡ words ys
 words-after_blanks [] ys all = refl

@@ -14,7 +14,7 @@ pub enum LineFault {
     Orphan(u32),
     /// The first line of a banner that does not end.
     OpenBanner(u32),
-    /// Want of memory.
+    /// Out of memory.
     Memory,
 }
 

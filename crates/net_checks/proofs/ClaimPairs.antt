@@ -11,12 +11,6 @@ module _ (claims : List Claim) (j : ℕ) (y : Claim) (within : j < length claims
   free_at : (i : ℕ) (x : Claim) → i < j → x ≡ get_or claims i x → AreLinkedOrApart x y → (d : Claim) → AreLinkedOrApart (get_or claims i d) (get_or claims j d)
   free_at i x above at_i free = pair_read claims AreLinkedOrApart i j x y (omega (arith, above, within)) within at_i at_j free
 
-  -- the second claim has one before it
-  pub packed_after_one : (x : Claim) → 1 ≤ j → j < 2 → x ≡ get_or claims (j - 1) x → AreLinkedOrApart x y → IsPackedAt claims j
-  packed_after_one x some few at_i free i d above near =
-      let is : j - 1 ≡ i = omega (arith, some, few, above) in
-      subst (λ (k : ℕ). AreLinkedOrApart (get_or claims k d) (get_or claims j d)) is (free_at (j - 1) x (omega (arith, some)) at_i free d)
-
   -- a later one has two
   pub packed_after_two : (x z : Claim) → 2 ≤ j → x ≡ get_or claims (j - 1) x → AreLinkedOrApart x y → z ≡ get_or claims (j - 2) z → AreLinkedOrApart z y → IsPackedAt claims j
   packed_after_two x z some at_x near_free at_z far_free i d above near = elim (cases_lt (i + 1) j) [

@@ -1,10 +1,9 @@
 -- The far ends of links as they are gathered, and the neighbours that are named without being among them.
-use Rattle.std.proofs.Common.{◌≡◌, ℕ, ◌+◌, ◌<◌, ◌≤◌, ◌⊎◌, inl, inr, Option, Some, None, List, [], length, get_or, take, refl, sym, ◌∙◌, ap, subst, arith, Bool, true, false, IsTrue, ◌↔◌, nat_eq, if◌then◌else◌}
+use Rattle.std.proofs.Common.{◌≡◌, ℕ, ◌+◌, ◌<◌, ◌⊎◌, inl, inr, Option, Some, None, List, [], length, get_or, take, refl, sym, ◌∙◌, ap, subst, arith, Bool, true, false, ◌↔◌, nat_eq, if◌then◌else◌}
 use Rattle.std.specs.Prelude.{Any, All, Contains, IsSome}
 use Rattle.std.specs.Option.{option_or}
 use Rattle.std.proofs.lemmas.Bool.{false≢true}
 use Rattle.std.proofs.lemmas.Bool.Decides.{Decides-eqb}
-use Rattle.std.proofs.lemmas.List.{take_all}
 use Rattle.std.proofs.lemmas.List.Elements.{All-contains}
 use Rattle.std.proofs.lemmas.Option.{none-some, same_Some}
 use Rattle.arc_base.specs.declared.place.Face.{Face}
@@ -113,9 +112,6 @@ module _ (IsKnown : ℕ → Type 0) (g : Given Command) where
   pub names_none : names_peer g.value ≡ None → (n : ℕ) → ¬ NamesOther IsKnown n g
   names_none is n bad = none-some bad.1.0 (sym is ∙ bad.1.1)
 
-  pub names_known : (peer : ℕ) → names_peer g.value ≡ Some peer → IsKnown peer → (n : ℕ) → ¬ NamesOther IsKnown n g
-  names_known peer is known n bad = bad.1.2 (subst IsKnown (same_Some peer bad.1.0 (sym is ∙ bad.1.1)) known)
-
   pub names_other : (peer : ℕ) → names_peer g.value ≡ Some peer → ¬ IsKnown peer → IsLeast (λ n. NamesOther IsKnown n g) g.line
   names_other peer is unknown = record { has = (refl, (peer, is, unknown)); least = λ m bad. omega (arith, bad.0) }
 
@@ -190,10 +186,6 @@ least_reached ends remotes router config lines found is are least =
       λ h. (h.0, (are peer).1 (subst (λ (l : List (Given Command)). IsSome (remote_of l peer)) (sym is) h.1)),
     )
 
--- a test that some item passes, and one that none passes
-pub some_passes : {X : Type 0} (P : X → Type 0) (xs ys : List X) (n : ℕ) (x : X) → n < length xs → x ≡ get_or xs n x → xs ≡ ys → P x → IsTrue true ↔ Any P ys
-some_passes {X} P xs ys n x within is same p = (λ t. subst (λ (l : List X). Any P l) same (n, x, within, sym is, p), λ h. refl)
-
 pub more_fail : {X : Type 0} (P : X → Type 0) (xs : List X) (n : ℕ) (x : X) → n < length xs → x ≡ get_or xs n x → ¬ Any P (take n xs) → ¬ P x → ¬ Any P (take (n + 1) xs)
 more_fail P xs n x within is before now h = by (Any-either P xs n x within is h)
   where
@@ -201,15 +193,9 @@ more_fail P xs n x within is before now h = by (Any-either P xs n x within is h)
     by (inl h) = before h
     by (inr h) = now h
 
-pub all_fail : {X : Type 0} (P : X → Type 0) (xs ys : List X) (n : ℕ) → length xs ≤ n → xs ≡ ys → ¬ Any P (take n xs) → IsTrue false ↔ Any P ys
-all_fail {X} P xs ys n past same none = (λ t. absurd (false≢true t), λ h. absurd (none (subst (λ (l : List X). Any P l) (sym (take_all n xs past ∙ same)) h)))
-
 pub item_of_all : {X : Type 0} (P : X → Type 0) (xs ys : List X) (n : ℕ) (x : X) → n < length xs → x ≡ get_or xs n x → xs ≡ ys → All P ys → P x
 item_of_all {X} P xs ys n x within is same all = All-contains P xs x (subst (λ (l : List X). All P l) (sym same) all) (n, within, sym is)
 
 -- before any link and any line
 pub no_ends : (faces : List FaceRow) (keys : List (ℕ × ℕ)) → keys ≡ [] → (pair : ℕ × ℕ) → Contains keys pair ↔ Any (LinkLeadsTo faces pair) []
 no_ends faces keys is pair = (λ h. absurd (Contains-none pair (subst (λ (l : List (ℕ × ℕ)). Contains l pair) is h)), λ h. absurd (Any-none (LinkLeadsTo faces pair) h))
-
-pub no_remotes : (keys : List ℕ) → keys ≡ [] → (peer : ℕ) → Contains keys peer ↔ IsSome (remote_of [] peer)
-no_remotes keys is peer = (λ h. absurd (Contains-none peer (subst (λ (l : List ℕ). Contains l peer) is h)), λ h. absurd (no_some ℕ h))

@@ -1,17 +1,12 @@
 -- What is picked out of a list, item by item.
-use Rattle.std.proofs.Common.{◌≡◌, ℕ, ◌+◌, ◌<◌, Option, Some, None, List, [], ◌∷◌, ◌++◌, length, get_or, take, sym, ◌∙◌, ap}
+use Rattle.std.proofs.Common.{◌≡◌, ℕ, ◌+◌, ◌<◌, Option, Some, List, [], ◌∷◌, ◌++◌, length, get_or, take, sym, ◌∙◌, ap}
 use Rattle.std.specs.List.{filter_map, cons_option}
-use Rattle.std.proofs.lemmas.List.{take_more, append-nil, append_assoc}
+use Rattle.std.proofs.lemmas.List.{take_more, append_assoc}
 use Rattle.std.proofs.lemmas.List.Elements.{filter_map-append}
 
 module _ {X Y : Type 0} (h : X → Option Y) (xs : List X) (n : ℕ) (x : X) (within : n < length xs) (is : x ≡ get_or xs n x) where
   more : filter_map h (take (n + 1) xs) ≡ filter_map h (take n xs) ++ cons_option (h x) []
   more = ap (filter_map h) (take_more xs n x within ∙ ap (λ (y : X). take n xs ++ y ∷ []) (sym is)) ∙ filter_map-append h (take n xs) (x ∷ [])
-
-  -- nothing is picked of one more item
-  pub not_picked : (before now : List Y) → h x ≡ None → now ≡ before ++ filter_map h (take n xs) → now ≡ before ++ filter_map h (take (n + 1) xs)
-  not_picked before now none was =
-      was ∙ ap (λ (l : List Y). before ++ l) (sym (append-nil (filter_map h (take n xs))) ∙ ap (λ (o : Option Y). filter_map h (take n xs) ++ cons_option o []) (sym none) ∙ sym more)
 
   -- a value is picked of one more item
   pub picked : (before now next : List Y) (y : Y) → h x ≡ Some y → now ≡ before ++ filter_map h (take n xs) → next ≡ now ++ y ∷ [] → next ≡ before ++ filter_map h (take (n + 1) xs)

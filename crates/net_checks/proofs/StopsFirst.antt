@@ -81,9 +81,6 @@ module _ (P Q : Refusal → Type 0) where
 
 -- one more link
 module _ (net : Network) (configs : List Config) (links : List LinkRow) where
-  pub stops_none : FindsFirst (StopsAtSome net configs []) None
-  stops_none = λ r (k, link, l, e, p). absurd (omega (arith, l))
-
   pub stops_more : (n : ℕ) (link : LinkRow) (found ahead back : Option Refusal) → n < length links → link ≡ get_or links n link → FindsFirst (StopsAtSome net configs (take n links)) found →
       FindsOnly (StopsAt net configs link true) ahead → FindsOnly (StopsAt net configs link false) back → FindsFirst (StopsAtSome net configs (take (n + 1) links)) (earlier found (earlier ahead back))
   stops_more n link found ahead back within is before here there =

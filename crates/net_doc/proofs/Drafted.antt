@@ -1,6 +1,6 @@
 -- What a draft's policies come to, one after another.
-use Rattle.std.proofs.Common.{◌≡◌, ℕ, ◌+◌, ◌<◌, ◌≤◌, List, [], ◌∷◌, ◌++◌, length, map, get_or, take, drop, sym, ap, subst, ◌∙◌, arith}
-use Rattle.std.proofs.lemmas.List.{at_drop_more, at_drop_all, map_push, get_or-map, length-map}
+use Rattle.std.proofs.Common.{◌≡◌, ℕ, ◌+◌, ◌<◌, List, [], ◌∷◌, ◌++◌, length, map, get_or, take, drop, sym, ap, subst, ◌∙◌, arith}
+use Rattle.std.proofs.lemmas.List.{at_drop_more, map_push, get_or-map, length-map}
 use Rattle.std.proofs.lemmas.Bool.{false≢true}
 use Rattle.std.specs.Prelude.{Option, Some, None, true, is_some}
 use Rattle.std.specs.Option.{option_or}
@@ -39,14 +39,6 @@ refused_here policies place d r within is = one_more policies place d within ∙
 pub refused_where : (policies : List PolicyText) (place : ℕ) (d : PolicyText) (o : Option Refusal) → place < length policies → is_some o ≡ true → failures_refusal (place + 1) (kind_meant (get_or policies place d).kind) ≡ o → rest_refusal policies place ≡ o
 refused_where policies place d None within test is = absurd (false≢true test)
 refused_where policies place d (Some r) within test is = refused_here policies place d r within is
-
--- it is not
-pub refused_later : (policies : List PolicyText) (place : ℕ) (d : PolicyText) → place < length policies → failures_refusal (place + 1) (kind_meant (get_or policies place d).kind) ≡ None → rest_refusal policies place ≡ rest_refusal policies (place + 1)
-refused_later policies place d within is = one_more policies place d within ∙ ap (λ (o : Option Refusal). option_or o (rest_refusal policies (place + 1))) is
-
--- no policy is left
-pub refused_nowhere : (policies : List PolicyText) (place : ℕ) → length policies ≤ place → rest_refusal policies place ≡ None
-refused_nowhere policies place past = at_drop_all (λ ps. policies_refusal (place + 1) (map policy_meant ps)) policies place past
 
 -- each policy of a draft within the limits speaks of few failures
 pub few_at : (draft : Draft) (i : ℕ) (d : PolicyText) → limit_refusal (document_meant draft) ≡ None → i < length draft.policies.items → HasFewFailures (kind_meant (get_or draft.policies.items i d).kind)

@@ -21,7 +21,7 @@ pub enum NetFault {
     /// The first refusal of the input.
     #[error("the input is refused")]
     Refused(Refusal),
-    /// Want of memory.
+    /// Out of memory.
     #[error("there is not enough memory")]
     Memory,
 }

@@ -1,9 +1,8 @@
 -- Lists in which no item stands twice.
-use Rattle.std.proofs.Common.{◌≡◌, ◌≢◌, ℕ, ◌+◌, ◌<◌, inl, inr, List, [], ◌∷◌, ◌++◌, length, get_or, Some, refl, sym, ◌∙◌, ap, subst, arith, zero, suc}
+use Rattle.std.proofs.Common.{◌≡◌, ℕ, ◌+◌, ◌<◌, inl, inr, List, [], ◌∷◌, ◌++◌, length, get_or, Some, refl, sym, ◌∙◌, ap, subst, arith, zero, suc}
 use Rattle.std.specs.Prelude.{AllPairs, Contains, slice_get}
 use Rattle.std.proofs.lemmas.Bool.{cases_lt}
 use Rattle.std.proofs.lemmas.List.{get_or_default, get_or_append_left, get_or-append-add, get_or_at, length-append}
-use Rattle.std.proofs.lemmas.List.Quantifiers.{all_pairs_push}
 use Rattle.std.proofs.lemmas.Option.{get_or_from_slice_get, slice_get_within, slice_get-get_or}
 use Rattle.arc_base.specs.Lists.{AreDistinct}
 
@@ -11,11 +10,6 @@ pub item_at : {X : Type 0} (xs : List X) (k : ℕ) → k < length xs → (x : X)
 item_at [] k h = absurd (omega (arith, h))
 item_at (x ∷ xs) zero h = (x, refl)
 item_at (x ∷ xs) (suc k) h = item_at xs k (omega arith)
-
--- one more item, which the list does not contain
-pub AreDistinct-push : {X : Type 0} (xs : List X) (x : X) → AreDistinct xs → ¬ Contains xs x → AreDistinct (xs ++ x ∷ [])
-AreDistinct-push {X} xs x distinct lacks =
-    all_pairs_push (λ (a : X) (b : X). a ≢ b) xs x distinct (λ k d l e. lacks (k, l, get_or_default xs k x d l ∙ e))
 
 -- what holds of all pairs holds of those in front
 pub AllPairs-front : {X : Type 0} (R : X → X → Type 0) (xs ys : List X) → AllPairs R (xs ++ ys) → AllPairs R xs

@@ -22,9 +22,6 @@ module _ {X : Type 0} (kind : Kind) (Offends : ℕ → X → ℕ → Type 0) (it
   abbrev pub ClearTo : ℕ → Type 0
   ClearTo n = (place : ℕ) (item : X) (number : ℕ) → place < n → slice_get items place ≡ Some item → ¬ Offends place item number
 
-  pub clear_none : ClearTo 0
-  clear_none place item number h = absurd (omega (arith, h))
-
   pub clear_more : (n : ℕ) (item : X) → n < length items → item ≡ get_or items n item → ClearTo n → ((number : ℕ) → ¬ Offends n item number) → ClearTo (n + 1)
   clear_more n item within is before now place other number h at = elim (cases_lt place n) [
     | inl earlier ↦ before place other number earlier at
@@ -66,9 +63,6 @@ module _ {X : Type 0} (kind : Kind) (Offends : ℕ → X → Type 0) (items : Li
   -- no item of the document before the place offends
   abbrev pub NoneTo : ℕ → Type 0
   NoneTo n = (place : ℕ) (item : X) → place < n → slice_get items place ≡ Some item → ¬ Offends place item
-
-  pub none_none : NoneTo 0
-  none_none place item h = absurd (omega (arith, h))
 
   pub none_more : (n : ℕ) (item : X) → n < length items → item ≡ get_or items n item → NoneTo n → ¬ Offends n item → NoneTo (n + 1)
   none_more n item within is before now place other h at = elim (cases_lt place n) [

@@ -1,18 +1,15 @@
 -- The least lines, found item by item.
-use Rattle.std.proofs.Common.{◌≡◌, ℕ, ◌+◌, ◌<◌, ◌≤◌, inl, inr, Option, None, List, length, get_or, take, subst}
+use Rattle.std.proofs.Common.{◌≡◌, ℕ, ◌+◌, ◌<◌, ◌≤◌, inl, inr, Option, List, length, get_or, take, subst}
 use Rattle.std.specs.Prelude.{Any}
 use Rattle.std.proofs.lemmas.List.{take_all}
 use Rattle.ios_config.specs.Least.{FindsLeast, lesser}
 use Rattle.ios_config.proofs.Least.{least_same, Either, least_either}
-use Rattle.net_rules.proofs.Anys.{Any-none, Any-before, Any-now, Any-either}
+use Rattle.net_rules.proofs.Anys.{Any-before, Any-now, Any-either}
 
 module _ {X : Type 0} (P : ℕ → X → Type 0) (xs : List X) where
   -- the lines of the first n items
   abbrev pub LinesTo : ℕ → ℕ → Type 0
   LinesTo n line = Any (P line) (take n xs)
-
-  pub least_none : FindsLeast (LinesTo 0) None
-  least_none = λ line. Any-none (P line)
 
   pub least_more : (n : ℕ) (x : X) (found more : Option ℕ) → n < length xs → x ≡ get_or xs n x → FindsLeast (LinesTo n) found → FindsLeast (λ line. P line x) more →
       FindsLeast (LinesTo (n + 1)) (lesser found more)

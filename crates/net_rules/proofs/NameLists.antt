@@ -11,7 +11,7 @@ use Rattle.ios_config.specs.declared.settings.FaceText.{FaceText}
 use Rattle.net_rules.specs.Sites.{FullName, sites, sites_of, host_name, full_name, full_names}
 use Rattle.net_rules.specs.Names.{file_names}
 use Rattle.arc_base.specs.Lists.{AreDistinct}
-use Rattle.net_rules.proofs.Distinct.{AllPairs-front, AreDistinct-twice, AreDistinct-push}
+use Rattle.net_rules.proofs.Distinct.{AllPairs-front, AreDistinct-twice}
 
 -- a list around one of its items
 pub split_at : {X : Type 0} (xs : List X) (i : ℕ) (x : X) → i < length xs → x ≡ get_or xs i x → xs ≡ take i xs ++ x ∷ drop (i + 1) xs
@@ -59,17 +59,6 @@ names_from n (file ∷ plain) =
 -- the full names of all interfaces, file by file
 pub full_names-by_file : (plain : List Config) → full_names plain ≡ flat_map file_names plain
 full_names-by_file plain = names_from 0 plain
-
--- two more names, where the first is new
-pub two_more : (old mid next : List FullName) (a b : FullName) (new : Bool) → AreDistinct old → ¬ Contains old a → mid ≡ old ++ a ∷ [] →
-    MatchBool new ((¬ Contains mid b) × (next ≡ mid ++ b ∷ [])) (Contains mid b) →
-    MatchBool new (AreDistinct next × (next ≡ old ++ (a ∷ b ∷ []))) (¬ AreDistinct (old ++ (a ∷ b ∷ [])))
-two_more old mid next a b true distinct lacks grown said =
-    let whole : next ≡ old ++ (a ∷ b ∷ []) = said.1 ∙ ap (λ l. l ++ b ∷ []) grown ∙ append_assoc old (a ∷ []) (b ∷ []) in
-    let mid_distinct : AreDistinct mid = subst (λ (l : List FullName). AreDistinct l) (sym grown) (AreDistinct-push old a distinct lacks) in
-    (subst (λ (l : List FullName). AreDistinct l) (sym said.1) (AreDistinct-push mid b mid_distinct said.0), whole)
-two_more old mid next a b false distinct lacks grown said =
-    λ all. AreDistinct-twice mid b [] said (subst (λ (l : List FullName). AreDistinct l) (sym (ap (λ l. l ++ b ∷ []) grown ∙ append_assoc old (a ∷ []) (b ∷ []))) all)
 
 -- two more names, where they differ
 pub two_free : (old mid next : List FullName) (a b : FullName) (new : Bool) → (a ≡ b → ⊥) → ¬ Contains old a → mid ≡ old ++ a ∷ [] →

@@ -14,6 +14,7 @@ use Rattle.ios_config.specs.declared.settings.Given.{Given}
 use Rattle.ios_config.specs.declared.settings.Config.{Config}
 use Rattle.ios_config.specs.declared.settings.FaceText.{FaceText}
 use Rattle.ios_config.specs.declared.settings.ProcessText.{ProcessText}
+use Rattle.net_rules.specs.declared.processes.TheConstants.{DEFAULT_REFERENCE}
 use Rattle.net_rules.specs.Kinds.{kind_of, default_bandwidth, is_serial}
 
 -- the value that some line gave, if one did
@@ -54,9 +55,9 @@ abbrev pub says_reference : Command → Option ℕ
 says_reference (commands.Reference m) = Some m
 says_reference other = None
 
--- the reference bandwidth of the process in kbit/s, which is 100 Mbit/s unless it is set
+-- the reference bandwidth of the process in kbit/s: DEFAULT_REFERENCE Mbit/s unless it is set
 abbrev pub reference_of : List (Given Command) → ℕ
-reference_of lines = unwrap_or (last_said says_reference lines) 100 * 1000
+reference_of lines = unwrap_or (last_said says_reference lines) DEFAULT_REFERENCE * 1000
 
 -- the OSPF cost of a bandwidth: the reference over it, rounded down, from 1 to 65535
 abbrev pub cost_at : ℕ → ℕ → ℕ

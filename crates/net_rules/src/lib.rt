@@ -16,6 +16,6 @@ pub use interfaces::{address_at, address_of, has_point_type, is_point_to_point, 
 pub use kinds::FaceKind;
 pub use names::{FullName, add_name, contains_name, host_name, index_names, place_of};
 pub use prefixes::{Prefixes, add_prefix, has_prefix, has_prefix_of};
-pub use processes::{lines_of, process_of, protocol_of, protocol_of_kind};
+pub use processes::{DEFAULT_REFERENCE, lines_of, process_of, protocol_of, protocol_of_kind};
 pub use reasons::{in_document, in_file};
 pub use spots::{Spot, spot_at};

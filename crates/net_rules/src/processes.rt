@@ -9,6 +9,9 @@ use ios_config::{Config, Given, ProcessKind, ProcessText};
 use ios_words::Command;
 use net_model::Protocol;
 
+/// The reference bandwidth of a process in which no line sets it, in Mbit/s.
+pub const DEFAULT_REFERENCE: u32 = 100;
+
 /// The file's one process, which is its first.
 pub fn process_of(config: &Config) -> Option<&ProcessText>
     ensures { option_copied result ≡ process_of config.now }

@@ -1,33 +1,17 @@
 -- Texts that grow at their end, piece by piece.
-use Rattle.std.proofs.Common.{◌≡◌, ℕ, zero, suc, ◌+◌, ◌<◌, Bool, true, false, cond, List, [], ◌∷◌, ◌++◌, length, get_or, drop, map, codes, decimal, refl, sym, ap, ◌∙◌, arith, append_assoc, append-nil, add-one, drop-cons}
+use Rattle.std.proofs.Common.{◌≡◌, ℕ, zero, suc, ◌+◌, ◌<◌, Bool, true, false, cond, List, [], ◌∷◌, ◌++◌, length, get_or, drop, refl, sym, ap, ◌∙◌, arith, append_assoc, append-nil, add-one, drop-cons}
 use Rattle.std.proofs.lemmas.List.{get_or-drop}
-use Rattle.std.specs.List.{concat}
-use Rattle.arc_base.specs.declared.place.Link.{Link}
-use Rattle.net_model.specs.declared.policies.Policy.{Policy}
 use Rattle.net_model.specs.declared.rows.RouterRow.{RouterRow}
-use Rattle.net_model.specs.declared.rows.Network.{Network}
-use Rattle.net_model.specs.declared.verdicts.Verdict.{Verdict}
-use Rattle.edit_list.specs.declared.edit_kinds.Edit.{Edit}
-use Rattle.edit_list.specs.Prices.{chosen_of}
-use Rattle.policy_report.specs.Edits.{edit_words, edit_lines}
 use Rattle.policy_report.specs.Lines.{after_spaces, line}
-use Rattle.policy_report.specs.Reports.{link_words, side_words, block_text, blocks_text}
+use Rattle.policy_report.specs.Reports.{side_words}
 
 -- a piece of what is still to be put is put
 pub one_more : (target text after piece rest whole : List ℕ) → text ++ whole ≡ target → whole ≡ piece ++ rest → after ≡ text ++ piece → after ++ rest ≡ target
 one_more target text after piece rest whole before split pushed =
     ap (λ t. t ++ rest) pushed ∙ append_assoc text piece rest ∙ ap (λ t. text ++ t) (sym split) ∙ before
 
--- nothing is still to be put
-pub all_done : (target text whole : List ℕ) → text ++ whole ≡ target → whole ≡ [] → text ≡ target
-all_done target text whole before none = sym (append-nil text) ∙ ap (λ t. text ++ t) (sym none) ∙ before
-
 pub drop_next : {A : Type 0} (xs : List A) (i : ℕ) (d : A) → i < length xs → drop i xs ≡ get_or xs i d ∷ drop (i + 1) xs
 drop_next xs i d within = rw add-one (drop-cons xs i d within)
-
--- the words of the links from one on
-pub links_next : (links : List Link) (i : ℕ) (d : Link) → i < length links → after_spaces (link_words (drop i links)) ≡ (32 ∷ decimal ((get_or links i d).0 + 1)) ++ after_spaces (link_words (drop (i + 1) links))
-links_next links i d within = ap (λ t. after_spaces (link_words t)) (drop_next links i d within)
 
 no_flags : (routers : List RouterRow) → side_words routers [] ≡ []
 no_flags [] = refl
@@ -58,19 +42,6 @@ side_next routers side i d within =
     ∙ ap (λ b. cond b (32 ∷ (get_or routers i d).name) [] ++ after_spaces (side_words (drop (i + 1) routers) (drop 1 (drop i side)))) at
     ∙ ap (λ t. cond (get_or side i false) (32 ∷ (get_or routers i d).name) [] ++ after_spaces (side_words (drop (i + 1) routers) t)) (drop_one i side)
 
--- the lines of the items from one on
-pub lines_next : {A : Type 0} (form : A → List ℕ) (items : List A) (i : ℕ) (d : A) → i < length items → concat (map form (drop i items)) ≡ form (get_or items i d) ++ concat (map form (drop (i + 1) items))
-lines_next form items i d within = ap (λ t. concat (map form t)) (drop_next items i d within)
-
--- the blocks of the policies from one on
-pub blocks_next : (net : Network) (policies : List Policy) (verdicts : List Verdict) (i : ℕ) (p : Policy) (v : Verdict) → i < length policies → length verdicts ≡ length policies →
-    blocks_text (i + 1) net (drop i policies) (drop i verdicts)
-    ≡ block_text (i + 1) net (get_or policies i p) (get_or verdicts i v) ++ blocks_text (i + 1 + 1) net (drop (i + 1) policies) (drop (i + 1) verdicts)
-blocks_next net policies verdicts i p v within same =
-    let also : i < length verdicts = omega (arith, same) in
-    ap (λ t. blocks_text (i + 1) net t (drop i verdicts)) (drop_next policies i p within)
-    ∙ ap (blocks_text (i + 1) net (get_or policies i p ∷ drop (i + 1) policies)) (drop_next verdicts i v also)
-
 pub spaced-append : (a b : List (List ℕ)) → after_spaces (a ++ b) ≡ after_spaces a ++ after_spaces b
 spaced-append [] b = refl
 spaced-append (word ∷ a) b = ap (λ t. 32 ∷ (word ++ t)) (spaced-append a b) ∙ ap (λ t. 32 ∷ t) (sym (append_assoc word (after_spaces a) (after_spaces b)))
@@ -97,24 +68,6 @@ word_and_runs old word t₁ t₂ t₃ a b e₁ e₂ e₃ =
 -- a run of one word
 pub one_word : (t₁ t₂ word : List ℕ) → t₂ ≡ t₁ ++ 32 ∷ word → t₂ ≡ t₁ ++ after_spaces (word ∷ [])
 one_word t₁ t₂ word e = e ∙ ap (λ t. t₁ ++ 32 ∷ t) (sym (append-nil word))
-
--- the line of one edit, if it is chosen, and those of the others
-chosen_first : (net : Network) (edit : Edit) (flag : Bool) (edits : List Edit) (flags : List Bool) →
-    edit_lines net (chosen_of (edit ∷ edits) (flag ∷ flags)) ≡ edit_lines net (chosen_of (edit ∷ []) (flag ∷ [])) ++ edit_lines net (chosen_of edits flags)
-chosen_first net edit true edits flags =
-    let first : List ℕ = line (codes "edit") (edit_words net edit) in
-    ap (λ t. t ++ edit_lines net (chosen_of edits flags)) (sym (append-nil first))
-chosen_first net edit false edits flags = refl
-
--- the lines of the chosen edits from one on
-pub chosen_next : (net : Network) (edits : List Edit) (flags : List Bool) (i : ℕ) (e : Edit) (f : Bool) → i < length edits → length flags ≡ length edits →
-    edit_lines net (chosen_of (drop i edits) (drop i flags))
-    ≡ edit_lines net (chosen_of (get_or edits i e ∷ []) (get_or flags i f ∷ [])) ++ edit_lines net (chosen_of (drop (i + 1) edits) (drop (i + 1) flags))
-chosen_next net edits flags i e f within same =
-    let also : i < length flags = omega (arith, same) in
-    ap (λ es. edit_lines net (chosen_of es (drop i flags))) (drop_next edits i e within)
-    ∙ ap (λ fs. edit_lines net (chosen_of (get_or edits i e ∷ drop (i + 1) edits) fs)) (drop_next flags i f also)
-    ∙ chosen_first net (get_or edits i e) (get_or flags i f) (drop (i + 1) edits) (drop (i + 1) flags)
 
 -- two words and others after them
 pub two_words_and_run : (t0 t1 t2 t3 a b : List ℕ) (ws : List (List ℕ)) → t1 ≡ t0 ++ 32 ∷ a → t2 ≡ t1 ++ 32 ∷ b → t3 ≡ t2 ++ after_spaces ws → t3 ≡ t0 ++ after_spaces (a ∷ b ∷ ws)

@@ -214,7 +214,6 @@ certificates_are_written net doc edits claim log told have =
     let ends : EndsLine front =
     both_end (head_line ++ claim_line claim) (shown_lines net doc edits claim) (both_end head_line (claim_line claim) (line_ends (codes "arc-repair") (codes "1" ∷ [])) (claim_ends claim))
     (shown_ends net doc edits claim) in
-    let rest : List ℕ = log_text log ++ line (codes "end") [] in
     record {
       is_told = told;
       log = lines (log_text log);

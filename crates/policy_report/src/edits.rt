@@ -273,7 +273,8 @@ pub(crate) fn edit_from(
 }
 
 /// The place of the edit that has this text, given without a line end; `None` exactly if no edit
-/// has it. It takes time linear in the edits.
+/// has it. It takes time linear in the edits. For callers of the library: `arcv` looks edits up in
+/// an index of their texts.
 pub fn edit_line(
     alloc: Global,
     net: &Network,

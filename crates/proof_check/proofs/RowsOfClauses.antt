@@ -22,15 +22,6 @@ pub clause_in_row : (clauses : List Clause) (id : ℕ) → near_or (slice_get (r
 clause_in_row clauses zero = refl
 clause_in_row clauses (suc n) = clause_below clauses n
 
-sizes_below : (clauses : List Clause) → sum_by row_size (map (λ (c : Clause). Some c.lits) clauses) ≡ sum_by (λ (c : Clause). length c.lits) clauses
-sizes_below [] = refl
-sizes_below (c ∷ clauses) =
-    sum_by-cons row_size (Some c.lits) (map (λ (d : Clause). Some d.lits) clauses) ∙ ap (λ n. length c.lits + n) (sizes_below clauses) ∙ sym (sum_by-cons (λ (d : Clause). length d.lits) c clauses)
-
--- the rows have as many literals as the clauses
-pub sizes_of_rows : (clauses : List Clause) → sum_by row_size (rows_of clauses) ≡ sum_by (λ (c : Clause). length c.lits) clauses
-sizes_of_rows clauses = omega (arith, sum_by-cons row_size None (map (λ (c : Clause). Some c.lits) clauses), sizes_below clauses)
-
 size_of_row : (lits : List Lit) (p : Place) → IsPlace (length lits) p → row_size (clause_at lits p) ≡ size p
 size_of_row lits p fits = ⊎_elim
     (λ (none : p.stop ≡ 0). ap row_size (cond-true _ _ _ (eq-eqb p.stop 0 none)) ∙ omega (arith, none))

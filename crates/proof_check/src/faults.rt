@@ -20,7 +20,7 @@ pub enum StepFault {
     BoundTooLow,
     /// No literal says that the price is above the bound.
     BoundTooHigh,
-    /// Want of memory.
+    /// Out of memory.
     Memory,
 }
 

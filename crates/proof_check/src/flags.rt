@@ -26,7 +26,7 @@ impl Model for Flags {
 }
 
 impl Flags {
-    /// So many flags, none of them set.
+    /// `count` flags, none of them set.
     pub fn make(alloc: Global, count: usize) -> Result<Flags, Memory>
         ensures { IfOk result (λ flags. flags ≡ replicate count false) }
     {

@@ -123,7 +123,8 @@ fn judge_lines(alloc: Global, f: &Formula, proof: &[u8]) -> Result<Outcome, Memo
 }
 
 /// Judges the text of a proof that no assignment satisfies the formula, in time linear in its bytes
-/// and in the literals of the hinted clauses. There are no prices, so each bound is too high.
+/// and in the literals of the hinted clauses. There are no prices, so each bound is too high. For
+/// callers of the library: `arcv` reads proofs line by line.
 pub fn check_log(alloc: Global, f: &Formula, proof: &[u8]) -> Result<Outcome, Memory>
     ensures outcome { IfOk result (λ o. o ≡ log_outcome (start f.now None []) 1 (lines proof.now)) }
     ensures accepted { IfOk result (λ o. (o ≡ Outcome.Accepted) ↔ IsRefutation f.now proof.now) }

@@ -73,7 +73,7 @@ impl Live {
         ids.iter().position(|id| self.get(*id).is_none())
     }
 
-    /// Puts a clause under an id that has no row.
+    /// Stores a clause under an id that has no row.
     pub fn put(&mut self, alloc: Global, id: u64, lits: &[Lit]) -> Result<(), Memory>
         requires { length self.old.near ≤ id }
         ensures ok { OnOk result ((j : ℕ) →

@@ -1,9 +1,9 @@
 -- The first word of a line, and the number that it writes.
-use Rattle.std.proofs.Common.{◌≡◌, filter, ℕ, ◌+◌, ◌-◌, ◌<◌, ◌≤◌, ◌^◌, ℤ, pos, Bool, true, false, List, [], ◌∷◌, ◌++◌, length, take, drop, get_or, refl, ap, sym, subst, ◌∙◌, arith, All, Option, Some, None, cond, ◌||◌, is_none, option_to_list, option_and_then, codes, nat_le, append-nil, take-append-drop, length-drop, length-take-le, ⊎_elim}
-use Rattle.std.specs.List.{list_any, cons_option}
+use Rattle.std.proofs.Common.{◌≡◌, filter, ℕ, ◌+◌, ◌-◌, ◌<◌, ◌≤◌, ◌^◌, ℤ, pos, Bool, true, false, List, [], ◌∷◌, ◌++◌, length, take, drop, get_or, refl, ap, sym, subst, ◌∙◌, arith, All, Option, Some, None, cond, ◌||◌, is_none, option_and_then, nat_le, append-nil, take-append-drop, length-drop, length-take-le, ⊎_elim}
+use Rattle.std.specs.List.{list_any}
 use Rattle.std.specs.Str.{all_ascii_digits, bytes_eq}
 use Rattle.std.specs.Char.{is_ascii_digit}
-use Rattle.std.proofs.lemmas.Bool.{and_from, and_parts, cases_Bool, cond-true, cond-false, le-leb}
+use Rattle.std.proofs.lemmas.Bool.{and_from, and_parts, cases_Bool, cond-true, le-leb}
 use Rattle.std.proofs.lemmas.Bool.Decides.{nat_tests}
 use Rattle.std.proofs.lemmas.Option.{none-some}
 use Rattle.std.proofs.lemmas.List.{take_more}
@@ -12,9 +12,8 @@ use Rattle.std.proofs.lemmas.List.Elements.{All-cons, All-nil, All-weaker}
 use Rattle.std.proofs.lemmas.Slice.Eq.{bytes_eq-Decides}
 use Rattle.arc_base.specs.Words.{words, is_filled, is_blank}
 use Rattle.arc_base.specs.WordNumbers.{natural, is_natural, minus, value_after, with_digit}
-use Rattle.proof_log.specs.declared.numbers.Sign.TheVariants.{Adds, Drops, Bounds}
 use Rattle.proof_log.specs.Fronts.{EndsWord, IsFirstNumber}
-use Rattle.proof_log.specs.Reading.{is_bad, log_number, numbers, sign, sign_of}
+use Rattle.proof_log.specs.Reading.{is_bad, log_number}
 use Rattle.proof_log.proofs.Printed.{IsWord, filled_by, first_word, front_word, no_blanks, number_plain}
 
 -- one digit more
@@ -109,24 +108,9 @@ pub first_bad : (line rest : List ℕ) (o : Option ℤ) → IsFirstNumber line o
 first_bad line rest o f =
     ap (list_any is_bad) f.words_are ∙ ap (λ p. is_none p || list_any is_bad (words rest)) f.number_is
 
-cons_is : (o : Option ℤ) (zs : List ℤ) → cons_option o zs ≡ option_to_list o ++ zs
-cons_is None zs = refl
-cons_is (Some z) zs = refl
-
-pub first_numbers : (line rest : List ℕ) (o : Option ℤ) → IsFirstNumber line o rest → numbers (words line) ≡ option_to_list o ++ numbers (words rest)
-first_numbers line rest o f =
-    ap numbers f.words_are ∙ ap (λ p. cons_option p (numbers (words rest))) f.number_is ∙ cons_is o (numbers (words rest))
-
 -- a number is no letter
 no_letter : (w letter : List ℕ) (z : ℤ) → log_number w ≡ Some z → log_number letter ≡ None → bytes_eq w letter ≡ false
 no_letter w letter z number none = ⊎_elim
     (λ (e : bytes_eq w letter ≡ true). absurd (none-some z (sym none ∙ ap log_number (sym ((bytes_eq-Decides w letter).0 e)) ∙ number)))
     (λ (e : bytes_eq w letter ≡ false). e)
     (cases_Bool (bytes_eq w letter))
-
-adds_by_number : (w : List ℕ) (z : ℤ) → log_number w ≡ Some z → sign_of w ≡ Adds
-adds_by_number w z number =
-    cond-false _ Drops _ (no_letter w (codes "d") z number refl) ∙ cond-false _ Bounds Adds (no_letter w (codes "b") z number refl)
-
-pub number_adds : (line rest first : List ℕ) (z : ℤ) → IsFirstNumber line (Some z) rest → Adds ≡ sign (first ∷ words line)
-number_adds line rest first z f = sym (ap (λ ws. sign (first ∷ ws)) f.words_are ∙ adds_by_number f.word z f.number_is)

@@ -185,7 +185,7 @@ fn after_sign(rest: &[u8]) -> (Sign, &[u8])
     }
 }
 
-/// Puts the numbers of a line in place of those that are there, and gives its sign.
+/// Replaces the numbers by those of a line, and gives its sign.
 pub(crate) fn read_numbers(all: &mut Vec<i64>, line: &[u8]) -> Result<Sign, LineKind>
     ensures good { OnOk result (IsFalse (list_any is_bad (number_words (words line.now)))) }
     ensures all { OnOk result (all.new.items ≡ numbers (number_words (words line.now))) }

@@ -17,7 +17,7 @@ pub enum LineKind {
     BadLine,
     /// A word that has to be a number is none, or its absolute value is 2^63 or more.
     BadNumber,
-    /// Want of memory.
+    /// Out of memory.
     Memory,
 }
 

@@ -129,8 +129,8 @@ fn formula_of(alloc: Global, kind: &str) -> Result<(String, Counts), Fail> {
 #[test]
 fn the_formula_of_a_blocked_policy(rt: HostRuntime) -> Result<(), Fail> {
     let (lines, counts) = formula_of(rt.alloc(), BLOCKED)?;
-    let expected =
-        "3 7 \n-7 1 2 6 8 \n-8 1 2 4 7 \n-8 \n-1 9 \n-9 10 \n-2 10 \n-10 11 \n-3 11 \n-11 12 \n-4 12 \n-12 13 \n-5 13 \n-13 14 \n-6 14 \n";
+    let expected = "3 7 \n-7 1 2 6 8 \n-8 1 2 4 7 \n-8 \n-1 9 \n-9 10 \n-2 10 \n-10 11 \n-3 11 \n\
+         -11 12 \n-4 12 \n-12 13 \n-5 13 \n-13 14 \n-6 14 \n";
     assert_eq!(rt; lines.as_str(), expected);
     assert_eq!(rt; counts, (14, 15, 35, 1));
     Ok(())

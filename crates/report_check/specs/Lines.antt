@@ -23,7 +23,8 @@ abbrev pub IsOutcomeAfter : Bool → Network → List Policy → ℕ → ℕ →
 IsOutcomeAfter true net policies first number [] o = o ≡ Accepted
 IsOutcomeAfter true net policies first number (told ∷ rest) o =
     IsReportOutcome net policies first number (told ∷ rest) o
-IsOutcomeAfter false net policies first number told o = IsReportOutcome net policies first number told o
+IsOutcomeAfter false net policies first number told o =
+    IsReportOutcome net policies first number told o
 
 -- what a line's answer leads to: to an outcome, or to that of the rest
 abbrev pub LeadsTo : Network → List Policy → ℕ → ℕ → Result Got CertFault →

@@ -94,13 +94,6 @@ none_from : (o : Option ℕ) → ((n : ℕ) → o ≡ Some n → ⊥) → o ≡ 
 none_from None h = refl
 none_from (Some n) h = absurd (h n refl)
 
--- where the queue is empty no router waits
-pub none_waits : (distances : List (Option ℕ)) (settled : List Bool) (entries : List Entry) → IsQueue distances settled entries → length entries ≡ 0 →
-    (u : ℕ) → waiting distances settled u ≡ None
-none_waits distances settled entries is empty u =
-    none_from (waiting distances settled u)
-    (λ n waits. let there : Contains entries (record { 0 = (n, u) }) = is.each u n waits in absurd (omega (arith, there.1, empty)))
-
 -- a router that takes a lesser distance has an entry more
 pub one_taken : (distances : List (Option ℕ)) (settled : List Bool) (old now : List Entry) (at x : ℕ) → at < length distances → IsQueue distances settled old →
     IsPermutation (record { 0 = (x, at) } ∷ old) now → IsHeap entry_cmp now → ((m : ℕ) → distance_map distances at ≡ Some m → x ≤ m) →

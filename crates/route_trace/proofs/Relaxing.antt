@@ -1,5 +1,5 @@
 -- What the steps to a router that settles offer to the others.
-use Rattle.std.proofs.Common.{◌≡◌, ℕ, ◌+◌, ◌<◌, ◌≤◌, ◌⊎◌, ⊎_elim, inl, inr, Option, Some, None, List, [], ◌∷◌, ◌++◌, length, take, get_or, set, sym, ◌∙◌, ap, subst, arith}
+use Rattle.std.proofs.Common.{◌≡◌, ℕ, ◌+◌, ◌<◌, ◌≤◌, ◌⊎◌, ⊎_elim, inl, inr, Option, Some, None, List, [], ◌∷◌, ◌++◌, length, take, get_or, set, sym, ◌∙◌, ap, subst}
 use Rattle.std.specs.Prelude.{Contains}
 use Rattle.std.proofs.lemmas.Bool.{cases_eq}
 use Rattle.std.proofs.lemmas.List.{get_or_default, take_more, take_all, get_or-set_same, get_or-set_other}
@@ -8,14 +8,7 @@ use Rattle.net_model.specs.Routing.{DistanceMap}
 use Rattle.route_trace.specs.declared.steps.Step.{Step}
 use Rattle.route_trace.specs.Routes.{distance_map}
 use Rattle.route_trace.specs.Steps.{IsGiven, IsLeastOf, lesser}
-use Rattle.route_trace.proofs.Least.{same_set, one_more, alone}
-
--- before the first step each distance is its own least
-pub relaxed_none : (d : DistanceMap) (xs : List Step) (from u : ℕ) → IsLeastOf (λ n. (d u ≡ Some n) ⊎ IsGiven (take 0 xs) from u n) (d u)
-relaxed_none d xs from u =
-    same_set (λ n. d u ≡ Some n) (λ n. (d u ≡ Some n) ⊎ IsGiven (take 0 xs) from u n) (d u) (λ k e. inl e)
-    (λ k h. ⊎_elim (λ (e : d u ≡ Some k). e) (λ (g : IsGiven (take 0 xs) from u k). absurd (omega (arith, g.among.1))) h)
-    (alone (d u))
+use Rattle.route_trace.proofs.Least.{same_set, one_more}
 
 more_taken : (xs : List Step) (i : ℕ) (step : Step) → i < length xs → get_or xs i step ≡ step → take (i + 1) xs ≡ take i xs ++ (step ∷ [])
 more_taken xs i step within is = take_more xs i step within ∙ ap (λ (x : Step). take i xs ++ (x ∷ [])) is

@@ -1,16 +1,16 @@
 -- What stays true while routers settle.
 use Rattle.std.proofs.Common.{◌≡◌, ℕ, ◌+◌, ◌*◌, ◌^◌, ◌<◌, ◌≤◌, ◌⊎◌, inl, inr, Bool, true, false, not, Option, Some, None, List, length, set, get_or, replicate, sym, ◌∙◌, ap, subst, arith}
 use Rattle.std.specs.Prelude.{All, count_by, ◌==◌, if◌then◌else◌}
-use Rattle.std.proofs.lemmas.Bool.{cases_eq, cases_lt, cases_Bool}
+use Rattle.std.proofs.lemmas.Bool.{cases_lt, cases_Bool}
 use Rattle.std.proofs.lemmas.List.{length-set, length-replicate, get_or-replicate, get_or-set_same, get_or-set_other, get_or_past}
 use Rattle.std.proofs.lemmas.List.Elements.{All-filter}
-use Rattle.std.proofs.lemmas.List.Sums.{sum_by-set, count_by-le-length}
-use Rattle.std.proofs.lemmas.Option.{none-some, same_Some}
+use Rattle.std.proofs.lemmas.List.Sums.{sum_by-set}
+use Rattle.std.proofs.lemmas.Option.{none-some}
 use Rattle.route_trace.specs.declared.steps.Step.{Step}
 use Rattle.route_trace.specs.declared.steps.End.TheVariants.{Head}
 use Rattle.route_trace.specs.Routes.{flagged, distance_map}
 use Rattle.route_trace.specs.Steps.{IsFit, IsGiven, IsLeastOf, IsStableOver, IsNearest, waiting, steps_at}
-use Rattle.route_trace.proofs.Settling.{IsHalfway, halfway_more, finished, starting, small_more}
+use Rattle.route_trace.proofs.Settling.{IsHalfway, halfway_more, finished, small_more}
 
 -- how many routers are still to be settled
 abbrev pub unsettled : List Bool → ℕ
@@ -113,46 +113,9 @@ under_way_all steps routers owner distances settled is none =
     finished steps owner (distance_map distances) (flagged settled) is.half
     (λ u m off known. none-some m (sym (none u) ∙ waits_from distances settled u m off known))
 
-pub none_settled : (routers u : ℕ) → flagged (replicate routers false) u ≡ false
-none_settled routers u =
-    elim (cases_lt u routers) [
-      | inl less ↦ get_or-replicate routers u false false less
-      | inr past ↦ get_or_past (replicate routers false) u false (omega (arith, past, length-replicate routers false))
-    ]
-
 pub none_known : (routers u : ℕ) → distance_map (replicate routers None) u ≡ None
 none_known routers u =
     elim (cases_lt u routers) [
       | inl less ↦ get_or-replicate routers u None None less
       | inr past ↦ get_or_past (replicate routers None) u None (omega (arith, past, length-replicate {A = Option ℕ} routers None))
     ]
-
-at_owner_zero : (routers owner : ℕ) → owner < routers → distance_map (set (replicate routers None) owner (Some 0)) owner ≡ Some 0
-at_owner_zero routers owner inside =
-    get_or-set_same (replicate routers None) owner (Some 0) None (omega (arith, inside, length-replicate {A = Option ℕ} routers None))
-
-off_owner_none : (routers owner u : ℕ) → (u ≡ owner → ⊥) → distance_map (set (replicate routers None) owner (Some 0)) u ≡ None
-off_owner_none routers owner u off = get_or-set_other (replicate routers None) owner u (Some 0) None off ∙ none_known routers u
-
-start_small : (routers owner : ℕ) → owner < routers → (u n : ℕ) → distance_map (set (replicate routers None) owner (Some 0)) u ≡ Some n →
-    n + 65535 * unsettled (replicate routers false) ≤ 65535 * routers
-start_small routers owner inside u n known =
-    elim (cases_eq u owner) [
-      | inl at ↦
-          let zero_ : 0 ≡ n = same_Some 0 n (sym (at_owner_zero routers owner inside) ∙ ap (distance_map (set (replicate routers None) owner (Some 0))) (sym at) ∙ known) in
-          let few : unsettled (replicate routers false) ≤ length (replicate routers false) = count_by-le-length not (replicate routers false) in
-          omega (arith, zero_, few, length-replicate routers false)
-      | inr off ↦ absurd (none-some n (sym (off_owner_none routers owner u off) ∙ known))
-    ]
-
--- at the start
-pub under_way_none : (steps : List Step) (routers owner : ℕ) → owner < routers →
-    IsUnderWay steps routers owner (set (replicate routers None) owner (Some 0)) (replicate routers false)
-under_way_none steps routers owner inside =
-    record {
-      whole = length-set (replicate routers None) owner (Some 0) ∙ length-replicate routers None;
-      flags = length-replicate routers false;
-      half = starting steps owner (distance_map (set (replicate routers None) owner (Some 0))) (flagged (replicate routers false))
-          (at_owner_zero routers owner inside) (off_owner_none routers owner) (none_settled routers);
-      small = λ u n known. start_small routers owner inside u n known;
-    }

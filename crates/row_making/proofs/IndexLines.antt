@@ -1,6 +1,6 @@
 -- What the index of a process keeps, line by line.
 use Rattle.std.proofs.Common.{◌≡◌, ℕ, ◌⊎◌, inl, inr, Bool, true, false, cond, Option, Some, None, List, [], refl, sym, ◌∙◌, ap, subst, ◌↔◌}
-use Rattle.std.specs.Prelude.{Any, if◌then◌else◌, option_and_then}
+use Rattle.std.specs.Prelude.{Any, if◌then◌else◌}
 use Rattle.std.specs.Option.{option_or}
 use Rattle.std.proofs.lemmas.Option.{none-some, same_Some}
 use Rattle.arc_base.specs.Addresses.{Holds}
@@ -9,9 +9,9 @@ use Rattle.arc_base.proofs.Items.{Contains-none}
 use Rattle.ios_words.specs.declared.commands.Command.{Command}
 use Rattle.ios_words.specs.declared.commands.Command.TheVariants as commands
 use Rattle.ios_config.specs.declared.settings.Given.{Given}
-use Rattle.net_rules.specs.Settings.{says_passive, CommandCovers}
+use Rattle.net_rules.specs.Settings.{CommandCovers}
 use Rattle.net_rules.specs.Prefixes.{HasPrefix, HasPrefixOf}
-use Rattle.row_making.specs.Indexes.{told_prefix, covered_prefix, passive_setting, by_face}
+use Rattle.row_making.specs.Indexes.{told_prefix, covered_prefix}
 use Rattle.net_rules.proofs.Gathered.{gathered_none}
 
 -- before any line
@@ -73,14 +73,6 @@ covered_where lines keys address are = (λ h. to h, λ h. from h)
 
     from : Any (λ (g : Given Command). CommandCovers address g.value) lines → HasPrefixOf keys address
     from (k, g, l, e, h) = let found = covers_from address g.value h in (found.0, (are found.0).1 (k, g, l, e, found.1), found.2)
-
-abbrev pub says_by : List ℕ → Option (Bool × Option (List ℕ)) → Option Bool
-says_by name setting = option_and_then (λ (s : Bool × Option (List ℕ)). by_face name s.0 s.1) setting
-
-pub says_is : (name : List ℕ) (command : Command) → says_by name (passive_setting command) ≡ says_passive name command
-says_is name (commands.Passive on None) = refl
-says_is name (commands.Passive on (Some face)) = refl
-says_is name other = refl
 
 -- what is said of one interface comes before what was said
 pub named_first : (b on : Bool) (before all : Option Bool) → option_or (cond b (Some on) before) all ≡ option_or (if b then Some on else None) (option_or before all)

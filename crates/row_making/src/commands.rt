@@ -9,6 +9,7 @@ ghost use Rattle.net_rules.specs.Neighbors.{is_down, filter_of};
 use arc_base::Name;
 use ios_config::Given;
 use ios_words::Command;
+use net_rules::DEFAULT_REFERENCE;
 
 fn says_reference(command: &Command) -> Option<u32>
     ensures { result ≡ says_reference command.now }
@@ -33,7 +34,7 @@ fn last_reference(lines: &[Given<Command>]) -> Option<u32>
 pub fn reference(lines: &[Given<Command>]) -> u64
     ensures { result ≡ reference_of lines.now }
 {
-    u64::from(last_reference(lines).unwrap_or(100)) * 1000
+    u64::from(last_reference(lines).unwrap_or(DEFAULT_REFERENCE)) * 1000
 }
 
 fn says_remote(command: &Command, peer: u32) -> Option<u32>

@@ -1,11 +1,10 @@
 -- How the list is given the new places of the clauses that the pool moved.
-use Rattle.std.proofs.Common.{◌≡◌, ◌≢◌, ℕ, ◌+◌, ◌<◌, inl, inr, List, [], ◌∷◌, ◌++◌, length, get_or, set, take, drop, Contains, Option, Some, None, IfSome, IsSomeAnd, refl, sym, ap, ◌∙◌, subst, arith}
+use Rattle.std.proofs.Common.{◌≡◌, ◌≢◌, ℕ, ◌+◌, ◌<◌, inl, inr, List, [], ◌∷◌, ◌++◌, length, get_or, set, take, drop, Contains, Option, Some, None, IfSome, IsSomeAnd, sym, ap, ◌∙◌, subst, arith}
 use Rattle.std.specs.List.{slice_get}
 use Rattle.std.proofs.lemmas.Bool.{cases_eq}
 use Rattle.std.proofs.lemmas.Option.{same_Some, none-some, slice_get_within, slice_get-get_or, get_or_from_slice_get}
 use Rattle.std.proofs.lemmas.List.{get_or-set_same, get_or-set_other, length-set, take_more, take-append-drop}
 use Rattle.std.proofs.lemmas.List.Elements.{Contains-push_cases, Contains-append_left, Contains-get_or}
-use Rattle.arc_base.proofs.Items.{Contains-none}
 use Rattle.clause_pool.specs.declared.place.Place.{Place}
 use Rattle.clause_pool.specs.Pools.{Entry, State, clause_at}
 use Rattle.clause_pool.proofs.Sound.{if-some, and-some}
@@ -20,9 +19,6 @@ pub record AreAnew (before after : List (Option Place)) (moves : Moves) : Type 0
   pub size : length after ≡ length before
   pub done : (k : ℕ) (p q : Place) → slice_get before k ≡ Some (Some p) → Contains moves (p, q) → slice_get after k ≡ Some (Some q)
   pub none : (k : ℕ) → slice_get before k ≡ Some None → slice_get after k ≡ Some None
-
-pub anew-begun : (places : List (Option Place)) → AreAnew places places []
-anew-begun places = record { size = refl; done = λ k p q at h. absurd (Contains-none (p, q) h); none = λ k h. h }
 
 there-set : {X : Type 0} (xs : List X) (k : ℕ) (x : X) → k < length xs → slice_get (set xs k x) k ≡ Some x
 there-set xs k x within = slice_get-get_or (set xs k x) k x (omega (arith, within, length-set xs k x)) ∙ ap Some (get_or-set_same xs k x x within)

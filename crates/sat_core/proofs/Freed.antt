@@ -3,12 +3,12 @@ use Rattle.std.proofs.Common.{◌≡◌, ◌≢◌, ℕ, inl, inr, Option, Some,
 use Rattle.std.proofs.lemmas.Bool.{cases_eq}
 use Rattle.std.proofs.lemmas.Option.{same_Some, none-some}
 use Rattle.clause_pool.specs.declared.place.Place.{Place}
-use Rattle.clause_pool.specs.Pools.{Entry, State, IsSound, IsFreshId, clause_at, freed, without_clause}
+use Rattle.clause_pool.specs.Pools.{Entry, State, IsSound, clause_at, freed, without_clause}
 use Rattle.clause_pool.specs.Renumbered.{with_id_at}
 use Rattle.clause_pool.proofs.Places.{same-place}
 use Rattle.clause_pool.proofs.Maps.{get-gone_same, get-gone_other, get-changed_same, get-changed_other}
 use Rattle.clause_pool.proofs.Sound.{if-some, at-some, and-some}
-use Rattle.sat_core.specs.Forgotten.{moved, IsFreed, IsRenumbered, IsMoved}
+use Rattle.sat_core.specs.Forgotten.{moved, IsFreed, IsRenumbered}
 use Rattle.sat_core.proofs.Removed.{moved-last, moved-other}
 
 -- no other place has the id of one
@@ -30,9 +30,6 @@ freed-by s new p id sound found is new_sound =
       from = λ q e at. sym (there q (apart q e at)) ∙ at;
       to = λ q e at other. there q (λ same. other (ap (λ (x : Entry). x.id) (same_Some e f.value (sym at ∙ ap (clause_at s) same ∙ f.is)) ∙ f.holds)) ∙ at;
     }
-
-pub freed-none : (s : State) (id : ℕ) → IsSound s → IsFreshId s id → IsFreed id s s
-freed-none s id sound fresh = record { vars = refl; sound = sound; gone = fresh; from = λ p e at. at; to = λ p e at other. at }
 
 pub renumbered-by : (s new : State) (p : Place) (id new_id : ℕ) → IsSound s → IsSomeAnd (clause_at s p) (λ e. e.id ≡ id) → new ≡ with_id_at s p new_id → IsSound new → IsRenumbered id new_id s new
 renumbered-by s new p id new_id sound found is new_sound =
@@ -65,21 +62,6 @@ renumbered-by s new p id new_id sound found is new_sound =
             (d, there q q_is ∙ at, number_other q d at q_is)
       ];
     }
-
-pub renumbered-none : (s : State) (id new_id : ℕ) → IsSound s → IsFreshId s id → IsRenumbered id new_id s s
-renumbered-none s id new_id sound fresh =
-    let number : (p : Place) (e : Entry) → clause_at s p ≡ Some e → e.id ≡ moved id new_id e.id = λ p e at. sym (moved-other id new_id e.id (at-some (clause_at s p) e (λ (x : Entry). x.id ≢ id) at (fresh p))) in
-    record { vars = refl; sound = sound; from = λ p e at. (e, at, refl, number p e at); to = λ p d at. (d, at, number p d at) }
-
-pub moved-by : (s mid new : State) (last at : ℕ) → IsFreed at s mid → IsRenumbered last at mid new → IsMoved last at s new
-moved-by s mid new last at freed renumbered = record {
-  vars = renumbered.vars ∙ freed.vars;
-  sound = renumbered.sound;
-  from = λ p e is.
-      let r = renumbered.from p e is in
-      (r.0, freed.from p r.0 r.1, r.2, at-some (clause_at mid p) r.0 (λ (x : Entry). x.id ≢ at) r.1 (freed.gone p), r.3);
-  to = λ p d is other. renumbered.to p d (freed.to p d is other);
-}
 
 pub some-live : (s : State) (p : Place) (id : ℕ) → IsSomeAnd (clause_at s p) (λ e. e.id ≡ id) → IsSome (clause_at s p)
 some-live s p id h = ap is_some (and-some (clause_at s p) (λ (e : Entry). e.id ≡ id) h).is

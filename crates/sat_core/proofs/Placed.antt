@@ -6,7 +6,7 @@ use Rattle.std.proofs.lemmas.Option.{same_Some, none-some}
 use Rattle.std.proofs.lemmas.List.{length_push}
 use Rattle.cnf_types.specs.declared.literal.Lit.{Lit}
 use Rattle.clause_pool.specs.declared.place.Place.{Place}
-use Rattle.clause_pool.specs.Pools.{Entry, State, IsSound, IsFreshId, clause_at, side, with_clause, with_watch, watch_moved}
+use Rattle.clause_pool.specs.Pools.{Entry, State, IsSound, clause_at, side, with_clause, with_watch, watch_moved}
 use Rattle.clause_pool.specs.Compacted.{IsCompacted}
 use Rattle.clause_pool.proofs.Places.{same-place}
 use Rattle.clause_pool.proofs.Maps.{get-put_same, get-put_other}
@@ -98,21 +98,11 @@ pub set-last : {X : Type 0} (xs : List X) (x y : X) → set (xs ++ x ∷ []) (le
 set-last [] x y = refl
 set-last (z ∷ xs) x y = ap (λ ys. z ∷ ys) (set-last xs x y)
 
--- a clause of the list that the pool does not keep is no clause of the pool
-pub fresh-beside : (store : Stored) (pool : State) (k : ℕ) → IsPlaced store pool → slice_get store.places k ≡ Some None → IsFreshId pool k
-fresh-beside store pool k h beside p = if-some (clause_at pool p) _ (λ e is same.
-    let known = at-some (clause_at pool p) e (λ (x : Entry). slice_get store.places x.id ≡ Some (Some p)) is (h.known p) in
-    none-some p (same_Some None (Some p) (sym beside ∙ ap (λ (n : ℕ). slice_get store.places n) (sym same) ∙ known)))
-
 -- after another clause was taken out of the pool
 pub freed-live : (store : Stored) (pool mid : State) (at k : ℕ) (p : Place) → IsPlaced store pool → IsFreed at pool mid → k ≢ at → slice_get store.places k ≡ Some (Some p) → IsSomeAnd (clause_at mid p) (λ e. e.id ≡ k)
 freed-live store pool mid at k p h freed other place =
     let f = and-some (clause_at pool p) (λ (e : Entry). e.id ≡ k) (h.live k p place) in
     some-and (clause_at mid p) f.value (λ (e : Entry). e.id ≡ k) (freed.to p f.value f.is (λ same. other (sym f.holds ∙ same))) f.holds
-
-pub freed-beside : (store : Stored) (pool mid : State) (at k : ℕ) → IsPlaced store pool → IsFreed at pool mid → slice_get store.places k ≡ Some None → IsFreshId mid k
-freed-beside store pool mid at k h freed beside p = if-some (clause_at mid p) _ (λ e is.
-    at-some (clause_at pool p) e (λ (x : Entry). x.id ≢ k) (freed.from p e is) (fresh-beside store pool k h beside p))
 
 -- the list and the pool lost the same clause
 pub placed-removed : (store : Stored) (pool new : State) (at : ℕ) → at < length store.clauses → IsPlaced store pool → IsMoved (length store.clauses - 1) at pool new → IsPlaced (without_row store at) new

@@ -88,16 +88,3 @@ module _ {X : Type 0} (none : X) (xs : List X) (at : ℕ) (inside : at < length 
       let size : length (map f xs) ≡ length xs = length-map xs f in
       let seen : f last ≡ get_or (map f xs) (length (map f xs) - 1) y = sym (get_or-map f xs n none y (omega arith)) ∙ ap (λ (k : ℕ). get_or (map f xs) (k - 1) y) (sym size) in
       sym (take-map f n (set xs at last)) ∙ ap (λ ys. take n ys) (map-set f xs at last ∙ ap (λ (z : _). set (map f xs) at z) seen) ∙ ap (λ (k : ℕ). take (k - 1) (set (map f xs) at (get_or (map f xs) (length (map f xs) - 1) y))) (sym size)
-
--- a number after the last one took a place tells the one before
-pub moved-once : (last at i j : ℕ) → i ≢ at → j ≢ at → moved last at i ≡ moved last at j → i ≡ j
-moved-once last at i j i_other j_other e = elim (cases_eq i last) [
-  | inl i_last ↦ elim (cases_eq j last) [
-    | inl j_last ↦ i_last ∙ sym j_last
-    | inr j_before ↦ absurd (j_other (sym (moved-other last at j j_before) ∙ sym e ∙ ap (λ (n : ℕ). moved last at n) i_last ∙ moved-last last at))
-  ]
-  | inr i_before ↦ elim (cases_eq j last) [
-    | inl j_last ↦ absurd (i_other (sym (moved-other last at i i_before) ∙ e ∙ ap (λ (n : ℕ). moved last at n) j_last ∙ moved-last last at))
-    | inr j_before ↦ sym (moved-other last at i i_before) ∙ e ∙ moved-other last at j j_before
-  ]
-]

@@ -50,7 +50,7 @@ impl Core {
         self.progress = self.progress.forgotten(last);
     }
 
-    /// Closes the gaps that forgotten clauses left in memory. Want of memory leaves them.
+    /// Closes the gaps that forgotten clauses left in memory. Out of memory, they stay.
     pub fn compact(&mut self) -> Result<(), Memory>
         ensures { self.new ≡ self.old }
     {

@@ -1,12 +1,10 @@
 -- What the clauses of a sound core are like, by their places.
-use Rattle.std.proofs.Common.{◌≡◌, ℕ, ◌≤◌, List, slice_get, All, refl, subst, Option, Some, None, option_map}
+use Rattle.std.proofs.Common.{◌≡◌, ℕ, List, slice_get, refl, Option, Some, None, option_map}
 use Rattle.std.proofs.lemmas.Option.{none-some, same_Some}
 use Rattle.cnf_types.specs.declared.literal.Lit.{Lit}
 use Rattle.sat_core.specs.declared.assigned.Held.{Held}
 use Rattle.sat_core.specs.declared.numbered.Numbered.{Numbered}
-use Rattle.sat_core.specs.Trails.{IsOf, clause_at, id_at}
-use Rattle.sat_core.specs.States.{State, IsSound}
-use Rattle.sat_search.proofs.Learnt.{all_at}
+use Rattle.sat_core.specs.Trails.{clause_at, id_at}
 
 -- the clause at a place
 pub record IsAt (clauses : List Numbered) (h : Held) : Type 0 where
@@ -26,15 +24,3 @@ found_id clauses h id (Some c) at is = (c, at, same_Some c.id id is)
 
 pub id_found : (clauses : List Numbered) (h : Held) (id : ℕ) → id_at clauses h ≡ Some id → (c : Numbered) × (slice_get clauses h.0 ≡ Some c) × (c.id ≡ id)
 id_found clauses h id is = found_id clauses h id (slice_get clauses h.0) refl is
-
--- its literals are in range
-pub lits_in_range : (s : State) (h : Held) (lits : List Lit) → IsSound s → clause_at s.clauses h ≡ Some lits → All (IsOf s.vars) lits
-lits_in_range s h lits sound is =
-    let c = clause_found s.clauses h lits is in
-    subst (λ (ls : List Lit). All (IsOf s.vars) ls) c.2 (all_at (λ (d : Numbered). All (IsOf s.vars) d.lits) s.clauses h.0 c.0 sound.range c.1)
-
--- and its id is at most the last one
-pub id_most : (s : State) (h : Held) (id : ℕ) → IsSound s → id_at s.clauses h ≡ Some id → id ≤ s.last_id
-id_most s h id sound is =
-    let c = id_found s.clauses h id is in
-    subst (λ (n : ℕ). n ≤ s.last_id) c.2 (all_at (λ (d : Numbered). d.id ≤ s.last_id) s.clauses h.0 c.0 sound.ids c.1)

@@ -68,12 +68,6 @@ module _ (ids : List ℕ) (old : ℕ) (s : State) (h : Held) (c : Numbered) (her
   opened : dropping_place ids old s h.0 ≡ place_among ids old (is_reason s.trail h.0) c
   opened = ap (λ (o : Option Numbered). option_and_then (place_among ids old (is_reason s.trail h.0)) o) here
 
-  pub small_stays : length c.lits ≤ 2 → dropping_place ids old s h.0 ≡ None
-  small_stays small = opened ∙ ap (λ (b : Bool). cond (b || is_reason s.trail h.0) None (position (λ id. id == c.id) (take old ids))) (le-leb (length c.lits) 2 small)
-
-  pub reason_stays : is_reason s.trail h.0 ≡ true → dropping_place ids old s h.0 ≡ None
-  reason_stays is = opened ∙ cond-true (nat_le (length c.lits) 2 || is_reason s.trail h.0) None (position (λ id. id == c.id) (take old ids)) (ap (λ (b : Bool). nat_le (length c.lits) 2 || b) is ∙ or_true (nat_le (length c.lits) 2))
-
   either : (b : Bool) (o : Option ℕ) → o ≡ None → cond b None o ≡ None
   either true o none = refl
   either false o none = none

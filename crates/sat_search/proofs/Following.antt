@@ -59,16 +59,6 @@ follows_start s old =
       filled = ap (list_any adds_empty) none;
     }
 
--- propagation and decisions change nothing
-pub follows_dived : (s now dived : State) (old new : List Step) → GoesOn s old now new → KeepsClauses now dived → GoesOn s old dived new
-follows_dived s now dived old new follows kept = record {
-  log = follows.log;
-  vars = kept.vars ∙ follows.vars;
-  clauses = λ id. ap (λ (cs : List Numbered). clause_in cs id) kept.clauses ∙ follows.clauses id;
-  last = kept.last_id ∙ follows.last;
-  filled = follows.filled;
-}
-
 -- a lemma is learnt
 module _ (s now dived next : State) (old new newer : List Step) (empty : Bool) (follows : GoesOn s old now new) (kept : KeepsClauses now dived) (taught : Teaches dived new next newer empty) where
   abbrev step : List Step

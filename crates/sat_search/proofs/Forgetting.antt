@@ -3,7 +3,7 @@ use Rattle.std.proofs.Common.{◌≡◌, ◌≢◌, ℕ, ◌+◌, ◌-◌, ◌*�
 use Rattle.std.specs.List.{list_any}
 use Rattle.std.proofs.lemmas.Bool.{cases_eq, cases_lt, cases_order, eq-eqb, lt-ltb}
 use Rattle.std.proofs.lemmas.Option.{none-some, same_Some, slice_get_within, get_or_from_slice_get}
-use Rattle.std.proofs.lemmas.List.{append-nil, get_or-reverse, length-reverse, get_or-take, get_or-drop, length-take, length-take-le, length-drop, reverse-append, take_more}
+use Rattle.std.proofs.lemmas.List.{get_or-reverse, length-reverse, get_or-take, get_or-drop, length-take, length-take-le, length-drop, reverse-append, take_more}
 use Rattle.std.proofs.lemmas.List.Folds.{list_any-append}
 use Rattle.std.proofs.lemmas.List.Elements.{All-append, All-cons, All-nil, All-weaker}
 use Rattle.arc_base.specs.declared.memory.Memory.{Memory}
@@ -149,16 +149,10 @@ forgets_more s mid now ids new before more =
       trail = λ l on. more.forgets.trail l (before.trail l on);
     })
 
-pub more_none : (s : State) (ids : List ℕ) → ForgetsMore s ids s ids
-more_none s ids = record { more = []; grown = sym (append-nil ids); forgets = forgets_none s }
-
 pub more_one : (s : State) (ids : List ℕ) (h : Held) (id : ℕ) → AllPairs (λ c d. c.id ≢ d.id) s.clauses → id_at s.clauses h ≡ Some id → IsSomeAnd (clause_at s.clauses h) (λ lits. 2 < length lits) → ForgetsMore s ids (without_clause s h) (ids ++ id ∷ [])
 more_one s ids h id different is many = record { more = id ∷ []; grown = refl; forgets = forgets_one s h id different is many }
 
 -- ---- the lemmas of a log
-
-pub lemmas_none : (lemmas : Lemmas) → lemmas.ids.items ≡ [] → lemmas.drops ≡ 0 → lemmas.wait ≡ gap_after 0 → AreLemmas [] lemmas
-lemmas_none lemmas none zero wait = record { ids = ap reverse none; drops = zero; wait = wait }
 
 -- a lemma joins
 pub lemmas_add : (steps : List Step) (old new : Lemmas) (id : ℕ) (step : Step) → AreLemmas steps old → new.ids.items ≡ old.ids.items ++ id ∷ [] → new.drops ≡ old.drops
@@ -215,13 +209,6 @@ first_go steps lemmas n ids are few first = All-weaker (Contains (take n lemmas.
 pub drops_some : (s now back : State) (old new : List Step) (ids : List ℕ) → Forgets s ids now → back ≡ now → All (MayGo old) ids → new ≡ old ++ Drop ids ∷ [] → wait_of old ≡ 0 → IsHalf (clause_in s.clauses) (added_by [] old) (dropped_by 0 old) ids → Drops s old back new
 drops_some s now back old new ids forgets same may_go grown due half =
     record { ids = ids; log = inl (grown, due, half); may_go = may_go; forgets = subst (λ (b : State). Forgets s ids b) (sym same) forgets }
-
-pub drops_none : (s now : State) (old : List Step) (ids : List ℕ) → Forgets s ids now → ids ≡ [] → Drops s old now old
-drops_none s now old ids forgets none =
-    record { ids = ids; log = inr (refl, none); may_go = subst (λ (is : List ℕ). All (MayGo old) is) (sym none) (All-nil (MayGo old)); forgets = forgets }
-
-pub drops_nothing : (s : State) (old : List Step) → Drops s old s old
-drops_nothing s old = drops_none s s old [] (forgets_none s) refl
 
 -- the number of steps that drop clauses fits a machine word
 pub few_drops : (steps : List Step) (lemmas : Lemmas) → AreLemmas steps lemmas → lemmas.drops ≤ length steps

@@ -18,7 +18,7 @@ use Rattle.sat_search.proofs.Literals.{eq-same, variable-negated}
 use Rattle.sat_search.proofs.Among.{among_at}
 use Rattle.sat_search.proofs.Clauses.{clause_found}
 use Rattle.sat_search.proofs.Visiting.{in_range}
-use Rattle.sat_search.proofs.Learnt.{pass_begins, end_unmarked, end_shown, end_new}
+use Rattle.sat_search.proofs.Learnt.{pass_begins, end_shown, end_new}
 
 some-clause : (o : Option (List Lit)) {P Q : List Lit → Type 0} → IsSomeAnd o P → IfSome o Q → (ls : List Lit) × (o ≡ Some ls) × P ls × Q ls
 some-clause None p q = absurd p
@@ -63,7 +63,3 @@ pass_learnt s sound first flags lits hints turned current pass first_is turned_i
       range = range_where s sound flags lits turned current ended;
       small = sound.small;
     }
-
-pub pass_unmarked : (s : State) → IsSound s → (first : ℕ) (flags : List Bool) (lits : List Lit) (hints : List ℤ) (current : ℕ) → IsPass s first flags lits hints current → first ≡ 0 → (m : Lit) → is_marked flags m ≡ false
-pass_unmarked s sound first flags lits hints current pass first_is =
-    end_unmarked s sound flags lits hints current (subst (λ (n : ℕ). IsPass s n flags lits hints current) first_is pass)

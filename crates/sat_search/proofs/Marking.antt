@@ -1,7 +1,7 @@
 -- Marked literals, as they are marked and unmarked.
-use Rattle.std.proofs.Common.{◌≡◌, ◌≢◌, ℕ, ◌+◌, ◌<◌, Bool, true, false, ◌&&◌, ◌||◌, not, IsTrue, ◌⊎◌, inl, inr, List, [], ◌∷◌, ◌++◌, length, take, get_or, refl, ap, sym, ◌∙◌, subst}
+use Rattle.std.proofs.Common.{◌≡◌, ◌≢◌, ℕ, ◌+◌, ◌<◌, Bool, true, false, ◌&&◌, ◌||◌, not, IsTrue, ◌⊎◌, inl, inr, List, [], ◌∷◌, ◌++◌, length, take, get_or, refl, ap, sym, ◌∙◌}
 use Rattle.std.proofs.lemmas.List.{take_more}
-use Rattle.std.proofs.lemmas.Bool.{false≢true, or_cases, or_left, or_right, and_from, and_parts, and_right, both_ways, not_from_false, not_from_true, false_from_ne_true, cases_eq}
+use Rattle.std.proofs.lemmas.Bool.{or_cases, or_left, or_right, and_from, and_parts, and_right, both_ways, not_from_false, not_from_true, false_from_ne_true, cases_eq}
 use Rattle.cnf_types.specs.declared.literal.Lit.{Lit}
 use Rattle.cnf_types.specs.Literals.{negated}
 use Rattle.proof_check.specs.Propagation.{same, is_among}
@@ -48,25 +48,6 @@ module _ (trail : List Assigned) (old new : List Bool) (lits : List Lit) (joined
 
   pub joined_new : (m : Lit) → IsTrue (is_among lits m) → IsTrue (is_on trail (negated m)) → IsTrue (is_marked new m)
   joined_new m among off = joined m ∙ or_right (is_marked old m) (is_among lits m && is_on trail (negated m)) (and_from (is_among lits m) (is_on trail (negated m)) among off)
-
--- one literal: it is not false, or marked before
-one-kept : (o k f : Bool) → (k ≡ true → (o ≡ true) ⊎ (f ≡ false)) → o ≡ (o || ((k || false) && f))
-one-kept true k f h = refl
-one-kept false true f h = elim (h refl) [ inl e ↦ absurd (false≢true e) | inr e ↦ sym e ]
-one-kept false false f h = refl
-
-pub joined_same : (trail : List Assigned) (old : List Bool) (l : Lit) → (is_marked old l ≡ true) ⊎ (is_on trail (negated l) ≡ false) → IsJoined trail old old (l ∷ [])
-joined_same trail old l (inl was) m = one-kept (is_marked old m) (same l m) (is_on trail (negated m)) (λ e. inl (subst (λ (x : Lit). is_marked old x ≡ true) (same-eq l m e) was))
-joined_same trail old l (inr on) m = one-kept (is_marked old m) (same l m) (is_on trail (negated m)) (λ e. inr (subst (λ (x : Lit). is_on trail (negated x) ≡ false) (same-eq l m e) on))
-
--- or it is marked now
-one-marked : (o k f : Bool) → (k ≡ true → f ≡ true) → (o || k) ≡ (o || ((k || false) && f))
-one-marked true k f h = refl
-one-marked false true f h = sym (h refl)
-one-marked false false f h = refl
-
-pub joined_marked : (trail : List Assigned) (old new : List Bool) (l : Lit) → IsTrue (is_on trail (negated l)) → ((m : Lit) → is_marked new m ≡ (is_marked old m || same l m)) → IsJoined trail old new (l ∷ [])
-joined_marked trail old new l off marked m = marked m ∙ one-marked (is_marked old m) (same l m) (is_on trail (negated m)) (λ e. subst (λ (x : Lit). IsTrue (is_on trail (negated x))) (same-eq l m e) off)
 
 -- the literals of a clause one by one
 two-joined : (o a k f : Bool) → ((o || (a && f)) || ((k || false) && f)) ≡ (o || ((a || k) && f))

@@ -54,10 +54,6 @@ on_take (b ∷ trail) (suc high) (suc place) a at low = or_right (same b.lit a.l
 pub within_on : (trail : List Assigned) (low high : ℕ) (l : Lit) → IsSetWithin trail low high l → IsTrue (is_on trail l)
 within_on trail low high l s = entry_on trail s.place s.entry l s.at s.literal
 
--- wider bounds
-pub set_wider : (trail : List Assigned) (low high more : ℕ) (l : Lit) → high ≤ more → IsSetWithin trail low high l → IsSetWithin trail low more l
-set_wider trail low high more l wider s = set-entry trail low more s.place s.entry l s.from (omega (arith, s.before)) s.at s.literal
-
 -- one place more or less
 pub set_below : (trail : List Assigned) (i : ℕ) (a : Assigned) (l : Lit) → slice_get trail i ≡ Some a → IsSetWithin trail 0 (i + 1) l → (a.lit ≡ l) ⊎ IsSetWithin trail 0 i l
 set_below trail i a l at s = elim (cases_lt s.place i) [

@@ -18,7 +18,7 @@ use Rattle.sat_search.proofs.Literals.{variable-negated}
 use Rattle.sat_search.proofs.Sound.{entry_follows, entry_reason, decision_rises, decision_first, level_most}
 use Rattle.sat_search.proofs.Counts.{once, count_none}
 use Rattle.sat_search.proofs.Held.{held_at}
-use Rattle.sat_search.proofs.Passing.{distinct, open_some, counted_less, pending_below, pass_keeps}
+use Rattle.sat_search.proofs.Passing.{distinct, counted_less, pending_below, pass_keeps}
 use Rattle.sat_search.proofs.Resolving.{pass_resolves}
 use Rattle.sat_search.proofs.Clauses.{clause_found}
 
@@ -146,9 +146,6 @@ module _ (s : State) (sound : IsSound s) (first : ℕ) (flags : List Bool) (lits
   pub leave_counted : (other rest : ℕ) → other ≡ s.level → current ≡ rest + once (a.level == other) → rest ≡ open_in s.level s.trail more
   leave_counted other rest other_is sum = counted_less s sound first flags lits hints current a at was pass more clears rest (sum ∙ ap (λ (n : ℕ). rest + once (a.level == n)) other_is)
 
-  pub leave_some : (other : ℕ) → other ≡ s.level → a.level ≡ other → 1 ≤ current
-  leave_some other other_is level_is = open_some s sound flags current first a at was (level_is ∙ other_is) pass.counted
-
   pub reason_held : (level : ℕ) (spared : Bool) (h : Held) → resolving_reason level current spared a ≡ Some h → h.0 < length s.clauses
   reason_held level spared h some = reason_below s sound first a at h (resolved_why level current spared a h some).1
 
@@ -158,10 +155,6 @@ visited trail now place d is low = slice_get-get_or trail place d low ∙ ap (λ
 
 pub in_range : (s : State) (sound : IsSound s) (first : ℕ) (a : Assigned) → slice_get s.trail first ≡ Some a → IsOf s.vars a.lit
 in_range s sound first a at = (entry_follows s.clauses s.vars s.trail s.level sound.trail first a at).range
-
--- the code of a literal in range, and of its negation
-pub code_below : (vars : ℕ) (l : Lit) (size : ℕ) → IsOf vars l → size ≡ 2 * vars + 2 → l.code < size
-code_below vars l size range is = omega (arith, range.most)
 
 pub negated_below : (vars : ℕ) (l : Lit) (size : ℕ) → IsOf vars l → size ≡ 2 * vars + 2 → (negated l).code < size
 negated_below vars l size range is = omega (arith, range.most, variable-negated l)

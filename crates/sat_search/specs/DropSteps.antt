@@ -6,6 +6,7 @@ use Rattle.cnf_types.specs.declared.literal.Lit.{Lit}
 use Rattle.proof_log.specs.declared.steps.Step.{Step}
 use Rattle.proof_log.specs.declared.steps.Step.TheVariants.{Add, Drop, Bound}
 use Rattle.proof_check.specs.Knowledge.{with_clause, without_clauses}
+use Rattle.clean_logs.specs.declared.kept.TheConstants.{KEPT_LEMMAS}
 
 -- how many clauses are added after `drops` drop steps until the next one comes: 1,500 j before the
 -- j-th, as far as 64 bits count
@@ -44,9 +45,10 @@ is_long None = false
 is_long (Some lits) = nat_lt 2 (length lits)
 
 -- how many lemmas the j-th drop step may name: those that are live, have more than two literals and
--- are none of the last 1,000 j
+-- are none of the last KEPT_LEMMAS times j
 abbrev pub long_old : (ℕ → Option (List Lit)) → List ℕ → ℕ → ℕ
-long_old live added drops = count_by (λ id. is_long (live id)) (drop (1000 * (drops + 1)) added)
+long_old live added drops =
+    count_by (λ id. is_long (live id)) (drop (KEPT_LEMMAS * (drops + 1)) added)
 
 -- the step names live clauses of more than two literals: one at least, and at most half of those
 -- that it may name, rounded up

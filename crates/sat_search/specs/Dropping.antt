@@ -7,6 +7,7 @@ use Rattle.proof_log.specs.declared.steps.Step.TheVariants.{Add, Drop, Bound}
 use Rattle.proof_check.specs.Knowledge.{without_clauses}
 use Rattle.sat_core.specs.States.{State}
 use Rattle.clean_logs.specs.CleanLogs.{added_by, dropped_by}
+use Rattle.clean_logs.specs.declared.kept.TheConstants.{KEPT_LEMMAS}
 use Rattle.sat_search.specs.Live.{clause_in}
 use Rattle.sat_search.specs.DropSteps.{gap_after, wait_of, is_long, IsHalf}
 use Rattle.sat_search.specs.Searches.{IsOld}
@@ -29,7 +30,7 @@ sizes (Bound id price ∷ steps) = sizes steps
 
 -- how many of the lemmas, the first ones, are old enough to be dropped
 abbrev pub old_lemmas : Lemmas → ℕ
-old_lemmas lemmas = length lemmas.ids.items - 1000 * (lemmas.drops + 1)
+old_lemmas lemmas = length lemmas.ids.items - KEPT_LEMMAS * (lemmas.drops + 1)
 
 -- half of the clauses that may be dropped are gone, rounded up
 abbrev pub HalvesDroppable : Lemmas → State → State → Type 0

@@ -14,6 +14,7 @@ use Rattle.proof_check.specs.Logs.{adds_empty}
 use Rattle.sat_core.specs.declared.numbered.Numbered.{Numbered}
 use Rattle.sat_core.specs.Trails.{IsOf}
 use Rattle.sat_core.specs.States.{State}
+use Rattle.clean_logs.specs.declared.kept.TheConstants.{KEPT_LEMMAS}
 use Rattle.clean_logs.specs.Lemmas.{IsNew}
 use Rattle.clean_logs.specs.CleanLogs.{added_by, dropped_by, additions}
 use Rattle.sat_search.specs.declared.found.Found.{Found}
@@ -40,9 +41,9 @@ AddsFrom last (Drop ids ∷ steps) = AddsFrom last steps
 AddsFrom last (Bound id price ∷ steps) = ⊥
 
 -- the clause was added, and is none of those that the next step that drops clauses has to leave:
--- for the j-th the last 1,000 j
+-- for the j-th the last KEPT_LEMMAS times j
 abbrev pub IsOld : List ℕ → ℕ → ℕ → Type 0
-IsOld added drops id = Contains (drop (1000 * (drops + 1)) added) id
+IsOld added drops id = Contains (drop (KEPT_LEMMAS * (drops + 1)) added) id
 
 -- the steps drop such clauses alone, after others that added these clauses and dropped so often
 abbrev pub DropsOld : List ℕ → ℕ → List Step → Type 0

@@ -18,15 +18,13 @@ ghost use Rattle.sat_search.specs.Costs.{may_be_named, AreSetToo, is_hint_of, us
 ghost use Rattle.sat_search.specs.Live.{clause_in};
 
 use arc_base::{List, Memory};
+use clean_logs::KEPT_LEMMAS;
 use proof_log::{Log, Step};
 use sat_core::{Core, Held};
 use std::alloc::Global;
 
 /// The j-th drop step comes after `ADDED * j` added clauses, counted from the drop step before it.
 const ADDED: u64 = 1500;
-
-/// The j-th drop step keeps the last `KEPT * j` learnt clauses.
-const KEPT: u64 = 1000;
 
 /// What is added to the worth of a lemma that was not used lately.
 const UNUSED: u64 = 1 << 32;
@@ -73,8 +71,8 @@ impl Lemmas {
         Ok(lemmas)
     }
 
-    /// A lemma joins the log. Where it was time to drop some and none could be, this is the first of
-    /// those after which it is tried again.
+    /// A lemma joins the log. Where it was time to drop some and none could be, this is the first
+    /// of those after which it is tried again.
     pub fn add(&mut self, id: u64, levels: u32) -> Result<(), Memory>
         ensures ids { OnOk result (self.new.ids.items ≡ self.old.ids.items ++ id ∷ []) }
         ensures levels { OnOk result
@@ -121,7 +119,9 @@ impl Lemmas {
     fn old(&self) -> usize
         ensures { result ≡ old_lemmas self.now }
     {
-        let kept = KEPT.saturating_mul(self.drops).saturating_add(KEPT) as usize;
+        let kept = KEPT_LEMMAS
+            .saturating_mul(self.drops)
+            .saturating_add(KEPT_LEMMAS) as usize;
         self.ids.len().saturating_sub(kept)
     }
 
@@ -312,7 +312,7 @@ impl Lemmas {
         log.steps.push(Step::Drop { ids })?;
         self.from = log.steps.len();
         self.dropped();
-        // Want of memory leaves the gaps in the core, and takes nothing else.
+        // Out of memory, the gaps stay in the core, and nothing else is lost.
         let _ = core.compact();
         Ok(())
     }

@@ -19,6 +19,7 @@ use Rattle.ios_words.specs.declared.commands.Command.TheVariants as commands
 use Rattle.ios_config.specs.declared.settings.Config.{Config}
 use Rattle.ios_config.specs.declared.settings.Given.{Given}
 use Rattle.net_rules.specs.Kinds.{kind_of, is_loopback, default_bandwidth}
+use Rattle.net_rules.specs.declared.processes.TheConstants.{DEFAULT_REFERENCE}
 use Rattle.net_rules.specs.Settings.{value, process_of, lines_of, address_of, last_said, says_reference, cost_at, cost_of, is_passive, CommandCovers, IsEnabled}
 use Rattle.net_rules.specs.Sites.{Site, FullName, sites, full_name, ends_of}
 use Rattle.net_rules.specs.Lists.{IsPlaceAmong, IsListName, BindsPacketList, packet_list_key}
@@ -167,7 +168,7 @@ module _ (doc : Document) (net : Network) (old new : List Config) (chosen : List
         let costs = sa.stays.cost in
         let widths = sa.stays.bandwidth in
         let named = sa.stays.name in
-        λ i. unwrap_or (costs i) (cost_at (unwrap_or (reference i) 100 * 1000) (unwrap_or (widths i) (default_bandwidth (kind_of (named i)))))
+        λ i. unwrap_or (costs i) (cost_at (unwrap_or (reference i) DEFAULT_REFERENCE * 1000) (unwrap_or (widths i) (default_bandwidth (kind_of (named i)))))
 
     bound_flag : now.bound_in ≡ is_some t.face.list_in
     bound_flag = fa.bound_in ∙ by (is_empty (new_classes chosen k)) refl ∙ sym (is_some_value t.face.list_in ∙ ap is_some sa.list_in)

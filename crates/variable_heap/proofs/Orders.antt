@@ -1,8 +1,8 @@
 -- The order of a heap when a variable moves by one place.
-use Rattle.std.proofs.Common.{◌≡◌, ◌≢◌, ℕ, ◌+◌, ◌*◌, ◌<◌, ◌≤◌, ◌↔◌, inl, inr, Bool, false, IsTrue, List, length, get_or, set, ap, ◌∙◌, arith}
+use Rattle.std.proofs.Common.{◌≡◌, ◌≢◌, ℕ, ◌<◌, ◌≤◌, ◌↔◌, inl, inr, Bool, false, IsTrue, List, length, get_or, set, ap, ◌∙◌, arith}
 use Rattle.std.proofs.lemmas.Bool.{cases_eq, cases_lt, both_ways}
 use Rattle.std.proofs.lemmas.List.{length-set, get_or-set_other}
-use Rattle.variable_heap.specs.Heaps.{ComesBefore, active_at, IsAbove, IsOrdered, IsOrderedButUp, IsOrderedButDown, IsFirstBelow}
+use Rattle.variable_heap.specs.Heaps.{ComesBefore, active_at, IsAbove, IsOrderedButUp, IsOrderedButDown, IsFirstBelow}
 use Rattle.variable_heap.proofs.Exchanges.{IsExchange}
 
 -- what comes before another variable is not less active
@@ -90,23 +90,6 @@ order-up activity xs ys i j size e ji inside more o =
       around = λ p c pj jc within. up-around f g (length xs) i j e ji inside o.others p c pj jc (omega arith);
     }
 
--- at the top there is none above it
-pub order-top : (activity xs : List ℕ) (i : ℕ) → i ≡ 0 → IsOrderedButUp activity xs i → IsOrdered activity xs
-order-top activity xs i top o p c pc within = o.others p c pc within (omega arith)
-
--- where it is not more active than the one above it, all is in order
-pub order-risen : (activity xs : List ℕ) (i j : ℕ) → IsAbove j i → active_at activity xs i ≤ active_at activity xs j → IsOrderedButUp activity xs i → IsOrdered activity xs
-order-risen activity xs i j ji less o p c pc within =
-    let f : ℕ → ℕ = active_at activity xs in
-    elim (cases_eq c i) [
-      | inl ci ↦
-          let pj : p ≡ j = omega arith in
-          let fc : f c ≡ f i = ap f ci in
-          let fp : f p ≡ f j = ap f pj in
-          omega arith
-      | inr ci ↦ o.others p c pc within ci
-    ]
-
 down-others : (f g : ℕ → ℕ) (n i j : ℕ) → IsExchange f g i j → IsAbove i j → f i ≤ f j → ((c : ℕ) → IsAbove i c → c < n → f c ≤ f j) → ((p c : ℕ) → IsAbove p c → c < n → p ≢ i → f c ≤ f p) → ((p c : ℕ) → IsAbove p i → IsAbove i c → c < n → f c ≤ f p) → j < n → (p c : ℕ) → IsAbove p c → c < n → p ≢ j → g c ≤ g p
 down-others f g n i j e ij more most others around inside p c pc within apart = elim (cases_eq p i) [
   | inl pi ↦
@@ -151,19 +134,3 @@ order-down activity xs ys i j size e first more o =
       others = λ p c pc within apart. down-others f g (length xs) i j e first.below more first.most o.others o.around first.within p c pc (omega arith) apart;
       around = λ p c pj jc within. down-around f g (length xs) i j e first.below o.others p c pj jc (omega arith);
     }
-
--- at the bottom there is none below it
-pub order-bottom : (activity xs : List ℕ) (i : ℕ) → length xs ≤ 2 * i + 1 → IsOrderedButDown activity xs i → IsOrdered activity xs
-order-bottom activity xs i bottom o p c pc within = o.others p c pc within (omega arith)
-
--- where it is not less active than the first below it, all is in order
-pub order-sunk : (activity xs : List ℕ) (i j : ℕ) → IsFirstBelow activity xs i j → active_at activity xs j ≤ active_at activity xs i → IsOrderedButDown activity xs i → IsOrdered activity xs
-order-sunk activity xs i j first less o p c pc within =
-    let f : ℕ → ℕ = active_at activity xs in
-    elim (cases_eq p i) [
-      | inl pi ↦
-          let fp : f p ≡ f i = ap f pi in
-          let h : f c ≤ f j = first.most c (omega arith, omega arith) within in
-          omega arith
-      | inr pi ↦ o.others p c pc within pi
-    ]

@@ -101,17 +101,3 @@ order-raised before after xs ps v k o raised at within ordered =
           let h2 : f k ≤ f p = ordered p k pk within in
           omega arith;
     }
-
--- where the variable does not stand there, the order stays
-pub order-other : (before after xs ps : List ℕ) (v : ℕ) → IsInverse xs ps → IsRaised before after v → get_or ps v 0 ≡ 0 → IsOrdered before xs → IsOrdered after xs
-order-other before after xs ps v o raised none ordered p c pc c_in =
-    let f : ℕ → ℕ = active_at before xs in
-    let g : ℕ → ℕ = active_at after xs in
-    let same : (j : ℕ) → j < length xs → g j ≡ f j = λ j j_in. raised.others (get_or xs j 0) (λ e.
-    let at = o.placed j j_in in
-    let h : get_or ps (get_or xs j 0) 0 ≡ 0 = ap (λ (w : ℕ). get_or ps w 0) e ∙ none in
-    omega arith) in
-    let gc : g c ≡ f c = same c c_in in
-    let gp : g p ≡ f p = same p (omega arith) in
-    let h : f c ≤ f p = ordered p c pc c_in in
-    omega arith

@@ -51,10 +51,6 @@ put-held xs ps ds qs ws rs v n put new given =
     let some : get_or rs v 0 ≢ 0 = λ none. let h : get_or (set ps v (length xs + 1)) v 0 ≡ 0 = (same v).1 none in omega arith in
     more-held xs ws ps rs v put.old new some (put-others xs ps ds qs rs v n put given)
 
--- 0 still has no place
-pub zero-put : (xs ps ds qs rs : List ℕ) (v n : ℕ) → IsPut xs ps ds qs v n → HaveSamePlaced (set qs v (n + 1)) rs → 1 ≤ v → get_or ps 0 0 ≡ 0 → get_or rs 0 0 ≡ 0
-zero-put xs ps ds qs rs v n put given least zero = (put-others xs ps ds qs rs v n put given 0 (omega arith)).0 zero
-
 -- a variable that has a place rises from there
 pub record IsThere (xs ps ds qs : List ℕ) (v n : ℕ) : Type 0 where
   pub old : IsInverse xs ps

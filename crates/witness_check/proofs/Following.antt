@@ -9,11 +9,9 @@ use Rattle.arc_base.specs.declared.prefix.Prefix.{Prefix}
 use Rattle.net_model.specs.declared.rows.FaceRow.{FaceRow}
 use Rattle.net_model.specs.declared.rows.LinkRow.{LinkRow}
 use Rattle.net_model.specs.declared.rows.Network.{Network}
-use Rattle.net_model.specs.declared.verdicts.LinkPath.{LinkPath}
-use Rattle.net_model.specs.Forwarding.{Ends, source_router, target_router}
 use Rattle.net_model.specs.Routing.{Arc, IsArc, tail_router, head_router, tail_end}
 use Rattle.net_model.specs.Validity.{IsValid, IsValidLink}
-use Rattle.net_model.specs.Witnesses.{Path, IsPath, links_of}
+use Rattle.net_model.specs.Witnesses.{Path, links_of}
 use Rattle.net_model.proofs.Arcs.{one_item, IsArc-unique}
 use Rattle.witness_check.specs.Trails.{IsStep, IsTrail, AnyArc}
 
@@ -153,10 +151,3 @@ module _ (net : Network) (to : Prefix) where
 pub any : (arcs : List Arc) → AllByRecursion AnyArc arcs
 any [] = tt
 any (a ∷ arcs) = (tt, any arcs)
-
-pub path_of_trail : (net : Network) (ends : Ends) (path : LinkPath) →
-    IsTrail net ends.to AnyArc (source_router ends) path.links (target_router ends) ↔ IsPath net ends path
-path_of_trail net ends path = (
-  λ trail. record { arcs = trail.arcs; links = trail.over; leads = trail.leads },
-  λ shown. record { arcs = shown.arcs; over = shown.links; leads = shown.leads; each = any shown.arcs },
-)

@@ -140,12 +140,6 @@ module _ (class c d : Class) (parts : MakeUp class c d) (P Q : Packet → Type 0
   pub halves_else : (r : Bool) → r ≡ false → (IsTrue r ↔ ((p : Packet) → IsOf c p → Q p)) → IsTrue r ↔ ((p : Packet) → IsOf class p → P p)
   halves_else r off in_c = (λ h. absurd (false≢true (sym off ∙ h)), λ all. in_c.1 (λ p at. there p (parts.1 p at) (all p (parts.1 p at))))
 
-pub not_other : (x a : Bool) → (x ≡ not a → ⊥) → x ≡ a
-not_other true true h = refl
-not_other true false h = absurd (h refl)
-not_other false true h = absurd (h refl)
-not_other false false h = refl
-
 pub not_both : (x a : Bool) → x ≡ a → x ≡ not a → ⊥
 not_both true true e h = false≢true (sym h)
 not_both true false e h = false≢true (sym e)

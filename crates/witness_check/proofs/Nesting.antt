@@ -8,9 +8,8 @@ use Rattle.arc_base.proofs.Agreement.{common_address, IsInside-shorter, Holds-fi
 use Rattle.net_model.specs.declared.lists.Packet.{Packet}
 use Rattle.net_model.specs.declared.policies.Class.{Class}
 use Rattle.net_model.specs.Packets.{LiesIn, ShareNoPacket}
-use Rattle.net_model.specs.declared.services.Service.{Service}
-use Rattle.net_model.specs.Services.{Serves, ShareService, services_meet}
-use Rattle.witness_check.specs.Boxes.{prefixes_meet, classes_meet, splits_services, splits, AreHalves, AreServiceHalves, MakeUp}
+use Rattle.net_model.specs.Services.{ShareService, services_meet}
+use Rattle.witness_check.specs.Boxes.{prefixes_meet, classes_meet, splits_services, splits, AreServiceHalves, MakeUp}
 use Rattle.witness_check.proofs.ServiceHalves.{services_apart, common_service, services_within}
 
 inside_from : (p q : Prefix) → q.len ≤ p.len → Holds q p.addr → inside p q ≡ true
@@ -83,29 +82,6 @@ Source p q = Holds q p.from
 
 abbrev Goal : Packet → Prefix → Type 0
 Goal p q = Holds q p.to
-
-abbrev Use : Packet → Service → Type 0
-Use p s = Serves s p.service
-
-pub from_halves : (c d e : Class) → AreHalves c.from d.from e.from → d.to ≡ c.to → e.to ≡ c.to → d.service ≡ c.service → e.service ≡ c.service → MakeUp c d e
-from_halves c d e halves to_d to_e service_d service_e = (
-  λ p at. elim (halves.0 p.from at.0) [
-    | inl h ↦ inl (h, subst (Goal p) (sym to_d) at.1, subst (Use p) (sym service_d) at.2)
-    | inr h ↦ inr (h, subst (Goal p) (sym to_e) at.1, subst (Use p) (sym service_e) at.2)
-  ],
-  λ p at. (halves.1 p.from at.0, subst (Goal p) to_d at.1, subst (Use p) service_d at.2),
-  λ p at. (halves.2 p.from at.0, subst (Goal p) to_e at.1, subst (Use p) service_e at.2),
-)
-
-pub to_halves : (c d e : Class) → AreHalves c.to d.to e.to → d.from ≡ c.from → e.from ≡ c.from → d.service ≡ c.service → e.service ≡ c.service → MakeUp c d e
-to_halves c d e halves from_d from_e service_d service_e = (
-  λ p at. elim (halves.0 p.to at.1) [
-    | inl h ↦ inl (subst (Source p) (sym from_d) at.0, h, subst (Use p) (sym service_d) at.2)
-    | inr h ↦ inr (subst (Source p) (sym from_e) at.0, h, subst (Use p) (sym service_e) at.2)
-  ],
-  λ p at. (subst (Source p) from_d at.0, halves.1 p.to at.1, subst (Use p) service_d at.2),
-  λ p at. (subst (Source p) from_e at.0, halves.2 p.to at.1, subst (Use p) service_e at.2),
-)
 
 pub service_halves : (c d e : Class) → AreServiceHalves c.service d.service e.service → d.from ≡ c.from → e.from ≡ c.from → d.to ≡ c.to → e.to ≡ c.to → MakeUp c d e
 service_halves c d e halves from_d from_e to_d to_e = (

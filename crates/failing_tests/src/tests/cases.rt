@@ -16,13 +16,16 @@ const R2: &str =
 
 const R2_WITH_A_LIST: &str =
     "hostname r2\n!\ninterface GigabitEthernet0/0\n ip address 10.2.0.1 255.255.255.0\n!\n\
-      interface GigabitEthernet0/1\n\x20ip address 10.0.1.2 255.255.255.252\n\x20ip access-group NONE in\n!\n\
+      interface GigabitEthernet0/1\n\x20ip address 10.0.1.2 255.255.255.252\n\
+      \x20ip access-group NONE in\n!\n\
       router ospf 1\n\x20network 0.0.0.0 255.255.255.255 area 0\n!\nend\n";
 
 const R1_WITH_A_LIST: &str =
-    "hostname r1\n!\ninterface GigabitEthernet0/0\n ip address 10.1.0.1 255.255.255.0\n\x20ip access-group F in\n!\n\
+    "hostname r1\n!\ninterface GigabitEthernet0/0\n ip address 10.1.0.1 255.255.255.0\n\
+      \x20ip access-group F in\n!\n\
       interface GigabitEthernet0/1\n\x20ip address 10.0.1.1 255.255.255.252\n!\n\
-      ip access-list extended F\n\x201 permit ip 10.3.0.0 0.0.0.255 any\n\x202 deny ip any host 10.9.9.9\n\
+      ip access-list extended F\n\x201 permit ip 10.3.0.0 0.0.0.255 any\n\
+      \x202 deny ip any host 10.9.9.9\n\
       \x203 permit ip any any\nrouter ospf 1\n\x20network 0.0.0.0 255.255.255.255 area 0\n!\nend\n";
 
 const BLOCKED: &str = r#"{"version": 1, "routers": ["r1.cfg", "r2.cfg"],
@@ -61,8 +64,8 @@ const BLOCKED_BY_LISTS: &str = r#"{"version": 1, "routers": ["r1.cfg", "r2.cfg"]
 
 /// One more entry of the list at r1 is enough, and nothing is cheaper.
 const CERTIFICATE: &str =
-    "arc-repair 1\nanswer repaired 1 32\nedit packet r1 list F 10.1.0.0/24 10.2.0.0/24\n1 blocked yes 1\n\
-      closed 10.1.0.0/24 10.2.0.0/24\nlog\n272 b 32 0\n273 b 0 0\n\
+    "arc-repair 1\nanswer repaired 1 32\nedit packet r1 list F 10.1.0.0/24 10.2.0.0/24\n\
+      1 blocked yes 1\nclosed 10.1.0.0/24 10.2.0.0/24\nlog\n272 b 32 0\n273 b 0 0\n\
       274 0 4 273 206 140 75 74 1 9 8 2 5 0\nend\n";
 
 const WALK: &str = "arc-report 1\n1 blocked no 1\nwalk 10.1.0.0/24 10.2.0.0/24 1\nend\n";

@@ -1,4 +1,4 @@
-use Rattle.std.proofs.Common.{◌≡◌, Bool, List, length, sym, ap, ◌∙◌, subst, arith}
+use Rattle.std.proofs.Common.{Bool, List, sym, ap, ◌∙◌, subst, arith}
 use Rattle.arc_base.specs.declared.place.Link.{Link}
 use Rattle.graph_flow.specs.Sides.{IsLeastSide}
 use Rattle.graph_flow.specs.Flows.{Units, flagged, links_out}

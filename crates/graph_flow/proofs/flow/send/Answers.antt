@@ -1,9 +1,9 @@
-use Rattle.std.proofs.Common.{◌≡◌, ◌++◌, ◌∷◌, [], List, sym, ap, ◌∙◌, arith}
+use Rattle.std.proofs.Common.{◌≡◌, List, sym, ap, ◌∙◌}
 use Rattle.std.proofs.lemmas.List.{get_or_default}
 use Rattle.graph_flow.specs.declared.arcs.Arc.{Arc}
 use Rattle.graph_flow.specs.declared.search.Mark.TheVariants.{Unseen, After}
 use Rattle.graph_flow.specs.Flows.{Units}
-use Rattle.graph_flow.specs.Residual.{sent, turn}
+use Rattle.graph_flow.specs.Residual.{sent}
 use Rattle.graph_flow.specs.Marks.{mark_at, way_to, IsAfter}
 use Rattle.graph_flow.proofs.Turns.{sent-snoc}
 use Rattle.graph_flow.proofs.Searches.{seen-node}

@@ -1,4 +1,4 @@
-use Rattle.std.proofs.Common.{◌≡◌, length, drop}
+use Rattle.std.proofs.Common.{◌≡◌, drop}
 use Rattle.graph_flow.specs.Residual.{cleared}
 use Rattle.graph_flow.proofs.units.clear.Given as goal
 

@@ -1,7 +1,6 @@
-use Rattle.std.proofs.Common.{◌≡◌, ◌≤◌, ◌+◌, ℕ, List, ◌++◌, ◌∷◌, [], length, get_or, inl, inr, Option, Some, None, sym, ap, ◌∙◌, subst, arith}
+use Rattle.std.proofs.Common.{◌≡◌, ◌+◌, List, ◌++◌, ◌∷◌, [], inl, inr, Some, None, sym, ap, ◌∙◌, subst, arith}
 use Rattle.std.proofs.lemmas.List.{get_or_default, map_push}
 use Rattle.arc_base.specs.declared.place.Link.{Link}
-use Rattle.graph_flow.specs.declared.arcs.Arc.{Arc}
 use Rattle.graph_flow.specs.declared.arcs.LinkRow2.{LinkRow2}
 use Rattle.graph_flow.specs.Flows.{Units, unit_at}
 use Rattle.graph_flow.specs.Answers.{rows_of}

@@ -1,6 +1,5 @@
-use Rattle.std.proofs.Common.{◌≡◌, ℕ, length, List, ◌++◌, ◌∷◌, [], inl, inr, None, sym, ap, ◌∙◌, arith}
+use Rattle.std.proofs.Common.{◌≡◌, inl, inr, None, sym, ap, ◌∙◌}
 use Rattle.std.proofs.lemmas.List.{get_or_default}
-use Rattle.graph_flow.specs.declared.arcs.Arc.{Arc}
 use Rattle.graph_flow.specs.Paths.{Digraph}
 use Rattle.graph_flow.specs.Residual.{passed_by}
 use Rattle.graph_flow.proofs.Residuals.{none_or_some}

@@ -1,5 +1,4 @@
 use Rattle.std.proofs.Common.{◌≡◌, take}
-use Rattle.graph_flow.specs.Paths.{Digraph}
 use Rattle.graph_flow.specs.Residual.{passable}
 use Rattle.graph_flow.proofs.units.passable.Given as goal
 

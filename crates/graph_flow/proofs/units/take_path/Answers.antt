@@ -1,4 +1,4 @@
-use Rattle.std.proofs.Common.{◌≡◌, ◌<◌, List, All, Contains, length, sym, ap, ◌∙◌, subst, refl, arith}
+use Rattle.std.proofs.Common.{◌<◌, List, All, length, sym, ap, ◌∙◌, subst, refl, arith}
 use Rattle.std.proofs.lemmas.List.Elements.{All-contains}
 use Rattle.arc_base.specs.declared.place.Link.{Link}
 use Rattle.graph_flow.specs.declared.arcs.Arc.{Arc}

@@ -48,8 +48,6 @@ pub returns-in_err-try_overlap-clause-answer : goal.returns-in_err-try_overlap-c
 returns-in_err-try_overlap-clause-answer c = λ down.
     let doc = c.args.doc.now in
     let configs = c.args.configs.now in
-    let net = c.args.net.now in
-    let distinct = names_distinct configs c.requires.named c.requires.well_formed in
     let Makes = RefusesWithin down c.args.most_entries doc configs in
     let p = err_from_is_err_and c.from_residual.result c.from_residual.ensures.1 in
     let fault = c.in_err-try_overlap.field-0.0 in

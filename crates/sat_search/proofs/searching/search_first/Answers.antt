@@ -145,11 +145,6 @@ returns-clause-last_id c =
 
 pub returns-clause-level : goal.returns-clause-level
 returns-clause-level c =
-    let s = c.args.core.now in
-    let old = c.args.log.now.steps in
-    let new = c.run-found.new.log.steps in
-    let now = c.back_to.new.self in
-    let ran = searched_back s old c.args.limit c.run-found.new.core now new c.run-found.result c.run-found.ensures c.back_to.ensures in
     ap (λ (x : State). x.level) c.back_to.ensures
 
 pub returns-clause-vars : goal.returns-clause-vars

@@ -1,4 +1,4 @@
-use Rattle.std.proofs.Common.{◌≡◌, ℕ, ◌∙◌, List, Option, None, replicate, ap}
+use Rattle.std.proofs.Common.{ℕ, ◌∙◌, List, Option, None, replicate, ap}
 use Rattle.arc_base.specs.declared.place.Link.{Link}
 use Rattle.graph_flow.proofs.Marked.{map-unseen}
 use Rattle.graph_flow.proofs.closure.Closure.make.Goals as goal

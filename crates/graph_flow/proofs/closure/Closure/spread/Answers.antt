@@ -1,4 +1,4 @@
-use Rattle.std.proofs.Common.{◌≡◌, ℕ, List, ◌∙◌, sym, subst}
+use Rattle.std.proofs.Common.{List, ◌∙◌, sym, subst}
 use Rattle.graph_flow.specs.declared.arcs.Arc.{Arc}
 use Rattle.graph_flow.specs.Marks.{IsSpread}
 use Rattle.graph_flow.proofs.Marked.{seen-leads, leads-seen, some-seen, is-path, residual-nothing}

@@ -1,9 +1,7 @@
-use Rattle.std.proofs.Common.{◌≡◌, ℕ, ◌<◌, ◌≤◌, ◌+◌, length, get_or, Contains, Option, Some, None, sum_by, vec_len, inl, inr, sym, ap, ◌∙◌, subst, arith}
+use Rattle.std.proofs.Common.{◌≡◌, ℕ, ◌<◌, ◌+◌, length, Some, None, vec_len, inl, inr, sym, ap, ◌∙◌, subst, arith}
 use Rattle.std.proofs.lemmas.List.{get_or_default}
-use Rattle.graph_flow.specs.declared.arcs.Arc.{Arc}
 use Rattle.graph_flow.specs.declared.search.Search.{Search}
-use Rattle.graph_flow.specs.Residual.{residual, residual_of}
-use Rattle.graph_flow.specs.Marks.{seen_once}
+use Rattle.graph_flow.specs.Residual.{residual}
 use Rattle.graph_flow.proofs.Residuals.{none_or_some}
 use Rattle.graph_flow.proofs.Searches.{seen-node, count-fits, count-room, followed, IsFollowed}
 use Rattle.graph_flow.proofs.Looks.{IsLooking, looking-none, looking-some, row-gives, head-below, looked-all, any-default, node-seen}
