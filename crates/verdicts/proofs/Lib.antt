@@ -6,3 +6,4 @@ pub mod Reached
 pub mod Pushes
 pub mod Cuts
 pub mod Verdicts
+pub mod FewClasses

@@ -1,7 +1,8 @@
 -- Which policies can be judged, and what is found of their classes.
-use Rattle.std.specs.Prelude.{ℕ, ◌<◌, List}
+use Rattle.std.specs.Prelude.{ℕ, ◌<◌, ◌≤◌, List, length, Contains}
 use Rattle.arc_base.specs.declared.limits.TheConstants.{CLASS_LIMIT}
 use Rattle.net_model.specs.declared.policies.Class.{Class}
+use Rattle.net_model.specs.declared.policies.Policy.{Policy}
 use Rattle.net_model.specs.declared.policies.PolicyKind.{PolicyKind}
 use Rattle.net_model.specs.declared.policies.PolicyKind.TheVariants.{Through}
 use Rattle.net_model.specs.declared.rows.Network.{Network}
@@ -14,6 +15,7 @@ use Rattle.class_graph.specs.declared.modes.Mode.TheVariants.{Permitted, Permitt
 use Rattle.class_graph.specs.Passing.{IsFirstAfter}
 use Rattle.traffic_classes.specs.declared.fault.ClassFault.{ClassFault}
 use Rattle.traffic_classes.specs.declared.fault.ClassFault.TheVariants as classes
+use Rattle.traffic_classes.specs.Classes.{AreClasses}
 use Rattle.verdicts.specs.declared.fault.JudgeFault.{JudgeFault}
 use Rattle.verdicts.specs.declared.fault.JudgeFault.TheVariants.{TooMany, Memory}
 use Rattle.verdicts.specs.declared.blocking.ClassAnswer.{ClassAnswer}
@@ -31,6 +33,12 @@ fault_of classes.Memory = Memory
 abbrev pub CountsMore : (ℕ → Type 0) → JudgeFault → Type 0
 CountsMore P (TooMany count) = P count × (CLASS_LIMIT < count)
 CountsMore P Memory = Unit {0}
+
+-- each of the policies has at most CLASS_LIMIT classes
+abbrev pub HasFewClassesEach : Network → List Policy → Type 0
+HasFewClassesEach net policies =
+    (policy : Policy) → Contains policies policy →
+    (classes : List Class) → AreClasses net policies policy classes → length classes ≤ CLASS_LIMIT
 
 -- the arcs over which a walk may break a policy of this kind, of those that permit packets
 abbrev pub mode_of : PolicyKind → Mode

@@ -4,11 +4,13 @@
 //! which no two share a link, or the cut that rules them out.
 #![tactic(auto)]
 
+mod all_policies;
 mod blocking;
 mod fault;
 mod judgement;
 mod reach;
 mod sides;
 
+pub use all_policies::{are_all_yes, judge_all};
 pub use fault::JudgeFault;
 pub use judgement::{judge, judge_under};
