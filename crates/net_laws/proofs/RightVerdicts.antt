@@ -1,9 +1,12 @@
 -- A right verdict is true.
-use Rattle.std.proofs.Common.{◌≡◌, refl, subst}
-use Rattle.std.specs.Prelude.{IsTrue, ◌↔◌}
-use Rattle.std.proofs.lemmas.Bool.{false≢true}
+use Rattle.std.proofs.Common.{◌≡◌, true, List, [], ◌∷◌, refl, subst}
+use Rattle.std.specs.Prelude.{IsTrue, ◌↔◌, All}
+use Rattle.std.specs.List.{AllZip, list_all}
+use Rattle.std.proofs.lemmas.Bool.{false≢true, and_parts, and_from}
+use Rattle.std.proofs.lemmas.List.Elements.{All-nil, All-cons, All-head, All-tail}
 use Rattle.net_model.specs.declared.lists.Packet.{Packet}
 use Rattle.net_model.specs.declared.policies.Class.{Class}
+use Rattle.net_model.specs.declared.policies.Policy.{Policy}
 use Rattle.net_model.specs.declared.policies.PolicyKind.{PolicyKind}
 use Rattle.net_model.specs.declared.policies.PolicyKind.TheVariants.{Blocked, Through, Reach}
 use Rattle.net_model.specs.declared.verdicts.Verdict.{Verdict}
@@ -14,7 +17,7 @@ use Rattle.net_model.specs.Forwarding.{Ends, AreEnds}
 use Rattle.net_model.specs.Policies.{HoldsAs, MeetsAs, Meets}
 use Rattle.arc_base.specs.declared.place.Link.{Link}
 use Rattle.net_model.specs.Validity.{IsValid}
-use Rattle.net_model.specs.Witnesses.{is_yes, IsRightFor}
+use Rattle.net_model.specs.Witnesses.{is_yes, IsRight, IsRightFor}
 use Rattle.net_laws.specs.Laws.{RightVerdictsDecide, RightVerdictsAreTrue, Says}
 use Rattle.net_model.proofs.Hosts.{one_pair_of_ends}
 use Rattle.net_laws.proofs.ClosedSides.{closed_block, closed_force_through}
@@ -80,4 +83,16 @@ right_verdicts_decide net valid policy v right =
       λ (met : Meets net policy).
           let same : met.ends ≡ right.ends = one_pair_of_ends net valid (subject policy) met.ends right.ends met.are_ends right.are_ends in
           both.1 (subst (λ (e : Ends). MeetsAs net e (subject policy) policy.kind) same met.meets),
+    )
+
+-- right verdicts are all yes exactly where the network meets all policies
+pub all_decided : (net : Network) → RightVerdictsDecide net → (policies : List Policy) (verdicts : List Verdict) → AllZip (IsRight net) policies verdicts → (list_all is_yes verdicts ≡ true) ↔ All (Meets net) policies
+all_decided net decide [] [] right = (λ t. All-nil (Meets net), λ all. refl)
+all_decided net decide [] (v ∷ vs) right = absurd right
+all_decided net decide (p ∷ ps) [] right = absurd right
+all_decided net decide (p ∷ ps) (v ∷ vs) right =
+    let here = decide p v right.0 in
+    let rest = all_decided net decide ps vs right.1 in (
+      λ t. let both = and_parts (is_yes v) (list_all is_yes vs) t in All-cons (Meets net) p ps (here.0 both.0) (rest.0 both.1),
+      λ all. and_from (is_yes v) (list_all is_yes vs) (here.1 (All-head (Meets net) p ps all)) (rest.1 (All-tail (Meets net) p ps all)),
     )
