@@ -1,9 +1,10 @@
 -- Each verdict that is given shows few closed sides or paths.
-use Rattle.std.proofs.Common.{◌≡◌, ℕ, ◌<◌, ◌≤◌, inl, inr, Option, List, [], ◌∷◌, length, map, get_or, subst, ap, arith}
-use Rattle.std.specs.Prelude.{All, IfSome, slice_get}
+use Rattle.std.proofs.Common.{◌≡◌, ℕ, ◌≤◌, inl, inr, List, [], ◌∷◌, length, map, ap, arith}
+use Rattle.std.specs.Prelude.{All}
+use Rattle.std.specs.List.{AllZip}
 use Rattle.std.proofs.lemmas.Bool.Decides.{eqb_tells}
 use Rattle.std.proofs.lemmas.List.{length-map}
-use Rattle.std.proofs.lemmas.Option.{slice_get-get_or}
+use Rattle.std.proofs.lemmas.List.Elements.{All-nil, All-cons, All-head, All-tail}
 use Rattle.net_model.specs.declared.policies.Class.{Class}
 use Rattle.net_model.specs.declared.policies.Policy.{Policy}
 use Rattle.net_model.specs.declared.policies.PolicyKind.{PolicyKind}
@@ -44,15 +45,14 @@ few_for net ends others Blocked whole classes (Paths paths) failures few right f
 few_for net ends others Through whole classes (Paths paths) failures few right fixed = absurd right
 few_for net ends others (Reach k) whole classes (Paths paths) failures few right fixed = few_paths net ends k whole paths failures right
 
--- the right verdict that is given on the policy at a place
-pub shows_few : (net : Network) (policies : List Policy) (k : ℕ) (v : Verdict) → k < length policies → All (λ policy. HasFewFailures policy.kind) policies →
-    IfSome (slice_get policies k) (λ p. IsRight net p v) → IfSome (slice_get policies k) (λ p. IsFixed net policies p v) → ShowsFew v
-shows_few net [] k v within failures right fixed = absurd (omega (arith, within))
-shows_few net (q ∷ qs) k v within failures right fixed =
-    let policy : Policy = get_or (q ∷ qs) k q in
-    let is = slice_get-get_or (q ∷ qs) k q within in
-    let P : Option Policy → Type 0 = λ o. IfSome o (λ p. IsRight net p v) in
-    let Q : Option Policy → Type 0 = λ o. IfSome o (λ p. IsFixed net (q ∷ qs) p v) in
-    let r : IsRight net policy v = subst P is right in
-    let f : IsFixed net (q ∷ qs) policy v = subst Q is fixed in
-    few_for net r.ends f.ends policy.kind (subject policy) f.classes v (failures k q within) f.few r.right f.fixed
+-- the right verdicts that are given
+pub show_few : (net : Network) (all policies : List Policy) (verdicts : List Verdict) → All (λ policy. HasFewFailures policy.kind) policies → AllZip (IsRight net) policies verdicts → AllZip (IsFixed net all) policies verdicts → All ShowsFew verdicts
+show_few net all [] [] failures right fixed = All-nil ShowsFew
+show_few net all [] (v ∷ vs) failures right fixed = absurd right
+show_few net all (p ∷ ps) [] failures right fixed = absurd right
+show_few net all (p ∷ ps) (v ∷ vs) failures right fixed =
+    let few : HasFewFailures p.kind = All-head (λ (q : Policy). HasFewFailures q.kind) p ps failures in
+    let r : IsRight net p v = right.0 in
+    let f : IsFixed net all p v = fixed.0 in
+    All-cons ShowsFew v vs (few_for net r.ends f.ends p.kind (subject p) f.classes v few f.few r.right f.fixed)
+    (show_few net all ps vs (All-tail (λ (q : Policy). HasFewFailures q.kind) p ps failures) right.1 fixed.1)

@@ -1,15 +1,11 @@
 -- What the functions that search for a repair keep.
-use Rattle.std.specs.Prelude.{◌≡◌, ℕ, ◌≤◌, ◌==◌, Bool, List, length, Contains, if◌then◌else◌}
+use Rattle.std.specs.Prelude.{◌≡◌, ℕ, ◌≤◌, ◌==◌, Bool, List, length, if◌then◌else◌}
 use Rattle.std.specs.List.{AllZip}
-use Rattle.arc_base.specs.declared.limits.TheConstants.{CLASS_LIMIT}
 use Rattle.cnf_types.specs.declared.literal.Lit.{Lit}
 use Rattle.cnf_types.specs.declared.clauses.Formula.{Formula}
-use Rattle.net_model.specs.declared.policies.Class.{Class}
 use Rattle.net_model.specs.declared.policies.Document.{Document}
-use Rattle.net_model.specs.declared.policies.Policy.{Policy}
 use Rattle.net_model.specs.declared.rows.Network.{Network}
 use Rattle.net_model.specs.declared.verdicts.Verdict.{Verdict}
-use Rattle.traffic_classes.specs.Classes.{AreClasses}
 use Rattle.edit_list.specs.declared.edit_kinds.Edit.{Edit}
 use Rattle.edit_list.specs.declared.claims.Claim.TheVariants.{NoRepair}
 use Rattle.edit_list.specs.After.{IsAfter}
@@ -29,12 +25,6 @@ use Rattle.arc_repair.specs.Repairs.{cost, Mends, IsLeast}
 -- the cost of the edits that the flags choose, where there is one for each
 abbrev pub flagged_cost : Document → List Edit → List Bool → ℕ
 flagged_cost doc list flags = if length flags == length list then cost doc list flags else 0
-
--- each of the policies has at most CLASS_LIMIT classes
-abbrev pub HasFewClassesEach : Network → List Policy → Type 0
-HasFewClassesEach net policies =
-    (policy : Policy) → Contains policies policy →
-    (classes : List Class) → AreClasses net policies policy classes → length classes ≤ CLASS_LIMIT
 
 -- the verdicts are right yeses, one on each policy in order, in the network after the edits that
 -- the flags choose

@@ -1,16 +1,17 @@
-//! The verdicts on all policies, as long as they are yeses.
-ghost use Rattle.std.specs.Prelude.{◌≡◌, length, All, IfOk, IfSome, IsNone, ◌≤◌};
+//! The verdicts on all policies, if they are yeses.
+ghost use Rattle.std.specs.Prelude.{◌≡◌, length, All, IfOk, IfSome, IsNone};
 ghost use Rattle.std.specs.List.{AllZip};
 ghost use Rattle.net_model.specs.Forwarding.{HasEnds};
 ghost use Rattle.net_model.specs.Packets.{subject};
 ghost use Rattle.net_model.specs.Policies.{Meets, HasFewFailures};
 ghost use Rattle.net_model.specs.Validity.{IsValid};
+ghost use Rattle.verdicts.specs.Judged.{HasFewClassesEach};
 ghost use Rattle.edit_list.specs.Determined.{IsCountable};
 ghost use Rattle.edit_list.specs.EditLists.{AreEdits, DocumentHasFewClasses};
 ghost use Rattle.arc_repair.specs.Answers.{ShowsFew};
 ghost use Rattle.arc_repair.specs.Claims.{IsRightYes};
 ghost use Rattle.arc_repair.specs.Repairs.{Mends};
-ghost use Rattle.arc_repair.specs.Search.{HasFewClassesEach, AreYesAfter};
+ghost use Rattle.arc_repair.specs.Search.{AreYesAfter};
 
 use arc_base::{List, Memory};
 use edit_list::Edit;
@@ -18,8 +19,7 @@ use edit_space::after;
 use net_laws::verdicts_are_right;
 use net_model::{Document, Network, Policy, Verdict};
 use std::alloc::Global;
-use traffic_classes::Marks;
-use verdicts::{JudgeFault, judge_under};
+use verdicts::{are_all_yes, judge_all};
 
 /// The verdicts on the policies, if each is a yes.
 fn yeses(
@@ -37,21 +37,12 @@ fn yeses(
     ensures none { IfOk result (λ verdicts. IsNone verdicts → ¬ All (Meets net.now) policies.now) }
 {
     verdicts_are_right();
-    let marks = Marks::of(alloc, net, policies)?;
-    let mut verdicts = List::make(alloc);
-    for which in 0..policies.len() {
-        match judge_under(alloc, net, policies, &marks, which) {
-            Ok(verdict) => {
-                if !verdict.is_yes() {
-                    return Ok(None);
-                }
-                verdicts.push(verdict)?;
-            }
-            Err(JudgeFault::TooMany(_)) => unreachable!(),
-            Err(JudgeFault::Memory) => return Err(Memory),
-        }
+    let verdicts = judge_all(alloc, net, policies)?;
+    if are_all_yes(verdicts.slice()) {
+        Ok(Some(verdicts))
+    } else {
+        Ok(None)
     }
-    Ok(Some(verdicts))
 }
 
 /// The verdicts on the policies in the network after the chosen edits, if each is a yes.
