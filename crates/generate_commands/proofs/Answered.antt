@@ -25,7 +25,7 @@ use Rattle.arc_repair.specs.declared.answer.Answer.{Answer}
 use Rattle.arc_repair.specs.declared.answer.Answer.TheVariants.{Done as Claimed, Budget}
 use Rattle.arc_repair.specs.Answers.{IsAnswer, IsRepairFault}
 use Rattle.arc_repair.specs.Claims.{IsRightYes}
-use Rattle.arc_repair.specs.Search.{HasFewClassesEach}
+use Rattle.verdicts.specs.Judged.{HasFewClassesEach}
 use Rattle.command_words.specs.declared.commands.GenerateWords.{GenerateWords}
 use Rattle.run_files.specs.declared.outcome.Done.{Done}
 use Rattle.run_files.specs.declared.outcome.Stop.{Stop}

@@ -2,7 +2,7 @@ use Rattle.std.proofs.Common.{arith, ◌≡◌, ◌++◌, ◌∷◌, [], ◌+◌
 use Rattle.std.specs.List.{AllZip}
 use Rattle.net_model.specs.declared.verdicts.Verdict.{Verdict}
 use Rattle.net_model.specs.Witnesses.{IsRight}
-use Rattle.arc_repair.proofs.Yeses.{never_many}
+use Rattle.verdicts.proofs.FewClasses.{never_many}
 use Rattle.arc_base.proofs.Zips.{at_place, AllZip-next}
 use Rattle.generate_commands.proofs.Answered.{few_each}
 use Rattle.generate_commands.proofs.tallies.judge_all.Goals as goal
