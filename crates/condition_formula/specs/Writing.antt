@@ -9,11 +9,13 @@ use Rattle.condition_formula.specs.declared.pick.Pick.{Pick}
 use Rattle.condition_formula.specs.declared.pick.Pick.TheVariants.{OutOf, Into, Over}
 use Rattle.condition_formula.specs.declared.network.ConditionArc.{ConditionArc}
 use Rattle.condition_formula.specs.declared.network.Question.{Question}
+use Rattle.condition_formula.specs.declared.family.Family.{Family}
 use Rattle.condition_formula.specs.declared.row.Row.{Row}
 use Rattle.condition_formula.specs.declared.row.Index.{Index}
 use Rattle.condition_formula.specs.Lists.{upto}
 use Rattle.condition_formula.specs.declared.writer.Writer.{Writer}
 use Rattle.condition_formula.specs.Clauses.{yes, no, written_clauses, literal_count}
+use Rattle.condition_formula.specs.Formulas.{cell}
 use Rattle.condition_formula.specs.Reaching.{arc_at, places}
 
 -- the number of the part's variable can be doubled
@@ -75,3 +77,12 @@ each_implies ones others = map (λ v. no v ∷ map yes others) ones
 -- the clause that both are not true, for each of the others
 abbrev pub excludes_each : ℕ → List ℕ → List (List Part)
 excludes_each one others = map (λ v. no one ∷ no v ∷ []) others
+
+-- the variables of the family, by the arc's place
+abbrev pub used_by : Family → ℕ → ℕ
+used_by family = cell family.used.first family.used.columns family.number
+
+-- the family has the places of its question's arcs, node by node
+pub record HasIndex (family : Family) : Type 0 where
+  pub out_of : family.index.now.out_of ≡ rows_of family.q.now OutOf family.nodes
+  pub into : family.index.now.into ≡ rows_of family.q.now Into family.nodes

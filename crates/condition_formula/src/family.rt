@@ -1,25 +1,36 @@
 //! Clauses of reach: the arcs of one family make a path.
-ghost use Rattle.std.specs.Prelude.{◌≡◌, ◌==◌, ◌<◌, ◌&&◌, not, [], ◌∷◌, ◌++◌, if◌then◌else◌};
-ghost use Rattle.std.specs.Prelude.{length, map, flat_map, OnOk, ◌^◌};
+ghost use Rattle.std.specs.Prelude.{◌≡◌, ◌==◌, ◌<◌, ◌&&◌, not, [], ◌∷◌, if◌then◌else◌};
+ghost use Rattle.std.specs.Prelude.{map, flat_map, OnOk, IfOk, ◌^◌};
 ghost use Rattle.condition_formula.specs.Lists.{upto};
-ghost use Rattle.condition_formula.specs.declared.pick.Pick.TheVariants.{OutOf, Into};
 ghost use Rattle.condition_formula.specs.Clauses.{yes, no, affirmed};
-ghost use Rattle.condition_formula.specs.Formulas.{cell};
 ghost use Rattle.condition_formula.specs.Reaching.{arc_at, routed_parts, node_parts, once_parts};
 ghost use Rattle.condition_formula.specs.Reaching.{between, family_parts, out_of, into};
-ghost use Rattle.condition_formula.specs.Writing.{Adds, row_at, rows_of};
+ghost use Rattle.condition_formula.specs.Writing.{Adds, AreSmall, row_at, picked};
+ghost use Rattle.condition_formula.specs.Writing.{HasIndex, used_by};
 
 use crate::condition::Condition;
 use crate::draft::Draft;
-use crate::index::{row_variables, searched};
+use crate::index::{picked, row_variables, variables_of};
 use crate::network::Question;
 use crate::pick::Pick;
 use crate::row::Index;
 use crate::table::Table;
 use crate::variables::{each_implies, exclusions, none_of, some_of};
 use crate::writer::Writer;
-use arc_base::Memory;
+use arc_base::{List, Memory};
 use std::alloc::Global;
+
+/// One of the families of arcs that are to make paths of a question.
+#[derive(Clone, Copy)]
+pub(crate) struct Family<'a> {
+    pub q: &'a Question,
+    /// Where the question's arcs are found.
+    pub index: &'a Index,
+    pub nodes: u32,
+    /// The variables of all families: a row for each, a column for each arc.
+    pub used: Table,
+    pub number: u32,
+}
 
 /// Where the variable is true, the condition holds.
 fn requires_condition(
@@ -72,206 +83,144 @@ fn routed_at(
     }
 }
 
-/// A used arc is routed.
-fn routed(
-    alloc: Global,
-    out: &mut Writer,
-    q: &Question,
-    used: Table,
-    family: u32,
-) -> Result<(), Memory>
-    ensures { OnOk result
-        (Adds out.old out.new (routed_parts q.now (cell used.first used.columns family))) }
-{
-    for place in 0..q.arcs.len() {
-        routed_at(alloc, out, q, used.at(family, place), place)?;
+impl Family<'_> {
+    /// The used arcs are routed, and make a path from the source to the target.
+    pub(crate) fn path(&self, alloc: Global, out: &mut Writer) -> Result<(), Memory>
+        requires { HasIndex self.now }
+        ensures { OnOk result (Adds out.old out.new
+            (family_parts self.now.q.now self.now.nodes (used_by self.now))) }
+    {
+        self.routed(alloc, out)?;
+        self.ends(alloc, out)?;
+        self.none_into_source(alloc, out)?;
+        self.none_out_of_target(alloc, out)?;
+        self.all_conserve(alloc, out)?;
+        self.all_at_most_one(alloc, out)?;
+        Ok(())
     }
-    Ok(())
-}
 
-/// At a node between, a used arc goes on and comes from somewhere.
-fn goes_on(
-    alloc: Global,
-    out: &mut Writer,
-    q: &Question,
-    index: &Index,
-    used: Table,
-    family: u32,
-    node: u32,
-) -> Result<(), Memory>
-    requires out_of { row_at index.now.out_of node ≡ out_of q.now node }
-    requires into { row_at index.now.into node ≡ into q.now node }
-    ensures { OnOk result
-        (Adds out.old out.new (node_parts q.now (cell used.first used.columns family) node)) }
-{
-    let ins = row_variables(alloc, &index.into, node, used, family)?;
-    let outs = row_variables(alloc, &index.out_of, node, used, family)?;
-    each_implies(alloc, out, ins.slice(), outs.slice())?;
-    each_implies(alloc, out, outs.slice(), ins.slice())?;
-    Ok(())
-}
-
-/// Flow conservation at an inner node: nothing at source and target.
-fn goes_on_between(
-    alloc: Global,
-    out: &mut Writer,
-    q: &Question,
-    index: &Index,
-    used: Table,
-    family: u32,
-    node: u32,
-) -> Result<(), Memory>
-    requires out_of { row_at index.now.out_of node ≡ out_of q.now node }
-    requires into { row_at index.now.into node ≡ into q.now node }
-    ensures { OnOk result
-        (Adds out.old out.new (if not (node == q.now.source) && not (node == q.now.target)
-        then node_parts q.now (cell used.first used.columns family) node else [])) }
-{
-    if node == q.source || node == q.target {
-        return Ok(());
+    /// A used arc is routed.
+    fn routed(&self, alloc: Global, out: &mut Writer) -> Result<(), Memory>
+        ensures { OnOk result
+            (Adds out.old out.new (routed_parts self.now.q.now (used_by self.now))) }
+    {
+        for place in 0..self.q.arcs.len() {
+            routed_at(alloc, out, self.q, self.used.at(self.number, place), place)?;
+        }
+        Ok(())
     }
-    goes_on(alloc, out, q, index, used, family, node)
-}
 
-/// Flow conservation at every inner node.
-fn all_go_on(
-    alloc: Global,
-    out: &mut Writer,
-    q: &Question,
-    index: &Index,
-    nodes: u32,
-    used: Table,
-    family: u32,
-) -> Result<(), Memory>
-    requires out_of { index.now.out_of ≡ rows_of q.now OutOf nodes }
-    requires into { index.now.into ≡ rows_of q.now Into nodes }
-    ensures { OnOk result (Adds out.old out.new
-        (flat_map (node_parts q.now (cell used.first used.columns family)) (between q.now nodes))) }
-{
-    for node in 0..nodes {
-        goes_on_between(alloc, out, q, index, used, family, node)?;
+    /// Some used arc leaves the source, and some enters the target.
+    fn ends(&self, alloc: Global, out: &mut Writer) -> Result<(), Memory>
+        ensures { OnOk result (Adds out.old out.new
+            (map (λ place. yes (used_by self.now place))
+            (out_of self.now.q.now self.now.q.now.source) ∷
+            map (λ place. yes (used_by self.now place))
+            (into self.now.q.now self.now.q.now.target) ∷ [])) }
+    {
+        let outs = self.searched(alloc, Pick::OutOf, self.q.source)?;
+        some_of(alloc, out, outs.slice())?;
+        let ins = self.searched(alloc, Pick::Into, self.q.target)?;
+        some_of(alloc, out, ins.slice())?;
+        Ok(())
     }
-    Ok(())
-}
 
-/// At most one used arc leaves the node, and at most one enters it.
-fn once(
-    alloc: Global,
-    out: &mut Writer,
-    q: &Question,
-    index: &Index,
-    used: Table,
-    family: u32,
-    node: u32,
-) -> Result<(), Memory>
-    requires out_of { row_at index.now.out_of node ≡ out_of q.now node }
-    requires into { row_at index.now.into node ≡ into q.now node }
-    ensures { OnOk result
-        (Adds out.old out.new (once_parts q.now (cell used.first used.columns family) node)) }
-{
-    let outs = row_variables(alloc, &index.out_of, node, used, family)?;
-    exclusions(alloc, out, outs.slice())?;
-    let ins = row_variables(alloc, &index.into, node, used, family)?;
-    exclusions(alloc, out, ins.slice())?;
-    Ok(())
-}
-
-/// Flow conservation at every inner node.
-fn all_once(
-    alloc: Global,
-    out: &mut Writer,
-    q: &Question,
-    index: &Index,
-    nodes: u32,
-    used: Table,
-    family: u32,
-) -> Result<(), Memory>
-    requires out_of { index.now.out_of ≡ rows_of q.now OutOf nodes }
-    requires into { index.now.into ≡ rows_of q.now Into nodes }
-    ensures { OnOk result (Adds out.old out.new
-        (flat_map (once_parts q.now (cell used.first used.columns family)) (upto nodes))) }
-{
-    for node in 0..nodes {
-        once(alloc, out, q, index, used, family, node)?;
+    /// No used arc enters the source.
+    fn none_into_source(&self, alloc: Global, out: &mut Writer) -> Result<(), Memory>
+        ensures { OnOk result (Adds out.old out.new
+            (map (λ place. no (used_by self.now place) ∷ [])
+            (into self.now.q.now self.now.q.now.source))) }
+    {
+        let ins = self.searched(alloc, Pick::Into, self.q.source)?;
+        none_of(alloc, out, ins.slice())?;
+        Ok(())
     }
-    Ok(())
-}
 
-/// Some used arc leaves the source, and some enters the target.
-fn ends(
-    alloc: Global,
-    out: &mut Writer,
-    q: &Question,
-    used: Table,
-    family: u32,
-) -> Result<(), Memory>
-    ensures { OnOk result
-        (Adds out.old out.new (map (λ place. yes (cell used.first used.columns family place))
-        (out_of q.now q.now.source) ∷
-        map (λ place. yes (cell used.first used.columns family place)) (into q.now q.now.target) ∷
-        [])) }
-{
-    let outs = searched(alloc, q, Pick::OutOf, q.source, used, family)?;
-    some_of(alloc, out, outs.slice())?;
-    let ins = searched(alloc, q, Pick::Into, q.target, used, family)?;
-    some_of(alloc, out, ins.slice())?;
-    Ok(())
-}
+    /// No used arc leaves the target.
+    fn none_out_of_target(&self, alloc: Global, out: &mut Writer) -> Result<(), Memory>
+        ensures { OnOk result (Adds out.old out.new
+            (map (λ place. no (used_by self.now place) ∷ [])
+            (out_of self.now.q.now self.now.q.now.target))) }
+    {
+        let outs = self.searched(alloc, Pick::OutOf, self.q.target)?;
+        none_of(alloc, out, outs.slice())?;
+        Ok(())
+    }
 
-/// No used arc enters the source.
-fn not_back(
-    alloc: Global,
-    out: &mut Writer,
-    q: &Question,
-    used: Table,
-    family: u32,
-) -> Result<(), Memory>
-    ensures { OnOk result
-        (Adds out.old out.new (map (λ place. no (cell used.first used.columns family place) ∷ [])
-        (into q.now q.now.source))) }
-{
-    let ins = searched(alloc, q, Pick::Into, q.source, used, family)?;
-    none_of(alloc, out, ins.slice())?;
-    Ok(())
-}
+    /// Flow conservation at each inner node.
+    fn all_conserve(&self, alloc: Global, out: &mut Writer) -> Result<(), Memory>
+        requires { HasIndex self.now }
+        ensures { OnOk result (Adds out.old out.new
+            (flat_map (node_parts self.now.q.now (used_by self.now))
+            (between self.now.q.now self.now.nodes))) }
+    {
+        for node in 0..self.nodes {
+            self.conserves_between(alloc, out, node)?;
+        }
+        Ok(())
+    }
 
-/// No used arc leaves the target.
-fn not_on(
-    alloc: Global,
-    out: &mut Writer,
-    q: &Question,
-    used: Table,
-    family: u32,
-) -> Result<(), Memory>
-    ensures { OnOk result
-        (Adds out.old out.new (map (λ place. no (cell used.first used.columns family place) ∷ [])
-        (out_of q.now q.now.target))) }
-{
-    let outs = searched(alloc, q, Pick::OutOf, q.target, used, family)?;
-    none_of(alloc, out, outs.slice())?;
-    Ok(())
-}
+    /// Flow conservation at the node; nothing at source and target.
+    fn conserves_between(&self, alloc: Global, out: &mut Writer, node: u32) -> Result<(), Memory>
+        requires out_of { row_at self.now.index.now.out_of node ≡ out_of self.now.q.now node }
+        requires into { row_at self.now.index.now.into node ≡ into self.now.q.now node }
+        ensures { OnOk result (Adds out.old out.new
+            (if not (node == self.now.q.now.source) && not (node == self.now.q.now.target)
+            then node_parts self.now.q.now (used_by self.now) node else [])) }
+    {
+        if node == self.q.source || node == self.q.target {
+            return Ok(());
+        }
+        self.conserves(alloc, out, node)
+    }
 
-/// The used arcs are routed, and make a path from the source to the target.
-pub(crate) fn family(
-    alloc: Global,
-    out: &mut Writer,
-    q: &Question,
-    index: &Index,
-    nodes: u32,
-    used: Table,
-    family: u32,
-) -> Result<(), Memory>
-    requires out_of { index.now.out_of ≡ rows_of q.now OutOf nodes }
-    requires into { index.now.into ≡ rows_of q.now Into nodes }
-    ensures { OnOk result
-        (Adds out.old out.new (family_parts q.now nodes (cell used.first used.columns family))) }
-{
-    routed(alloc, out, q, used, family)?;
-    ends(alloc, out, q, used, family)?;
-    not_back(alloc, out, q, used, family)?;
-    not_on(alloc, out, q, used, family)?;
-    all_go_on(alloc, out, q, index, nodes, used, family)?;
-    all_once(alloc, out, q, index, nodes, used, family)?;
-    Ok(())
+    /// Flow conservation at an inner node: a used arc goes on and comes from somewhere.
+    fn conserves(&self, alloc: Global, out: &mut Writer, node: u32) -> Result<(), Memory>
+        requires out_of { row_at self.now.index.now.out_of node ≡ out_of self.now.q.now node }
+        requires into { row_at self.now.index.now.into node ≡ into self.now.q.now node }
+        ensures { OnOk result
+            (Adds out.old out.new (node_parts self.now.q.now (used_by self.now) node)) }
+    {
+        let ins = row_variables(alloc, &self.index.into, node, self.used, self.number)?;
+        let outs = row_variables(alloc, &self.index.out_of, node, self.used, self.number)?;
+        each_implies(alloc, out, ins.slice(), outs.slice())?;
+        each_implies(alloc, out, outs.slice(), ins.slice())?;
+        Ok(())
+    }
+
+    /// At each node at most one used arc leaves, and at most one enters.
+    fn all_at_most_one(&self, alloc: Global, out: &mut Writer) -> Result<(), Memory>
+        requires { HasIndex self.now }
+        ensures { OnOk result (Adds out.old out.new
+            (flat_map (once_parts self.now.q.now (used_by self.now)) (upto self.now.nodes))) }
+    {
+        for node in 0..self.nodes {
+            self.at_most_one(alloc, out, node)?;
+        }
+        Ok(())
+    }
+
+    /// At most one used arc leaves the node, and at most one enters it.
+    fn at_most_one(&self, alloc: Global, out: &mut Writer, node: u32) -> Result<(), Memory>
+        requires out_of { row_at self.now.index.now.out_of node ≡ out_of self.now.q.now node }
+        requires into { row_at self.now.index.now.into node ≡ into self.now.q.now node }
+        ensures { OnOk result
+            (Adds out.old out.new (once_parts self.now.q.now (used_by self.now) node)) }
+    {
+        let outs = row_variables(alloc, &self.index.out_of, node, self.used, self.number)?;
+        exclusions(alloc, out, outs.slice())?;
+        let ins = row_variables(alloc, &self.index.into, node, self.used, self.number)?;
+        exclusions(alloc, out, ins.slice())?;
+        Ok(())
+    }
+
+    /// The variables of the arcs that are meant.
+    fn searched(&self, alloc: Global, pick: Pick, number: u32) -> Result<List<u64>, Memory>
+        ensures variables { IfOk result (λ vs.
+            vs ≡ map (used_by self.now) (picked self.now.q.now pick number)) }
+        ensures small { IfOk result AreSmall }
+    {
+        let places = picked(alloc, self.q, pick, number)?;
+        variables_of(alloc, places.slice(), self.used, self.number)
+    }
 }

@@ -55,7 +55,12 @@ fn push_if(places: &mut List<u32>, wanted: bool, place: u32) -> Result<(), Memor
 }
 
 /// The places of the arcs that are meant.
-fn picked(alloc: Global, q: &Question, pick: Pick, number: u32) -> Result<List<u32>, Memory>
+pub(crate) fn picked(
+    alloc: Global,
+    q: &Question,
+    pick: Pick,
+    number: u32,
+) -> Result<List<u32>, Memory>
     ensures { IfOk result (λ places. places ≡ picked q.now pick number) }
 {
     let mut places = List::make(alloc);
@@ -113,7 +118,7 @@ pub(crate) fn index(alloc: Global, q: &Question, nodes: u32, links: u32) -> Resu
 }
 
 /// The variables of places, in a family's row.
-fn variables_of(
+pub(crate) fn variables_of(
     alloc: Global,
     places: &[u32],
     used: Table,
@@ -146,21 +151,4 @@ pub(crate) fn row_variables(
         Some(row) => variables_of(alloc, row.places.slice(), used, family),
         None => Ok(List::make(alloc)),
     }
-}
-
-/// The variables of the arcs that are meant, in a family's row.
-pub(crate) fn searched(
-    alloc: Global,
-    q: &Question,
-    pick: Pick,
-    number: u32,
-    used: Table,
-    family: u32,
-) -> Result<List<u64>, Memory>
-    ensures variables { IfOk result (λ vs.
-        vs ≡ map (cell used.first used.columns family) (picked q.now pick number)) }
-    ensures small { IfOk result AreSmall }
-{
-    let places = picked(alloc, q, pick, number)?;
-    variables_of(alloc, places.slice(), used, family)
 }

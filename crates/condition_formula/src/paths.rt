@@ -2,17 +2,17 @@
 ghost use Rattle.std.specs.Prelude.{◌≡◌, ◌==◌, ◌<◌, ◌^◌, [], ◌∷◌, ◌++◌, if◌then◌else◌, length, map};
 ghost use Rattle.std.specs.Prelude.{flat_map, OnOk, IfOk};
 ghost use Rattle.condition_formula.specs.Lists.{upto};
-ghost use Rattle.condition_formula.specs.declared.pick.Pick.TheVariants.{OutOf, Into, Over};
+ghost use Rattle.condition_formula.specs.declared.pick.Pick.TheVariants.{Over};
 ghost use Rattle.condition_formula.specs.Clauses.{affirmed, denied};
 ghost use Rattle.condition_formula.specs.Conditions.{lists_of, ends_of};
 ghost use Rattle.condition_formula.specs.Formulas.{cell};
 ghost use Rattle.condition_formula.specs.Reaching.{over_link, exclusions, ends_parts, clear_parts};
 ghost use Rattle.condition_formula.specs.Reaching.{family_parts, paths_parts, reached_parts};
-ghost use Rattle.condition_formula.specs.Writing.{Adds, AreSmall, row_at, rows_of, picked};
+ghost use Rattle.condition_formula.specs.Writing.{Adds, AreSmall, IsIndex, row_at, picked};
 
 use crate::condition::Condition;
 use crate::draft::{Draft, push};
-use crate::family::family;
+use crate::family::Family;
 use crate::index::{index, row_variables};
 use crate::network::{ConditionArc, Question};
 use crate::row::Index;
@@ -22,6 +22,18 @@ use crate::variables::exclusions;
 use crate::writer::Writer;
 use arc_base::{List, Memory};
 use std::alloc::Global;
+
+/// The paths of which no two share a link, that a reach question asks for.
+#[derive(Clone, Copy)]
+pub(crate) struct Paths<'a> {
+    pub q: &'a Question,
+    pub nodes: u32,
+    pub links: u32,
+    /// How many are asked for.
+    pub many: u32,
+    /// For each path and each arc whether the path goes over the arc.
+    pub used: Table,
+}
 
 /// The condition holds.
 fn holds(alloc: Global, out: &mut Writer, condition: Condition) -> Result<(), Memory>
@@ -42,7 +54,7 @@ fn ends(alloc: Global, out: &mut Writer, q: &Question, class: u32) -> Result<(),
     Ok(())
 }
 
-/// That the packets of each class enter and leave.
+/// The packets of each class enter and leave.
 fn all_ends(alloc: Global, out: &mut Writer, q: &Question) -> Result<(), Memory>
     ensures { OnOk result
         (Adds out.old out.new (flat_map (ends_parts q.now) (upto (length q.now.classes)))) }
@@ -79,7 +91,7 @@ fn clear(alloc: Global, out: &mut Writer, class: u32, arc: &ConditionArc) -> Res
     Ok(())
 }
 
-/// That each arc is clear if it is routed.
+/// Each routed arc is clear to the class.
 fn arcs_clear(alloc: Global, out: &mut Writer, q: &Question, class: u32) -> Result<(), Memory>
     ensures { OnOk result (Adds out.old out.new (flat_map (clear_parts class) q.now.arcs)) }
 {
@@ -89,7 +101,7 @@ fn arcs_clear(alloc: Global, out: &mut Writer, q: &Question, class: u32) -> Resu
     Ok(())
 }
 
-/// That the packets of each class enter and leave.
+/// Each routed arc is clear to each class.
 fn all_clear(alloc: Global, out: &mut Writer, q: &Question) -> Result<(), Memory>
     ensures { OnOk result
         (Adds out.old out.new (flat_map (λ class. flat_map (clear_parts class) q.now.arcs)
@@ -97,27 +109,6 @@ fn all_clear(alloc: Global, out: &mut Writer, q: &Question) -> Result<(), Memory
 {
     for class in 0..q.classes.len() {
         arcs_clear(alloc, out, q, class)?;
-    }
-    Ok(())
-}
-
-/// Each family makes a path.
-fn families(
-    alloc: Global,
-    out: &mut Writer,
-    q: &Question,
-    index: &Index,
-    nodes: u32,
-    many: u32,
-    used: Table,
-) -> Result<(), Memory>
-    requires out_of { index.now.out_of ≡ rows_of q.now OutOf nodes }
-    requires into { index.now.into ≡ rows_of q.now Into nodes }
-    ensures { OnOk result (Adds out.old out.new
-        (flat_map (λ f. family_parts q.now nodes (cell used.first used.columns f)) (upto many))) }
-{
-    for number in 0..many {
-        family(alloc, out, q, index, nodes, used, number)?;
     }
     Ok(())
 }
@@ -135,122 +126,106 @@ fn extend(variables: &mut List<u64>, more: &[u64]) -> Result<(), Memory>
     Ok(())
 }
 
-/// The variables over the link, of each family in order.
-fn over_link(
-    alloc: Global,
-    q: &Question,
-    index: &Index,
-    many: u32,
-    used: Table,
-    link: u32,
-) -> Result<List<u64>, Memory>
-    requires { row_at index.now.over link ≡ picked q.now Over link }
-    ensures variables { IfOk result (λ vs.
-        vs ≡ map (λ item. cell used.first used.columns item.0 item.1) (over_link q.now many link)) }
-    ensures small { IfOk result AreSmall }
-{
-    let mut variables = List::make(alloc);
-    for number in 0..many {
-        let row = row_variables(alloc, &index.over, link, used, number)?;
-        extend(&mut variables, row.slice())?;
+impl Paths<'_> {
+    /// The packets enter and leave, and where the two nodes differ there are paths.
+    pub(crate) fn reached(&self, alloc: Global, out: &mut Writer) -> Result<(), Memory>
+        ensures { OnOk result (Adds out.old out.new (reached_parts self.now.q.now self.now.nodes
+            self.now.links self.now.many (cell self.now.used.first self.now.used.columns))) }
+    {
+        all_ends(alloc, out, self.q)?;
+        self.paths_between(alloc, out)?;
+        Ok(())
     }
-    Ok(variables)
-}
 
-/// At most one family goes over the link, in one direction.
-fn own_link(
-    alloc: Global,
-    out: &mut Writer,
-    q: &Question,
-    index: &Index,
-    many: u32,
-    used: Table,
-    link: u32,
-) -> Result<(), Memory>
-    requires { row_at index.now.over link ≡ picked q.now Over link }
-    ensures { OnOk result
-        (Adds out.old out.new (exclusions (λ item. cell used.first used.columns item.0 item.1)
-        (over_link q.now many link))) }
-{
-    let variables = over_link(alloc, q, index, many, used, link)?;
-    exclusions(alloc, out, variables.slice())?;
-    Ok(())
-}
-
-/// That each link is in at most one family.
-fn own_links(
-    alloc: Global,
-    out: &mut Writer,
-    q: &Question,
-    index: &Index,
-    links: u32,
-    many: u32,
-    used: Table,
-) -> Result<(), Memory>
-    requires { index.now.over ≡ rows_of q.now Over links }
-    ensures { OnOk result (Adds out.old out.new (flat_map (λ link.
-        exclusions (λ item. cell used.first used.columns item.0 item.1) (over_link q.now many link))
-        (upto links))) }
-{
-    for link in 0..links {
-        own_link(alloc, out, q, index, many, used, link)?;
+    /// The clauses of the paths; none where source and target are one node.
+    fn paths_between(&self, alloc: Global, out: &mut Writer) -> Result<(), Memory>
+        ensures { OnOk result (Adds out.old out.new
+            (if self.now.q.now.source == self.now.q.now.target then []
+            else paths_parts self.now.q.now self.now.nodes self.now.links self.now.many
+            (cell self.now.used.first self.now.used.columns))) }
+    {
+        if self.q.source == self.q.target {
+            return Ok(());
+        }
+        self.paths(alloc, out)
     }
-    Ok(())
-}
 
-/// So many paths that share no link lead over routed arcs, all of which are clear.
-fn paths(
-    alloc: Global,
-    out: &mut Writer,
-    q: &Question,
-    nodes: u32,
-    links: u32,
-    many: u32,
-    used: Table,
-) -> Result<(), Memory>
-    ensures { OnOk result
-        (Adds out.old out.new (paths_parts q.now nodes links many (cell used.first used.columns))) }
-{
-    all_clear(alloc, out, q)?;
-    let index = index(alloc, q, nodes, links)?;
-    families(alloc, out, q, &index, nodes, many, used)?;
-    own_links(alloc, out, q, &index, links, many, used)?;
-    Ok(())
-}
-
-/// The path clauses; none if source and target are one node.
-fn paths_between(
-    alloc: Global,
-    out: &mut Writer,
-    q: &Question,
-    nodes: u32,
-    links: u32,
-    many: u32,
-    used: Table,
-) -> Result<(), Memory>
-    ensures { OnOk result (Adds out.old out.new (if q.now.source == q.now.target then []
-        else paths_parts q.now nodes links many (cell used.first used.columns))) }
-{
-    if q.source == q.target {
-        return Ok(());
+    /// The paths lead over routed arcs, all of which are clear, and share no link.
+    fn paths(&self, alloc: Global, out: &mut Writer) -> Result<(), Memory>
+        ensures { OnOk result (Adds out.old out.new (paths_parts self.now.q.now self.now.nodes
+            self.now.links self.now.many (cell self.now.used.first self.now.used.columns))) }
+    {
+        all_clear(alloc, out, self.q)?;
+        let index = index(alloc, self.q, self.nodes, self.links)?;
+        self.families(alloc, out, &index)?;
+        self.own_links(alloc, out, &index)?;
+        Ok(())
     }
-    paths(alloc, out, q, nodes, links, many, used)
-}
 
-/// The packets enter and leave, and where the two nodes differ there are paths.
-pub(crate) fn reached(
-    alloc: Global,
-    out: &mut Writer,
-    q: &Question,
-    nodes: u32,
-    links: u32,
-    many: u32,
-    used: Table,
-) -> Result<(), Memory>
-    ensures { OnOk result (Adds out.old out.new
-        (reached_parts q.now nodes links many (cell used.first used.columns))) }
-{
-    all_ends(alloc, out, q)?;
-    paths_between(alloc, out, q, nodes, links, many, used)?;
-    Ok(())
+    /// Each family makes a path.
+    fn families(&self, alloc: Global, out: &mut Writer, index: &Index) -> Result<(), Memory>
+        requires { IsIndex self.now.q.now self.now.nodes self.now.links index.now }
+        ensures { OnOk result (Adds out.old out.new (flat_map (λ f.
+            family_parts self.now.q.now self.now.nodes
+            (cell self.now.used.first self.now.used.columns f)) (upto self.now.many))) }
+    {
+        for number in 0..self.many {
+            let family = Family {
+                q: self.q,
+                index,
+                nodes: self.nodes,
+                used: self.used,
+                number,
+            };
+            family.path(alloc, out)?;
+        }
+        Ok(())
+    }
+
+    /// At most one family goes over each link, in one direction.
+    fn own_links(&self, alloc: Global, out: &mut Writer, index: &Index) -> Result<(), Memory>
+        requires { IsIndex self.now.q.now self.now.nodes self.now.links index.now }
+        ensures { OnOk result (Adds out.old out.new (flat_map (λ link.
+            exclusions (λ item. cell self.now.used.first self.now.used.columns item.0 item.1)
+            (over_link self.now.q.now self.now.many link)) (upto self.now.links))) }
+    {
+        for link in 0..self.links {
+            self.own_link(alloc, out, index, link)?;
+        }
+        Ok(())
+    }
+
+    /// At most one family goes over the link, in one direction.
+    fn own_link(
+        &self,
+        alloc: Global,
+        out: &mut Writer,
+        index: &Index,
+        link: u32,
+    ) -> Result<(), Memory>
+        requires { row_at index.now.over link ≡ picked self.now.q.now Over link }
+        ensures { OnOk result (Adds out.old out.new
+            (exclusions (λ item. cell self.now.used.first self.now.used.columns item.0 item.1)
+            (over_link self.now.q.now self.now.many link))) }
+    {
+        let variables = self.over_link(alloc, index, link)?;
+        exclusions(alloc, out, variables.slice())?;
+        Ok(())
+    }
+
+    /// The variables over the link, of each family in order.
+    fn over_link(&self, alloc: Global, index: &Index, link: u32) -> Result<List<u64>, Memory>
+        requires { row_at index.now.over link ≡ picked self.now.q.now Over link }
+        ensures variables { IfOk result (λ vs. vs
+            ≡ map (λ item. cell self.now.used.first self.now.used.columns item.0 item.1)
+            (over_link self.now.q.now self.now.many link)) }
+        ensures small { IfOk result AreSmall }
+    {
+        let mut variables = List::make(alloc);
+        for number in 0..self.many {
+            let row = row_variables(alloc, &index.over, link, self.used, number)?;
+            extend(&mut variables, row.slice())?;
+        }
+        Ok(variables)
+    }
 }

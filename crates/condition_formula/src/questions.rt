@@ -7,7 +7,7 @@ ghost use Rattle.condition_formula.specs.Limits.{IsSmallNet};
 ghost use Rattle.condition_formula.specs.Writing.{Adds};
 
 use crate::network::{ConditionNet, Demand, Question};
-use crate::paths::reached;
+use crate::paths::Paths;
 use crate::sides::kept_off;
 use crate::table::Table;
 use crate::writer::Writer;
@@ -81,7 +81,14 @@ fn question(
         }
         Demand::Reach(many) => {
             let columns = q.arcs.len();
-            reached(alloc, out, q, nodes, links, many, Table { first, columns })
+            let paths = Paths {
+                q,
+                nodes,
+                links,
+                many,
+                used: Table { first, columns },
+            };
+            paths.reached(alloc, out)
         }
     }
 }
