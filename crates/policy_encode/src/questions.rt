@@ -14,7 +14,7 @@ ghost use Rattle.policy_encode.specs.Finding.{IsIndexOf};
 
 use crate::adding::push;
 use crate::answers::class_ends;
-use crate::condition_arcs::arcs_to;
+use crate::condition_arcs::ArcContext;
 use crate::edit_index::EditIndex;
 use arc_base::{Face, List, Memory, Prefix};
 use condition_formula::{ClassEnds, Demand, Question};
@@ -119,7 +119,13 @@ pub(crate) fn question(
         unreachable!()
     };
     let classes = few_classes(alloc, net, doc, marks, policy)?;
-    let arcs = arcs_to(alloc, net, index, to, &classes)?;
+    let context = ArcContext {
+        net,
+        index,
+        to,
+        classes: &classes,
+    };
+    let arcs = context.arcs(alloc)?;
     let ends = all_ends(alloc, net, index, source, source_row, target_row, &classes)?;
     Ok(Question {
         demand: demand_of(policy.kind),
