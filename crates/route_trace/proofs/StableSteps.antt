@@ -12,7 +12,8 @@ use Rattle.net_model.specs.Validity.{IsValid, IsValidFace}
 use Rattle.net_model.proofs.Readings.{place_of_item}
 use Rattle.net_model.proofs.Hosts.{lies_in, one_host_face}
 use Rattle.route_trace.specs.declared.steps.Step.{Step}
-use Rattle.route_trace.specs.Routes.{distance_map, Owns, IsPathLeft, HasPathLeft, AreDistances, TellReach}
+use Rattle.net_laws.specs.Routes.{Route}
+use Rattle.route_trace.specs.Routes.{distance_map, Owns, HasPathLeft, AreDistances, TellReach}
 use Rattle.route_trace.specs.Steps.{step_of, IsUsableStep, AreSteps, IsOffered, IsStableOver}
 use Rattle.route_trace.proofs.Least.{same_set, has_least, holds_least}
 use Rattle.route_trace.proofs.StepLists.{cost-pos, head_in}
@@ -56,7 +57,7 @@ is_some_from o n e = subst IsSome (sym e) refl
 
 module _ (net : Network) (valid : IsValid net) (to : Prefix) (failed : FailureSet) (owner : ℕ) (d : DistanceMap) (stable : IsStable net to owner failed d) where
   -- from the end of a path backwards each router has a distance
-  along_path : (arcs : List Arc) (u : ℕ) → u < length net.routers → IsPathLeft net to failed u arcs owner → IsSome (d u)
+  along_path : (arcs : List Arc) (u : ℕ) → u < length net.routers → Route net to failed u arcs owner → IsSome (d u)
   along_path [] u within path = is_some_from (d u) 0 (ap d path ∙ stable.at_owner)
   along_path (arc ∷ arcs) u within path =
       elim (cases_eq u owner) [

@@ -1,15 +1,15 @@
 -- What the distances and the next hops are, in the terms of the model: flags of failed links, paths
 -- of usable arcs, next hops.
-use Rattle.std.specs.Prelude.{◌≡◌, ℕ, ◌<◌, ◌↔◌, Bool, false, IsSome, Option, Some, None, List, []}
-use Rattle.std.specs.Prelude.{◌∷◌, length, map, slice_index_or, Contains}
+use Rattle.std.specs.Prelude.{◌≡◌, ℕ, ◌<◌, ◌↔◌, Bool, false, IsSome, Option, Some, None, List}
+use Rattle.std.specs.Prelude.{length, map, slice_index_or, Contains}
 use Rattle.std.specs.List.Sorted.{IsStrictlyIncreasing}
 use Rattle.arc_base.specs.declared.place.Link.{Link}
 use Rattle.arc_base.specs.declared.prefix.Prefix.{Prefix}
 use Rattle.net_model.specs.declared.rows.FaceRow.{FaceRow}
 use Rattle.net_model.specs.declared.rows.Network.{Network}
-use Rattle.net_model.specs.Routing.{Arc, FailureSet, DistanceMap, IsUsable, IsStable, tail_router}
-use Rattle.net_model.specs.Routing.{head_router}
+use Rattle.net_model.specs.Routing.{Arc, FailureSet, DistanceMap, IsStable, tail_router}
 use Rattle.net_model.specs.Forwarding.{Attains}
+use Rattle.net_laws.specs.Routes.{Route}
 
 -- the failure set that flags of the links show: a link has failed where its flag is set
 abbrev pub flagged : List Bool → FailureSet
@@ -30,17 +30,9 @@ pub record Owns (net : Network) (to : Prefix) (owner : ℕ) : Type 0 where
 abbrev pub IsHostNetwork : Network → Prefix → Type 0
 IsHostNetwork net to = (owner : ℕ) × Owns net to owner
 
--- the arcs are a path that is left from the one router to the other: they can be used, and each
--- begins where the one before ends
-abbrev pub IsPathLeft : Network → Prefix → FailureSet → ℕ → List Arc → ℕ → Type 0
-IsPathLeft net to failed u [] v = u ≡ v
-IsPathLeft net to failed u (arc ∷ arcs) v =
-    IsUsable net to failed arc × (tail_router arc ≡ u) ×
-    IsPathLeft net to failed (head_router arc) arcs v
-
 -- a path is left from the one router to the other
 abbrev pub HasPathLeft : Network → Prefix → FailureSet → ℕ → ℕ → Type 0
-HasPathLeft net to failed u v = (arcs : List Arc) × IsPathLeft net to failed u arcs v
+HasPathLeft net to failed u v = (arcs : List Arc) × Route net to failed u arcs v
 
 -- the distances are those of the network: one for each router, and stable for the router that owns
 -- the prefix
