@@ -12,17 +12,16 @@ use Rattle.net_model.specs.declared.rows.Network.{Network}
 use Rattle.net_model.specs.Lists.{permits}
 use Rattle.net_model.specs.Packets.{IsOf, first_packet}
 use Rattle.net_model.specs.Routing.{Arc}
-use Rattle.net_model.specs.Forwarding.{ListPermits, ArcPermits}
-use Rattle.net_model.specs.Witnesses.{IsUniform}
+use Rattle.net_model.specs.Forwarding.{ListPermits, ArcPermits, ArcPermitsEach}
+use Rattle.net_model.specs.Witnesses.{IsUniform, IsUniformFor}
 use Rattle.class_graph.specs.declared.modes.Mode.{Mode}
 use Rattle.class_graph.specs.declared.modes.Mode.TheVariants.{Routed, Permitted, PermittedOffWaypoint}
-use Rattle.class_graph.specs.Classes.{AreUniform, PermitsClass}
 use Rattle.class_graph.specs.Answers.{answers_to, Allows, ArcAllows}
 use Rattle.class_graph.specs.Graphs.{MayUse}
 use Rattle.net_model.proofs.Packets.{first_is_of}
 use Rattle.net_model.proofs.Readings.{item_at_place}
 
-list_alike : (net : Network) (class : Class) → AreUniform net class → (p q : Packet) → IsOf class p → IsOf class q →
+list_alike : (net : Network) (class : Class) → IsUniformFor net class → (p q : Packet) → IsOf class p → IsOf class q →
     (place : ℕ) (o : Option PacketList) → slice_get net.packet_lists place ≡ o →
     IsSomeAnd o (λ l. IsTrue (permits l.entries p)) → IsSomeAnd o (λ l. IsTrue (permits l.entries q))
 list_alike net class uniform p q of_p of_q place None at h = h
@@ -32,13 +31,13 @@ list_alike net class uniform p q of_p of_q place (Some l) at h =
     subst IsTrue (alike p q of_p of_q) h
 
 -- a list that permits one packet of the class permits each
-pub lists_alike : (net : Network) (class : Class) → AreUniform net class → (p q : Packet) → IsOf class p → IsOf class q →
+pub lists_alike : (net : Network) (class : Class) → IsUniformFor net class → (p q : Packet) → IsOf class p → IsOf class q →
     (list : Option ListId) → ListPermits net list p → ListPermits net list q
 lists_alike net class uniform p q of_p of_q None h = h
 lists_alike net class uniform p q of_p of_q (Some id) h =
     list_alike net class uniform p q of_p of_q id.0 (slice_get net.packet_lists id.0) refl h
 
-pub arc_alike : (net : Network) (class : Class) → AreUniform net class → (p q : Packet) → IsOf class p → IsOf class q →
+pub arc_alike : (net : Network) (class : Class) → IsUniformFor net class → (p q : Packet) → IsOf class p → IsOf class q →
     (arc : Arc) → ArcPermits net arc p → ArcPermits net arc q
 arc_alike net class uniform p q of_p of_q arc h = (
   lists_alike net class uniform p q of_p of_q arc.tail.list_out (h.0),
@@ -60,7 +59,7 @@ allows_is net p (Some id) =
     )
 
 -- the first packet's answers are those of the class
-pub arc_allows_is : (net : Network) (class : Class) → AreUniform net class → (arc : Arc) → ArcAllows (answers_to net (first_packet class)) arc ↔ PermitsClass net class arc
+pub arc_allows_is : (net : Network) (class : Class) → IsUniformFor net class → (arc : Arc) → ArcAllows (answers_to net (first_packet class)) arc ↔ ArcPermitsEach net class arc
 arc_allows_is net class uniform arc = (
   λ h. λ p of_p. arc_alike net class uniform (first_packet class) p (first_is_of class) of_p arc (
     (allows_is net (first_packet class) arc.tail.list_out).0 (h.0),
@@ -72,7 +71,7 @@ arc_allows_is net class uniform arc = (
   ),
 )
 
-pub open_is : (net : Network) (class : Class) → AreUniform net class → (up : Bool) (list : Option ListId) →
+pub open_is : (net : Network) (class : Class) → IsUniformFor net class → (up : Bool) (list : Option ListId) →
     (IsTrue up × Allows (answers_to net (first_packet class)) list) ↔ ((p : Packet) → IsOf class p → IsTrue up × ListPermits net list p)
 open_is net class uniform up list = (
   λ h. λ p of_p. (h.0, lists_alike net class uniform (first_packet class) p (first_is_of class) of_p list ((allows_is net (first_packet class) list).0 (h.1))),

@@ -5,14 +5,14 @@ use Rattle.net_model.specs.declared.policies.Class.{Class}
 use Rattle.net_model.specs.declared.rows.Network.{Network}
 use Rattle.net_model.specs.Packets.{IsOf, first_packet}
 use Rattle.net_model.specs.Forwarding.{Ends, Enters, Leaves}
+use Rattle.net_model.specs.Witnesses.{IsUniformFor}
 use Rattle.class_graph.specs.declared.hosts.End.{End}
 use Rattle.class_graph.specs.declared.hosts.HostPair.{HostPair}
-use Rattle.class_graph.specs.Classes.{AreUniform}
 use Rattle.class_graph.specs.Hosts.{IsHostPair, Admits, end_in, end_out}
 use Rattle.net_model.proofs.Packets.{first_is_of}
 use Rattle.class_graph.proofs.Alike.{lists_alike}
 
-pub through_is : (net : Network) (class : Class) → AreUniform net class → (pair : HostPair) (flag : Bool) (packet : Packet) → packet ≡ first_packet class →
+pub through_is : (net : Network) (class : Class) → IsUniformFor net class → (pair : HostPair) (flag : Bool) (packet : Packet) → packet ≡ first_packet class →
     IsTrue flag ↔ (Admits net pair.source packet × Admits net pair.target packet) → (ends : Ends) → IsHostPair net ends pair →
     IsTrue flag ↔ ((p : Packet) → IsOf class p → Enters net ends p × Leaves net ends p)
 through_is net class uniform pair flag packet packet_is is ends pair_is =

@@ -9,11 +9,11 @@ use Rattle.net_model.specs.declared.rows.Network.{Network}
 use Rattle.net_model.specs.Packets.{IsOf}
 use Rattle.net_model.specs.Routing.{Arc, IsArc, IsRouted, tail_router, head_router, cost}
 use Rattle.net_model.specs.Forwarding.{Ends, AreEnds, Enters, Leaves, source_router, target_router}
+use Rattle.net_model.specs.Forwarding.{ArcPermitsEach}
 use Rattle.class_graph.specs.declared.modes.Mode.{Mode}
 use Rattle.class_graph.specs.declared.modes.Mode.TheVariants.{Routed, Permitted}
 use Rattle.class_graph.specs.declared.modes.Mode.TheVariants.{PermittedOffWaypoint}
 use Rattle.class_graph.specs.declared.building.ClassGraph.{ClassGraph}
-use Rattle.class_graph.specs.Classes.{PermitsClass}
 
 -- the graph's arc is the network's: over its link, from the router at its tail to that at its head,
 -- at its cost
@@ -50,7 +50,7 @@ MayUse PermittedOffWaypoint Permits waypoint = Permits × IsFalse waypoint
 -- the arc is of the mode for the class: it is any arc, or permits the class, or permits it and is
 -- not over a waypoint link
 abbrev pub Fits : Mode → Network → Class → Arc → Type 0
-Fits mode net class arc = MayUse mode (PermitsClass net class arc) arc.row.waypoint
+Fits mode net class arc = MayUse mode (ArcPermitsEach net class arc) arc.row.waypoint
 
 -- the graph of the class: its packets enter at the source and leave at the target if each of them
 -- does, and its arcs are those of the mode

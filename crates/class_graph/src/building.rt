@@ -3,7 +3,7 @@ ghost use Rattle.std.specs.Prelude.{◌≡◌, ◌↔◌, IsTrue, IfOk};
 ghost use Rattle.net_model.specs.Validity.{IsValid};
 ghost use Rattle.net_model.specs.Forwarding.{HasEnds, Ends};
 ghost use Rattle.net_model.specs.Tables.{AreRoutedLinks};
-ghost use Rattle.class_graph.specs.Classes.{AreUniform};
+ghost use Rattle.net_model.specs.Witnesses.{IsUniformFor};
 ghost use Rattle.class_graph.specs.Hosts.{IsHostPair, HasHostPair};
 ghost use Rattle.class_graph.specs.Graphs.{IsGraphOf, IsAnyArc, IsClassGraph, IsGraphOfClass};
 ghost use Rattle.class_graph.specs.Building.{Answered};
@@ -33,7 +33,7 @@ pub struct ClassGraph {
 pub fn build(alloc: Global, net: &Network, class: Class, mode: Mode) -> Result<ClassGraph, Memory>
     requires valid { IsValid net.now }
     requires ends { HasEnds net.now class }
-    requires uniform { AreUniform net.now class }
+    requires uniform { IsUniformFor net.now class }
     ensures { IfOk result (IsGraphOfClass net.now class mode) }
 {
     let pair = host_pair(alloc, net, class)?;
@@ -50,7 +50,7 @@ pub fn build_between(
 ) -> Result<ClassGraph, Memory>
     requires valid { IsValid net.now }
     requires pair { HasHostPair net.now pair.now }
-    requires uniform { AreUniform net.now class }
+    requires uniform { IsUniformFor net.now class }
     ensures { IfOk result (λ graph. (ends : Ends) → IsHostPair net.now ends pair.now →
         IsClassGraph net.now ends class mode graph) }
 {

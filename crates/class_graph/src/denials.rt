@@ -1,7 +1,7 @@
 //! The first link over which a class is denied.
 ghost use Rattle.std.specs.Prelude.{◌↔◌, ℕ, IsTrue, IfOk, IfSome, IfNone, MatchOption};
 ghost use Rattle.net_model.specs.Tables.{AreRoutedLinks};
-ghost use Rattle.class_graph.specs.Classes.{AreUniform};
+ghost use Rattle.net_model.specs.Witnesses.{IsUniformFor};
 ghost use Rattle.class_graph.specs.Hosts.{HasHostPair};
 ghost use Rattle.class_graph.specs.Denials.{IsLeastDenied, IsDeniedNowhere, IsDeniedBy};
 ghost use Rattle.class_graph.specs.Denials.{IsDeniedOver, IsLeastDeniedBy};
@@ -21,7 +21,7 @@ pub fn denied_link(
     class: Class,
 ) -> Result<Option<Link>, Memory>
     requires pair { HasHostPair net.now pair.now }
-    requires uniform { AreUniform net.now class }
+    requires uniform { IsUniformFor net.now class }
     ensures { IfOk result (λ found.
         MatchOption found (IsDeniedNowhere net.now pair.now.to class) (λ link.
         IsLeastDenied net.now pair.now.to class link.0)) }

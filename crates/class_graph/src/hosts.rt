@@ -3,7 +3,8 @@ ghost use Rattle.std.specs.Prelude.{◌≡◌, ◌↔◌, IsTrue, length, IfOk, 
 ghost use Rattle.net_model.specs.declared.lists.Packet.{Packet as AnyPacket};
 ghost use Rattle.net_model.specs.Packets.{IsOf};
 ghost use Rattle.net_model.specs.Forwarding.{Ends, HasEnds, Enters, Leaves};
-ghost use Rattle.class_graph.specs.Classes.{AreUniform, AreAllUniform};
+ghost use Rattle.net_model.specs.Witnesses.{IsUniformFor};
+ghost use Rattle.class_graph.specs.Classes.{AreAllUniform};
 ghost use Rattle.class_graph.specs.Answers.{Allows};
 ghost use Rattle.class_graph.specs.Hosts.{end_in, end_out, IsOpenTo, Admits, IsHostPair};
 ghost use Rattle.class_graph.specs.Hosts.{IsHostPairOf};
@@ -55,7 +56,7 @@ impl End {
 impl HostPair {
     /// Whether the packets of a class enter and leave.
     pub fn lets_through(&self, net: &Network, class: Class) -> bool
-        requires { AreUniform net.now class }
+        requires { IsUniformFor net.now class }
         ensures { (ends : Ends) → IsHostPair net.now ends self.now → IsTrue result ↔
             ((p : AnyPacket) → IsOf class p → Enters net.now ends p × Leaves net.now ends p) }
     {

@@ -13,10 +13,9 @@ use Rattle.net_model.specs.declared.rows.FaceRow.{FaceRow}
 use Rattle.net_model.specs.declared.rows.Network.{Network}
 use Rattle.net_model.specs.Packets.{IsOf, first_packet}
 use Rattle.net_model.specs.Routing.{Arc, IsArc, IsRouted, tail_router, head_router, head_face}
-use Rattle.net_model.specs.Forwarding.{Ends, Enters, Leaves, source_router, target_router}
+use Rattle.net_model.specs.Forwarding.{Ends, Enters, Leaves, source_router, target_router, ArcPermitsEach}
 use Rattle.net_model.specs.Validity.{IsValid}
-use Rattle.net_model.specs.Witnesses.{IsOn, IsClosed, MayBreak}
-use Rattle.class_graph.specs.Classes.{AreUniform, PermitsClass}
+use Rattle.net_model.specs.Witnesses.{IsOn, IsClosed, MayBreak, IsUniformFor}
 use Rattle.class_graph.specs.Graphs.{IsShown, Fits, IsClassGraph}
 use Rattle.class_graph.specs.declared.building.ClassGraph.{ClassGraph}
 use Rattle.net_model.proofs.Packets.{first_is_of}
@@ -49,15 +48,15 @@ pub end_within : (net : Network) → IsValid net → (face : FaceRow) → Contai
 end_within net valid face one = let here = place_of_item net.faces face one in router_within net valid (here.0) face (here.1)
 
 -- what of one packet of the class holds holds of each
-all_enter : (net : Network) (class : Class) → AreUniform net class → (ends : Ends) (p : Packet) → IsOf class p → Enters net ends p → (q : Packet) → IsOf class q → Enters net ends q
+all_enter : (net : Network) (class : Class) → IsUniformFor net class → (ends : Ends) (p : Packet) → IsOf class p → Enters net ends p → (q : Packet) → IsOf class q → Enters net ends q
 all_enter net class uniform ends p of_p enters q of_q = (enters.0, lists_alike net class uniform p q of_p of_q ends.source.list_in (enters.1))
 
-all_leave : (net : Network) (class : Class) → AreUniform net class → (ends : Ends) (p : Packet) → IsOf class p → Leaves net ends p → (q : Packet) → IsOf class q → Leaves net ends q
+all_leave : (net : Network) (class : Class) → IsUniformFor net class → (ends : Ends) (p : Packet) → IsOf class p → Leaves net ends p → (q : Packet) → IsOf class q → Leaves net ends q
 all_leave net class uniform ends p of_p leaves q of_q = (leaves.0, lists_alike net class uniform p q of_p of_q ends.target.list_out (leaves.1))
 
 -- the arc over which packets go on stands in the graph
 graph_has : (net : Network) (ends : Ends) (kind : PolicyKind) (class : Class) (graph : ClassGraph) → IsClassGraph net ends class (mode_of kind) graph →
-    (arc : Arc) → IsArc net arc → IsRouted net ends.to arc → PermitsClass net class arc → MayBreak kind arc → Contains graph.graph.arcs (shown_arc net arc)
+    (arc : Arc) → IsArc net arc → IsRouted net ends.to arc → ArcPermitsEach net class arc → MayBreak kind arc → Contains graph.graph.arcs (shown_arc net arc)
 graph_has net ends kind class graph is arc is_arc routed permits may =
     (is.arcs.arcs (shown_arc net arc)).1 (record {
       arc = arc;
@@ -71,7 +70,7 @@ goes_on : (arcs : List shown.Arc) (s : ℕ) (a : shown.Arc) → graphs.Leads arc
 goes_on arcs s a led one = (led.0 ++ a ∷ [], one_further arcs (led.0) s a (led.1) one)
 
 -- the side is closed
-pub side_is_closed : (net : Network) → IsValid net → (ends : Ends) → Contains net.faces ends.source → (kind : PolicyKind) (class : Class) → AreUniform net class → (graph : ClassGraph) →
+pub side_is_closed : (net : Network) → IsValid net → (ends : Ends) → Contains net.faces ends.source → (kind : PolicyKind) (class : Class) → IsUniformFor net class → (graph : ClassGraph) →
     IsClassGraph net ends class (mode_of kind) graph → (reached : List (Option (List Link))) → IsReached graph reached →
     (IsTrue graph.leaves → IsSome (slice_index_or reached graph.target.0 None) → ⊥) → IsClosed net ends kind class (map is_some reached)
 side_is_closed net valid ends here kind class uniform graph is reached reaches kept = record {
@@ -82,7 +81,7 @@ side_is_closed net valid ends here kind class uniform graph is reached reaches k
       let led : graphs.Leads graph.graph.arcs graph.source.0 (source_router ends) = ([], is.source) in
       reached_on reached (source_router ends) ((reaches.led (source_router ends) (omega (arith, within, is.arcs.nodes))).1 (enter, led)));
   arcs = λ arc is_arc routed may on p of_p permits.
-      (let all : PermitsClass net class arc = λ q of_q. arc_alike net class uniform p q of_p of_q arc permits in
+      (let all : ArcPermitsEach net class arc = λ q of_q. arc_alike net class uniform p q of_p of_q arc permits in
       let one : Contains graph.graph.arcs (shown_arc net arc) = graph_has net ends kind class graph is arc is_arc routed all may in
       let at : IsSome (slice_index_or reached (tail_router arc) None) = on_reached reached (tail_router arc) on in
       let low : tail_router arc < graph.graph.nodes = omega (arith, on_within reached (tail_router arc) at, reaches.room) in
@@ -116,7 +115,7 @@ side_is_least net ends kind class graph is reached reaches other closed router o
     let source : IsOn other (source_router ends) = closed.source (first_packet class) (first_is_of class) (is.enters.0 (led.0) (first_packet class) (first_is_of class)) in
     way_stays net ends kind class graph is other closed (led.1.0) graph.source.0 router (led.1.1) (subst (IsOn other) (sym is.source) source)
 
-pub least_closed : (net : Network) → IsValid net → (ends : Ends) → Contains net.faces ends.source → (kind : PolicyKind) (class : Class) → AreUniform net class → (graph : ClassGraph) →
+pub least_closed : (net : Network) → IsValid net → (ends : Ends) → Contains net.faces ends.source → (kind : PolicyKind) (class : Class) → IsUniformFor net class → (graph : ClassGraph) →
     IsClassGraph net ends class (mode_of kind) graph → (reached : List (Option (List Link))) → IsReached graph reached →
     (IsTrue graph.leaves → IsSome (slice_index_or reached graph.target.0 None) → ⊥) → (side : List Bool) → side ≡ map is_some reached → IsLeastClosed net ends kind class side
 least_closed net valid ends here kind class uniform graph is reached reaches kept side side_is =

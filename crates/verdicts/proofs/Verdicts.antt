@@ -16,8 +16,7 @@ use Rattle.net_model.specs.declared.verdicts.Verdict.TheVariants.{Closed, Paths,
 use Rattle.net_model.specs.Packets.{IsOf, LiesIn, ShareNoPacket, packets, subject, first_packet}
 use Rattle.net_model.specs.Forwarding.{Ends, source_router, target_router}
 use Rattle.net_model.specs.Policies.{IsClear}
-use Rattle.net_model.specs.Witnesses.{IsRightClosed, IsRightWalk, IsRightBlocking, IsRight}
-use Rattle.class_graph.specs.Classes.{AreUniform}
+use Rattle.net_model.specs.Witnesses.{IsRightClosed, IsRightWalk, IsRightBlocking, IsRight, IsUniformFor}
 use Rattle.class_graph.specs.Denials.{HasNoDenial}
 use Rattle.class_graph.specs.Passing.{EachPasses, AllPass, IsFirstKeptOut}
 use Rattle.class_graph.specs.Hosts.{IsHostPair, IsHostPairOf}
@@ -42,8 +41,8 @@ right_closed net ends kind whole classes parts sides are =
     let class_of : ClassSide → Class = λ s. s.class in
     let part : All (λ (s : ClassSide). LiesIn s.class whole) sides =
     all_of_map class_of (λ (c : Class). LiesIn c whole) sides (subst (All (λ (c : Class). LiesIn c whole)) (sym are.in_order) parts.parts) in
-    let uniform : All (λ (s : ClassSide). AreUniform net s.class) sides =
-    all_of_map class_of (AreUniform net) sides (subst (All (AreUniform net)) (sym are.in_order) parts.uniform) in
+    let uniform : All (λ (s : ClassSide). IsUniformFor net s.class) sides =
+    all_of_map class_of (IsUniformFor net) sides (subst (All (IsUniformFor net)) (sym are.in_order) parts.uniform) in
     record {
       right = λ k d low. (
           let least : IsLeastClosed net ends kind _ _ = are.least k d low in
@@ -117,7 +116,7 @@ denied_verdict net ends k whole classes parts clear class out =
       right = record {
         clear = clear;
         part = All-contains (λ (c : Class). LiesIn c whole) classes class parts.parts one;
-        denied = none_passes net ends class (All-contains (AreUniform net) classes class parts.uniform one) out.kept_out;
+        denied = none_passes net ends class (All-contains (IsUniformFor net) classes class parts.uniform one) out.kept_out;
       };
       fixed = out.is_first;
     }

@@ -11,9 +11,8 @@ use Rattle.net_model.specs.declared.rows.Network.{Network}
 use Rattle.net_model.specs.declared.verdicts.LinkPath.{LinkPath}
 use Rattle.net_model.specs.Packets.{LiesIn}
 use Rattle.net_model.specs.Routing.{Arc, head_router}
-use Rattle.net_model.specs.Forwarding.{Ends, ArcPermits, source_router, target_router}
+use Rattle.net_model.specs.Forwarding.{Ends, ArcPermits, source_router, target_router, ArcPermitsEach}
 use Rattle.net_model.specs.Witnesses.{Path, routers_of, IsPath, IsRightWalk, MayBreak}
-use Rattle.class_graph.specs.Classes.{PermitsClass}
 use Rattle.class_graph.specs.Graphs.{IsGraphOf, Fits, IsClassGraph}
 use Rattle.class_graph.specs.declared.building.ClassGraph.{ClassGraph}
 use Rattle.verdicts.specs.Judged.{mode_of}
@@ -22,7 +21,7 @@ use Rattle.verdicts.proofs.Ways.{Arcs, arcs_of, all_as}
 pub lies_in_itself : (class : Class) → LiesIn class class
 lies_in_itself class = (λ address h. h, λ address h. h, λ service h. h)
 
-pub fits_permits : (kind : PolicyKind) (net : Network) (class : Class) (arc : Arc) → Fits (mode_of kind) net class arc → PermitsClass net class arc
+pub fits_permits : (kind : PolicyKind) (net : Network) (class : Class) (arc : Arc) → Fits (mode_of kind) net class arc → ArcPermitsEach net class arc
 fits_permits Blocked net class arc h = h
 fits_permits Through net class arc h = h.0
 fits_permits (Reach k) net class arc h = h
@@ -32,7 +31,7 @@ fits_breaks Blocked net class arc h = tt
 fits_breaks Through net class arc h = h.1
 fits_breaks (Reach k) net class arc h = tt
 
-pub fits_by : (kind : PolicyKind) (net : Network) (class : Class) (arc : Arc) → PermitsClass net class arc → MayBreak kind arc → Fits (mode_of kind) net class arc
+pub fits_by : (kind : PolicyKind) (net : Network) (class : Class) (arc : Arc) → ArcPermitsEach net class arc → MayBreak kind arc → Fits (mode_of kind) net class arc
 fits_by Blocked net class arc permits may = permits
 fits_by Through net class arc permits may = (permits, may)
 fits_by (Reach k) net class arc permits may = permits

@@ -4,7 +4,8 @@ ghost use Rattle.std.specs.Prelude.{slice_index_or};
 ghost use Rattle.net_model.specs.Validity.{IsValid};
 ghost use Rattle.net_model.specs.Forwarding.{Ends};
 ghost use Rattle.net_model.specs.Tables.{AreRoutedLinks};
-ghost use Rattle.class_graph.specs.Classes.{AreUniform, AreAllUniform};
+ghost use Rattle.net_model.specs.Witnesses.{IsUniformFor};
+ghost use Rattle.class_graph.specs.Classes.{AreAllUniform};
 ghost use Rattle.class_graph.specs.Hosts.{IsHostPair, HasHostPair};
 ghost use Rattle.verdicts.specs.Judged.{mode_of, IsClassAnswer, IsBlockingAnswer};
 
@@ -72,7 +73,7 @@ fn judge_class(
 ) -> Result<ClassAnswer, Memory>
     requires valid { IsValid net.now }
     requires pair { HasHostPair net.now pair.now }
-    requires uniform { AreUniform net.now class }
+    requires uniform { IsUniformFor net.now class }
     ensures { IfOk result (λ a. (ends : Ends) → IsHostPair net.now ends pair.now →
         IsClassAnswer net.now ends kind class a) }
 {
