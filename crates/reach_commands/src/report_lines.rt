@@ -4,15 +4,60 @@ ghost use Rattle.run_files.specs.Answers.{OnlyReads};
 ghost use Rattle.reach_commands.specs.ReportLines.{ReadsHeld};
 
 use arc_base::{List, Memory, Name};
-use arc_outside::{Pieces, Store};
+use arc_outside::Store;
 use arc_recheck::HeldBlocks;
 use net_model::{Document, Network, Verdict};
-use run_files::{Stop, next_line};
+use run_files::{LineJudge, Stop, judge_lines};
 use std::alloc::Global;
 use std::ops::ControlFlow;
 
-/// The verdicts of the blocks that an old report holds, or a refusal of its file. No more of it
-/// than a piece, a line and these is held.
+/// The blocks that an old report holds, taken over one network and document.
+#[derive(Drop)]
+struct HeldLines<'a> {
+    net: &'a Network,
+    doc: &'a Document,
+    blocks: HeldBlocks,
+}
+
+impl<'a> LineJudge for HeldLines<'a> {
+    ghost use Rattle.std.specs.Prelude.{◌≡◌, ◌^◌, ℕ, List as Items};
+    ghost use Rattle.arc_recheck.specs.HeldLines.{HasComeTo};
+    ghost use Rattle.reach_commands.specs.RecheckRuns.{held_of};
+
+    type Outcome = List<Verdict>;
+
+    ghost room = { λ _. 2 ^ 64 };
+
+    ghost can_go_on = { λ _. Unit {0} };
+
+    ghost leads_to = { λ judge ls held. (text : Items ℕ) →
+        HasComeTo judge.net.now judge.doc.now text ls judge.blocks →
+        held ≡ held_of judge.net.now judge.doc.now text };
+
+    ghost refuses = { λ _ _ _. ⊥ };
+
+    fn line(
+        self,
+        _alloc: Global,
+        line: &[u8],
+    ) -> Result<ControlFlow<List<Verdict>, HeldLines<'a>>, Stop> {
+        let net = self.net;
+        let doc = self.doc;
+        match self.blocks.line(net, doc, line) {
+            Ok(ControlFlow::Continue(blocks)) => {
+                Ok(ControlFlow::Continue(HeldLines { net, doc, blocks }))
+            }
+            Ok(ControlFlow::Break(held)) => Ok(ControlFlow::Break(held)),
+            Err(Memory) => Err(Stop::Memory),
+        }
+    }
+
+    fn end(self, _alloc: Global) -> Result<List<Verdict>, Stop> {
+        Ok(self.blocks.end())
+    }
+}
+
+/// The verdicts of the blocks that an old report holds, or a refusal of its file.
 pub fn read_held<S: Store>(
     alloc: Global,
     net: &Network,
@@ -25,18 +70,7 @@ pub fn read_held<S: Store>(
         ReadsHeld limit net.now doc.now report.now files result) }
     ensures reads { OnlyReads limit S.held S.faults S.absences S.taken store.old store.new result }
 {
-    let mut blocks = HeldBlocks::make(alloc);
-    let mut pieces = Pieces::make(alloc, limit);
-    'lines: loop {
-        match next_line(alloc, &mut pieces, store, report) {
-            Ok(true) => {}
-            Ok(false) => return Ok(blocks.end()),
-            Err(stop) => return Err(stop),
-        }
-        match blocks.line(net, doc, pieces.line()) {
-            Ok(ControlFlow::Continue(next)) => blocks = next,
-            Ok(ControlFlow::Break(held)) => return Ok(held),
-            Err(Memory) => return Err(Stop::Memory),
-        }
-    }
+    let blocks = HeldBlocks::make(alloc);
+    let judge = HeldLines { net, doc, blocks };
+    judge_lines(alloc, store, report, limit, judge)
 }

@@ -1,48 +1,20 @@
-use Rattle.std.proofs.Common.{ℕ, ◌∙◌, List, arith, refl}
-use Rattle.std.specs.Prelude.{Ok}
+use Rattle.std.proofs.Common.{◌≡◌, ℕ, List}
+use Rattle.std.specs.Prelude.{Some}
 use Rattle.arc_outside.specs.Files.{Files}
+use Rattle.net_model.specs.declared.verdicts.Verdict.{Verdict}
 use Rattle.arc_recheck.specs.HeldLines.{HasComeTo}
-use Rattle.run_files.specs.Refusals.{bytes_at}
-use Rattle.run_files.proofs.LineByLine.{at_end, begun, left_lines, line_taken}
-use Rattle.reach_commands.specs.ReportLines.{ReadsHeld}
+use Rattle.run_files.specs.declared.outcome.FileRefusal.{FileRefusal}
+use Rattle.run_files.specs.Refusals.{bytes_at, read_refusal}
+use Rattle.run_files.proofs.LinesJudged.{text_judged}
+use Rattle.reach_commands.specs.RecheckRuns.{held_of}
 use Rattle.reach_commands.proofs.report_lines.read_held.Goals as goal
 
-pub lines-init : goal.lines-init
-lines-init g c = record {
-  told = begun c.args.report.now (λ (text : List ℕ) (ls : List (List ℕ)). HasComeTo c.args.net.now c.args.doc.now text ls c.make-blocks.result) (g.S.Store.held c.args.store.now) c.make-pieces.result
-      (c.make-blocks.ensures c.args.net.now c.args.doc.now) c.make-pieces.ensures.left;
-  limit = c.make-pieces.ensures.limit;
-  going = c.make-pieces.ensures.failed;
-  same = refl;
-  took = omega (arith, c.make-pieces.ensures.place);
-  faults = refl;
-  absences = omega arith;
-}
-
-pub lines-preserved : goal.lines-preserved
-lines-preserved g c = record {
-  told = line_taken c.args.report.now (λ (text : List ℕ) (ls : List (List ℕ)). HasComeTo c.args.net.now c.args.doc.now text ls c.lines.blocks) (g.S.Store.held c.args.store.now) (g.S.Store.held c.lines.store) c.lines.invariant.same
-      c.lines.pieces c.next_line.new.pieces c.lines.invariant.told c.line.result.now c.line.ensures (rw c.in-Ok-true.field-0-test at c.in-Ok-true.ensures.told)
-      (λ (files : Files). HasComeTo c.args.net.now c.args.doc.now (bytes_at files c.args.report.now) (left_lines files c.args.report.now c.next_line.new.pieces) c.in-Ok-Continue.next)
-      (λ files come. rw c.in-Ok-Continue.field-0-is at (c.in-Ok-Continue.ensures (bytes_at files c.args.report.now) (left_lines files c.args.report.now c.next_line.new.pieces) come));
-  limit = c.in-Ok-true.ensures.limit ∙ c.lines.invariant.limit;
-  going = c.in-Ok-true.ensures.ok;
-  same = c.in-Ok-true.ensures.reads.same ∙ c.lines.invariant.same;
-  took = omega (arith, c.lines.invariant.took, c.in-Ok-true.ensures.took, c.in-Ok-true.ensures.onward);
-  faults = c.in-Ok-true.ensures.reads.failed.only (λ is. cc) ∙ c.lines.invariant.faults;
-  absences = omega (arith, c.lines.invariant.absences, c.in-Ok-true.ensures.reads.absences_rise);
-}
-
-pub returns-in-Ok-false-clause-told : goal.returns-in-Ok-false-clause-told
-returns-in-Ok-false-clause-told g c =
-    at_end c.args.report.now (λ (text : List ℕ) (ls : List (List ℕ)). HasComeTo c.args.net.now c.args.doc.now text ls c.lines.blocks) (g.S.Store.held c.args.store.now) (g.S.Store.held c.lines.store) c.lines.invariant.same
-    c.lines.pieces c.next_line.new.pieces c.lines.invariant.told
-    (λ (files : Files). ReadsHeld c.args.limit c.args.net.now c.args.doc.now c.args.report.now files (Ok c.end.result))
-    (λ files come. c.end.ensures c.args.net.now c.args.doc.now (bytes_at files c.args.report.now) come) (rw c.in-Ok-false.field-0-test at c.in-Ok-false.ensures.told)
-
-pub returns-in-Ok-Break-clause-told : goal.returns-in-Ok-Break-clause-told
-returns-in-Ok-Break-clause-told g c =
-    line_taken c.args.report.now (λ (text : List ℕ) (ls : List (List ℕ)). HasComeTo c.args.net.now c.args.doc.now text ls c.lines.blocks) (g.S.Store.held c.args.store.now) (g.S.Store.held c.lines.store) c.lines.invariant.same
-    c.lines.pieces c.next_line.new.pieces c.lines.invariant.told c.line.result.now c.line.ensures (rw c.in-Ok-true.field-0-test at c.in-Ok-true.ensures.told)
-    (λ (files : Files). ReadsHeld c.args.limit c.args.net.now c.args.doc.now c.args.report.now files (Ok c.in-Ok-Break.held))
-    (λ files come. rw c.in-Ok-Break.field-0-is at (c.in-Ok-Break.ensures (bytes_at files c.args.report.now) (left_lines files c.args.report.now c.next_line.new.pieces) come))
+pub returns-clause-told : goal.returns-clause-told
+returns-clause-told g c =
+    text_judged (λ (ls : List (List ℕ)) (held : List Verdict). (text : List ℕ) → HasComeTo c.args.net.now c.args.doc.now text ls c.make-blocks.result → held ≡ held_of c.args.net.now c.args.doc.now text)
+    (λ (ls : List (List ℕ)) (r : FileRefusal). ⊥) c.args.limit c.args.report.now
+    (λ (files : Files) (r : FileRefusal). read_refusal c.args.limit files c.args.report.now ≡ Some r)
+    (λ (files : Files) (held : List Verdict). held ≡ held_of c.args.net.now c.args.doc.now (bytes_at files c.args.report.now))
+    (λ files r late. late) (λ files r refused. absurd refused)
+    (λ files held leads. leads (bytes_at files c.args.report.now) (c.make-blocks.ensures c.args.net.now c.args.doc.now (bytes_at files c.args.report.now)))
+    (g.S.Store.held c.args.store.now) c.judge_lines.result c.judge_lines.ensures.told
