@@ -1,5 +1,5 @@
 -- A run that ends with a defined outcome.
-use Rattle.std.proofs.Common.{◌≡◌, ℕ, ◌<◌, ◌≤◌, ◌⊎◌, inl, inr, List, length, take, refl, sym, ◌∙◌, subst, arith}
+use Rattle.std.proofs.Common.{◌≡◌, ℕ, ◌<◌, ◌≤◌, ◌⊎◌, inl, inr, List, length, take, refl, sym, subst, arith}
 use Rattle.std.specs.Prelude.{Option, Some, None, IsSome}
 use Rattle.arc_outside.specs.Files.{Files, WhereTold}
 use Rattle.command_words.specs.declared.commands.Command.{Command}
@@ -52,15 +52,18 @@ module _ (command : Option Command) (outcome : Outcome) (held now held' : Option
     sink = none;
   }
 
-at_start : (command : Option Command) (held now held' : Option Files) (put put' : Option (List ℕ)) → now ≡ held → held' ≡ now → put' ≡ put → StopsBefore command held held' put put'
-at_start command held now held' put put' same unchanged none = record { files = unwritten command held held' (unchanged ∙ same); sink = none }
+-- what is left of an outcome that came to its end
+pub left : {then absent short long : Type 0} (command : Option Command) (outcome : Outcome) (held now held' : Option Files) (put put' : Option (List ℕ)) → IsDefined command held outcome → (then → absent) → (short → long) → HasOutcomeCause then short outcome → now ≡ held →
+    WereWritten (writes_of outcome) now held' → WasPut (text_of outcome) put put' → Leaves command absent long held held' put put' outcome (text_of outcome)
+left command outcome held now held' put put' defined later longer cause same written was_put =
+    leaves command outcome held now held' put put' defined (later_cause outcome later longer cause) same (text_of outcome) written was_put
 
 -- what the ending does, as a run over the store and the sink as they were
 pub finished : {then absent short long failed broken : Type 0} (command : Option Command) (outcome : Outcome) (held now held' : Option Files) (put put' : Option (List ℕ)) (code : ℕ) → IsDefined command held outcome → (then → absent) → (short → long) → HasOutcomeCause then short outcome → now ≡ held →
     (code < 6 → (code ≡ status_of outcome) × WereWritten (writes_of outcome) now held' × WasPut (text_of outcome) put put') →
     (code ≡ 6 → failed × (0 < length (writes_of outcome)) × WhereTold (FailsWithin (writes_of outcome)) now held' × (put' ≡ put)) →
     (code ≡ 7 → broken × WereWritten (writes_of outcome) now held' × ((count : ℕ) × WasPut (take count (text_of outcome)) put put')) →
-    (code ≡ 8 → ((held' ≡ now) × (put' ≡ put)) ⊎ (WhereTold (FailsWithin (writes_of outcome)) now held' × (put' ≡ put)) ⊎ (WereWritten (writes_of outcome) now held' × ((count : ℕ) × WasPut (take count (text_of outcome)) put put'))) →
+    (code ≡ 8 → (WhereTold (FailsWithin (writes_of outcome)) now held' × (put' ≡ put)) ⊎ (WereWritten (writes_of outcome) now held' × ((count : ℕ) × WasPut (take count (text_of outcome)) put put'))) →
     code ≤ 8 → Runs command absent long failed broken held held' put put' code
 finished command outcome held now held' put put' code defined later longer cause same ended store_failed sink_failed memory known =
     let cause_now = later_cause outcome later longer cause in
@@ -69,9 +72,8 @@ finished command outcome held now held' put put' code defined later longer cause
       store_failed = λ h. let e = store_failed h in (e.0, command_writes command held outcome defined e.1, before command outcome held now held' put put' defined same e.2 e.3);
       sink_failed = λ h. let e = sink_failed h in (e.0, in_text command outcome held now held' put put' defined cause_now same e.1 e.2);
       memory = λ h. elim (memory h) [
-        | inl e ↦ inl (at_start command held now held' put put' same e.0 e.1)
-        | inr (inl e) ↦ inl (before command outcome held now held' put put' defined same e.0 e.1)
-        | inr (inr e) ↦ inr (in_text command outcome held now held' put put' defined cause_now same e.0 e.1)
+        | inl e ↦ inl (before command outcome held now held' put put' defined same e.0 e.1)
+        | inr e ↦ inr (in_text command outcome held now held' put put' defined cause_now same e.0 e.1)
       ];
       known = known;
     }

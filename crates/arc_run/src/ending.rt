@@ -7,13 +7,14 @@ ghost use Rattle.arc_run.specs.Outcomes.{text_of, writes_of, status_of};
 ghost use Rattle.arc_run.specs.Runs.{WasPut, WereWritten, FailsWithin};
 
 use crate::outcome::{Outcome, Status};
+use crate::usage::usage_line;
 use crate::writing::write_all;
-use arc_base::{List, Memory, Name};
+use arc_base::Name;
 use arc_outside::{Fault, Sink, Store};
-use run_files::{Done, line_of};
+use run_files::line_of;
 use std::alloc::Global;
 
-/// Puts some of the text from this place on.
+/// Prints some of the text, from this place on.
 fn put_from<K: Sink>(out: &mut K, text: &[u8], at: usize) -> Result<usize, Fault>
     requires { at < length text.now }
     ensures some { IfOk result (λ n. 0 < n) }
@@ -28,7 +29,7 @@ fn put_from<K: Sink>(out: &mut K, text: &[u8], at: usize) -> Result<usize, Fault
     out.put(rest)
 }
 
-/// Puts the whole text.
+/// Prints the whole text.
 fn put_all<K: Sink>(out: &mut K, text: &[u8]) -> Result<(), Fault>
     ensures put { OnOk result (WasPut text.now (K.written out.old) (K.written out.new)) }
     ensures stopped { OnErr result
@@ -46,72 +47,90 @@ fn put_all<K: Sink>(out: &mut K, text: &[u8]) -> Result<(), Fault>
     Ok(())
 }
 
-/// The text, the files to write and the status of an outcome.
-fn plan(alloc: Global, outcome: Outcome) -> Result<Done, Memory>
-    ensures { IfOk result (λ done. done ≡
-        record { text = text_of outcome; writes = writes_of outcome; status = status_of outcome }) }
+/// Prints the text of an outcome.
+fn put_text<K: Sink>(alloc: Global, out: &mut K, outcome: &Outcome) -> Result<(), Fault>
+    ensures put { OnOk result
+        (WasPut (text_of outcome.now) (K.written out.old) (K.written out.new)) }
+    ensures stopped { OnErr result ((count : ℕ) ×
+        WasPut (take count (text_of outcome.now)) (K.written out.old) (K.written out.new)) }
+    ensures cause { HasCause Fault.Failed (K.faults out.old) (K.faults out.new) result }
+    ensures never_missing { IsErrOf result Fault.Missing → ⊥ }
 {
     match outcome {
-        Outcome::Usage => Ok(Done {
-            text: Name::make(
-                alloc,
-                b"usage: arcv verify|trace|repair|check|apply|solve|lrat|generate|nodes|prefers|recheck\n",
-            )?,
-            writes: List::make(alloc),
-            status: 4,
-        }),
-        Outcome::Refused(refusal) => Ok(Done {
-            text: Name::of(line_of(alloc, &refusal)?),
-            writes: List::make(alloc),
-            status: 5,
-        }),
-        Outcome::Done(done) => Ok(done),
+        Outcome::Usage => match usage_line(alloc) {
+            Ok(line) => put_all(out, line.as_slice()),
+            Err(_) => Err(Fault::Memory),
+        },
+        Outcome::Refused(refusal) => match line_of(alloc, refusal) {
+            Ok(line) => put_all(out, line.as_slice()),
+            Err(_) => Err(Fault::Memory),
+        },
+        Outcome::Done(done) => put_all(out, done.text.bytes()),
+    }
+}
+
+/// The files that an outcome writes, in order.
+fn writes_of(outcome: &Outcome) -> &[(Name, Name)]
+    ensures { result.now ≡ writes_of outcome.now }
+{
+    match outcome {
+        Outcome::Usage | Outcome::Refused(_) => &[],
+        Outcome::Done(done) => done.writes.slice(),
+    }
+}
+
+/// The status of an outcome.
+fn status_of(outcome: &Outcome) -> u8
+    ensures { result ≡ status_of outcome.now }
+{
+    match outcome {
+        Outcome::Usage => 4,
+        Outcome::Refused(_) => 5,
+        Outcome::Done(done) => done.status,
     }
 }
 
 /// Ends a run with this outcome.
 pub fn finish<S: Store, K: Sink>(
     alloc: Global,
-    outcome: Outcome,
+    outcome: &Outcome,
     store: &mut S,
     out: &mut K,
 ) -> Status
-    requires { status_of outcome ≤ 5 }
+    requires { status_of outcome.now ≤ 5 }
 
-    ensures ended { result.code < 6 → (result.code ≡ status_of outcome)
-        × WereWritten (writes_of outcome) (S.held store.old) (S.held store.new)
-        × WasPut (text_of outcome) (K.written out.old) (K.written out.new) }
+    ensures ended { result.code < 6 → (result.code ≡ status_of outcome.now)
+        × WereWritten (writes_of outcome.now) (S.held store.old) (S.held store.new)
+        × WasPut (text_of outcome.now) (K.written out.old) (K.written out.new) }
     ensures store_failed { result.code ≡ 6 → Rose (S.faults store.old) (S.faults store.new)
-        × (0 < length (writes_of outcome))
-        × WhereTold (FailsWithin (writes_of outcome)) (S.held store.old) (S.held store.new)
+        × (0 < length (writes_of outcome.now))
+        × WhereTold (FailsWithin (writes_of outcome.now)) (S.held store.old) (S.held store.new)
         × (K.written out.new ≡ K.written out.old) }
     ensures sink_failed { result.code ≡ 7 → Rose (K.faults out.old) (K.faults out.new)
-        × WereWritten (writes_of outcome) (S.held store.old) (S.held store.new)
-        × ((count : ℕ) × WasPut (take count (text_of outcome)) (K.written out.old)
+        × WereWritten (writes_of outcome.now) (S.held store.old) (S.held store.new)
+        × ((count : ℕ) × WasPut (take count (text_of outcome.now)) (K.written out.old)
         (K.written out.new)) }
     ensures memory { result.code ≡ 8 →
-        ((S.held store.new ≡ S.held store.old) × (K.written out.new ≡ K.written out.old))
-        ⊎ (WhereTold (FailsWithin (writes_of outcome)) (S.held store.old) (S.held store.new) ×
+        (WhereTold (FailsWithin (writes_of outcome.now)) (S.held store.old) (S.held store.new) ×
         (K.written out.new ≡ K.written out.old))
-        ⊎ (WereWritten (writes_of outcome) (S.held store.old) (S.held store.new) × ((count : ℕ) ×
-        WasPut (take count (text_of outcome)) (K.written out.old) (K.written out.new))) }
+        ⊎ (WereWritten (writes_of outcome.now) (S.held store.old) (S.held store.new)
+        × ((count : ℕ) × WasPut (take count (text_of outcome.now)) (K.written out.old)
+        (K.written out.new))) }
     ensures code { result.code ≤ 8 }
     ensures absences { S.absences store.old ≤ S.absences store.new }
     ensures taken { S.taken store.new ≡ S.taken store.old }
     ensures faults { RoseWhere (result.code ≡ 6) (S.faults store.old) (S.faults store.new) }
     ensures sink_faults { RoseWhere (result.code ≡ 7) (K.faults out.old) (K.faults out.new) }
 {
-    let plan = match plan(alloc, outcome) {
-        Ok(plan) => plan,
-        Err(_) => return Status { code: 8 },
-    };
-    match write_all(store, plan.writes.slice()) {
+    match write_all(store, writes_of(outcome)) {
         Ok(()) => {}
         Err(Fault::Failed) => return Status { code: 6 },
         Err(_) => return Status { code: 8 },
     }
-    match put_all(out, plan.text.bytes()) {
-        Ok(()) => Status { code: plan.status },
+    match put_text(alloc, out, outcome) {
+        Ok(()) => Status {
+            code: status_of(outcome),
+        },
         Err(Fault::Failed) => Status { code: 7 },
         Err(_) => Status { code: 8 },
     }

@@ -7,13 +7,14 @@ mod ending;
 mod outcome;
 mod surely;
 mod top;
+mod usage;
 mod writing;
 
 pub use command_words::{
     ApplyWords, Command, NodesWords, PrefersWords, RecheckWords, RepairWords, SolveWords,
     TraceWords,
 };
-pub use outcome::{Outcome, Status};
+pub use outcome::{Ended, Outcome, Status};
 pub use run_files::{Done, FileRefusal, Reason, Stop};
 pub use surely::run_surely;
-pub use top::run;
+pub use top::{run, run_telling};

@@ -18,3 +18,11 @@ pub enum Outcome {
     Refused(FileRefusal),
     Done(Done),
 }
+
+/// How a run ended: with its status, and the outcome that the words and the files define, where the
+/// run came to it.
+#[derive(Drop)]
+pub struct Ended {
+    pub status: Status,
+    pub outcome: Option<Outcome>,
+}

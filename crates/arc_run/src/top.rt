@@ -8,11 +8,11 @@ ghost use Rattle.run_files.specs.Answers.{Answers, OnlyReads};
 ghost use Rattle.run_files.specs.Limits.{least_limit};
 ghost use Rattle.arc_run.specs.Headline.{Tells};
 ghost use Rattle.arc_run.specs.Outcomes.{HasOutcomeCause, IsAnswer, IsDefined, IsOwn, IsRefusal};
-ghost use Rattle.arc_run.specs.Outcomes.{status_of};
-ghost use Rattle.arc_run.specs.Runs.{Runs};
+ghost use Rattle.arc_run.specs.Outcomes.{status_of, text_of};
+ghost use Rattle.arc_run.specs.Runs.{Leaves, Runs};
 
 use crate::ending::finish;
-use crate::outcome::{Outcome, Status};
+use crate::outcome::{Ended, Outcome, Status};
 use apply_commands::apply;
 use arc_base::Name;
 use arc_outside::{Sink, Store};
@@ -84,26 +84,87 @@ fn perform<S: Store>(alloc: Global, words: &[Name], store: &mut S) -> Result<Out
     }
 }
 
-/// Finds the outcome, and ends with it.
+/// Finds the outcome, ends with it, and returns it.
 fn run_defined<S: Store, K: Sink>(
     alloc: Global,
     words: &[Name],
     store: &mut S,
     out: &mut K,
-) -> Status
+) -> Ended
     ensures runs { Runs (command_of words.now) (Rose (S.absences store.old) (S.absences store.new))
         (TookMore least_limit (S.taken store.old) (S.taken store.new))
         (Rose (S.faults store.old) (S.faults store.new))
-        (Rose (K.faults out.old) (K.faults out.new))
-        (S.held store.old) (S.held store.new) (K.written out.old) (K.written out.new) result.code }
-    ensures store_fault { RoseWhere (result.code ≡ 6) (S.faults store.old) (S.faults store.new) }
-    ensures sink_fault { RoseWhere (result.code ≡ 7) (K.faults out.old) (K.faults out.new) }
+        (Rose (K.faults out.old) (K.faults out.new)) (S.held store.old) (S.held store.new)
+        (K.written out.old) (K.written out.new) result.status.code }
+    ensures store_fault { RoseWhere (result.status.code ≡ 6)
+        (S.faults store.old) (S.faults store.new) }
+    ensures sink_fault { RoseWhere (result.status.code ≡ 7) (K.faults out.old) (K.faults out.new) }
+    ensures outcome { result.status.code < 6 → IsSomeAnd result.outcome (λ outcome.
+        (result.status.code ≡ status_of outcome) ×
+        Leaves (command_of words.now) (Rose (S.absences store.old) (S.absences store.new))
+        (TookMore least_limit (S.taken store.old) (S.taken store.new))
+        (S.held store.old) (S.held store.new) (K.written out.old) (K.written out.new)
+        outcome (text_of outcome)) }
+    ensures defined { IfSome result.outcome
+        (IsDefined (command_of words.now) (S.held store.old)) }
 {
     match perform(alloc, words, store) {
-        Ok(outcome) => finish(alloc, outcome, store, out),
-        Err(Halt::Memory) => Status { code: 8 },
-        Err(Halt::Failed) => Status { code: 6 },
+        Ok(outcome) => Ended {
+            status: finish(alloc, &outcome, store, out),
+            outcome: Some(outcome),
+        },
+        Err(Halt::Memory) => Ended {
+            status: Status { code: 8 },
+            outcome: None,
+        },
+        Err(Halt::Failed) => Ended {
+            status: Status { code: 6 },
+            outcome: None,
+        },
     }
+}
+
+/// Does what the words say over the store and the sink, and returns the exit status and the
+/// outcome. All text is printed at the end, after all files are read and written.
+pub fn run_telling<S: Store, K: Sink>(
+    alloc: Global,
+    words: &[Name],
+    store: &mut S,
+    out: &mut K,
+) -> Ended
+    ensures runs { Runs (command_of words.now) (Rose (S.absences store.old) (S.absences store.new))
+        (TookMore least_limit (S.taken store.old) (S.taken store.new))
+        (Rose (S.faults store.old) (S.faults store.new))
+        (Rose (K.faults out.old) (K.faults out.new)) (S.held store.old) (S.held store.new)
+        (K.written out.old) (K.written out.new) result.status.code }
+
+    // As of `run`: a failed call ends the run, and each has a status of its own.
+    ensures store_fault { RoseWhere (result.status.code ≡ 6)
+        (S.faults store.old) (S.faults store.new) }
+    ensures sink_fault { RoseWhere (result.status.code ≡ 7) (K.faults out.old) (K.faults out.new) }
+    ensures usage { result.status.code ≡ 4 → command_of words.now ≡ None }
+    ensures no_command { command_of words.now ≡ None →
+        (result.status.code ≡ 4) ⊎ (7 ≤ result.status.code) }
+
+    // The headline, as of `run`.
+    ensures told { (command : Command) → command_of words.now ≡ Some command
+        → result.status.code < 6 → IfSome (S.held store.old) (λ before.
+        IsSomeAnd (S.held store.new) (Tells command result.status.code before)) }
+
+    // Below status 6 the outcome is the one that the run ended with: the status is its status, its
+    // files were written, and its text was printed. After 5 it is the refusal of the printed line.
+    ensures outcome { result.status.code < 6 → IsSomeAnd result.outcome (λ outcome.
+        (result.status.code ≡ status_of outcome) ×
+        Leaves (command_of words.now) (Rose (S.absences store.old) (S.absences store.new))
+        (TookMore least_limit (S.taken store.old) (S.taken store.new))
+        (S.held store.old) (S.held store.new) (K.written out.old) (K.written out.new)
+        outcome (text_of outcome)) }
+
+    // Any outcome is one that the words and the files define, also if writing or printing failed.
+    ensures defined { IfSome result.outcome
+        (IsDefined (command_of words.now) (S.held store.old)) }
+{
+    run_defined(alloc, words, store, out)
 }
 
 /// Does what the words say over the store and the sink, and answers the exit status. All text is
@@ -132,5 +193,5 @@ pub fn run<S: Store, K: Sink>(alloc: Global, words: &[Name], store: &mut S, out:
         → IfSome (S.held store.old) (λ before.
         IsSomeAnd (S.held store.new) (Tells command result.code before)) }
 {
-    run_defined(alloc, words, store, out)
+    run_telling(alloc, words, store, out).status
 }

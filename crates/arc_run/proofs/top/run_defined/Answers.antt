@@ -2,7 +2,7 @@ use Rattle.std.proofs.Common.{◌∙◌, ap, arith, refl}
 use Rattle.std.specs.Prelude.{Err}
 use Rattle.arc_outside.proofs.Counting.{carried}
 use Rattle.command_words.specs.Commands.{command_of}
-use Rattle.arc_run.proofs.Finishing.{failed_before, finished}
+use Rattle.arc_run.proofs.Finishing.{failed_before, finished, left}
 use Rattle.arc_run.proofs.top.run_defined.Goals as goal
 
 pub returns-in-Ok-clause-runs : goal.returns-in-Ok-clause-runs
@@ -12,6 +12,15 @@ returns-in-Ok-clause-runs g c =
     finished (command_of c.args.words.now) c.in-Ok.outcome (g.S.Store.held c.args.store.now) (g.S.Store.held c.perform.new.store) (g.S.Store.held c.finish.new.store) (g.K.Sink.written c.args.out.now) (g.K.Sink.written c.finish.new.out) c.finish.result.code
     c.in-Ok.ensures.defined (λ rose. omega (arith, rose, e.absences)) (λ more. omega (arith, more, e.taken)) c.in-Ok.ensures.cause c.in-Ok.ensures.same
     e.ended (λ h. let f = e.store_failed h in (omega (arith, f.0, stood), f.1, f.2, f.3)) e.sink_failed e.memory e.code
+
+pub returns-in-Ok-clause-outcome : goal.returns-in-Ok-clause-outcome
+returns-in-Ok-clause-outcome g c below =
+    let e = c.finish.ensures in
+    let end = e.ended below in (
+      end.0,
+      left (command_of c.args.words.now) c.in-Ok.outcome (g.S.Store.held c.args.store.now) (g.S.Store.held c.perform.new.store) (g.S.Store.held c.finish.new.store) (g.K.Sink.written c.args.out.now) (g.K.Sink.written c.finish.new.out)
+          c.in-Ok.ensures.defined (λ rose. omega (arith, rose, e.absences)) (λ more. omega (arith, more, e.taken)) c.in-Ok.ensures.cause c.in-Ok.ensures.same end.1 end.2,
+    )
 
 pub returns-in-Ok-clause-store_fault : goal.returns-in-Ok-clause-store_fault
 returns-in-Ok-clause-store_fault g c = carried _ _ _ c.finish.ensures.faults (c.in-Ok.ensures.failed.only (λ is. cc)) (λ is. is) (λ is. is)
