@@ -1,16 +1,18 @@
-//! The command `arcv`: `run` over the files of the system and its standard output, with the words
-//! that follow the program's name. The exit status is the run's. Details of a failed run go to
+//! The command `arcv`: `run_telling` over the files of the system and its standard output, with the
+//! words that follow the program's name. The exit status is the run's. Details of a run go to
 //! standard error; they change neither output nor status.
 #![tactic(auto)]
 
+mod again;
 mod messages;
 mod notes;
+mod refusals;
+mod rejections;
 
 use crate::messages::explain;
 use arc_base::{List, Memory, Name};
 use arc_outside::{DiskStore, StdSink};
-use arc_run::run;
-use run_messages::Tee;
+use arc_run::run_telling;
 use std::alloc::Global;
 use std::process::ExitCode;
 use std::{env, io};
@@ -38,8 +40,8 @@ fn main(rt: HostRuntime) -> ExitCode {
         return ExitCode::from(8);
     };
     let mut store = DiskStore::make(rt, alloc);
-    let mut out = Tee::make(alloc, StdSink::make(rt));
-    let code = run(alloc, words.slice(), &mut store, &mut out).code;
-    let _said = explain(&rt, words.slice(), code, &mut store, &out);
-    ExitCode::from(code)
+    let mut out = StdSink::make(rt);
+    let ended = run_telling(alloc, words.slice(), &mut store, &mut out);
+    let _said = explain(&rt, words.slice(), &ended, &mut store);
+    ExitCode::from(ended.status.code)
 }

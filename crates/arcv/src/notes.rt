@@ -1,17 +1,16 @@
 //! What is said on the standard error of a run that ended with an answer: whether a yes of it holds
-//! for any forwarding.
-ghost use Rattle.std.specs.Prelude.{IfSome};
-ghost use Rattle.net_doc.specs.Documents.{IsWellFormed};
+//! for any forwarding, and which policy a certificate is rejected at.
 
-use crate::messages::{is_plain, say};
+use crate::again::{document_again, is_plain};
+use crate::messages::say;
+use crate::rejections::explain_rejection;
 use arc_base::Name;
 use arc_base::limits::{EDIT_FILE_LIMIT, PROOF_LIMIT};
-use arc_outside::{DiskStore, Pieces, StdSink};
+use arc_outside::{DiskStore, Pieces};
+use arc_run::Done;
 use command_words::{Command, read_words};
 use forwarding_notes::{edits_close, holds_for_any};
-use net_model::Document;
-use run_inputs::read_document;
-use run_messages::{Tee, is_barred};
+use run_messages::{has_barred, is_barred};
 use std::io;
 
 const HOLDS: &[u8] = b"arcv: OSPF runs everywhere here, so each yes of blocked or through \
@@ -19,25 +18,6 @@ const HOLDS: &[u8] = b"arcv: OSPF runs everywhere here, so each yes of blocked o
 
 const CLOSES: &[u8] = b"arcv: after these edits OSPF no longer runs everywhere, so a yes of \
     blocked or through then holds for its routes, and no longer for any forwarding";
-
-/// A document, where it and its router files can be read again at once.
-fn document_again(
-    rt: &HostRuntime,
-    name: &Name,
-    store: &mut DiskStore<HostRuntime>,
-) -> Option<Document>
-    ensures { IfSome result IsWellFormed }
-{
-    if !is_plain(rt, name.bytes()) {
-        return None;
-    }
-    let doc = read_document(rt.alloc(), name, store).ok()?;
-    let mut names = doc.routers.slice().iter();
-    if !names.all(|name| is_plain(rt, name.bytes())) {
-        return None;
-    }
-    Some(doc)
-}
 
 /// A report has a yes of a blocked or through policy.
 fn explain_yes(
@@ -135,20 +115,25 @@ fn explain_edits(
 pub fn explain_answer(
     rt: &HostRuntime,
     words: &[Name],
-    code: u8,
+    done: &Done,
     store: &mut DiskStore<HostRuntime>,
-    out: &Tee<StdSink<HostRuntime>>,
 ) -> io::Result<()> {
+    let text = done.text.bytes();
     match read_words(rt.alloc(), words) {
-        Ok(Some(Command::Verify(document))) if out.is_barred() => explain_yes(rt, &document, store),
-        Ok(Some(Command::Repair(words))) if code == 0 => {
+        Ok(Some(Command::Verify(document))) if has_barred(text) => {
+            explain_yes(rt, &document, store)
+        }
+        Ok(Some(Command::Repair(words))) if done.status == 0 => {
             explain_edits(rt, &words.document, &words.proof, store)
         }
-        Ok(Some(Command::Check(document, certificate))) if code == 0 => {
+        Ok(Some(Command::Check(document, certificate))) if done.status == 0 => {
             if is_barred_report(rt, &certificate, store) {
                 return explain_yes(rt, &document, store);
             }
             explain_edits(rt, &document, &certificate, store)
+        }
+        Ok(Some(Command::Check(document, certificate))) => {
+            explain_rejection(rt, &document, &certificate, text, store)
         }
         _ => Ok(()),
     }

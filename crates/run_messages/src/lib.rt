@@ -1,25 +1,36 @@
-//! What the program says on standard error for the person at the terminal: the line that a refusal
-//! names and what is wrong in it, why a text is no document, why words match no command, and
-//! whether a report has a yes of which more is to be said. It changes no answer and no status, and
-//! no contract says what the messages are.
+//! What the program says on standard error for the person at the terminal: the line, link, policy
+//! or interfaces that a refusal is about and what is wrong with them, why a text is no document,
+//! why words match no command, which policy a certificate is rejected at, and whether a report has
+//! a yes of which more is to be said. It changes no answer and no status, and no contract says what
+//! the messages are.
 #![tactic(auto)]
 
 mod commands;
 mod documents;
+mod edits;
 mod lines;
+#[cfg(test)]
+mod message_tests;
+mod outputs;
+mod overlaps;
+mod policies;
 mod refusals;
+mod rejections;
 mod reports;
 mod showing;
-mod tee;
 #[cfg(test)]
 mod tests;
 mod words;
 
 pub use commands::{VERSION, asks_for_help, asks_for_version, near_form};
 pub use documents::{document_fault, document_item};
+pub use edits::edits_of_new_lists;
 pub use lines::{WrongWord, line_at, wrong_word};
-pub use refusals::{Refused, told_refusal};
-pub use reports::is_barred;
+pub use outputs::clash;
+pub use overlaps::Subnets;
+pub use policies::policy_words;
+pub use refusals::{Subject, subject_of};
+pub use rejections::{Blocks, Rejected, rejection_of};
+pub use reports::{has_barred, is_barred};
 pub use showing::{front_of, visible};
-pub use tee::Tee;
 pub use words::words_fault;

@@ -1,8 +1,5 @@
 //! The lines of a report, as far as messages look at them.
 
-/// How much of a line is kept: the number, the kind and the answer of a block fit in.
-const HEAD: usize = 24;
-
 fn is_number(word: &[u8]) -> bool {
     word.iter().all(|byte| byte.is_ascii_digit())
 }
@@ -18,17 +15,7 @@ pub fn is_barred(line: &[u8]) -> bool {
         && answer == b"yes".as_slice()
 }
 
-/// Looks at what is put, as it comes, for the line that begins such a block.
-pub(crate) fn look(line: &mut Vec<u8>, found: &mut bool, bytes: &[u8]) {
-    if *found {
-        return;
-    }
-    for byte in bytes {
-        if *byte == b'\n' {
-            *found = *found || is_barred(line);
-            line.clear();
-        } else if line.len() < HEAD {
-            let _kept = line.push(*byte);
-        }
-    }
+/// Whether a line of the text begins such a block.
+pub fn has_barred(text: &[u8]) -> bool {
+    text.split(|byte| *byte == b'\n').any(is_barred)
 }

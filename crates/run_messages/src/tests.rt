@@ -1,9 +1,8 @@
 use crate::{
-    Tee, WrongWord, asks_for_help, asks_for_version, document_fault, document_item, front_of,
-    is_barred, line_at, near_form, told_refusal, visible, words_fault, wrong_word,
+    WrongWord, asks_for_help, asks_for_version, document_fault, document_item, line_at, near_form,
+    words_fault, wrong_word,
 };
 use arc_base::Name;
-use arc_outside::{Sink, SureSink};
 use command_words::form_named;
 use std::alloc::Global;
 use std::test::Fail;
@@ -22,40 +21,6 @@ fn lines_and_words_are_found(rt: HostRuntime) -> Result<(), Fail> {
     );
     assert_eq!(rt; wrong_word(alloc, FILE, 5), Some(WrongWord::Missing));
     assert_eq!(rt; wrong_word(alloc, FILE, 1), None);
-    Ok(())
-}
-
-#[test]
-fn refusals_are_taken_apart(rt: HostRuntime) -> Result<(), Fail> {
-    let told = told_refusal(b"refused a b.cfg 11 bad-word\n").map(|it| (
-        it.name, it.number, it.kind,
-    ));
-    assert_eq!(rt;
-        told,
-        Some((b"a b.cfg".as_slice(), 11, b"bad-word".as_slice()))
-    );
-    assert!(rt; told_refusal(b"accepted\n").is_none());
-    Ok(())
-}
-
-/// Bytes, and how they are shown.
-const SHOWN: &[(&[u8], &[u8])] = &[
-    (b"a\x1bb\t", b"a?b\t"),
-    (b"caf\xc3\xa9", b"caf\xc3\xa9"),
-    (b"caf\xe9\x8b", b"caf\\xe9\\x8b"),
-    (b"\xc2\x9b", b"\\xc2\\x9b"),
-];
-
-#[test]
-fn bytes_are_shown(rt: HostRuntime) -> Result<(), Fail> {
-    for (bytes, want) in SHOWN {
-        assert!(rt; visible(rt.alloc(), *bytes)?.as_slice() == *want);
-    }
-    assert_eq!(rt; front_of(b"ab"), b"ab".as_slice());
-    assert_eq!(rt; front_of(&[b'a'; 301]).len(), 300);
-    let mut line = Vec::from_elem(rt.alloc(), b'a', 299)?;
-    line.extend_from_slice(b"\xc3\xa9")?;
-    assert_eq!(rt; front_of(&line).len(), 299);
     Ok(())
 }
 
@@ -246,29 +211,6 @@ fn refused_items_are_shown(rt: HostRuntime) -> Result<(), Fail> {
     for (list, number, want) in shown {
         let item = document_item(rt.alloc(), text, list, number)?;
         assert_eq!(rt; item.as_deref(), want);
-    }
-    Ok(())
-}
-
-/// Texts in the pieces in which they are put, and whether a yes of blocked or through is in them.
-const REPORTS: &[(&[&str], bool)] = &[
-    (
-        &["arc-report 1\n1 reach yes 0\n2 blo", "cked yes 1\nclosed"],
-        true,
-    ),
-    (&["arc-report 1\n256 through yes 1\n"], true),
-    (&["arc-report 1\n1 blocked no 1\nwalk 1\nend\n"], false),
-    (&["side blocked yes\n1 blocked yes 1"], false),
-];
-
-#[test]
-fn yeses_are_found_in_reports(rt: HostRuntime) -> Result<(), Fail> {
-    for (pieces, want) in REPORTS {
-        let mut out = Tee::make(rt.alloc(), SureSink::make(rt.alloc()));
-        for piece in *pieces {
-            assert!(rt; out.put(piece.as_bytes()).is_ok());
-        }
-        assert_eq!(rt; out.is_barred(), *want);
     }
     Ok(())
 }

@@ -1,0 +1,243 @@
+//! What is said on the standard error of a run that was refused.
+ghost use Rattle.std.specs.Prelude.{◌≤◌, length};
+
+use crate::again::{document_again, document_alone, text_again};
+use crate::messages::say;
+use arc_base::limits::ROUTER_FILE_LIMIT;
+use arc_base::{Kind, LimitKind, Memory, Name};
+use arc_outside::DiskStore;
+use arc_run::{FileRefusal, Reason};
+use command_words::{Command, read_words};
+use file_copies::copy_names;
+use net_model::Document;
+use run_files::Limits;
+use run_inputs::read_files;
+use run_messages::{
+    Subject, Subnets, WrongWord, clash, document_fault, document_item, edits_of_new_lists,
+    front_of, line_at, subject_of, wrong_word,
+};
+use std::alloc::Global;
+use std::io;
+
+/// The line that a refusal names, and the word that is wrong in it.
+fn explain_line(rt: &HostRuntime, refusal: &FileRefusal, text: &[u8]) -> io::Result<()>
+    requires { length text.now ≤ ROUTER_FILE_LIMIT }
+{
+    let Some(line) = line_at(text, refusal.number) else {
+        return Ok(());
+    };
+    let number = format!(in rt.alloc(); ":{}: ", refusal.number)?;
+    say(
+        rt,
+        &[refusal.name.bytes(), number.as_bytes(), front_of(line)],
+    )?;
+    if !matches!(refusal.reason, Reason::Kind(Kind::BadWord)) {
+        return Ok(());
+    }
+    match wrong_word(rt.alloc(), text, refusal.number) {
+        Some(WrongWord::Word(word)) => say(rt, &[b"arcv: wrong word: ", front_of(word)]),
+        Some(WrongWord::Missing) => {
+            say(rt, &[b"arcv: the line ends too early: a word is missing"])
+        }
+        None => Ok(()),
+    }
+}
+
+/// The first of the words that names a document which can be read again.
+fn document_among(
+    rt: &HostRuntime,
+    words: &[Name],
+    store: &mut DiskStore<HostRuntime>,
+) -> Option<Document> {
+    for word in words {
+        if let Some(doc) = document_alone(rt, word, store) {
+            return Some(doc);
+        }
+    }
+    None
+}
+
+/// The subnets of the router files of a document up to the refused one.
+fn subnets_again(
+    rt: &HostRuntime,
+    doc: &Document,
+    refused: &Name,
+    store: &mut DiskStore<HostRuntime>,
+) -> Option<Subnets> {
+    let mut subnets = Subnets::none(rt.alloc());
+    for name in doc.routers.slice() {
+        let text = text_again(rt, name, store)?;
+        subnets.add(rt.alloc(), &text).ok()?;
+        if name.is(refused.bytes()) {
+            break;
+        }
+    }
+    Some(subnets)
+}
+
+/// Both interfaces whose subnets overlap.
+fn explain_overlap(
+    rt: &HostRuntime,
+    words: &[Name],
+    refusal: &FileRefusal,
+    store: &mut DiskStore<HostRuntime>,
+) -> io::Result<()> {
+    let Some(doc) = document_among(rt, words, store) else {
+        return Ok(());
+    };
+    let Some(subnets) = subnets_again(rt, &doc, &refusal.name, store) else {
+        return Ok(());
+    };
+    match subnets.overlap(rt.alloc(), &doc, refusal.number) {
+        Some(said) => say(rt, &[b"arcv: ", said.as_slice()]),
+        None => Ok(()),
+    }
+}
+
+/// The names of the files that a command over these router files may write.
+fn outputs(alloc: Global, command: &Command, routers: &[Name]) -> Result<Vec<Name>, Memory> {
+    let (suffix, proof) = match command {
+        Command::Repair(words) => (Some(&words.suffix), Some(&words.proof)),
+        Command::Apply(words) => (Some(&words.suffix), None),
+        Command::Solve(words) => (None, Some(&words.proof)),
+        _ => (None, None),
+    };
+    let mut names = match suffix {
+        Some(suffix) => copy_names(alloc, suffix, routers)?,
+        None => Vec::new(alloc),
+    };
+    if let Some(proof) = proof {
+        names.push(Name::make(alloc, proof.bytes())?)?;
+    }
+    Ok(names)
+}
+
+/// The file that would have been written over.
+fn explain_output(
+    rt: &HostRuntime,
+    words: &[Name],
+    document: &Name,
+    store: &mut DiskStore<HostRuntime>,
+) -> io::Result<()> {
+    let Ok(Some(command)) = read_words(rt.alloc(), words) else {
+        return Ok(());
+    };
+    let doc = document_alone(rt, document, store);
+    let routers = match &doc {
+        Some(doc) => doc.routers.slice(),
+        None => &[],
+    };
+    let Ok(names) = outputs(rt.alloc(), &command, routers) else {
+        return Ok(());
+    };
+    match clash(rt.alloc(), &command, routers, &names) {
+        Some(said) => say(rt, &[b"arcv: ", said.as_slice()]),
+        None => Ok(()),
+    }
+}
+
+/// What most of the edits are.
+fn explain_edits(
+    rt: &HostRuntime,
+    document: &Name,
+    store: &mut DiskStore<HostRuntime>,
+) -> io::Result<()> {
+    let Some(doc) = document_again(rt, document, store) else {
+        return Ok(());
+    };
+    let Ok(input) = read_files(rt.alloc(), document, doc, &[], Limits::Editing, store) else {
+        return Ok(());
+    };
+    match edits_of_new_lists(rt.alloc(), &input.net, &input.doc.policies) {
+        Some(said) => say(rt, &[b"arcv: ", said.as_bytes()]),
+        None => Ok(()),
+    }
+}
+
+/// The words of the command, or the whole of a file.
+fn explain_whole(
+    rt: &HostRuntime,
+    words: &[Name],
+    refusal: &FileRefusal,
+    store: &mut DiskStore<HostRuntime>,
+) -> io::Result<()> {
+    match refusal.reason {
+        Reason::Kind(Kind::OutputName) => explain_output(rt, words, &refusal.name, store),
+        Reason::Kind(Kind::Limit(LimitKind::Edits, _)) => explain_edits(rt, &refusal.name, store),
+        _ => Ok(()),
+    }
+}
+
+/// The link or policy of the document that a refusal names.
+fn explain_item(
+    rt: &HostRuntime,
+    refusal: &FileRefusal,
+    list: &str,
+    text: &[u8],
+) -> io::Result<()> {
+    let number = refusal.number;
+    let Some(item) = document_item(rt.alloc(), text, list, number)? else {
+        return Ok(());
+    };
+    let what = if list == "links" { "link" } else { "policy" };
+    let what = format!(in rt.alloc(); ", {what} {number}: ")?;
+    say(
+        rt,
+        &[
+            refusal.name.bytes(),
+            what.as_bytes(),
+            front_of(item.as_bytes()),
+        ],
+    )
+}
+
+/// A part of a file: why it is no document, or the line, link or policy.
+fn explain_part(
+    rt: &HostRuntime,
+    subject: Subject,
+    refusal: &FileRefusal,
+    store: &mut DiskStore<HostRuntime>,
+) -> io::Result<()> {
+    let Some(text) = text_again(rt, &refusal.name, store) else {
+        return Ok(());
+    };
+    match subject {
+        Subject::Form => {
+            let fault = document_fault(rt.alloc(), &text)?;
+            say(
+                rt,
+                &[b"arcv: ", refusal.name.bytes(), b" ", fault.as_bytes()],
+            )
+        }
+        Subject::Item(list) => explain_item(rt, refusal, list, &text),
+        _ => explain_line(rt, refusal, &text),
+    }
+}
+
+/// Says what is refused, and where.
+pub fn explain_refusal(
+    rt: &HostRuntime,
+    words: &[Name],
+    refusal: &FileRefusal,
+    store: &mut DiskStore<HostRuntime>,
+) -> io::Result<()> {
+    let is_of_words = words.iter().any(|word| word.is(refusal.name.bytes()));
+    match subject_of(refusal, is_of_words) {
+        Subject::Whole => explain_whole(rt, words, refusal, store),
+        Subject::NoFile if is_of_words => Ok(()),
+        Subject::NoFile => {
+            let why = b", which is not in the folder where the command runs".as_slice();
+            say(
+                rt,
+                &[b"arcv: the document names ", refusal.name.bytes(), why],
+            )
+        }
+        subject => {
+            explain_part(rt, subject, refusal, store)?;
+            if matches!(refusal.reason, Reason::Kind(Kind::Overlap)) {
+                return explain_overlap(rt, words, refusal, store);
+            }
+            Ok(())
+        }
+    }
+}

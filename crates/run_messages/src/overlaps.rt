@@ -1,0 +1,138 @@
+//! Which two interfaces have subnets that overlap.
+ghost use Rattle.std.specs.Prelude.{◌<◌, ◌^◌, length};
+
+use arc_base::{Memory, Name, Prefix, push_address, push_number};
+use ios_config::{Config, FaceText, config};
+use ios_lines::cut;
+use net_model::{Document, LinkText};
+use std::alloc::Global;
+
+/// An interface of a router with its address and subnet, and the line that gives them.
+#[derive(Drop)]
+struct Subnet {
+    router: Name,
+    face: Name,
+    line: u32,
+    addr: u32,
+    prefix: Prefix,
+}
+
+/// The subnets of router files, in the order in which these are added.
+#[derive(Drop)]
+pub struct Subnets {
+    rows: Vec<Subnet>,
+    /// How many of them are of the files before the last.
+    earlier: usize,
+}
+
+fn config_of(alloc: Global, text: &[u8]) -> Option<Config>
+    requires { length text.now < 2 ^ 32 }
+{
+    let lines = cut(alloc, text).ok()?;
+    config(alloc, text, &lines).ok()
+}
+
+/// The prefix of an address and the number of ones of its mask.
+fn prefix_of(addr: u32, ones: u8) -> Option<Prefix> {
+    let past = 32u32.checked_sub(u32::from(ones))?;
+    let mask = u32::MAX.checked_shl(past).unwrap_or(0);
+    Prefix::new(addr & mask, ones)
+}
+
+fn subnet_of(alloc: Global, router: &Name, face: &FaceText) -> Result<Option<Subnet>, Memory> {
+    let (Some(addr), Some(ones)) = (face.addr, face.mask_len) else {
+        return Ok(None);
+    };
+    let Some(prefix) = prefix_of(addr.value, ones.value) else {
+        return Ok(None);
+    };
+    Ok(Some(Subnet {
+        router: Name::make(alloc, router.bytes())?,
+        face: Name::make(alloc, face.name.bytes())?,
+        line: addr.line,
+        addr: addr.value,
+        prefix,
+    }))
+}
+
+/// Whether the link has the one interface as its end a and the other as its end b.
+fn joins(link: &LinkText, a: &Subnet, b: &Subnet) -> bool {
+    link.a_router.is(a.router.bytes())
+        && link.a_face.is(a.face.bytes())
+        && link.b_router.is(b.router.bytes())
+        && link.b_face.is(b.face.bytes())
+}
+
+fn are_linked(doc: &Document, f: &Subnet, g: &Subnet) -> bool {
+    doc.links
+        .slice()
+        .iter()
+        .any(|link| joins(link, f, g) || joins(link, g, f))
+}
+
+/// Adds an interface as a link of the document names it, with its address.
+fn push_subnet(alloc: Global, text: &mut Vec<u8>, subnet: &Subnet) -> Result<(), Memory> {
+    text.extend_from_slice(subnet.router.bytes())?;
+    text.push(b':')?;
+    text.extend_from_slice(subnet.face.bytes())?;
+    text.extend_from_slice(b" (")?;
+    push_address(alloc, text, subnet.addr)?;
+    text.push(b'/')?;
+    push_number(alloc, text, u64::from(subnet.prefix.len))?;
+    text.push(b')')?;
+    Ok(())
+}
+
+impl Subnets {
+    /// None.
+    pub fn none(alloc: Global) -> Subnets {
+        Subnets {
+            rows: Vec::new(alloc),
+            earlier: 0,
+        }
+    }
+
+    /// Adds the subnets of a router file, if it can be read.
+    pub fn add(&mut self, alloc: Global, text: &[u8]) -> Result<(), Memory>
+        requires { length text.now < 2 ^ 32 }
+    {
+        self.earlier = self.rows.len();
+        let Some(config) = config_of(alloc, text) else {
+            return Ok(());
+        };
+        let Some(hostname) = &config.hostname else {
+            return Ok(());
+        };
+        for face in config.faces.slice() {
+            if let Some(subnet) = subnet_of(alloc, &hostname.name, face)? {
+                self.rows.push(subnet)?;
+            }
+        }
+        Ok(())
+    }
+
+    /// The place of the interface of the last file whose address this line gives.
+    fn place_at(&self, line: u32) -> Option<usize> {
+        (self.earlier..self.rows.len()).find(|place| self.is_at(*place, line))
+    }
+
+    fn is_at(&self, place: usize, line: u32) -> bool {
+        self.rows.get(place).is_some_and(|row| row.line == line)
+    }
+
+    /// The interface of the last file whose address this line gives, and the first one before it
+    /// that it overlaps, in words.
+    pub fn overlap(&self, alloc: Global, doc: &Document, line: u32) -> Option<Vec<u8>> {
+        let place = self.place_at(line)?;
+        let (second, others) = self.rows.get(..=place)?.split_last()?;
+        let first = others.iter().find(|row| !row.prefix.disjoint(&second.prefix)
+            && !are_linked(doc, row, second))?;
+        let mut text = Vec::new(alloc);
+        push_subnet(alloc, &mut text, first).ok()?;
+        text.extend_from_slice(b" and ").ok()?;
+        push_subnet(alloc, &mut text, second).ok()?;
+        let why = b" share addresses, and no link joins them";
+        text.extend_from_slice(why).ok()?;
+        Some(text)
+    }
+}
