@@ -84,14 +84,23 @@ def cut(network: Network, count: int, through: int, seed: int) -> Network:
 
 def guarded(network: Network, broken: int, policies: int, seed: int) -> Network:
     """A campus: floors that reach each other past no firewall though a policy asks for one, and what the servers are asked for."""
-    rng = random.Random(seed)
     servers, *floors = shapes.prefixes(network)
-    apart = rng.sample([(a, b) for a in floors for b in floors if a != b], policies)
+    apart = [(a, b) for a in floors for b in floors if a != b]
+    random.Random(seed).shuffle(apart)
     for a, b in apart[:broken]:
         network.ask("through", a, b)
     for at, (a, b) in enumerate(apart[broken:]):
         network.ask("through" if at % 2 else "reach", a, servers if at % 2 else b, 0)
-    network.policies = list(dict.fromkeys(network.policies))
+    network.policies = list(dict.fromkeys(network.policies))[:policies]
+    return network
+
+
+def listed(network: Network) -> Network:
+    """At each interface its router's list, which permits all and can be edited: an edit for a list, and not for each interface."""
+    for router in network.routers:
+        router.lists["PASS"] = [PERMIT_ALL]
+        for face in router.faces:
+            face.inbound = "PASS"
     return network
 
 
@@ -121,5 +130,9 @@ MANY: list[tuple[str, Make]] = [
     ("leaf-spine of 12, eBGP", lambda: filtered(shapes.leaf_spine(10, 2, True), 8, 16, 19)),
     ("ring of 20", lambda: off(shapes.ring(20, 10, 20), 16, 20, 20)),
     ("ring of 12, 64 policies", lambda: off(shapes.ring(12, 6, 21), 4, 64, 21)),
+    ("ring of 12, 128 policies", lambda: off(shapes.ring(12, 6, 22), 8, 128, 22)),
+    ("ring of 20, 256 policies", lambda: off(listed(shapes.ring(20, 10, 25)), 4, 256, 25)),
+    ("leaf-spine of 12, eBGP, 64 policies", lambda: filtered(shapes.leaf_spine(10, 2, True), 4, 64, 24)),
     ("campus of 24, 64 policies", lambda: guarded(shapes.campus(4, 3), 4, 64, 23)),
 ]
+LARGE: list[tuple[str, Make]] = [("ring of 40 routers, 20 chords, 1 broken of 20 policies", lambda: off(shapes.ring(40, 20, 1), 1, 20, 1))]

@@ -1,5 +1,6 @@
 """The log of a repair's certificate as a proof by itself: over the repair formula, made anew here, with its bounds as clauses."""
 from dataclasses import dataclass
+from functools import cached_property
 from pathlib import Path
 
 from bench import encoding
@@ -15,11 +16,11 @@ class Certificate:
     def lemmas(self) -> int:
         return sum(line.split(" ", 2)[1] not in ("b", "d") for line in self.log)
 
-    @property
-    def bounds(self) -> list[tuple[int, int]]:
+    @cached_property
+    def bounds(self) -> list[tuple[str, int]]:
         """The ids of the clauses that bound the price, and the prices."""
-        found = [line.split() for line in self.log]
-        return [(int(words[0]), int(words[2])) for words in found if words[1] == "b"]
+        found = [line.split() for line in self.log if line.split(" ", 2)[1] == "b"]
+        return [(words[0], int(words[2])) for words in found]
 
 
 def read(path: Path) -> Certificate:
@@ -28,34 +29,32 @@ def read(path: Path) -> Certificate:
     return Certificate(claim[1], int(claim[-1]), lines[lines.index("log") + 1 : -1])
 
 
-class Numbering:
-    """The ids of a log once its bounds stand behind the formula's clauses: these first, and then the lemmas."""
+def renamed(certificate: Certificate, clauses: int) -> dict[str, str]:
+    """The ids of the log once its bounds come right after the formula's clauses: these first, and then the lemmas."""
+    names = {number: str(clauses + at) for at, (number, _) in enumerate(certificate.bounds, 1)}
+    for line in certificate.log:
+        number = line.partition(" ")[0]
+        names.setdefault(number, str(int(number) + len(certificate.bounds)))
+    return names
 
-    def __init__(self, clauses: int, bounds: list[tuple[int, int]]) -> None:
-        self.clauses, self.count = clauses, len(bounds)
-        self.bounds = {number: clauses + at for at, (number, _) in enumerate(bounds, 1)}
 
-    def of(self, word: str) -> str:
-        number = int(word)
-        return str(number if number <= self.clauses else self.bounds.get(number, number + self.count))
-
-    def step(self, line: str) -> str:
-        words = line.split()
-        if words[1] == "d":
-            return " ".join([self.of(words[0]), "d", *map(self.of, words[2:-1]), "0"])
-        middle = words.index("0", 1)
-        return " ".join([self.of(words[0]), *words[1:middle], "0", *map(self.of, words[middle + 1 : -1]), "0"])
+def step(line: str, names: dict[str, str]) -> str:
+    """A line of the log under its new ids; only ids come after the literals, and in a line that drops."""
+    front, _, hints = line.partition(" 0 ")
+    number, *lits = front.split()
+    if lits[:1] == ["d"]:
+        return " ".join(names.get(word, word) for word in line.split())
+    return " ".join([names[number], *lits, "0", *(names.get(word, word) for word in hints.split())])
 
 
 def write_proof(certificate: Certificate, formula: encoding.Formula, cnf: Path, proof: Path) -> None:
     """The formula with the counter and the bounds, and the log as a proof that it has no model."""
     clauses = formula.clauses + list(encoding.counter(formula, certificate.bound))
-    bounds = certificate.bounds
-    numbering = Numbering(len(clauses), bounds)
-    clauses += [[-encoding.above(formula, certificate.bound, price)] for _, price in bounds]
+    names = renamed(certificate, len(clauses))
+    clauses += [[-encoding.above(formula, certificate.bound, price)] for _, price in certificate.bounds]
     variables = formula.variables + len(formula.questions.number) * (certificate.bound + 1)
     with open(cnf, "w") as file:
         file.write(f"p cnf {variables} {len(clauses)}\n")
         file.writelines(" ".join(map(str, clause)) + " 0\n" for clause in clauses)
     with open(proof, "w") as file:
-        file.writelines(numbering.step(line) + "\n" for line in certificate.log if line.split(" ", 2)[1] != "b")
+        file.writelines(step(line, names) + "\n" for line in certificate.log if line.split(" ", 2)[1] != "b")

@@ -18,11 +18,10 @@ class Log:
     drops: int = 0
     faults: list[str] = field(default_factory=list)
 
-    def add(self, words: list[str]) -> None:
+    def add(self, number: int, length: int) -> None:
         self.check_late()
-        number = int(words[0])
         self.added.append(number)
-        self.lengths[number] = words.index("0", 1) - 1
+        self.lengths[number] = length
         self.since += 1
 
     def may_go(self, among: Iterable[int]) -> list[int]:
@@ -41,8 +40,8 @@ class Log:
         if self.is_time() and len(self.may_go(self.old())) > REASONS:
             self.faults.append(f"no drop after {self.since} lemmas, though many could go")
 
-    def drop(self, words: list[str]) -> None:
-        named, may = list(map(int, words[2:-1])), self.may_go(self.old())
+    def drop(self, named: list[int]) -> None:
+        may = self.may_go(self.old())
         if not self.is_time():
             self.faults.append(f"drop {self.drops + 1} comes {self.since} lemmas after the last one")
         if not set(named) <= set(may):
@@ -55,12 +54,12 @@ class Log:
 
 
 def read(lines: Iterable[str]) -> Log:
-    """The log that these lines are, without those that bound a price."""
+    """The log that these lines are, without hints and without those that bound a price."""
     log = Log()
     for line in lines:
-        words = line.split()
-        if words[1] == "d":
-            log.drop(words)
-        elif words[1] != "b":
-            log.add(words)
+        number, *words = line.partition(" 0")[0].split()
+        if words[:1] == ["d"]:
+            log.drop(list(map(int, words[1:])))
+        elif words[:1] != ["b"]:
+            log.add(int(number), len(words))
     return log

@@ -76,6 +76,13 @@ def tseitin(vertices: int, seed: int) -> Formula:
     return len(pairs), clauses
 
 
+def is_model(formula: Formula, text: bytes) -> bool:
+    """Whether the line `v` of the text makes each clause true."""
+    line = next((it for it in text.splitlines() if it.startswith(b"v ")), b"v 0")
+    chosen = set(map(int, line.split()[1:-1]))
+    return {abs(it) for it in chosen} == set(range(1, formula[0] + 1)) and len(chosen) == formula[0] and all(not chosen.isdisjoint(it) for it in formula[1])
+
+
 def write(path: Path, formula: Formula) -> None:
     """In DIMACS form."""
     n, clauses = formula

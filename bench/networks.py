@@ -124,6 +124,11 @@ class Network:
         self.links.append(Link(self._add_face(a, first + 1, 30, False), self._add_face(b, first + 2, 30, False), is_waypoint))
         return len(self.links) - 1
 
+    def join_all(self, router: int, others: list[int]) -> None:
+        """A link from the router to each of the others."""
+        for other in others:
+            self.join(router, other)
+
     def face(self, end: End) -> Face:
         return self.routers[end[0]].faces[end[1]]
 

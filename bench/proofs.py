@@ -26,33 +26,30 @@ def units(n: int, count: int) -> Proof:
     return n, ring(n), steps
 
 
+def refutation(n: int) -> tuple[Clause, list[int]]:
+    """The empty clause, with hints once round the ring."""
+    return [], [*range(1, n + 1), n + 2]
+
+
+def lemmas(n: int, length: int, count: int, step: Callable[[int], tuple[Clause, list[int]]]) -> Proof:
+    """Lemmas with their hints, each made from a variable that `length` others follow, and then the empty clause."""
+    steps: list[Step] = [(n + 3 + at, *step(at * 7919 % (n - length) + 1)) for at in range(count)]
+    return n, ring(n), [*steps, (n + 3 + count, *refutation(n))]
+
+
 def chains(n: int, length: int, count: int) -> Proof:
     """Lemmas of two literals, each with a chain of hints of this length."""
-    last = n + 2
-    steps: list[Step] = []
-    for k in range(count):
-        v = k * 7919 % (n - length) + 1
-        last += 1
-        steps.append((last, [-v, v + length], list(range(v + 1, v + length + 1))))
-    steps.append((last + 1, [], list(range(1, n + 1)) + [n + 2]))
-    return n, ring(n), steps
+    return lemmas(n, length, count, lambda v: ([-v, v + length], list(range(v + 1, v + length + 1))))
+
+
+def wide(n: int, length: int, count: int) -> Proof:
+    """Lemmas of this length, each with one hint."""
+    return lemmas(n, length, count, lambda v: ([-v, *range(v + 1, v + length)], [v + 1]))
 
 
 def one(n: int) -> Proof:
     """One step with a hint for each clause."""
-    return n, ring(n), [(n + 3, [], list(range(1, n + 1)) + [n + 2])]
-
-
-def wide(n: int, length: int, count: int) -> Proof:
-    """Lemmas of this length, each with one hint, and then the empty clause."""
-    last = n + 2
-    steps: list[Step] = []
-    for k in range(count):
-        v = k * 7919 % (n - length) + 1
-        last += 1
-        steps.append((last, [-v] + list(range(v + 1, v + length)), [v + 1]))
-    steps.append((last + 1, [], list(range(1, n + 1)) + [n + 2]))
-    return n, ring(n), steps
+    return n, ring(n), [(n + 3, *refutation(n))]
 
 
 FAMILIES: list[tuple[str, Callable[[], Proof]]] = [

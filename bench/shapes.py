@@ -43,13 +43,11 @@ def fat_tree(ports: int, bgp: bool = False) -> Network:
     for pod in range(ports):
         upper = [network.add_router(f"agg{pod}-{at}") for at in range(half)]
         for place, switch in enumerate(upper):
-            for core in cores[half * place : half * (place + 1)]:
-                network.join(switch, core)
+            network.join_all(switch, cores[half * place : half * (place + 1)])
         for at in range(half):
             edge = network.add_router(f"edge{pod}-{at}")
             network.add_host(edge)
-            for switch in upper:
-                network.join(edge, switch)
+            network.join_all(edge, upper)
     return network
 
 
@@ -60,8 +58,7 @@ def leaf_spine(leaves: int, spines: int, bgp: bool = False) -> Network:
     for at in range(leaves):
         leaf = network.add_router(f"leaf{at}")
         network.add_host(leaf)
-        for spine in above:
-            network.join(leaf, spine)
+        network.join_all(leaf, above)
     return network
 
 
@@ -82,8 +79,7 @@ def campus(buildings: int, floors: int, bgp: bool = False) -> Network:
         for floor in range(floors):
             access = network.add_router(f"floor{building}-{floor}")
             network.add_host(access)
-            for router in pair:
-                network.join(access, router)
+            network.join_all(access, pair)
     return network
 
 
@@ -93,7 +89,7 @@ def prefixes(network: Network) -> list[Prefix]:
 
 
 def pairs(network: Network, count: int, seed: int) -> list[tuple[Prefix, Prefix]]:
-    """Different pairs of host networks, drawn at random, of which no policy speaks yet."""
+    """Different pairs of host networks, drawn at random, that have no policy yet."""
     hosts = prefixes(network)
     asked = {(it.source, it.target) for it in network.policies}
     drawn = random.Random(seed).sample(range(len(hosts) * (len(hosts) - 1)), min(count + len(asked), len(hosts) * (len(hosts) - 1)))

@@ -96,14 +96,15 @@ LIMITS: list[tuple[str, Make]] = [
     ("two lists of 16,384 entries, 64 `blocked`", lambda: listed(16, 2, 16_384, "blocked")),
     ("64 lists of 1,024 entries, 64 `reach`", lambda: listed(64, 64, 1024, "reach")),
 ]
-# long paths: rings without chords, and with a few
+# long paths: 256 policies on rings without chords, and with a few
 PATHS: list[tuple[str, Make]] = [
-    ("ring of 64", lambda: asked(shapes.ring(64, 0, 1), "reach", 64, 0, 1)),
-    ("ring of 128", lambda: asked(shapes.ring(128, 0, 1), "reach", 128, 0, 1)),
+    ("ring of 64", lambda: asked(shapes.ring(64, 0, 1), "reach", 256, 0, 1)),
+    ("ring of 128", lambda: asked(shapes.ring(128, 0, 1), "reach", 256, 0, 1)),
     ("ring of 256", lambda: asked(shapes.ring(256, 0, 1), "reach", 256, 0, 1)),
     ("ring of 256, 8 chords", lambda: asked(shapes.ring(256, 8, 1), "reach", 256, 0, 1)),
     ("ring of 256, eBGP", lambda: asked(shapes.ring(256, 0, 1, True), "reach", 256, 0, 1)),
 ]
+DOUBLED = {"ring of 64", "ring of 128"}  # right after each comes the ring of twice as many
 
 
 def long_files(folder: Path) -> None:

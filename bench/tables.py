@@ -1,4 +1,4 @@
-"""Tables in Markdown, and the place of bench/README.md where they stand."""
+"""Tables in Markdown, and the place in bench/README.md where they go."""
 from dataclasses import dataclass, field
 from pathlib import Path
 
@@ -57,7 +57,7 @@ def in_the_way(tables: list[Table]) -> list[str]:
 
 
 def write(path: Path, lines: list[str]) -> None:
-    """Puts the lines between the two marks of the file."""
+    """Writes the lines between the two marks of the file."""
     text = path.read_text()
     before, _, rest = text.partition(BEGIN)
     _, _, after = rest.partition(END)

@@ -3,9 +3,11 @@ other work on the machine only adds to it."""
 import os
 import resource
 import subprocess
+import tempfile
+from contextlib import contextmanager
 from dataclasses import dataclass
 from pathlib import Path
-from typing import Callable
+from typing import Callable, Iterator
 
 Command = list[str]
 
@@ -22,6 +24,13 @@ class Run:
     @property
     def is_done(self) -> bool:
         return self.status is not None
+
+
+@contextmanager
+def scratch() -> Iterator[Path]:
+    """A folder for the files of one row."""
+    with tempfile.TemporaryDirectory(prefix="arcv-bench-") as name:
+        yield Path(name)
 
 
 def limit_processor(seconds: int) -> Callable[[], None]:
@@ -51,6 +60,11 @@ def by_turns(commands: dict[str, Command], folder: Path, rounds: int, seconds: i
             if name not in best or found.seconds < best[name].seconds:
                 best[name] = found
     return best
+
+
+def took(ran: Run | None) -> float | None:
+    """The seconds of a run, where there is one and it was done."""
+    return ran.seconds if ran is not None and ran.is_done else None
 
 
 def quotient(ours: Run | None, theirs: Run | None) -> float | None:
