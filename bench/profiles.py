@@ -1,13 +1,18 @@
 """Where the time of a run goes: its functions by their own part of the time, by perf, or by valgrind where there is no perf."""
 import re
+import resource
 import shutil
 import subprocess
-import tempfile
 from pathlib import Path
+from typing import Callable
 
-from bench.timing import Command, limit_processor
+from bench.timing import Command
 
 SHOWN = 4
+
+
+def limit_processor(seconds: int) -> Callable[[], None]:
+    return lambda: resource.setrlimit(resource.RLIMIT_CPU, (seconds, seconds))
 
 
 def short(symbol: str) -> str:

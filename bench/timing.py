@@ -1,15 +1,15 @@
 """Processor time and peak memory of programs. Programs that are compared run by turns, and the least time of the rounds counts, since
 other work on the machine only adds to it."""
-import os
-import resource
 import subprocess
+import sys
 import tempfile
 from contextlib import contextmanager
 from dataclasses import dataclass
 from pathlib import Path
-from typing import Callable, Iterator
+from typing import Iterator
 
 Command = list[str]
+LAUNCH = Path(__file__).with_name("launch.py")
 
 
 @dataclass(frozen=True)
@@ -33,20 +33,11 @@ def scratch() -> Iterator[Path]:
         yield Path(name)
 
 
-def limit_processor(seconds: int) -> Callable[[], None]:
-    return lambda: resource.setrlimit(resource.RLIMIT_CPU, (seconds, seconds))
-
-
 def run(command: Command, folder: Path, seconds: int = 60) -> Run:
-    out = folder / ".out"
-    with open(out, "wb") as file:
-        child = subprocess.Popen(
-            command, cwd=folder, stdin=subprocess.DEVNULL, stdout=file, stderr=subprocess.DEVNULL, preexec_fn=limit_processor(seconds)
-        )
-        _, status, used = os.wait4(child.pid, 0)
-    child.returncode = code = os.waitstatus_to_exitcode(status)
-    took = used.ru_utime + used.ru_stime
-    return Run(None if took >= seconds - 0.5 and code < 0 else code, out.read_bytes(), took, used.ru_maxrss << 10)
+    launch = [sys.executable, "-I", "-S", str(LAUNCH), str(seconds), ".out", *command]
+    said = subprocess.run(launch, cwd=folder, stdout=subprocess.PIPE, check=True).stdout.split()
+    code, used, peak = int(said[0]), float(said[1]), int(said[2])
+    return Run(None if used >= seconds - 0.5 and code < 0 else code, (folder / ".out").read_bytes(), used, peak << 10)
 
 
 def by_turns(commands: dict[str, Command], folder: Path, rounds: int, seconds: int = 60) -> dict[str, Run]:
