@@ -111,7 +111,7 @@ class Questions:
 
 @dataclass
 class Formula:
-    """The clauses of the policies: over the edits, then the variables of `blocked` and `through`, then those of `reach`."""
+    """The clauses of the policies, over the edits and then the variables of each policy in order."""
 
     questions: Questions
     clauses: list[list[int]] = field(default_factory=list)
@@ -202,16 +202,10 @@ class Formula:
 
 def of_policies(network: Network) -> Formula:
     formula = Formula(Questions(network))
-    network, asks = formula.questions.network, formula.questions
-    at = len(asks.number) + 1
-    through = sum(len(asks.classes(it)) for it in network.policies if it.kind != "reach")
-    reaching = at + through * len(network.routers)
+    first = len(formula.questions.number) + 1
     for policy in network.policies:
-        if policy.kind == "reach":
-            reaching = formula.reach(policy, reaching)
-        else:
-            at = formula.blocked(policy, at)
-    formula.variables = reaching - 1
+        first = (formula.reach if policy.kind == "reach" else formula.blocked)(policy, first)
+    formula.variables = first - 1
     return formula
 
 
