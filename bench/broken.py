@@ -3,7 +3,7 @@ import random
 from typing import Callable
 
 from bench import shapes
-from bench.networks import PERMIT_ALL, Entry, Network, Prefix, RouteEntry
+from bench.networks import PERMIT_ALL, Entry, Link, Network, Prefix, RouteEntry
 
 
 def ask(network: Network, kind: str, count: int, seed: int, failures: int = 0) -> None:
@@ -52,9 +52,32 @@ def filters(network: Network, count: int, seed: int) -> None:
         network.ask("reach", hosts[place], target, 0)
 
 
+def is_joined(network: Network, source: int, target: int, spared: Link | None = None) -> bool:
+    """Whether links whose ends are on join two routers, but for the one that is spared."""
+    seen, waiting = {source}, [source]
+    while waiting:
+        at = waiting.pop()
+        for link in network.links:
+            near, far = (link.a, link.b) if link.a[0] == at else (link.b, link.a)
+            is_on = not network.face(near).is_off and not network.face(far).is_off
+            if near[0] == at and far[0] not in seen and is_on and link is not spared:
+                seen.add(far[0])
+                waiting.append(far[0])
+    return target in seen
+
+
+def ask_held(network: Network, count: int, seed: int) -> None:
+    """Policies that hold: with one failure allowed where the links that are on stand it, and else with none."""
+    for source, target in shapes.pairs(network, 2 * count, seed):
+        ends = network.host_at(source)[0], network.host_at(target)[0]
+        if count and is_joined(network, *ends):
+            network.ask("reach", source, target, int(all(is_joined(network, *ends, link) for link in network.links)))
+            count -= 1
+
+
 def off(network: Network, count: int, policies: int, seed: int) -> Network:
     links_off(network, count, seed)
-    ask(network, "reach", policies - len(network.policies), seed, 1)
+    ask_held(network, policies - count, seed)
     return network
 
 
@@ -128,9 +151,9 @@ MANY: list[tuple[str, Make]] = [
     ("ring of 12, classes cut by lists", lambda: cut(shapes.ring(12, 6, 17), 4, 3, 17)),
     ("ring of 12, classes cut by lists", lambda: cut(shapes.ring(12, 6, 18), 6, 4, 18)),
     ("leaf-spine of 12, eBGP", lambda: filtered(shapes.leaf_spine(10, 2, True), 8, 16, 19)),
-    ("ring of 20", lambda: off(shapes.ring(20, 10, 20), 16, 20, 20)),
-    ("ring of 12, 64 policies", lambda: off(shapes.ring(12, 6, 21), 4, 64, 21)),
-    ("ring of 12, 128 policies", lambda: off(shapes.ring(12, 6, 22), 8, 128, 22)),
+    ("ring of 20", lambda: off(shapes.ring(20, 10, 20), 16, 16, 20)),
+    ("ring of 12, 64 policies", lambda: off(shapes.ring(12, 6, 22), 4, 64, 22)),
+    ("ring of 12, 128 policies", lambda: off(shapes.ring(12, 6, 26), 3, 128, 26)),
     ("ring of 20, 256 policies", lambda: off(listed(shapes.ring(20, 10, 25)), 4, 256, 25)),
     ("leaf-spine of 12, eBGP, 64 policies", lambda: filtered(shapes.leaf_spine(10, 2, True), 4, 64, 24)),
     ("campus of 24, 64 policies", lambda: guarded(shapes.campus(4, 3), 4, 64, 23)),

@@ -52,8 +52,8 @@ def in_the_way(tables: list[Table]) -> list[str]:
     missed = [it for table in tables for it in table.missed()]
     if not missed:
         return []
-    rows = [line([name, said or "no profile: neither perf nor valgrind is there"]) for name, said in missed]
-    return ["## What stands in the way", "", line(["row", "where its time goes (perf)"]), "|---|---|", *rows, ""]
+    rows = [line([name, said or "no profile was taken"]) for name, said in missed]
+    return ["## Where the time of rows goes that miss their target", "", line(["row", "functions, by their own part of the time"]), "|---|---|", *rows, ""]
 
 
 def write(path: Path, lines: list[str]) -> None:
