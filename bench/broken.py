@@ -158,4 +158,4 @@ MANY: list[tuple[str, Make]] = [
     ("leaf-spine of 12, eBGP, 64 policies", lambda: filtered(shapes.leaf_spine(10, 2, True), 4, 64, 24)),
     ("campus of 24, 64 policies", lambda: guarded(shapes.campus(4, 3), 4, 64, 23)),
 ]
-LARGE: list[tuple[str, Make]] = [("ring of 40 routers, 20 chords, 1 broken of 20 policies", lambda: off(shapes.ring(40, 20, 1), 1, 20, 1))]
+LARGE: list[tuple[str, Make]] = [("ring of 40 routers, 20 chords, 1 broken of 10 policies", lambda: off(shapes.ring(40, 20, 1), 1, 10, 1))]

@@ -103,11 +103,11 @@ def rechecked(bench: Bench) -> list[Table]:
 
 
 def long_files(bench: Bench) -> list[Table]:
-    table = Table("Reading 64 MiB of lists of one entry", ["command", "arcv", "wc", "times", "peak memory"], "at most 3 of `wc`, and 300 MB")
+    table = Table("Reading 64 MiB of lists of one entry", ["command", "arcv", "wc", "times", "peak memory"], "at most 3 of `wc` in the locale C, and 300 MB")
     with scratch() as folder:
         sized.long_files(folder)
         files = sorted(it.name for it in folder.glob("*.cfg"))
-        runs = by_turns({"arcv": [bench.arcv, "verify", "net.json"], "wc": ["wc", *files]}, folder, min(bench.rounds, 3))
+        runs = by_turns({"arcv": [bench.arcv, "verify", "net.json"], "wc": ["env", "LC_ALL=C", "wc", *files]}, folder, min(bench.rounds, 3))
         if runs["arcv"].status not in (0, 1):
             wrong(f"64 MiB are not read: {runs['arcv'].text[:80]!r}")
         ratio = quotient(runs["arcv"], runs["wc"])

@@ -18,7 +18,7 @@ def limit_processor(seconds: int) -> Callable[[], None]:
 def short(symbol: str) -> str:
     """The last words of a path of modules, without hashes and types."""
     bare = re.sub(r"\.llvm\.\d+|::h[0-9a-f]{16}$|<[^<>]*>|\[[^\]]*\]", "", symbol).strip()
-    return "::".join(bare.split("::")[-2:])[:48]
+    return "::".join(bare.strip(": ").split("::")[-2:])[:48]
 
 
 def by_perf(command: Command, folder: Path, seconds: int) -> str:
