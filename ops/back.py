@@ -256,6 +256,16 @@ def _fronts(copy: str, original: Original, changes: Changes, mine: Changes) -> N
             )
 
 
+def _refuse_sessions(changes: Changes, names: copies.Mapping) -> None:
+    """An open copy has adjacencies of its own: one that goes down there stops no packet in the network."""
+    if names.kind == "open" and changes.sessions:
+        place = names.interface(changes.router, changes.sessions[0].place)
+        raise Wrong(
+            f"{changes.file}: this repair of an open copy turns the adjacency at {place}, which stops no packet in the "
+            "network. `bin/repair-steps` looks for one that turns none"
+        )
+
+
 def process_of(text: str) -> str:
     """The head of the routing process."""
     return next((" ".join(block.head.words) for block in blocks_of(split(text)) if block.begins("router")), "")
@@ -268,6 +278,7 @@ def put_back(before: str, after: str, original: str, file: str, names: copies.Ma
 
     What comes out is read again: it has every line of the original, just these changes, and each in its place."""
     changes = changes_of(before, after, file)
+    _refuse_sessions(changes, names)
     place = Original(file, split(original))
     mine = renamed(changes, place, names)
     _fronts(before, place, changes, mine)

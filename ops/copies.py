@@ -15,7 +15,9 @@ from ops.wording import map_beside
 
 
 class Mapping(Protocol):
-    """How what a copy names is called on the router."""
+    """How what a copy names is called on the router, and of which kind the copy is."""
+
+    kind: str
 
     def interface(self, router: str, name: str) -> str: ...
 
@@ -24,6 +26,8 @@ class Mapping(Protocol):
 
 class Same:
     """Everything is called as in the copy."""
+
+    kind = ""
 
     def interface(self, router: str, name: str) -> str:
         return name
