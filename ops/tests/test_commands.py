@@ -77,6 +77,30 @@ class Pages(unittest.TestCase):
         self.assertEqual(done.stdout, "--conflicts\n")
 
 
+class Reading(unittest.TestCase):
+    """bin/reading, and the numbers of docs/auditing.md by which an auditor plans."""
+
+    def test_the_page_has_the_numbers_of_each_command(self) -> None:
+        page = read(os.path.join(TOP, "docs", "auditing.md"))
+        counted = re.findall(r"^(\w[\w ]*?) +(\d+) files +([\d,]+) lines$", tool("reading", "--commands").stdout, re.M)
+        self.assertEqual({name for name, _, _ in counted}, {"shared by all", "all of them", *(one.name for one in pages.program_commands())})
+        for name, files, lines in counted[1:]:
+            row = re.search(rf"^\| {'all commands' if name == 'all of them' else f'`{name}`'}[^|]* \| ([\d,]+)[^|]* \| (\d+) \|$", page, re.M)
+            self.assertIsNotNone(row, name)
+            assert row
+            for said, found in ((row[1], lines), (row[2], files)):
+                number = int(found.replace(",", ""))
+                self.assertLessEqual(abs(int(said.replace(",", "")) - number), number / 10, f"{name}: {found}; bin/reading --commands counts")
+
+    def test_help_and_what_is_no_file(self) -> None:
+        for name in ("reading", "definitions"):
+            self.assertEqual(tool(name, "--help").returncode, 0)
+            for word in ("nothere", "README.md", "--what"):
+                done = tool(name, word)
+                self.assertEqual((done.returncode, done.stdout), (1, ""))
+                self.assertTrue(done.stderr.startswith(f"{name}: "), done.stderr)
+
+
 class Files(WithFolder):
     def test_nothing_is_written_over_without_force(self) -> None:
         path = self.write("there", "old")
