@@ -14,6 +14,7 @@ from dataclasses import dataclass
 TOP = os.path.dirname(os.path.dirname(os.path.abspath(__file__)))
 WIDTH = 80
 CONTROLS = re.compile(r"[\x00-\x08\x0b-\x1f\x7f-\x9f]")
+NO_TEXT = re.compile(r"[\ud800-\udfff]")
 FINE, NOT_SO, CANNOT = 0, 1, 2
 
 
@@ -144,7 +145,8 @@ def put(text: str) -> None:
 
 
 def as_json(value: object) -> str:
-    return json.dumps(value, indent=1, ensure_ascii=False) + "\n"
+    """The value as JSON. A byte of a file that is no text in UTF-8 comes as an escape, `\\udcXX`, as Python reads it."""
+    return NO_TEXT.sub(lambda found: f"\\u{ord(found[0]):04x}", json.dumps(value, indent=1, ensure_ascii=False)) + "\n"
 
 
 def tell(text: str) -> None:

@@ -91,16 +91,11 @@ def is_idle(lines: Sequence[str], at: int) -> bool:
     return True
 
 
-def copy(quieter: Quieter, name: str, target: str) -> None:
-    """Writes the copy of one file, and tells the lines that are commented out in it."""
-    with open(name, encoding="latin-1", newline="") as file:
-        text = file.read()
+def copy(quieter: Quieter, text: str) -> tuple[str, list[tuple[int, str, str]]]:
+    """The copy of a text with the line ends that it has, and the lines that are commented out in it."""
     end = "\r\n" if "\r\n" in text else "\n"
     out, told = quieter.quiet(text.replace("\r\n", "\n").split("\n"))
-    with open(target, "w", encoding="latin-1", newline="") as file:
-        file.write(end.join(out))
-    for number, line, why in told:
-        print(f"{name}:{number}: {line}    ({why})")
+    return end.join(out), told
 
 
 def arguments() -> argparse.ArgumentParser:
@@ -108,19 +103,33 @@ def arguments() -> argparse.ArgumentParser:
         "quiet",
         "Copies running-configs, with the lines commented out that bear on nothing that arcv models but are not of its language, by the rows of "
         "ops/rules.rows that say so. A line that no row names stays as it is, so arcv still refuses what it does not model. No line of an ACL, "
-        "a prefix list or a routing process is touched, and none that gives an address. Each line that is commented out is told with its reason; "
+        "a prefix list or a routing process is touched, and none that gives an address. Each line that is commented out is printed with its reason; "
         "keep that list and a diff of the two folders. Line numbers stay the same.",
-        "the copies, under the names of the files, into FOLDER; copies that are there are written over.",
+        "the copies, under the names of the files, into FOLDER.",
         """
         bin/quiet configs/*.cfg
         """,
     )
-    words.add_argument("files", metavar="FILE", nargs="+")
+    words.add_argument("files", metavar="FILE", nargs="+", help="a running-config")
     words.add_argument("--to", metavar="FOLDER", default="quiet", help="the folder of the copies; quiet without it")
     words.add_argument("--adjacencies", action="store_true",
-                       help="lines too that can only keep an adjacency down, or tell how fast it goes down: docs/real-files.md says what answers are then worth")
+                       help="lines too that can only keep an adjacency down, or say how fast it goes down: docs/real-files.md says what answers are then worth")
     words.add_argument("--rows", metavar="FILE", help="rows of your own, which count before those of ops/rules.rows")
+    commands.with_json(words)
+    commands.with_force(words)
     return words
+
+
+def targets(files: Sequence[str], folder: str) -> dict[str, str]:
+    """The files by the names of their copies; `Wrong` where two have one name, or a copy would be a file that is read."""
+    found: dict[str, str] = {}
+    for name in files:
+        target = os.path.join(folder, os.path.basename(name))
+        if os.path.exists(target) and any(os.path.exists(other) and os.path.samefile(target, other) for other in files):
+            raise Wrong(f"{target} would be written over")
+        if found.setdefault(target, name) != name:
+            raise Wrong(f"{found[target]} and {name} would have one copy, {target}")
+    return found
 
 
 def main(words: list[str]) -> int:
@@ -129,14 +138,14 @@ def main(words: list[str]) -> int:
         quieter = Quieter(rules.table(options.rows), options.adjacencies)
     except ValueError as error:
         raise Wrong(str(error)) from error
-    os.makedirs(options.to, exist_ok=True)
-    taken: dict[str, str] = {}
-    for name in options.files:
-        target = os.path.join(options.to, os.path.basename(name))
-        if os.path.exists(target) and any(os.path.exists(other) and os.path.samefile(target, other) for other in options.files):
-            raise Wrong(f"{target} would be written over")
-        if taken.setdefault(target, name) != name:
-            raise Wrong(f"{taken[target]} and {name} would have one copy, {target}")
-    for target, name in taken.items():
-        copy(quieter, name, target)
-    return 0
+    found = targets(options.files, options.to)
+    commands.check_free(list(found), options.force)
+    copies = {target: copy(quieter, commands.load(name)) for target, name in found.items()}
+    for target, (text, _) in copies.items():
+        commands.save(target, text, True)
+    rows = [(found[target], *row) for target, (_, told) in copies.items() for row in told]
+    if options.json:
+        commands.put(commands.as_json([{"file": name, "line": number, "text": line, "reason": why} for name, number, line, why in rows]))
+    else:
+        commands.put("".join(f"{name}:{number}: {line}    ({why})\n" for name, number, line, why in rows))
+    return commands.FINE

@@ -1,10 +1,9 @@
 """Answers in words, as text, JSON, JUnit's XML or one page of HTML."""
-import json
 from collections.abc import Callable, Sequence
 from html import escape
 from xml.sax.saxutils import quoteattr
 
-from ops import draw
+from ops import commands, draw
 from ops.commands import counted, wrapped
 from ops.faces import Routers
 from ops.told import Told, shown
@@ -67,7 +66,7 @@ def as_json(told: Sequence[Told], doc: str, _routers: Routers) -> str:
         if one.mark:
             found["mark"] = one.mark
         answers.append(found)
-    return json.dumps({"document": doc, "sum": _sum(told), "answers": answers}, indent=1, ensure_ascii=False) + "\n"
+    return commands.as_json({"document": doc, "sum": _sum(told), "answers": answers})
 
 
 def junit(told: Sequence[Told], doc: str, _routers: Routers) -> str:

@@ -2,8 +2,9 @@
 touched."""
 import os
 import tempfile
-from collections.abc import Sequence
+from collections.abc import Callable, Sequence
 from dataclasses import dataclass
+from typing import TypeVar
 
 from ops import commands
 from ops.commands import Answer, load, run_arcv
@@ -11,6 +12,7 @@ from ops.documents import Document, document_text, folder_of, with_files
 from ops.reports import Block, Edit, read_report, read_text
 
 Texts = dict[str, str]
+Read = TypeVar("Read")
 SUFFIX = ".new"
 
 
@@ -59,7 +61,14 @@ class Trial:
         answer, _, _ = self.run(["verify", "net.json"])
         if answer.status not in (0, 1):
             raise commands.Wrong(f"nothing is judged: {self.reason(answer)}")
-        return read_report(answer.out)
+        return self.read(read_report, answer)
+
+    def read(self, reader: Callable[[str], Read], answer: Answer) -> Read:
+        """What a reader makes of an answer; `Wrong` where it is none of arcv."""
+        try:
+            return reader(answer.out)
+        except ValueError as error:
+            raise commands.Wrong(f"{self.program} ended with status {answer.status} and printed no answer of arcv: {error}") from error
 
     def repair(self, price: int, conflicts: int) -> "Repair":
         words = [
@@ -69,7 +78,9 @@ class Trial:
         answer, written, others = self.run(words)
         if answer.status == 5:
             return Repair("refused", 0, self.reason(answer), [], {}, "")
-        text = read_text(answer.out)
+        text = self.read(read_text, answer)
+        if text.form != "repair":
+            raise commands.Wrong(f"{self.program} printed no answer to `repair`: {answer.first}")
         return Repair(text.answer, text.numbers[0], "", text.edits, {**self.texts, **written}, others.get("cert", ""))
 
     def apply(self, edits: Sequence[Edit]) -> tuple[Texts, str]:

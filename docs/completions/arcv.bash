@@ -36,7 +36,7 @@ _arcv_tool() {
         pages) options='--help --check --force' ;;
         plan) options='--help --copies --join --originals --arcv --json' ;;
         policies) options='--help --out --names --json --force' ;;
-        quiet) options='--help --to --adjacencies --rows' ;;
+        quiet) options='--help --to --adjacencies --rows --json --force' ;;
         refusals) options='--help --arcv --json' ;;
         repair-steps) options='--help --out --proof --after --max-price --conflicts --parts --no-sessions --arcv --json --force' ;;
         seal) options='--help --check --out --arcv --json --force' ;;

@@ -17,7 +17,7 @@ from ops.tests.given import EXAMPLES, TOP, WithFolder, read, tool
 
 MODULES = {
     "policies": "policies", "explain": "explain", "draw": "draw", "plan": "plan", "enter": "enter", "back": "back",
-    "repair-steps": "steps", "seal": "seal", "refusals": "refusals",
+    "repair-steps": "steps", "seal": "seal", "refusals": "refusals", "start": "start", "quiet": "quiet",
 }
 
 

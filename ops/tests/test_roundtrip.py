@@ -98,7 +98,7 @@ class RoundTrip(WithFolder):
 
     def quiet(self) -> None:
         files = sorted(name for name in os.listdir(self.folder) if name.endswith(".cfg"))
-        done = tool("quiet", *files, folder=self.folder)
+        done = tool("quiet", "--force", *files, folder=self.folder)
         self.assertEqual(done.returncode, 0, done.stderr)
 
     def ask(self, command: str, document: str, status: int, *more: str) -> str:

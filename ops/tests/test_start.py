@@ -187,6 +187,17 @@ class Quiet(WithFolder):
             self.assertEqual(file.read(), "hostname r1\n! ip dhcp pool X\n ! network 10.0.0.0 255.0.0.0\n!\ninterface Gi0/0\n ! ip flow ingress\n ip nat inside\nend\n")
         self.assertEqual(len(run.stdout.split("\n")), 4)
 
+    def test_nothing_is_written_over_without_force(self) -> None:
+        path = self.write("r1.cfg", "hostname r\udce9\nip dhcp pool caf\udce9\nend\n")
+        first = tool("quiet", "--to", self.path("out"), "--json", path)
+        self.assertEqual([(one["line"], one["text"]) for one in json.loads(first.stdout)], [(2, "ip dhcp pool caf\udce9")])
+        self.assertEqual(read(self.path("out/r1.cfg")), "hostname r\udce9\n! ip dhcp pool caf\udce9\nend\n")
+        self.write("r2.cfg", "hostname r2\n")
+        again = tool("quiet", "--to", self.path("out"), self.path("r2.cfg"), path)
+        self.assertEqual((again.returncode, os.listdir(self.path("out"))), (2, ["r1.cfg"]))
+        self.assertIn("--force writes over it", again.stderr)
+        self.assertEqual(tool("quiet", "--to", self.path("out"), "--force", self.path("r2.cfg")).returncode, 0)
+
     def test_adjacencies_only_where_they_are_asked_for(self) -> None:
         path = self.write("r1.cfg", "interface Gi0/0\n ip ospf authentication\n standby 1 ip 10.0.0.1\nrouter ospf 1\n area 0 authentication\n redistribute static\n")
         tool("quiet", "--to", self.path("one"), path)
