@@ -195,7 +195,7 @@ class Quiet(WithFolder):
         self.write("r2.cfg", "hostname r2\n")
         again = tool("quiet", "--to", self.path("out"), self.path("r2.cfg"), path)
         self.assertEqual((again.returncode, os.listdir(self.path("out"))), (2, ["r1.cfg"]))
-        self.assertIn("--force writes over it", again.stderr)
+        self.assertIn("--force writes over it", " ".join(again.stderr.split()))
         self.assertEqual(tool("quiet", "--to", self.path("out"), "--force", self.path("r2.cfg")).returncode, 0)
 
     def test_adjacencies_only_where_they_are_asked_for(self) -> None:
