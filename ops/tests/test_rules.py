@@ -1,9 +1,10 @@
 """Each row of the table acts on its example, and on nothing that is of another row."""
 import os
+import re
 import unittest
 
 from ops import captures, ios, processes, routers, rules
-from ops.tests.given import WithFolder
+from ops.tests.given import TOP, WithFolder, read
 
 TABLE = rules.table(None)
 ROWS = TABLE.levels[1]
@@ -26,6 +27,13 @@ def notes_of(row: rules.Row) -> list[rules.Note]:
     return (processes.bgp if kind == "bgp" else processes.ospf)(router, router.processes[0], TABLE).notes
 
 
+def inert_of(file: str) -> set[tuple[str, ...]]:
+    """The words of the lines that the program reads and says nothing of, by its source; of rows with other parts those of neighbours."""
+    text = read(os.path.join(TOP, "crates", "ios_words", "src", file))
+    found = re.findall(r"inert!\(([^)]*)\)", text) + re.findall(r'row!\(Inert:\s*(Word\(b"neighbor"\).*?)Part::Anything', text, re.S)
+    return {tuple(re.findall(r'b"([^"]*)"', words)) for words in found}
+
+
 class EachRow(unittest.TestCase):
     def test_has_a_reason_an_example_and_a_cost(self) -> None:
         for row in ROWS:
@@ -43,11 +51,17 @@ class EachRow(unittest.TestCase):
 
     def test_acts_in_a_file(self) -> None:
         for row in ROWS:
-            if row.words[0] in ("banner", "end", "bandwidth") or row.cost == "inert":
+            if row.cost == "inert":
                 continue
             with self.subTest(row=row.words):
                 found = [note for note in notes_of(row) if note.text == row.example]
                 self.assertEqual([(note.cost, note.reason) for note in found], [(row.cost, row.reason)])
+
+    def test_inert_rows_are_those_of_the_program(self) -> None:
+        for file, places in (("top_rows.rt", ("top", "block")), ("interface_rows.rt", ("interface",)), ("block_rows.rt", ("process", "ospf", "bgp"))):
+            with self.subTest(file):
+                self.assertEqual({tuple(word for word in row.words if word != "*") for row in ROWS if row.cost == "inert" and row.where in places},
+                                 inert_of(file))
 
     def test_stands_once(self) -> None:
         keys = [(row.where, row.words) for row in ROWS]
