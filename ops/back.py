@@ -40,7 +40,7 @@ class Original:
         """The one block with this head."""
         found = [block for block in self.blocks if " ".join(block.head.words) == head]
         if len(found) != 1:
-            raise Wrong(f"{self.file}: `{head}` stands {counted(len(found), 'time')} there, and once in the copy")
+            raise Wrong(f"{self.file}: `{head}` is there {counted(len(found), 'time')}, and once in the copy")
         return found[0]
 
     def add(self, before: int, text: str) -> None:
@@ -94,7 +94,7 @@ def _top(original: Original, process: str) -> Line | None:
 def _place_lists(original: Original, mine: Changes, process: str) -> None:
     top = _top(original, process)
     if mine.lists and top is None:
-        raise Wrong(f"{original.file}: no line is found before which a new list could stand")
+        raise Wrong(f"{original.file}: no line is found before which a new list could come")
     for listed in mine.lists:
         place = top.number if top else LAST
         if listed.prefix:
@@ -251,7 +251,7 @@ def _fronts(copy: str, original: Original, changes: Changes, mine: Changes) -> N
         here, there = lists[key].entries, original.lists[real].entries if real in original.lists else []
         if here and there and normal(lists[key].kind, here[0].words) != normal(lists[key].kind, there[0].words):
             original.notes.append(
-                f"{original.file}: the copy's list {key[1]} begins with another entry; the new ones stand before "
+                f"{original.file}: the copy's list {key[1]} begins with another entry; the new ones come before "
                 f"`{there[0].text}`"
             )
 
@@ -319,7 +319,7 @@ def returned(options: argparse.Namespace) -> list[Returned]:
 def arguments() -> argparse.ArgumentParser:
     words = commands.parser(
         "back",
-        "Puts a repair of copies into the files as the routers printed them. Each new line is put into the same "
+        "Adds a repair of copies to the files as the routers printed them. Each new line comes into the same "
         "block, before the same line: entries at the front of their list, new lists before the routing process, the "
         "others at the end of their block. The result is read again and compared: it has every line of the original "
         "in its order, and no other change than the copy. Where that cannot be, nothing is written.\n\nEDITS is a "

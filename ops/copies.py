@@ -121,7 +121,7 @@ def total(doc: str, document: Document) -> int:
 def repaired(options: argparse.Namespace) -> list[Repaired]:
     """The router files that a repair changes, by the words of the command line."""
     if (options.edits is None) == (options.copies is None):
-        raise Wrong("either EDITS or --copies SUFFIX has to stand")
+        raise Wrong("either EDITS or --copies SUFFIX has to be given")
     document, folder = read_document(options.doc), folder_of(options.doc)
     if options.copies:
         changed = _written(document, folder, options.copies)
@@ -136,7 +136,7 @@ def repaired(options: argparse.Namespace) -> list[Repaired]:
             original = os.path.normpath(os.path.join(folder, name))
         if files and router not in files:
             raise Wrong(
-                f"{name} stands for no router's file, so what the repair changes there cannot be entered anywhere"
+                f"{name} is the copy of no router's file, so what the repair changes there cannot be entered anywhere"
             )
         found.append(Repaired(name, before, after, min(original, os.path.relpath(original), key=len), mapping))
     return found

@@ -122,7 +122,7 @@ def _policy(path: str, number: int, value: Any) -> Policy:
         _asked(is_prefix(value.get(end)), path, f"{where}: `{end}` is no prefix such as 10.1.0.0/24")
     _asked(
         (kind == "reach") == ("failures" in value), path,
-        f"{where}: `failures` stands exactly where the kind is reach",
+        f"{where}: `failures` comes exactly where the kind is reach",
     )
     _asked(
         "failures" not in value or _is_number(value["failures"], 0, (1 << 64) - 1), path,
@@ -131,7 +131,7 @@ def _policy(path: str, number: int, value: Any) -> Policy:
     right = "proto" not in value or proto in ("tcp", "udp", "icmp") or _is_number(proto, 1, 255)
     _asked(right, path, f"{where}: `proto` is not tcp, udp, icmp or a number from 1 to 255")
     right = "port" not in value or (proto in ("tcp", "udp", *WITH_PORTS) and _is_number(port, 0, 65535))
-    _asked(right, path, f"{where}: `port` stands only with TCP or UDP, and is from 0 to 65535")
+    _asked(right, path, f"{where}: `port` comes only with TCP or UDP, and is from 0 to 65535")
     return Policy(kind, value["from"], value["to"], value.get("failures"), proto, port)
 
 

@@ -132,7 +132,7 @@ def _packet_entries(router: Router, listed: ListText, texts: Sequence[str]) -> N
         lines.append(f"{number} {text}")
     remark = f"List {listed.name}: {counted(len(texts), 'entry', 'entries')} in front"
     if twice:
-        remark += f". The same entry stands further down (`{twice[0]}`), and IOS would take no second one: "
+        remark += f". The same entry is further down (`{twice[0]}`), and IOS would take no second one: "
         remark += "it is taken out, and the new one entered at once"
     router.steps.append(Step(remark, _indented([listed.command], lines), _indented([listed.command], back)))
 

@@ -231,7 +231,7 @@ class Exact:
             name = peer.lists.get("in")
             taken = sessions.rules_of(process.router.prefix_lists.get(name, ())) if name else []
             if taken is None or sessions.may_take(taken, target):
-                found.append(structural(f"the neighbour {peer.address} of {process.router.name} has no file, and may tell routes to {target}"))
+                found.append(structural(f"the neighbour {peer.address} of {process.router.name} has no file, and may send routes to {target}"))
         return found
 
     def face_notes(self, faces: Sequence[Face]) -> list[rules.Note]:

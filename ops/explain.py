@@ -11,7 +11,7 @@ from ops.told import ORDER, Told
 from ops.wording import Names, names_of, title
 
 WHY_REJECTED = {
-    "form": "the line is not of a form that may stand there",
+    "form": "the line is not of a form that may come there",
     "policy": "a block is not that of the next policy, is missing, or is one too many",
     "witness": "what is said there does not show the answer over the files as they are now",
     "no-end": "the text ends before the line `end`, or goes on after it",

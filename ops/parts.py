@@ -180,7 +180,7 @@ def by_parts(whole: Trial, limits: Limits, known: Known) -> Result:
         texts, edits, cost = after, together, price(together, whole.document.weights)
     except Wrong as error:
         say.append(
-            f"The edits were put in part by part, and no list of them is one of the whole document ({error}): take "
+            f"The edits were made part by part, and no list of them is one of the whole document ({error}): take "
             "the files, by `bin/plan DOC --copies SUFFIX`."
         )
     blocks = whole.over(texts=texts).verify()

@@ -102,13 +102,13 @@ def check(copy: Pair, real: Pair, changes: Changes, mine: Changes, file: str) ->
         found = next((other for other in left if (other.text, other.head) == (text, head)), None)
         if found is None:
             raise Wrong(
-                f"{file}: `{text}` would not stand below `{head}`"
+                f"{file}: `{text}` would not be below `{head}`"
                 if head
-                else f"{file}: `{text}` would not stand there"
+                else f"{file}: `{text}` would not be there"
             )
         left.remove(found)
         if not _agrees(place, found, names) and not _is_new_list(text, place, found):
-            raise Wrong(f"{file}: `{text}` would not stand before the line before which it stands in the copy")
+            raise Wrong(f"{file}: `{text}` would not be before the line before which it is in the copy")
     if left:
         raise Wrong(f"{file}: `{left[0].text}` is in no copy")
 

@@ -162,7 +162,7 @@ def arguments() -> argparse.ArgumentParser:
     words = commands.parser(
         "plan",
         "Shows what a repair changes, as a table with a sum and then line by line: lists, entries, bindings, "
-        "sessions. EDITS is a certificate of repair, what repair printed, or a list of edits; arcv puts them into "
+        "sessions. EDITS is a certificate of repair, what repair printed, or a list of edits; arcv makes them in "
         "copies in a folder of its own. With --copies SUFFIX the files that repair wrote are taken.",
         "nothing.",
         """

@@ -15,15 +15,15 @@ from ops.commands import Wrong, counted
 
 WHAT_TO_DO = {
     "orphan-line": "an indented line with no block above it: a comment `!` at the start of a line ends a block",
-    "unknown-line": "no line of the language: docs/real-files.md tells which lines may be left out, and which must not",
+    "unknown-line": "no line of the language: docs/real-files.md says which lines may be left out, and which must not",
     "bad-word": "a word is out of its form or range, missing, or one too many; or a banner is not closed",
-    "wildcard-not-prefix": "a mask or wildcard whose ones do not stand together: write one line for each prefix",
-    "duplicate-block": "the block stands twice: join the two",
+    "wildcard-not-prefix": "a mask or wildcard whose ones are not contiguous: write one line for each prefix",
+    "duplicate-block": "the block is there twice: join the two",
     "sequence-not-rising": "entry numbers of a list do not rise, or some entries have one and others none",
 }
 THEN = {
     "missing": "there is no such file; names of router files are looked up in the document's folder",
-    "document-form": "no JSON (`python3 -m json.tool` tells where), or not of the form in docs/formats.md: a member unknown or "
+    "document-form": "no JSON (`python3 -m json.tool` says where), or not of the form in docs/formats.md: a member unknown or "
     "missing, `failures` at another kind than `reach`, a prefix with a bit past its length",
 }
 DOCUMENT = "document"
@@ -136,10 +136,10 @@ def arguments() -> argparse.ArgumentParser:
     words = commands.parser(
         "refusals",
         "Lists every line of a document's router files that arcv refuses, with its text, and what to do where a kind "
-        "comes first. arcv tells the first refusal alone, so this lays copies of the files into a temporary folder, "
+        "comes first. arcv prints the first refusal alone, so this copies the files into a temporary folder, "
         "comments the refused line out there (`!` at the start of a top line and of its block, ` !` in an indented "
         "one, so that line numbers stay), and asks again, until no line of one file is refused by itself. The "
-        "refusal that is left then, of the files and the document together, is told last, after `then:`. Where none "
+        "refusal that is left then, of the files and the document together, comes last, after `then:`. Where none "
         "is left, a line `warning:` names each router id that another router may take by itself, which arcv does not "
         "refuse. The names of router files are looked up in DOC's folder.",
         "nothing but in the temporary folder.",

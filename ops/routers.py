@@ -191,7 +191,7 @@ class Reader:
         """Takes the block of an interface."""
         face = Face(self.router.name, "".join(block.head.words[1:]), block.head, block.lines)
         if self.router.face(face.name) is not None:
-            self.note(block.head.number, block.head.text, "interface", "unknown", "the block of an interface stands twice")
+            self.note(block.head.number, block.head.text, "interface", "unknown", "the block of an interface is there twice")
         self.router.faces.append(face)
         for line in block.lines:
             if not self.face_line(face, line):
@@ -298,7 +298,7 @@ class Reader:
             self.entry(found, block.head, words[2:], groups)
         elif len(words) == 4 and words[2] in ("standard", "extended"):
             if words[3] in self.router.lists:
-                self.note(block.head.number, block.head.text, "ip access-list", "unknown", "the block of a list stands twice")
+                self.note(block.head.number, block.head.text, "ip access-list", "unknown", "the block of a list is there twice")
             found = self.router.lists.setdefault(words[3], PacketList(words[3], words[2] == "standard"))
             for line in block.lines:
                 self.entry(found, line, line.words, groups)

@@ -147,7 +147,7 @@ def main(words: list[str]) -> int:
     options = arguments().parse_args(words)
     if options.check:
         if options.doc or options.out:
-            raise Wrong("--check SEAL stands alone")
+            raise Wrong("--check SEAL takes no other word but --json")
         rows = compared(read_seal(load(options.check), options.check), os.path.dirname(os.path.abspath(options.check)))
         wrong = [row for row in rows if row[1] != "as sealed"]
         if options.json:
@@ -159,7 +159,7 @@ def main(words: list[str]) -> int:
             commands.put("\n".join(lines) + "\n")
         return commands.NOT_SO if wrong else commands.FINE
     if not options.doc or not options.reports:
-        raise Wrong("DOC and a REPORT have to stand; or --check SEAL")
+        raise Wrong("DOC and a REPORT have to be given, or --check SEAL")
     rows = sealed(options, os.path.dirname(os.path.abspath(options.out)) if options.out else os.getcwd())
     text = commands.as_json(
         [{"what": row.what, "name": row.name, "sha256": row.sum} for row in rows]

@@ -23,10 +23,10 @@ def arguments() -> argparse.ArgumentParser:
         "Reads the running-configs in FOLDER, one file a router, as a terminal or a program of yours saved them; finds links and networks of hosts; "
         "writes copies that arcv reads; asks it about each policy of the copy that decides it; and says what cannot be answered, what needs "
         "your yes, what was left out, and the answers. Nothing in FOLDER is changed. The status is 0 where every answer is yes.\n\n"
-        "What has to hold stands in policies.txt: the first call writes one that asks each two networks to reach each other whichever link fails. "
+        "What has to hold is in policies.txt: the first call writes one that asks each two networks to reach each other whichever link fails. "
         "Change it, fetch the files anew when you like, and call again with --again.",
         "FOLDER/arcv (or OUT): policies.txt and names.json, if they are not there; the copies; changes.txt with each line that a copy does not have "
-        "as it stands; answers.txt and answers.json.",
+        "unchanged; answers.txt and answers.json.",
         """
         bin/start configs
         vi configs/arcv/policies.txt
@@ -105,7 +105,7 @@ def first_text(networks: dict[str, str], own: Sequence[str]) -> str:
     if len(own) <= MOST_FIRST:
         return statements.first_policies({networks[prefix]: prefix for prefix in own})
     names = [networks[prefix] for prefix in own[:MOST_FIRST]]
-    return (f"# What has to hold. `bin/policies --help` says what may stand here. Of {len(own)} networks these are asked about first.\n"
+    return (f"# What has to hold. `bin/policies --help` says what may come here. Of {len(own)} networks these are asked about first.\n"
             f"group asked-first = {' '.join(names)}\nasked-first reaches asked-first survives 1\n")
 
 

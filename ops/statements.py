@@ -112,7 +112,7 @@ def _rest(words: list[str], found: Statement, survives: bool) -> None:
     while words:
         word = words.pop(0)
         if word in seen:
-            raise ValueError(f"`{word}` stands twice")
+            raise ValueError(f"`{word}` is there twice")
         seen.add(word)
         if word in PACKETS:
             found.packets = word
@@ -124,7 +124,7 @@ def _rest(words: list[str], found: Statement, survives: bool) -> None:
         elif word == "only" and survives and found.failures == 0:
             _waypoints(words, found)
         elif found.proto is not None or not _service(word, words, found):
-            raise ValueError(f"`{word}` cannot stand here")
+            raise ValueError(f"`{word}` cannot come here")
 
 
 def _statement(words: list[str], line: int) -> Statement:
@@ -197,7 +197,7 @@ def _exceptions(words: Sequence[str], reading: Reading) -> set[tuple[str, str]]:
             here, there = reading.prefixes(names[0]), reading.prefixes(names[2])
             found |= set(product(here, there)) | (set(product(there, here)) if names[1] == "and" else set())
         else:
-            raise ValueError(f"`{part.strip()}` is none of `A to B`, `A and B`, `A`; commas stand between them")
+            raise ValueError(f"`{part.strip()}` is not `A to B`, `A and B` or `A`, with commas between them")
     return found
 
 
@@ -207,7 +207,7 @@ def _all_pairs(words: list[str], reading: Reading, line: int) -> list[Named]:
     rest = words[3:]
     failures = _number(rest, "how many links may fail", MOST_FAILURES)
     if rest and (rest[0] != "except" or len(rest) == 1):
-        raise ValueError(f"`{rest[0]}` cannot stand here: `except A to B, C and D, E`")
+        raise ValueError(f"`{rest[0]}` cannot come here: `except A to B, C and D, E`")
     left_out = _exceptions(rest[1:], reading) if rest else set()
     networks = list(reading.networks.values())
     if len(networks) < 2:
@@ -278,5 +278,5 @@ def read_policies(text: str, networks: dict[str, str]) -> list[Named]:
 
 def first_policies(networks: dict[str, str]) -> str:
     """A first text: each pair of networks, both ways, one failure."""
-    lines = ["# What has to hold. `bin/policies --help` says what may stand here.", "all pairs survive 1", ""]
+    lines = ["# What has to hold. `bin/policies --help` says what may come here.", "all pairs survive 1", ""]
     return "\n".join(lines) if len(networks) > 1 else lines[0] + "\n"

@@ -70,7 +70,7 @@ def search(whole: Trial, options: argparse.Namespace, known: Known) -> Result:
     if repair.answer == "refused" and "limit" not in repair.reason.split():
         raise Wrong(f"nothing is judged: {repair.reason}")
     tell(
-        "that is not had at once, so it is repaired by parts"
+        "no single repair is found, so it is repaired by parts"
         if repair.answer == "none"
         else "the whole is too much at once, so it is repaired by parts"
     )
@@ -101,11 +101,11 @@ def arguments() -> argparse.ArgumentParser:
     words = commands.parser(
         "repair-steps",
         "Looks for the cheapest repair by steps: prices 1, 2, 4, .., and for each 2,000 conflicts of the search, "
-        "then 10,000, 50,000. Each step is told on standard error. Where the document has too many edits, or a "
+        "then 10,000, 50,000. A line on standard error reports each step. Where the document has too many edits, or a "
         "search is given up, it repairs by parts: a few broken policies at a time, with those that hold, or with the "
         "`reach` policies on their ways, over the files that the part before left; then it joins the edits, lets "
         "arcv apply them, and verifies every policy. Such a repair is right, but not shown to be the cheapest. "
-        "Ctrl-C ends it, and what is known by then is told.",
+        "Ctrl-C ends it, and it says what is known by then.",
         "FILE with SUFFIX behind it for each changed router file, beside it; NAME, the last certificate that claims "
         "something; NAME.edits where the repair is by parts; and with --after a document that names the changed "
         "files.",

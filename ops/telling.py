@@ -131,7 +131,7 @@ def rewritten_lines(answers: Answers) -> list[str]:
 
 def premises(segments: Sequence[Segment], answers: Answers, own: Sequence[rules.Row]) -> list[str]:
     """What every yes rests on beside the files."""
-    lines = wrapped("No device but these routers, and those that are told here as `outside`, forwards packets from one network to another.", "  ")
+    lines = wrapped("No device but these routers, and those that are named here as `outside`, forwards packets from one network to another.", "  ")
     for port, places in answers.own.items():
         policies = counted(len(set(places)), "policy", "policies")
         lines += wrapped(f"the list outbound at {port}, by which {policies} hold, does not guard the router's own address there", "  ", "      ")

@@ -105,8 +105,8 @@ class Back(unittest.TestCase):
         entry = copy_with(" permit ip any any", " deny ip any host 10.2.0.9\n permit ip any any")
         wrong = {
             "inbound already": (bind, ROUTER.replace(" ip helper-address 10.9.9.9", " ip access-group OTHER in")),
-            "stands 0 times": (bind, ROUTER.replace("GigabitEthernet0/1", "GigabitEthernet0/2")),
-            "stands 2 times": (bind, ROUTER + "interface GigabitEthernet0/1\n"),
+            "is there 0 times": (bind, ROUTER.replace("GigabitEthernet0/1", "GigabitEthernet0/2")),
+            "is there 2 times": (bind, ROUTER + "interface GigabitEthernet0/1\n"),
             "no list GUESTS": (entry, ROUTER.replace("extended GUESTS", "extended STAFF")),
             "does not keep the adjacency": (COPY.replace("area 0\n", "area 0\n no passive-interface GigabitEthernet0/1\n"), ROUTER),
             "is a standard list": (entry, ROUTER.replace("extended GUESTS\n permit tcp any any established\n permit ip any any", "standard GUESTS\n permit any")),
@@ -125,7 +125,7 @@ class Back(unittest.TestCase):
             " permit tcp any any established\n permit ip any any\n",
             " permit ip any any\n deny ip any host 10.2.0.8\n",
         )
-        with self.assertRaisesRegex(Wrong, "before which it stands in the copy"):
+        with self.assertRaisesRegex(Wrong, "before which it is in the copy"):
             put_back(before, after, other, "r1", Renamed())
 
     def test_a_file_after_that_is_not_of_a_repair(self) -> None:

@@ -51,8 +51,8 @@ class Statements(unittest.TestCase):
         wrong = {
             "staff reach nobody": "line 1: no network or group is named nobody", "\nstaff servers": "line 2: ", "staff reach servers survives 17": "from 0 to 16",
             "staff reach staff": "one network", "group staff = 10.9.0.0/24": "named already", "group x 10.9.0.0/24": "a group is",
-            "staff reach servers tcp 70000": "65535", "staff never reach servers survives 1": "cannot stand", "staff reach servers only through": "names waypoints",
-            "staff reach servers tcp tcp": "cannot stand|twice", "all pairs survive": "all pairs", "all pairs survive 1 but guests": "cannot stand",
+            "staff reach servers tcp 70000": "65535", "staff never reach servers survives 1": "cannot come", "staff reach servers only through": "names waypoints",
+            "staff reach servers tcp tcp": "cannot come|twice", "all pairs survive": "all pairs", "all pairs survive 1 but guests": "cannot come",
             "staff never reach servers tcp\nstaff reach servers": "line 2: it contradicts line 1", "a: staff reach servers\na: guests reach servers": "already",
             "10.1.0.1/24 reach servers": "no prefix", "x!: staff reach servers": "no name", "staff reach servers protocol 0": "1 to 255",
         }
