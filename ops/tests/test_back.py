@@ -117,6 +117,15 @@ class Back(unittest.TestCase):
             with self.subTest(says), self.assertRaisesRegex(Wrong, says):
                 put_back(COPY, new, original, "r1", Renamed())
 
+    def test_no_adjacency_of_an_open_copy(self) -> None:
+        """There it stops no packet in the network."""
+        opened = Renamed()
+        opened.kind = "open"
+        down = COPY.replace("area 0\n", "area 0\n passive-interface Ethernet101/30\n")
+        self.assertIn("passive-interface Vlan30", put_back(COPY, down, ROUTER, "r1", Renamed())[0])
+        with self.assertRaisesRegex(Wrong, "turns the adjacency at Vlan30"):
+            put_back(COPY, down, ROUTER, "r1", opened)
+
     def test_never_behind_what_permits_all(self) -> None:
         """Where the router's list has its entries in another order than the copy, nothing is written."""
         before = COPY.replace(" permit ip any any", " deny ip any host 10.2.0.8\n permit ip any any")
