@@ -84,7 +84,7 @@ def _word(action: argparse.Action) -> str:
     if action.option_strings:
         text = " ".join(part for part in (action.option_strings[-1], value) if part)
         return text if action.required else f"[{text}]"
-    return {None: value, "?": f"[{value}]", "*": f"[{value} ..]"}.get(
+    return {None: value, "?": f"[{value}]", "*": f"[{value} ..]", "+": f"{value} .."}.get(
         action.nargs if isinstance(action.nargs, str) else None, value
     )
 
@@ -143,7 +143,7 @@ def manual_page() -> str:
         lines += [".TP", f".B {_roff(tool.form)}", _roff(tool.asks[0].upper() + tool.asks[1:] + ".")]
     lines += [
         ".SH SEE ALSO",
-        _roff("docs/manual.md, docs/formats.md, docs/model.md and docs/real-files.md of the repository."),
+        _roff("docs/manual.md, docs/formats.md, docs/model.md, docs/real-files.md and docs/tools.md of the repository."),
     ]
     return "\n".join(lines) + "\n"
 
