@@ -130,7 +130,8 @@ class Answers:
         for file, changes in copy.changes.items():
             self.changes.setdefault(file, []).extend(changes)
         for place, part in enumerate(found):
-            reply = Reply(part.place, name, "open", blocks[place] if blocks else None, copy.map, copy.document, path, why, unlike=unlike(copy.changes))
+            reply = Reply(part.place, name, "open", blocks[place] if blocks else None, copy.map, copy.document, path, why, unlike=unlike(copy.changes),
+                          rules=rules_of(copy.changes))
             self.joined[part.place].replies.append(reply)
             if reply.block is not None and reply.block.answer == "yes":
                 reply.yours = self.acting(reply, asking.owners(copy.files, str(part.source)))
@@ -223,13 +224,19 @@ class Answers:
             self.changes.setdefault(file, []).extend(changes)
         for place, (want, yours) in enumerate(found):
             block = blocks[place] if blocks else None
-            reply = Reply(want.place, name, "exact", block, copy.map, copy.document, path, why, yours, want.is_stronger, unlike(copy.changes))
+            reply = Reply(want.place, name, "exact", block, copy.map, copy.document, path, why, yours, want.is_stronger, unlike(copy.changes),
+                          rules_of(copy.changes))
             self.joined[want.place].replies.append(reply)
 
 
 def unlike(changes: dict[str, list[Change]]) -> int:
     """How many entries of a copy let other packets pass than on the routers."""
     return len({(file, change) for file, some in changes.items() for change in some if change.direction != "exact"})
+
+
+def rules_of(changes: dict[str, list[Change]]) -> tuple[str, ...]:
+    """The rules by which entries of a copy are not as on the routers."""
+    return tuple(sorted({change.rule for some in changes.values() for change in some}))
 
 
 def smaller_ends(source: Net, target: Net) -> list[tuple[Net, Net]]:

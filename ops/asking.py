@@ -27,6 +27,7 @@ class Reply:
     yours: list[rules.Note] = field(default_factory=list)
     is_stronger: bool = False
     unlike: int = 0  # entries of its copy by which more packets pass an open one, or fewer an exact one
+    rules: tuple[str, ...] = ()  # by which entries of its copy are not as on the routers
 
     def answer(self) -> str:
         """`yes`, `no`, `yours` for a yes that rests on what only the user knows, or `none` where there is no answer."""

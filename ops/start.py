@@ -179,6 +179,7 @@ def told(out: str, is_json: bool, found: Sequence[Router], other: Sequence[str],
         text += "; .." if len(silent) > 6 else ""
         lines += titled(f"Nobody asks about {counted(len(silent), 'pair')} of networks, or of all packets between them:", wrapped(text, "  "), "")
     lines += titled("Answers:", telling.answer_lines(answers, before), "no policy was asked")
+    lines += titled("By these copies:", telling.copy_lines(answers), "none")
     lines += ["", telling.total(answers)]
     save(os.path.join(out, "changes.txt"), telling.changes_text(found, answers, segments), force=True)
     save(os.path.join(out, "answers.json"), commands.as_json(telling.as_json(answers)), force=True)

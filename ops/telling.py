@@ -215,7 +215,8 @@ def answer_lines(answers: Answers, before: dict[str, str]) -> list[str]:
         for place, joined in enumerate(answers.joined):
             if joined.answer() != wanted:
                 continue
-            lines += wrapped(f"{WORDS[wanted]}: {head(joined, answers)}{changed(joined, before)}", "  ", "      ")
+            by = f" [{', '.join(copies_of(joined))}]" if wanted in ("yes", "yours") else ""
+            lines += wrapped(f"{WORDS[wanted]}: {head(joined, answers)}{changed(joined, before)}{by}", "  ", "      ")
             for text in why(joined)[:2]:
                 lines += wrapped(text, "      ")
             if wanted == "no":
@@ -229,6 +230,18 @@ def answer_lines(answers: Answers, before: dict[str, str]) -> list[str]:
                 if answers.routed.get(place):
                     lines += wrapped("While routers route as the files say, none is delivered, whichever links fail (routed).", "      ")
     return lines
+
+
+def copies_of(joined: Joined) -> list[str]:
+    """The copies that gave an answer."""
+    return list(dict.fromkeys(reply.copy for reply in joined.replies if not reply.is_stronger))
+
+
+def copy_lines(answers: Answers) -> list[str]:
+    """Of each copy what it is, and by which rules entries of its lists are not as on the routers."""
+    found = {reply.copy: reply for joined in answers.joined for reply in joined.replies if not reply.is_stronger}
+    return [line for name, reply in found.items() for line in wrapped(
+        f"{name}: {COPIES[reply.kind]}; entries of lists are {'; '.join(reply.rules) or 'as on the routers'}", "  ", "      ")]
 
 
 def total(answers: Answers) -> str:
@@ -246,16 +259,14 @@ def as_json(answers: Answers) -> list[dict[str, Any]]:
                    "answer": reply.block.answer if reply.block else "refused"} for reply in joined.replies]
         found.append({"name": joined.named.name, "key": key(joined), **policy.members(), "packets": joined.named.packets, "answer": joined.answer(), "copies": copies,
                       "needs": why(joined) if joined.answer() == "yours" else [], "cannot": why(joined) if joined.answer() == "none" else [],
-                      "rules": rules_of(answers, joined)})
+                      "rules": rules_of(joined)})
     return found
 
 
-def rules_of(answers: Answers, joined: Joined) -> list[str]:
+def rules_of(joined: Joined) -> list[str]:
     """By which rules an answer was had: those of the copies that gave it."""
-    kinds = {reply.kind for reply in joined.replies}
-    found = {change.rule for changes in answers.changes.values() for change in changes
-             if change.direction == "exact" or (change.direction == "wider") == ("open" in kinds)}
-    return sorted(found) + sorted(COPIES[kind] for kind in kinds)
+    found = {rule for reply in joined.replies for rule in reply.rules}
+    return sorted(found) + sorted({COPIES[reply.kind] for reply in joined.replies})
 
 
 def changes_text(routers: Sequence[Router], answers: Answers, segments: Sequence[Segment]) -> str:
