@@ -81,8 +81,9 @@ def sealed(options: argparse.Namespace, folder: str) -> list[Sealed]:
 def seal_text(options: argparse.Namespace, rows: Sequence[Sealed]) -> str:
     """The text: remarks, and rows that `sha256sum --check` reads."""
     lines = [HEAD, "# `bin/seal --check SEAL`, or `sha256sum --check SEAL`, in the folder of this text"]
-    for word, said in (("sources", _said([os.path.join(TOP, "bin", "sources")])), ("kit", _said(["rt", "version"]))):
-        if said and program_of(options).startswith(TOP + os.sep):
+    is_built_here = program_of(options).startswith(TOP + os.sep)
+    for word, command in (("sources", [os.path.join(TOP, "bin", "sources")]), ("kit", ["rt", "version"])) if is_built_here else ():
+        if said := _said(command):
             lines.append(f"# {word}: {said}")
     for what in dict.fromkeys(row.what for row in rows):
         lines.append(f"# {what}")
