@@ -131,10 +131,11 @@ def rewritten_lines(answers: Answers) -> list[str]:
 
 def premises(segments: Sequence[Segment], answers: Answers, own: Sequence[rules.Row]) -> list[str]:
     """What every yes rests on beside the files."""
-    lines = wrapped("No device but these routers, and those that are named here as `outside`, forwards packets from one network to another.", "  ")
+    lines = wrapped("No device but these routers, and those that are named here as `outside`, forwards packets from one network to another.", "  ", "      ")
     for port, places in answers.own.items():
         policies = counted(len(set(places)), "policy", "policies")
-        lines += wrapped(f"the list outbound at {port}, by which {policies} hold, does not guard the router's own address there", "  ", "      ")
+        hold = "holds" if len(set(places)) == 1 else "hold"
+        lines += wrapped(f"the list outbound at {port}, by which {policies} {hold}, does not guard the router's own address there", "  ", "      ")
     reasons = list(dict.fromkeys(reason for segment in segments if not all(face.vrf for face in segment.faces) for reason in segment.outside))
     for reason in reasons[:SHOWN]:
         lines += wrapped(f"outside: {reason}", "  ", "      ")
@@ -225,7 +226,7 @@ def answer_lines(answers: Answers, before: dict[str, str]) -> list[str]:
                 if first.kind == "open":
                     lines += wrapped(lists_on_way(first), "    ")
                 side = "more" if first.kind == "open" else "fewer"
-                other = f"; {counted(first.unlike, 'entry', 'entries')} of its lists let {side} packets pass than on the routers" if first.unlike else ""
+                other = f"; {counted(first.unlike, 'entry', 'entries')} of its lists {'lets' if first.unlike == 1 else 'let'} {side} packets pass than on the routers" if first.unlike else ""
                 lines += wrapped(f"by {COPIES[first.kind]} ({first.copy}){other}", "      ")
                 if answers.routed.get(place):
                     lines += wrapped("While routers route as the files say, none is delivered, whichever links fail (routed).", "      ")
@@ -239,9 +240,11 @@ def copies_of(joined: Joined) -> list[str]:
 
 def copy_lines(answers: Answers) -> list[str]:
     """Of each copy what it is, and by which rules entries of its lists are not as on the routers."""
-    found = {reply.copy: reply for joined in answers.joined for reply in joined.replies if not reply.is_stronger}
-    return [line for name, reply in found.items() for line in wrapped(
-        f"{name}: {COPIES[reply.kind]}; entries of lists are {'; '.join(reply.rules) or 'as on the routers'}", "  ", "      ")]
+    found: dict[str, dict[str, None]] = {}
+    for reply in (reply for joined in answers.joined for reply in joined.replies if not reply.is_stronger):
+        text = f"{COPIES[reply.kind]}. Entries of its lists: {'; '.join(reply.rules) or 'as on the routers'}."
+        found.setdefault(text, {})[reply.copy] = None
+    return [line for text, names in found.items() for line in wrapped(f"{', '.join(names)}: {text}", "  ", "      ")]
 
 
 def total(answers: Answers) -> str:
