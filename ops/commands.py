@@ -183,7 +183,7 @@ def run(main: Callable[[list[str]], int]) -> int:
         tell(f"{name}: stopped")
         return 128 + signal.SIGINT
     except OSError as error:
-        tell(f"{name}: {error}")
+        tell(f"{name}: {error.filename}: {error.strerror}" if error.filename else f"{name}: {error}")
     except RecursionError:
         tell(f"{name}: the input is nested too deep")
     except MemoryError:
