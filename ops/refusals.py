@@ -115,8 +115,36 @@ def list_refused(program: str, copy: str, names: dict[str, str]) -> tuple[list[L
     return found, None
 
 
-def told(lines: list[Line], left: Refusal | None) -> list[str]:
-    """The lines, each kind with what to do where it comes first, and what is left."""
+def faces_of(folder: str, names: list[str]) -> dict[str, list[str]]:
+    """The interfaces that router files have, by the names of their routers."""
+    found: dict[str, list[str]] = {}
+    for name in names:
+        text = commands.load(os.path.join(folder, name))
+        host = re.search(r"^hostname (\S+)", text, re.M)
+        if host:
+            found[host[1]] = re.findall(r"^interface (\S+)", text, re.M)
+    return found
+
+
+def strange_ends(document: dict[str, Any], number: int, faces: dict[str, list[str]]) -> list[str]:
+    """The ends of a link that are no interface of the files, with one that may be meant: `Gi0/1` for GigabitEthernet0/1."""
+    try:
+        ends = [str(document["links"][number - 1][end]).partition(":") for end in ("a", "b")]
+    except (IndexError, KeyError, TypeError):
+        return []
+    out = []
+    for router, _, face in ends:
+        known, kind = faces.get(router, []), re.match(r"[A-Za-z-]*", face)
+        if face in known or not kind:
+            continue
+        near = [name for name in known if re.fullmatch(f"{re.escape(kind[0])}[A-Za-z-]*{re.escape(face[kind.end():])}", name, re.I)]
+        why = f"no file has a router {router}" if router not in faces else f"{router} has no interface {face}"
+        out.append(why + (f"; is it {router}:{near[0]}?" if near else ""))
+    return out
+
+
+def told(lines: list[Line], left: Refusal | None, ends: list[str]) -> list[str]:
+    """The lines, each kind with what to do where it comes first, what is left, and which ends of its link are no interface."""
     out: list[str] = []
     kinds: set[str] = set()
     for line in lines:
@@ -128,7 +156,7 @@ def told(lines: list[Line], left: Refusal | None) -> list[str]:
     if left:
         out.append(f"then: refused {shown(left[0])} {left[1]} {left[2]}")
         more = "; it may come of the lines above, which were left out" if lines else ""
-        out += commands.wrapped(THEN.get(left[2], "docs/manual.md has each kind under Refusals") + more, "    ")
+        out += commands.wrapped("; ".join(ends) or THEN.get(left[2], "docs/manual.md has each kind under Refusals") + more, "    ")
     return [*out, counted(len(lines), "refused line")]
 
 
@@ -171,9 +199,11 @@ def main(words: list[str]) -> int:
         left = (options.doc, *left[1:])
     elif not left:
         warned = warnings(options.doc)
+    is_face = left is not None and left[2] == "link-face" and document is not None
+    ends = [shown(text) for text in strange_ends(document[0], left[1], faces_of(folder, document[1]))] if is_face and left and document else []
     if options.json:
         rest = {"file": shown(left[0]), "number": left[1], "kind": left[2]} if left else None
         commands.put(commands.as_json({"lines": [asdict(line) for line in lines], "then": rest, "warnings": warned}))
     else:
-        commands.put("\n".join([*(f"warning: {text}" for text in warned), *told(lines, left)]) + "\n")
+        commands.put("\n".join([*(f"warning: {text}" for text in warned), *told(lines, left, ends)]) + "\n")
     return commands.NOT_SO if lines or left else commands.FINE

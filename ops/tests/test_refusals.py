@@ -42,6 +42,15 @@ class Refusals(WithFolder):
         self.assertEqual(done.returncode, 1)
         self.assertIn("then: refused net.json 3 endpoint\n", done.stdout)
 
+    def test_ends_of_links_that_are_no_interface(self) -> None:
+        self.lay("office")
+        text = read(self.path("net.json"))
+        for end, says in (("hq:Gi0/1", "hq has no interface Gi0/1; is it hq:GigabitEthernet0/1?"), ("hg:GigabitEthernet0/1", "no file has a router hg"),
+                          ("hq:Te9/9", "hq has no interface Te9/9")):
+            self.write("net.json", text.replace("hq:GigabitEthernet0/1", end))
+            done = tool("refusals", "net.json", program(), folder=self.folder)
+            self.assertIn(f"then: refused net.json 1 link-face\n    {says}\n", done.stdout)
+
 
 if __name__ == "__main__":
     unittest.main()
