@@ -7,7 +7,6 @@ use Rattle.arc_outside.specs.Files.{Files}
 use Rattle.arc_base.specs.TextLines.{lines}
 use Rattle.net_model.specs.declared.policies.Document.{Document}
 use Rattle.net_model.specs.declared.rows.Network.{Network}
-use Rattle.net_model.specs.Validity.{IsValid}
 use Rattle.net_build.specs.declared.built.Built.{Built}
 use Rattle.net_build.specs.Networks.{IsNetworkOf, IsNetworkWithin}
 use Rattle.settings_edit_laws.specs.Laws.{NetworksAreWritable}

@@ -1,5 +1,5 @@
 -- Files that were made, laid out under their names, are what the commands over a document read.
-use Rattle.std.proofs.Common.{◌≡◌, ◌∙◌, ℕ, suc, ◌+◌, ◌*◌, ◌-◌, ◌≤◌, Bool, true, false, List, [], ◌∷◌, map, length, refl, sym, ap, ap₂, arith}
+use Rattle.std.proofs.Common.{◌≡◌, ◌∙◌, ℕ, suc, ◌*◌, ◌-◌, ◌≤◌, false, List, [], ◌∷◌, map, length, refl, ap, ap₂, arith}
 use Rattle.std.proofs.lemmas.Bool.{le-ltb}
 use Rattle.std.specs.Prelude.{All, Option, Some, None, min, nat_lt, unwrap_or}
 use Rattle.arc_outside.specs.Files.{Files}

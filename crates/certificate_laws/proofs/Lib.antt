@@ -3,3 +3,4 @@ pub mod Certified
 pub mod Kept
 pub mod Repaired
 pub mod Made
+pub mod VerifiedAccepted

@@ -1,13 +1,10 @@
 -- The certificate that `generate` wrote is accepted over the files that it made.
-use Rattle.std.proofs.Common.{◌≡◌, ◌⊎◌, ◌∙◌, ℕ, ◌≤◌, ◌*◌, inl, inr, List, [], ◌∷◌, length, refl, sym, ap, subst, arith}
-use Rattle.std.specs.Prelude.{All, Some, None}
+use Rattle.std.proofs.Common.{◌≡◌, ◌⊎◌, ◌∙◌, ℕ, ◌≤◌, inl, inr, List, [], length, refl, sym, ap, subst, arith}
+use Rattle.std.specs.Prelude.{All, Some}
 use Rattle.arc_outside.specs.Files.{Files, with_files}
 use Rattle.net_build.specs.Networks.{IsNetworkWithin}
 use Rattle.net_gen.specs.declared.generating.Generated.{Generated}
-use Rattle.generated_network_laws.specs.Laws.{IsGeneratedWithin}
 use Rattle.net_gen.proofs.Lengths.{texts_short}
-use Rattle.edit_list.specs.declared.claims.Claim.{Claim}
-use Rattle.proof_log.specs.declared.steps.Log.{Log}
 use Rattle.policy_report.specs.Certificates.{certificate_text}
 use Rattle.arc_repair.specs.declared.answer.Answer.{Answer}
 use Rattle.arc_repair.specs.declared.answer.Answer.TheVariants.{Done as Claimed, Budget}

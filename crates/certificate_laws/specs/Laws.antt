@@ -1,4 +1,4 @@
--- What `repair` and `generate` wrote, `check` accepts.
+-- What `verify` printed, and what `repair` and `generate` wrote, `check` accepts.
 use Rattle.std.specs.Prelude.{◌≡◌, ◌⊎◌, ℕ, List, map, Some}
 use Rattle.arc_outside.specs.Files.{Files, with_files}
 use Rattle.net_gen.specs.declared.generating.Generated.{Generated}
@@ -9,7 +9,17 @@ use Rattle.run_files.specs.declared.outcome.Done.{Done}
 use Rattle.run_inputs.specs.Inputs.{HoldsDocument, HoldTheSame}
 use Rattle.repair_commands.specs.Repairs.{IsRepaired}
 use Rattle.generate_commands.specs.Generates.{IsSummary}
+use Rattle.check_commands.specs.ReportChecks.{IsAccepted}
 use Rattle.check_commands.specs.Tells.{IsRepairAccepted}
+use Rattle.verify_commands.specs.Verifies.{IsVerified}
+
+-- the text that `verify` printed is an accepted certificate once it is saved under a name, if the
+-- document and its router files are unchanged
+abbrev pub VerifiedIsAccepted : Type 0
+VerifiedIsAccepted =
+    (document certificate : List ℕ) (before after : Files) (done : Done) →
+    IsVerified document before done → HoldTheSame document before after
+    → after certificate ≡ Some done.text → IsAccepted document certificate after
 
 -- the certificate that `repair` wrote, of a repair or of that there is none, is accepted under each
 -- name that it is saved under, where the document and its router files are still the same

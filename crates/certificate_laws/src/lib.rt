@@ -1,5 +1,5 @@
-//! What `repair` and `generate` wrote, `check` accepts. There is no code here: each function is a
-//! law over the definitions of the three commands.
+//! What `verify` printed, and what `repair` and `generate` wrote, `check` accepts. There is no code
+//! here: each function is a law over the definitions of these commands.
 #![tactic(auto)]
 
 pub mod laws;

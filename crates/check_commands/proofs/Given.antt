@@ -1,20 +1,22 @@
 -- What judging the certificate of a repair answers.
-use Rattle.std.proofs.Common.{◌≡◌, ℕ, ◌≤◌, inl, inr, List, [], length, refl, sym, subst, arith}
+use Rattle.std.proofs.Common.{◌≡◌, ◌⊎◌, ℕ, ◌≤◌, inl, inr, List, [], length, refl, subst, arith}
 use Rattle.std.specs.Prelude.{Option, Some, None, IfSome, Result, Ok, Err}
 use Rattle.arc_base.specs.declared.limits.TheConstants.{EDIT_LIMIT, POLICY_LIMIT}
+use Rattle.arc_base.specs.TextLines.{lines}
 use Rattle.arc_outside.specs.Files.{Files}
 use Rattle.net_model.specs.declared.policies.Document.{Document}
 use Rattle.net_model.specs.declared.rows.Network.{Network}
 use Rattle.net_model.specs.Validity.{IsValid}
 use Rattle.edit_list.specs.declared.edit_kinds.Edit.{Edit}
 use Rattle.edit_list.specs.declared.edit_kinds.EditFault.{EditFault}
-use Rattle.edit_list.specs.declared.edit_kinds.EditFault.TheVariants as faults
 use Rattle.edit_list.specs.Determined.{IsCountable}
 use Rattle.edit_list.specs.EditLists.{AreEdits, DocumentHasFewClasses, NamesLimit}
 use Rattle.policy_report.specs.Edits.{HasAddresses}
 use Rattle.report_check.specs.declared.outcome.Outcome.{Outcome}
-use Rattle.repair_check.specs.Certifies.{CertificatesAreAccepted, CertifiedClaimsAreTrue}
+use Rattle.repair_check.specs.declared.judge.RepairJudge.{RepairJudge}
+use Rattle.repair_check.specs.Certifies.{CertificatesAreAccepted, CertifiedClaimsAreTrue, IsCountFault, text_answers}
 use Rattle.repair_check.specs.Instances.{IsInstance}
+use Rattle.repair_check.specs.LineByLine.{HasComeTo, Judges}
 use Rattle.run_files.specs.declared.limits.Limits.TheVariants.{Editing}
 use Rattle.run_files.specs.declared.outcome.Done.{Done}
 use Rattle.run_files.specs.declared.outcome.FileRefusal.{FileRefusal}
@@ -23,13 +25,17 @@ use Rattle.run_files.specs.declared.outcome.Stop.TheVariants as stops
 use Rattle.run_files.specs.Answers.{Gives, IsJudging}
 use Rattle.run_files.specs.Judgements.{judgement_status, judgement_text}
 use Rattle.run_files.specs.Limits.{proof_limit}
+use Rattle.run_files.specs.LineJudges.{JudgesText}
 use Rattle.run_files.specs.Refusals.{bytes_at, read_refusal}
+use Rattle.run_files.proofs.LinesJudged.{text_judged}
+use Rattle.run_files.proofs.OneAnswer.{refused_none}
 use Rattle.run_inputs.specs.declared.inputs.Sources.{Sources}
+use Rattle.run_inputs.specs.Counts.{StopsFor}
 use Rattle.run_inputs.specs.Inputs.{AreFit, HoldsDocument, ReadsSources}
-use Rattle.verify_commands.specs.Checks.{judgement_of}
-use Rattle.check_commands.specs.Readings.{JudgesLines, JudgesRepair}
-use Rattle.check_commands.specs.RepairChecks.{IsRepairJudged, IsTextRefusal}
-use Rattle.repair_commands.specs.Steps.{StopsFor}
+use Rattle.run_inputs.proofs.EditFaults.{limit_refused}
+use Rattle.check_commands.specs.ReportChecks.{judgement_of}
+use Rattle.check_commands.specs.Readings.{JudgesRepair, RefusesFor}
+use Rattle.check_commands.specs.RepairChecks.{IsJudged, IsRepairJudged, IsTextFault, IsTextRefusal}
 
 -- ---- the judgement over the network
 
@@ -49,13 +55,13 @@ module _ (document certificate : List ℕ) (net : Network) (doc : Document) wher
   pub counts_stopped : (held : Option Files) (fault : EditFault) (stop : Stop) → NamesLimit net doc fault → StopsFor document fault stop →
       IfSome held (λ files. JudgesRepair document net doc certificate files (Err stop))
   counts_stopped None fault stop names stops_for = tt
-  counts_stopped (Some files) (faults.Limit what count) stop names (inl memory) = subst (λ (s : Stop). JudgesRepair document net doc certificate files (Err s)) (sym memory) tt
-  counts_stopped (Some files) (faults.Limit what count) stop names (inr told) = subst (λ (s : Stop). JudgesRepair document net doc certificate files (Err s)) (sym told) (inr (what, count, inl names, refl))
-  counts_stopped (Some files) faults.Memory stop names memory = subst (λ (s : Stop). JudgesRepair document net doc certificate files (Err s)) (sym memory) tt
+  counts_stopped (Some files) fault stop names stops_for =
+      limit_refused (NamesLimit net doc) (λ r. (read_refusal proof_limit files certificate ≡ Some r) ⊎ RefusesFor (IsTextFault net doc (bytes_at files certificate)) document r) (IsJudged net doc (bytes_at files certificate))
+      document (λ what count passed. inr (what, count, inl passed, refl)) fault stop stops_for names
 
   module _ (list : List Edit) (is : IsInstance net doc list) (countable : IsCountable net) (addresses : HasAddresses net) (exactly : CertificatesAreAccepted) (are_true : CertifiedClaimsAreTrue) where
-    judged_here : (files : Files) (result : Result Outcome Stop) → JudgesLines proof_limit document net doc list certificate files result → JudgesRepair document net doc certificate files result
-    judged_here files (Ok outcome) told = record {
+    judged_text : (text : List ℕ) (outcome : Outcome) → Judges net doc list text outcome → IsJudged net doc text outcome
+    judged_text text outcome told = record {
       list = list;
       edits = is.edits;
       classes = is.few_classes;
@@ -63,19 +69,31 @@ module _ (document certificate : List ℕ) (net : Network) (doc : Document) wher
       countable = countable;
       counted = told.counted;
       outcome_is = told.outcome;
-      accepted = exactly net doc list (bytes_at files certificate) outcome is.judgeable.valid countable addresses is.edits (omega (arith, is.policies)) told.outcome;
-      are_true = λ claim certifies. are_true net doc list (bytes_at files certificate) claim is.judgeable.valid countable is.edits certifies;
+      accepted = exactly net doc list text outcome is.judgeable.valid countable addresses is.edits (omega (arith, is.policies)) told.outcome;
+      are_true = λ claim certifies. are_true net doc list text claim is.judgeable.valid countable is.edits certifies;
     }
-    judged_here files (Err (stops.Refused r)) (inl late) = inl late
-    judged_here files (Err (stops.Refused r)) (inr passed) = inr (passed.0, passed.1, inr (record { list = list; edits = is.edits; classes = is.few_classes; few = is.few; formula = passed.2 }), passed.3)
-    judged_here files (Err stops.Memory) told = tt
-    judged_here files (Err stops.Failed) told = tt
 
-    -- the lines are judged
-    pub judged_lines : (held : Option Files) (result : Result Outcome Stop) → IfSome held (λ files. JudgesLines proof_limit document net doc list certificate files result) →
-        IfSome held (λ files. JudgesRepair document net doc certificate files result)
-    judged_lines None result told = tt
-    judged_lines (Some files) result told = judged_here files result told
+    refused_text : (text : List ℕ) (r : FileRefusal) → RefusesFor (IsCountFault net doc list (text_answers net doc list text)) document r → RefusesFor (IsTextFault net doc text) document r
+    refused_text text r passed = (passed.0, passed.1, inr (record { list = list; edits = is.edits; classes = is.few_classes; few = is.few; formula = passed.2 }), passed.3)
+
+    module _ (judge : RepairJudge) (come : (text : List ℕ) → HasComeTo net doc list text (lines text) judge) where
+      abbrev LeadsTo : List (List ℕ) → Outcome → Type 0
+      LeadsTo ls o = (text : List ℕ) → HasComeTo net doc list text ls judge → Judges net doc list text o
+
+      abbrev Refuses : List (List ℕ) → FileRefusal → Type 0
+      Refuses ls r = (text : List ℕ) → HasComeTo net doc list text ls judge → RefusesFor (IsCountFault net doc list (text_answers net doc list text)) document r
+
+      -- the lines are judged
+      pub judged_lines : (held : Option Files) (result : Result Outcome Stop) → IfSome held (λ files. JudgesText LeadsTo Refuses proof_limit files certificate result) →
+          IfSome held (λ files. JudgesRepair document net doc certificate files result)
+      judged_lines held result told =
+          text_judged LeadsTo Refuses proof_limit certificate
+          (λ (files : Files) (r : FileRefusal). (read_refusal proof_limit files certificate ≡ Some r) ⊎ RefusesFor (IsTextFault net doc (bytes_at files certificate)) document r)
+          (λ (files : Files) (o : Outcome). IsJudged net doc (bytes_at files certificate) o)
+          (λ files r late. inl late)
+          (λ files r refuses. inr (refused_text (bytes_at files certificate) r (refuses (bytes_at files certificate) (come (bytes_at files certificate)))))
+          (λ files o leads. judged_text (bytes_at files certificate) o (leads (bytes_at files certificate) (come (bytes_at files certificate))))
+          held result told
 
 -- ---- the judgement from the files
 
@@ -88,9 +106,6 @@ IsGiven document certificate doc held result =
 -- the router files gave this
 abbrev pub ReadSources : List ℕ → Document → Option Files → Result Sources Stop → Type 0
 ReadSources document doc held result = IfSome held (λ files. HoldsDocument document files doc → ReadsSources Editing [] document doc files result)
-
-refused_none : (o : Option FileRefusal) (r : FileRefusal) → o ≡ None → o ≡ Some r → ⊥
-refused_none o r e f = absurd (cc)
 
 module _ (document certificate : List ℕ) (doc : Document) where
   pub sources_stopped : (held : Option Files) (stop : Stop) → ReadSources document doc held (Err stop) → IsGiven document certificate doc held (Err stop)

@@ -11,7 +11,7 @@ use Rattle.run_files.specs.Answers.{Answers, Gives, IsJudging}
 use Rattle.run_files.specs.Limits.{proof_limit}
 use Rattle.run_files.specs.Refusals.{read_refusal}
 use Rattle.run_inputs.specs.Inputs.{HoldsDocument, ReadsDocumentAt}
-use Rattle.verify_commands.specs.Checks.{IsChecked, RefusesInput}
+use Rattle.check_commands.specs.ReportChecks.{IsChecked, RefusesInput}
 use Rattle.check_commands.specs.Readings.{ReadsHead}
 use Rattle.check_commands.specs.RepairChecks.{HoldsRepair, IsAnyChecked, IsAnyRefusal}
 use Rattle.check_commands.proofs.Given.{IsGiven}

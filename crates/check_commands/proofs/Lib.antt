@@ -1,8 +1,9 @@
 pub mod Given
 pub mod HeadRead
 pub mod Judged
-pub mod LineByLine
+pub mod ReportTold
+pub mod OneReport
+pub mod WithinLimits
 pub mod Told
 pub mod OneFault
 pub mod OneCheck
-pub mod ReadOn

@@ -16,9 +16,9 @@ use Rattle.run_files.specs.Limits.{proof_limit}
 use Rattle.run_files.specs.Refusals.{bytes_at, read_refusal, refusal_of}
 use Rattle.run_inputs.specs.Inputs.{HoldsDocument}
 use Rattle.run_inputs.proofs.Determined.{determined, document_none, held_none, no_value}
-use Rattle.verify_commands.specs.Checks.{IsCheckRefusal, judgement_of}
-use Rattle.verify_commands.proofs.CheckOnce.{checked_once, checked_or_refused, refused_once}
-use Rattle.verify_commands.proofs.OneTrace.{same_done}
+use Rattle.check_commands.specs.ReportChecks.{IsCheckRefusal, judgement_of}
+use Rattle.check_commands.proofs.OneReport.{checked_once, checked_or_refused, refused_once}
+use Rattle.run_files.proofs.OneAnswer.{same_done}
 use Rattle.check_commands.specs.RepairChecks.{HoldsRepair, IsAnyChecked, IsAnyRefusal, IsJudged, IsRepairJudged, IsTextFault, IsTextRefusal}
 use Rattle.check_commands.proofs.OneFault.{fault_once}
 use Rattle.check_commands.proofs.Told.{as_report, judgeable, judged_or_refused, moved}

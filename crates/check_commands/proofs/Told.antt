@@ -1,6 +1,5 @@
 -- What the status of `check` says of a certificate of either form.
 use Rattle.std.proofs.Common.{◌≡◌, ℕ, inl, inr, List, [], refl, sym, ◌∙◌, ap, subst, arith}
-use Rattle.std.specs.Prelude.{Option, Some, None}
 use Rattle.arc_base.specs.declared.refusal.LimitKind.{LimitKind}
 use Rattle.arc_outside.specs.Files.{Files}
 use Rattle.net_model.specs.declared.policies.Document.{Document}
@@ -21,16 +20,14 @@ use Rattle.run_files.specs.Answers.{IsTold}
 use Rattle.run_files.specs.Judgements.{judgement_status}
 use Rattle.run_files.specs.Limits.{proof_limit}
 use Rattle.run_files.specs.Refusals.{bytes_at, read_refusal}
+use Rattle.run_files.proofs.OneAnswer.{refused_none}
 use Rattle.run_inputs.specs.Inputs.{HoldsInput}
 use Rattle.run_inputs.proofs.Determined.{determined}
-use Rattle.verify_commands.specs.Checks.{IsCheckRefusal, TellsReportCheck, judgement_of}
-use Rattle.verify_commands.proofs.Checked.{check_told}
-use Rattle.repair_commands.proofs.Counted.{within_or_passed}
+use Rattle.check_commands.specs.ReportChecks.{IsCheckRefusal, TellsReportCheck, judgement_of}
+use Rattle.check_commands.proofs.ReportTold.{check_told}
+use Rattle.check_commands.proofs.WithinLimits.{within_or_passed}
 use Rattle.check_commands.specs.RepairChecks.{HoldsRepair, IsAnyChecked, IsAnyRefusal, IsRepairJudged, IsTextFault}
 use Rattle.check_commands.specs.Tells.{IsJudgeable, IsRepairAccepted, IsRepairRejected, TellsCheck}
-
-none_refused : (o : Option FileRefusal) (r : FileRefusal) → o ≡ None → o ≡ Some r → ⊥
-none_refused o r e f = absurd (cc)
 
 module _ (document certificate : List ℕ) (files : Files) where
   -- ---- the first refusal of another text is that of a report
@@ -79,7 +76,7 @@ module _ (document certificate : List ℕ) (files : Files) where
     pub judged_or_refused : (r : FileRefusal) → IsAnyRefusal document certificate files r → ⊥
     judged_or_refused r (inl e) = (determined Editing [] document files).not_both doc net r j.input (inl e)
     judged_or_refused r (inr (inl u)) = (determined Editing [] document files).not_both doc net r j.input (inr (inl u))
-    judged_or_refused r (inr (inr (inl u))) = none_refused (read_refusal proof_limit files certificate) r j.holds.held u.refused
+    judged_or_refused r (inr (inr (inl u))) = refused_none (read_refusal proof_limit files certificate) r j.holds.held u.refused
     judged_or_refused r (inr (inr (inr (inl (holds, inl sources))))) = (determined Editing [] document files).not_both doc net r j.input (inr (inr sources))
     judged_or_refused r (inr (inr (inr (inl (holds, inr u))))) =
         let valid : IsValid net = moved doc net j.input (λ d n. IsValid n) u.doc u.net u.input u.valid in

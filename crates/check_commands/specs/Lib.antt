@@ -1,3 +1,4 @@
+pub mod ReportChecks
 pub mod RepairChecks
 pub mod Readings
 pub mod Tells

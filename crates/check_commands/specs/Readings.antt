@@ -1,17 +1,17 @@
 -- What the two readings of a certificate answer.
-use Rattle.std.specs.Prelude.{◌≡◌, ◌⊎◌, ℕ, Bool, List, None, Some, Result}
+use Rattle.std.specs.Prelude.{◌≡◌, ◌↔◌, ◌⊎◌, ℕ, Bool, List, None, Some, Result}
 use Rattle.arc_base.specs.declared.refusal.Kind.TheVariants.{Limit}
 use Rattle.arc_base.specs.declared.refusal.LimitKind.{LimitKind}
 use Rattle.arc_outside.specs.Files.{Files}
 use Rattle.arc_base.specs.TextLines.{lines}
 use Rattle.net_model.specs.declared.policies.Document.{Document}
 use Rattle.net_model.specs.declared.rows.Network.{Network}
-use Rattle.edit_list.specs.declared.edit_kinds.Edit.{Edit}
 use Rattle.edit_list.specs.declared.edit_kinds.EditFault.{EditFault}
 use Rattle.edit_list.specs.declared.edit_kinds.EditFault.TheVariants as faults
 use Rattle.report_check.specs.declared.outcome.Outcome.{Outcome}
-use Rattle.repair_check.specs.Certifies.{IsCountFault, text_answers}
-use Rattle.repair_check.specs.LineByLine.{Judges}
+use Rattle.report_check.specs.declared.outcome.Outcome.TheVariants.{Accepted}
+use Rattle.report_check.specs.LineByLine.{IsJudgedTo}
+use Rattle.report_check.specs.Outcomes.{IsReport}
 use Rattle.run_files.specs.declared.outcome.FileRefusal.{FileRefusal}
 use Rattle.run_files.specs.declared.outcome.Stop.{Stop}
 use Rattle.run_files.specs.Answers.{Gives}
@@ -32,17 +32,16 @@ RefusesFor IsFault document r =
     (what : LimitKind) × (count : ℕ) × IsFault (faults.Limit what count) ×
     (r ≡ refusal_of document 0 (Limit what count))
 
--- what the certificate's text is judged to with these edits, or a refusal of its file or for the
--- count of its formula
-abbrev pub JudgesLines : ℕ → List ℕ → Network → Document → List Edit → List ℕ → Files →
-    Result Outcome Stop → Type 0
-JudgesLines limit document net doc list certificate files result =
-    Gives (λ r. (read_refusal limit files certificate ≡ Some r) ⊎
-    RefusesFor (IsCountFault net doc list
-    (text_answers net doc list (bytes_at files certificate))) document r)
-    (Judges net doc list (bytes_at files certificate)) result
+-- what the text is judged to as a report, which is accepted exactly where it is a report of right
+-- verdicts; or a refusal of its file
+abbrev pub JudgesReport : ℕ → Network → Document → List ℕ → Files → Result Outcome Stop → Type 0
+JudgesReport limit net doc certificate files result =
+    Gives (λ r. read_refusal limit files certificate ≡ Some r)
+    (λ o. IsJudgedTo net doc (bytes_at files certificate) o ×
+    ((o ≡ Accepted) ↔ IsReport net doc (bytes_at files certificate))) result
 
--- what it is judged to over the network, or a refusal of its file or for a count
+-- what the text is judged to over the network as the certificate of a repair, or a refusal of its
+-- file or for a count
 abbrev pub JudgesRepair : List ℕ → Network → Document → List ℕ → Files →
     Result Outcome Stop → Type 0
 JudgesRepair document net doc certificate files result =

@@ -29,7 +29,8 @@ use Rattle.run_files.specs.Judgements.{judgement_status, judgement_text}
 use Rattle.run_files.specs.Limits.{document_limit, proof_limit}
 use Rattle.run_files.specs.Refusals.{bytes_at, read_refusal, refusal_of}
 use Rattle.run_inputs.specs.Inputs.{HoldsInput, IsFilesRefusal, RefusesDocument}
-use Rattle.verify_commands.specs.Checks.{IsChecked, RefusesBehind, RefusesCertificate, judgement_of}
+use Rattle.check_commands.specs.ReportChecks.{IsChecked, RefusesBehind, RefusesCertificate}
+use Rattle.check_commands.specs.ReportChecks.{judgement_of}
 
 -- whether a text is judged as the certificate of a repair: its first line is the head of one
 abbrev pub begins_repair : List (List ℕ) → Bool

@@ -13,7 +13,7 @@ use Rattle.run_files.specs.declared.limits.Limits.TheVariants.{Editing}
 use Rattle.run_files.specs.declared.outcome.FileRefusal.{FileRefusal}
 use Rattle.run_files.specs.Refusals.{bytes_at}
 use Rattle.run_inputs.specs.Inputs.{HoldsInput}
-use Rattle.verify_commands.specs.Checks.{IsAccepted, IsRejected}
+use Rattle.check_commands.specs.ReportChecks.{IsAccepted, IsRejected}
 use Rattle.check_commands.specs.RepairChecks.{HoldsRepair, IsAnyRefusal}
 
 -- The certificate is held and begins as that of a repair; the document and its files have a network

@@ -10,6 +10,7 @@ ghost use Rattle.check_commands.specs.RepairChecks.{IsTextRefusal};
 
 use crate::first_reading::begins_repair;
 use crate::repair_lines::judge_repair;
+use crate::report_lines::{check_lines, judgement_of};
 use arc_base::Name;
 use arc_base::limits::PROOF_LIMIT;
 use arc_outside::Store;
@@ -17,7 +18,6 @@ use net_model::Document;
 use run_files::{Done, Limits, Stop, told};
 use run_inputs::{read_document, read_sources};
 use std::alloc::Global;
-use verify_commands::{check_lines, judgement_of};
 
 /// Judges the certificate of a repair from the document, the router files and its own lines alone.
 fn check_certificate<S: Store>(

@@ -6,5 +6,6 @@ mod checking;
 mod first_reading;
 pub mod laws;
 mod repair_lines;
+mod report_lines;
 
 pub use checking::check;

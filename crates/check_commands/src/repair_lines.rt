@@ -1,55 +1,81 @@
 //! The second reading of a repair's certificate: its lines are judged one by one.
-ghost use Rattle.std.specs.Prelude.{◌≤◌, ◌<◌, ◌^◌, length, IfSome};
-ghost use Rattle.repair_check.specs.Instances.{IsInstance};
+ghost use Rattle.std.specs.Prelude.{◌≤◌, length, IfSome};
 ghost use Rattle.run_files.specs.Answers.{OnlyReads};
 ghost use Rattle.run_files.specs.Limits.{least_limit};
 ghost use Rattle.run_inputs.specs.Inputs.{AreFit};
-ghost use Rattle.check_commands.specs.Readings.{JudgesLines, JudgesRepair};
+ghost use Rattle.check_commands.specs.Readings.{JudgesRepair};
 
 use arc_base::limits::{POLICY_LIMIT, PROOF_LIMIT};
 use arc_base::{List, Name};
-use arc_outside::{Pieces, Store};
+use arc_outside::Store;
 use edit_list::{Edit, edits};
 use net_model::{Document, Network};
 use repair_check::laws::{certificates_are_accepted, certified_claims_are_true};
 use repair_check::{RepairJudge, read_addresses};
-use repair_commands::fault_stop;
 use report_check::Outcome;
-use run_files::{Stop, next_line};
+use run_files::{LineJudge, Stop, judge_lines};
+use run_inputs::fault_stop;
 use std::alloc::Global;
 use std::ops::ControlFlow;
 
-/// Judges the lines of a certificate one by one as those of a repair over the network, or refuses
-/// its file or, for a count, the document. No more of it than a piece and a line is held.
-fn judge_lines<S: Store>(
-    alloc: Global,
-    document: &Name,
-    net: &Network,
-    doc: &Document,
-    list: &List<Edit>,
-    certificate: &Name,
-    limit: u64,
-    store: &mut S,
-) -> Result<Outcome, Stop>
-    requires instance { IsInstance net.now doc.now list.now }
-    requires limit { limit < 2 ^ 63 }
-    ensures told { IfSome (S.held store.old) (λ files.
-        JudgesLines limit document.now net.now doc.now list.now certificate.now files result) }
-    ensures reads { OnlyReads limit S.held S.faults S.absences S.taken store.old store.new result }
-{
-    let mut judge = RepairJudge::make(alloc);
-    let mut pieces = Pieces::make(alloc, limit);
-    'lines: loop {
-        match next_line(alloc, &mut pieces, store, certificate) {
-            Ok(true) => {}
-            Ok(false) => return Ok(judge.end(alloc, net, doc, list)?),
-            Err(stop) => return Err(stop),
+/// The judge of a repair's certificate over one network with its document, whose name it has for a
+/// refusal, and their edits.
+#[derive(Drop)]
+struct RepairLines<'a> {
+    document: &'a Name,
+    net: &'a Network,
+    doc: &'a Document,
+    list: &'a List<Edit>,
+    judge: RepairJudge,
+}
+
+impl<'a> LineJudge for RepairLines<'a> {
+    ghost use Rattle.std.specs.Prelude.{◌-◌, ◌^◌, ℕ, List as Items};
+    ghost use Rattle.repair_check.specs.Certifies.{IsCountFault, text_answers};
+    ghost use Rattle.repair_check.specs.Instances.{IsInstance};
+    ghost use Rattle.repair_check.specs.LineByLine.{CanGoOn, HasComeTo, Judges};
+    ghost use Rattle.check_commands.specs.Readings.{RefusesFor};
+
+    type Outcome = Outcome;
+
+    ghost room = { λ lines. 2 ^ 64 - 1 - lines.judge.number };
+
+    ghost can_go_on = { λ lines. IsInstance lines.net.now lines.doc.now lines.list.now ×
+        CanGoOn lines.net.now lines.doc.now lines.list.now lines.judge };
+
+    ghost leads_to = { λ lines ls o. (text : Items ℕ) →
+        HasComeTo lines.net.now lines.doc.now lines.list.now text ls lines.judge →
+        Judges lines.net.now lines.doc.now lines.list.now text o };
+
+    ghost refuses = { λ lines ls r. (text : Items ℕ) →
+        HasComeTo lines.net.now lines.doc.now lines.list.now text ls lines.judge →
+        RefusesFor (IsCountFault lines.net.now lines.doc.now lines.list.now
+        (text_answers lines.net.now lines.doc.now lines.list.now text)) lines.document.now r };
+
+    fn line(
+        self,
+        alloc: Global,
+        line: &[u8],
+    ) -> Result<ControlFlow<Outcome, RepairLines<'a>>, Stop> {
+        let document = self.document;
+        let net = self.net;
+        let doc = self.doc;
+        let list = self.list;
+        match self.judge.line(alloc, net, doc, list, line) {
+            Ok(ControlFlow::Continue(judge)) => Ok(ControlFlow::Continue(RepairLines {
+                document,
+                net,
+                doc,
+                list,
+                judge,
+            })),
+            Ok(ControlFlow::Break(outcome)) => Ok(ControlFlow::Break(outcome)),
+            Err(fault) => Err(fault_stop(alloc, document, fault)),
         }
-        match judge.line(alloc, net, doc, list, pieces.line()) {
-            Ok(ControlFlow::Continue(next)) => judge = next,
-            Ok(ControlFlow::Break(outcome)) => return Ok(outcome),
-            Err(fault) => return Err(fault_stop(alloc, document, fault)),
-        }
+    }
+
+    fn end(self, alloc: Global) -> Result<Outcome, Stop> {
+        Ok(self.judge.end(alloc, self.net, self.doc, self.list)?)
     }
 }
 
@@ -77,14 +103,13 @@ pub fn judge_repair<S: Store>(
         Ok(list) => list,
         Err(fault) => return Err(fault_stop(alloc, document, fault)),
     };
-    judge_lines(
-        alloc,
+    let judge = RepairJudge::make(alloc);
+    let lines = RepairLines {
         document,
         net,
         doc,
-        &list,
-        certificate,
-        PROOF_LIMIT,
-        store,
-    )
+        list: &list,
+        judge,
+    };
+    judge_lines(alloc, store, certificate, PROOF_LIMIT, lines)
 }

@@ -25,6 +25,7 @@ use Rattle.run_files.specs.ReadingLines.{IsWithinLimit}
 use Rattle.cnf_commands.specs.ProofLines.{JudgesProof}
 use Rattle.run_files.specs.Limits.{proof_limit}
 use Rattle.run_files.specs.Refusals.{bytes_at, read_refusal}
+use Rattle.run_files.proofs.OneAnswer.{refused_none}
 use Rattle.std.specs.Option.{option_or}
 
 -- the refusal of the formula is the first
@@ -95,9 +96,6 @@ judged held now later same still cnf proof checker judgement done formula tried 
 -- what a status says
 one_formula : (text : List ℕ) (f g : Formula) → reading text ≡ Ok f → reading text ≡ Ok g → f ≡ g
 one_formula text f g e h = cc
-
-refused_none : (o : Option FileRefusal) (r : FileRefusal) → o ≡ None → o ≡ Some r → ⊥
-refused_none o r e f = absurd (cc)
 
 refuted_or_not : (cnf proof : List ℕ) (files : Files) → IsRefuted cnf proof files → IsNotRefuted cnf proof files → ⊥
 refuted_or_not cnf proof files yes' no' =

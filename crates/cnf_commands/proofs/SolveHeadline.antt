@@ -28,14 +28,12 @@ use Rattle.cnf_commands.specs.Lrats.{IsRefuted}
 use Rattle.cnf_commands.specs.Lrats.{lrat_refusal}
 use Rattle.run_files.specs.Limits.{proof_limit}
 use Rattle.run_files.specs.Refusals.{bytes_at, read_refusal, refusal_of, refusal_within}
+use Rattle.run_files.proofs.OneAnswer.{refused_none}
 use Rattle.std.specs.Option.{option_or}
 use Rattle.cnf_commands.specs.Solves.{found_status, name_refusal, solve_refusal, IsFound, IsSolved, IsSolveRefusal}
 use Rattle.cnf_commands.proofs.FormulaVariables.{formula_is_good}
 
 -- ---- refusals
-
-refused_none : (o : Option FileRefusal) (r : FileRefusal) → o ≡ None → o ≡ Some r → ⊥
-refused_none o r e f = absurd (cc)
 
 first_none : (o s : Option FileRefusal) → option_or o s ≡ None → o ≡ None
 first_none None s e = refl

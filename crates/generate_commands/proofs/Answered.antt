@@ -1,9 +1,8 @@
 -- The answer of `generate`: what its lines tell, and what is whole.
 use Rattle.std.proofs.Common.{◌≡◌, ◌⊎◌, ℕ, ◌+◌, inl, inr, Bool, true, false, cond, List, [], ◌∷◌, ◌++◌, length, ◌≤◌, refl, sym, ap, subst, arith}
-use Rattle.std.specs.Prelude.{codes, Option, Some, None, IfSome, Result, Ok, Err, IfErr}
+use Rattle.std.specs.Prelude.{codes, Option, Some, None, IfSome, Result, Ok, Err}
 use Rattle.std.specs.List.{AllZip}
 use Rattle.std.proofs.lemmas.List.Sums.{sum_by-cons}
-use Rattle.std.proofs.lemmas.Slice.Zip.{AllZip-long}
 use Rattle.arc_outside.specs.Files.{Files}
 use Rattle.net_model.specs.declared.policies.Document.{Document}
 use Rattle.net_model.specs.declared.policies.Policy.{Policy}
@@ -15,7 +14,6 @@ use Rattle.net_laws.specs.Laws.{HasOnePairOfEnds, RightVerdictsAreTrue, RightVer
 use Rattle.edit_list.specs.declared.claims.Claim.TheVariants.{Repaired, NoRepair}
 use Rattle.edit_list.specs.declared.edit_kinds.Edit.{Edit}
 use Rattle.edit_list.specs.declared.edit_kinds.EditFault.{EditFault}
-use Rattle.edit_list.specs.declared.edit_kinds.EditFault.TheVariants as faults
 use Rattle.edit_list.specs.Determined.{AfterIsValid, IsCountable}
 use Rattle.edit_list.specs.EditLists.{DocumentHasFewClasses}
 use Rattle.edit_list.specs.Prices.{chosen_of}
@@ -30,14 +28,15 @@ use Rattle.command_words.specs.declared.commands.GenerateWords.{GenerateWords}
 use Rattle.run_files.specs.declared.outcome.Done.{Done}
 use Rattle.run_files.specs.declared.outcome.Stop.{Stop}
 use Rattle.run_files.specs.declared.outcome.Stop.TheVariants as stops
-use Rattle.run_files.specs.Answers.{Answers, Gives, HasStopCause}
+use Rattle.run_files.specs.Answers.{Answers, Gives}
 use Rattle.run_files.specs.Limits.{proof_limit}
 use Rattle.file_copies.specs.Outputs.{wrote_lines}
 use Rattle.file_copies.specs.Changes.{IsEditable}
 use Rattle.net_build.specs.declared.built.Built.{Built}
 use Rattle.net_gen.specs.declared.generating.Generated.{Generated}
 use Rattle.repair_commands.specs.Repairs.{IsAnswered}
-use Rattle.repair_commands.specs.Steps.{IsWholeAnswer, StopsFor}
+use Rattle.run_inputs.specs.Counts.{StopsFor}
+use Rattle.run_inputs.proofs.EditFaults.{limit_refused}
 use Rattle.generate_commands.specs.Generates.{IsGenerateRefusal, IsMade, IsSummary, TellsAnswer, WritesOne, certificate_of, default_bound, default_conflicts, document_name, status_of}
 use Rattle.generate_commands.specs.Summaries.{answer_lines, flags_set, made_line, repair_line, tally_line}
 use Rattle.generate_commands.specs.Tallies.{IsTally, tally_of}
@@ -62,14 +61,6 @@ rights net [] [] h = tt
 rights net [] (v ∷ vs) h = absurd h
 rights net (p ∷ ps) [] h = absurd h
 rights net (p ∷ ps) (v ∷ vs) h = (h.0.right, rights net ps vs h.1)
-
--- ---- an answer is whole
-
-pub whole : (net : Network) (doc : Document) (list : List Edit) (answer : Answer) → IsAnswer net doc list default_bound default_conflicts answer → IsWholeAnswer doc list answer
-whole net doc list (Claimed (Repaired price bound flags verdicts) log) is =
-    (is.certificate.right.one_each, AllZip-long _ doc.policies verdicts is.certificate.right.judged)
-whole net doc list (Claimed (NoRepair bound) log) is = tt
-whole net doc list (Budget log) is = tt
 
 -- ---- what it tells
 
@@ -118,12 +109,6 @@ answers words held (Err (stops.Refused r)) is = whatever held is
 answers words held (Err stops.Memory) is = tt
 answers words held (Err stops.Failed) is = tt
 
-pub any_cause : (failed absent long : Type 0) (result : Result Done Stop) → IfErr result (HasStopCause ⊥ ⊥ ⊥) → IfErr result (HasStopCause failed absent long)
-any_cause failed absent long (Ok done) h = tt
-any_cause failed absent long (Err (stops.Refused r)) h = record { missing = λ is. absurd (h.missing is); too_long = λ is. absurd (h.too_long is) }
-any_cause failed absent long (Err stops.Memory) h = tt
-any_cause failed absent long (Err stops.Failed) h = absurd h
-
 -- ---- few classes
 
 -- where the document has few classes, each policy has few
@@ -163,23 +148,6 @@ module _ (ends : (net : Network) → IsValid net → HasOnePairOfEnds net) (are_
 
 pub counts_stopped : (words : GenerateWords) (made : Generated) (built : Built) (fault : EditFault) (stop : Stop) → IsMade words made built → IsValid built.net
     → IsRepairFault built.net made.doc default_bound fault → StopsFor document_name fault stop → Gives (IsGenerateRefusal words) (IsSummary words) (Err stop)
-counts_stopped words made built (faults.Limit what count) stop is_made valid fault (inl memory) =
-    subst (λ (s : Stop). Gives (IsGenerateRefusal words) (IsSummary words) (Err s)) (sym memory) tt
-counts_stopped words made built (faults.Limit what count) stop is_made valid fault (inr told) =
-    subst (λ (s : Stop). Gives (IsGenerateRefusal words) (IsSummary words) (Err s)) (sym told) (record {
-      made = made;
-      built = built;
-      is_made = is_made;
-      valid = valid;
-      what = what;
-      count = count;
-      fault = fault;
-      told = refl;
-    })
-counts_stopped words made built faults.Memory stop is_made valid fault is = subst (λ (s : Stop). Gives (IsGenerateRefusal words) (IsSummary words) (Err s)) (sym is) tt
-
--- and it is no missing file
-pub stop_cause : (fault : EditFault) (stop : Stop) → StopsFor document_name fault stop → HasStopCause ⊥ ⊥ ⊥ stop
-stop_cause (faults.Limit what count) stop (inl memory) = subst (λ (s : Stop). HasStopCause ⊥ ⊥ ⊥ s) (sym memory) tt
-stop_cause (faults.Limit what count) stop (inr told) = subst (λ (s : Stop). HasStopCause ⊥ ⊥ ⊥ s) (sym told) (record { missing = λ missing. absurd (cc); too_long = λ long. absurd (cc) })
-stop_cause faults.Memory stop is = subst (λ (s : Stop). HasStopCause ⊥ ⊥ ⊥ s) (sym is) tt
+counts_stopped words made built fault stop is_made valid is_fault is =
+    limit_refused (IsRepairFault built.net made.doc default_bound) (IsGenerateRefusal words) (IsSummary words) document_name
+    (λ what count passed. record { made = made; built = built; is_made = is_made; valid = valid; what = what; count = count; fault = passed; told = refl }) fault stop is is_fault

@@ -1,13 +1,10 @@
 //! The command `generate N --proof NAME`.
 ghost use Rattle.std.specs.Prelude.{◌≡◌, ◌≤◌, ◌<◌, ◌^◌, [], length, All, IfOk, IfErr};
 ghost use Rattle.net_build.specs.Networks.{IsBuiltWithin};
-ghost use Rattle.arc_repair.specs.Answers.{IsRepairFault};
 ghost use Rattle.run_files.specs.Answers.{Gives, HasStopCause};
 ghost use Rattle.run_inputs.specs.Inputs.{AreFit};
-ghost use Rattle.repair_commands.specs.Steps.{StopsFor};
-ghost use Rattle.generate_commands.specs.Generates.{default_bound, document_name};
 ghost use Rattle.generate_commands.specs.Generates.{IsGenerateRefusal, IsSummary};
-ghost use Rattle.generate_commands.specs.Steps.{IsFound, IsSomeGenerated};
+ghost use Rattle.generate_commands.specs.Steps.{IsSomeGenerated};
 
 use crate::answers::answer_done;
 use crate::tallies::judge_all;
@@ -15,18 +12,17 @@ use arc_base::limits::{
     DEFAULT_CONFLICTS, DEFAULT_PRICE, EDITED_ENTRY_LIMIT, FEWEST_GENERATED, LINK_LIMIT,
     MOST_GENERATED, POLICY_LIMIT, ROUTER_LIMIT,
 };
-use arc_base::{Kind, List, Memory, Name};
-use arc_repair::Answer;
+use arc_base::{Memory, Name};
 use command_words::GenerateWords;
-use edit_list::{Edit, EditFault, edits};
 use edit_space::laws::networks_after_edits_are_valid;
 use generated_network_laws::laws::generated_files_are_not_refused;
 use net_build::{Built, network_within};
 use net_doc::NetFault;
 use net_gen::Generated;
 use net_laws::verdicts_are_right;
-use net_model::{Document, Network};
-use run_files::{Done, Limits, Stop, refused};
+use repair_commands::find_repair;
+use run_files::{Done, Limits, Stop};
+use run_inputs::fault_stop;
 use std::alloc::Global;
 
 /// What a refusal calls the document, which is no file.
@@ -52,35 +48,6 @@ fn build(alloc: Global, made: &Generated) -> Result<Built, Memory>
     }
 }
 
-/// The edits of the network, and its cheapest repair.
-fn find_repair(
-    alloc: Global,
-    net: &Network,
-    doc: &Document,
-) -> Result<(List<Edit>, Answer), EditFault>
-    requires fit { AreFit doc.now net.now }
-    requires policies { length doc.now.policies ≤ POLICY_LIMIT }
-    ensures found { IfOk result (λ found. IsFound net.now doc.now found.0 found.1) }
-    ensures fault { IfErr result (IsRepairFault net.now doc.now default_bound) }
-{
-    let list = edits(alloc, net, doc)?;
-    let answer = arc_repair::repair_of(alloc, net, doc, &list, DEFAULT_PRICE, DEFAULT_CONFLICTS)?;
-    Ok((list, answer))
-}
-
-/// A count that passes its limit refuses the document.
-fn fault_stop(alloc: Global, fault: EditFault) -> Stop
-    ensures { StopsFor document_name fault result }
-{
-    match fault {
-        EditFault::Limit(what, count) => match Name::make(alloc, DOCUMENT) {
-            Ok(name) => refused(alloc, &name, 0, Kind::Limit(what, count)),
-            Err(_) => Stop::Memory,
-        },
-        EditFault::Memory => Stop::Memory,
-    }
-}
-
 /// Makes the network of this many routers, judges its policies, and repairs it with the highest
 /// price and the most conflicts that `repair` uses where none are named. It reads nothing, and
 /// writes only the certificate. The time is that of the search.
@@ -94,13 +61,13 @@ pub fn generate(alloc: Global, words: &GenerateWords) -> Result<Done, Stop>
     networks_after_edits_are_valid();
     let made = net_gen::generate(alloc, words.number)?;
     let built = build(alloc, &made)?;
-    let (list, answer) = match find_repair(alloc, &built.net, &made.doc) {
+    let (net, doc) = (&built.net, &made.doc);
+    let document = Name::make(alloc, DOCUMENT)?;
+    let (list, answer) = match find_repair(alloc, net, doc, DEFAULT_PRICE, DEFAULT_CONFLICTS) {
         Ok(found) => found,
-        Err(fault) => return Err(fault_stop(alloc, fault)),
+        Err(fault) => return Err(fault_stop(alloc, &document, fault)),
     };
-    let verdicts = judge_all(alloc, &built.net, &made.doc)?;
-    let done = answer_done(
-        alloc, words, &built.net, &made.doc, &verdicts, &list, &answer,
-    )?;
+    let verdicts = judge_all(alloc, net, doc)?;
+    let done = answer_done(alloc, words, net, doc, &verdicts, &list, &answer)?;
     Ok(done)
 }

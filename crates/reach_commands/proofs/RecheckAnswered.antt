@@ -12,13 +12,13 @@ use Rattle.arc_recheck.specs.Texts.{recheck_text}
 use Rattle.command_words.specs.declared.commands.RecheckWords.{RecheckWords}
 use Rattle.run_files.specs.declared.limits.Limits.TheVariants.{Judging}
 use Rattle.run_files.specs.declared.outcome.Done.{Done}
-use Rattle.run_files.specs.declared.outcome.FileRefusal.{FileRefusal}
 use Rattle.run_files.specs.declared.outcome.Stop.{Stop}
 use Rattle.run_files.specs.declared.outcome.Stop.TheVariants as stops
 use Rattle.run_files.specs.Answers.{Answers, IsJudging}
 use Rattle.run_files.specs.Limits.{proof_limit}
 use Rattle.run_files.specs.ReadingLines.{IsWithinLimit}
 use Rattle.run_files.specs.Refusals.{read_refusal}
+use Rattle.run_files.proofs.OneAnswer.{refused_none}
 use Rattle.run_inputs.specs.declared.inputs.Input.{Input}
 use Rattle.run_inputs.specs.Counts.{CountsClasses, PoliciesHaveFewClasses}
 use Rattle.run_inputs.specs.Inputs.{HoldsDocument, IsFit, ReadsDocumentAt, ReadsFiles}
@@ -49,13 +49,10 @@ classes_stopped held one two first second words doc input stop told read input_i
     classes_stopped_here held words doc input stop told (subst P first read) (subst Q (second ∙ first) input_is)
 
 -- the second reading is stopped; a file that was within its limit is not refused then
-not_refused : (o : Option FileRefusal) (r : FileRefusal) → o ≡ None → o ≡ Some r → ⊥
-not_refused o r e f = absurd (cc)
-
 reading_stopped_here : (held : Option Files) (words : RecheckWords) (input : Input) (stop : Stop) → IfSome held (λ files. IsWithinLimit proof_limit files words.report (Ok tt)) →
     IfSome held (λ files. ReadsHeld proof_limit input.net input.doc words.report files (Err stop)) → Answers IsJudging (IsRecheckRefusal words) (IsRecheckAnswer words) held (Err stop)
 reading_stopped_here None words input (stops.Refused r) read late = tt
-reading_stopped_here (Some files) words input (stops.Refused r) read late = absurd (not_refused (read_refusal proof_limit files words.report) r read late)
+reading_stopped_here (Some files) words input (stops.Refused r) read late = absurd (refused_none (read_refusal proof_limit files words.report) r read late)
 reading_stopped_here held words input stops.Memory read late = tt
 reading_stopped_here held words input stops.Failed read late = tt
 

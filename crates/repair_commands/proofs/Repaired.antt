@@ -5,6 +5,7 @@ use Rattle.arc_base.specs.declared.refusal.Kind.TheVariants.{Limit, OutputName}
 use Rattle.arc_base.specs.declared.refusal.LimitKind.{LimitKind}
 use Rattle.arc_outside.specs.Files.{Files}
 use Rattle.net_model.specs.declared.policies.Document.{Document}
+use Rattle.net_model.specs.declared.rows.Network.{Network}
 use Rattle.net_doc.specs.Documents.{IsWellFormed}
 use Rattle.net_build.specs.Networks.{IsBuiltWithin}
 use Rattle.edit_list.specs.declared.claims.Claim.TheVariants.{Repaired, NoRepair}
@@ -25,13 +26,15 @@ use Rattle.run_files.specs.declared.limits.Limits.TheVariants.{Editing}
 use Rattle.run_files.specs.declared.outcome.Done.{Done}
 use Rattle.run_files.specs.declared.outcome.Stop.{Stop}
 use Rattle.run_files.specs.declared.outcome.Stop.TheVariants as stops
-use Rattle.run_files.specs.Answers.{Answers, HasStopCause}
+use Rattle.run_files.specs.Answers.{Answers}
 use Rattle.run_files.specs.Refusals.{refusal_of}
 use Rattle.run_files.proofs.Answering.{refused, stopped}
 use Rattle.run_inputs.specs.declared.inputs.Sources.{Sources}
+use Rattle.run_inputs.specs.Counts.{StopsFor}
+use Rattle.run_inputs.proofs.EditFaults.{limit_refused}
 use Rattle.run_inputs.specs.Inputs.{AreFit, HoldsDocument, IsDocumentRefusal, ReadsDocumentAt, ReadsSources}
 use Rattle.repair_commands.specs.Repairs.{has_clash, IsRepaired, IsRepairRefusal, WritesAnswer, WritesCertificate}
-use Rattle.repair_commands.specs.Steps.{IsFound, IsWholeAnswer, StopsFor}
+use Rattle.repair_commands.specs.Steps.{IsFound, IsWholeAnswer}
 
 -- where the command stops
 abbrev pub StoppedAs : RepairWords → Option Files → Stop → Type 0
@@ -99,10 +102,10 @@ counts_told (Some files) words doc sources what count before free told fit fault
 
 counted : (held : Option Files) (words : RepairWords) (doc : Document) (sources : Sources) (fault : EditFault) (stop : Stop) → ReadBefore words held doc → has_clash words doc ≡ false
     → ReadSources words held doc sources → AreFit doc sources.built.net → IsRepairFault sources.built.net doc words.bound fault → StopsFor words.document fault stop → StoppedAs words held stop
-counted held words doc sources (faults.Limit what count) stop before free told fit fault is =
-    refused (WritesCertificate words) (IsRepairRefusal words) (IsRepaired words) held (refusal_of words.document 0 (Limit what count)) stop
-    (counts_told held words doc sources what count before free told fit fault) is
-counted held words doc sources faults.Memory stop before free told fit fault is = subst (λ (s : Stop). StoppedAs words held s) (sym is) tt
+counted held words doc sources fault stop before free told fit is_fault is =
+    limit_refused (IsRepairFault sources.built.net doc words.bound) (λ r. IfSome held (λ files. IsRepairRefusal words files r))
+    (λ (done : Done). WritesCertificate words done × IfSome held (λ files. IsRepaired words files done)) words.document
+    (λ what count passed. counts_told held words doc sources what count before free told fit passed) fault stop is is_fault
 
 pub counts_stopped : (held one : Option Files) → one ≡ held → (words : RepairWords) (doc : Document) (sources : Sources) (fault : EditFault) (stop : Stop) → ReadBefore words held doc → has_clash words doc ≡ false
     → ReadSources words one doc sources → AreFit doc sources.built.net → IsRepairFault sources.built.net doc words.bound fault → StopsFor words.document fault stop → StoppedAs words held stop
@@ -111,11 +114,11 @@ counts_stopped held one same words doc sources fault stop before free told fit i
     counted held words doc sources fault stop before free (subst P same told) fit is_fault is
 
 -- an answer is whole
-pub whole : (words : RepairWords) (doc : Document) (sources : Sources) (list : List Edit) (answer : Answer) → IsAnswer sources.built.net doc list words.bound words.conflicts answer → IsWholeAnswer doc list answer
-whole words doc sources list (Claimed (Repaired price bound flags verdicts) log) is =
+pub whole : (net : Network) (doc : Document) (list : List Edit) (most conflicts : ℕ) (answer : Answer) → IsAnswer net doc list most conflicts answer → IsWholeAnswer doc list answer
+whole net doc list most conflicts (Claimed (Repaired price bound flags verdicts) log) is =
     (is.certificate.right.one_each, AllZip-long _ doc.policies verdicts is.certificate.right.judged)
-whole words doc sources list (Claimed (NoRepair bound) log) is = tt
-whole words doc sources list (Budget log) is = tt
+whole net doc list most conflicts (Claimed (NoRepair bound) log) is = tt
+whole net doc list most conflicts (Budget log) is = tt
 
 -- what is written
 own : (words : RepairWords) (doc : Document) (sources : Sources) (list : List Edit) (answer : Answer) (done : Done) → WritesAnswer words doc sources.built sources.files list answer done → WritesCertificate words done
@@ -147,7 +150,7 @@ own words doc sources list (Budget log) done w = record {
 
 done_told : (files : Files) (words : RepairWords) (doc : Document) (sources : Sources) (list : List Edit) (answer : Answer) (done : Done) → HoldsDocument words.document files doc → has_clash words doc ≡ false
     → ReadsSources Editing [] words.document doc files (Ok sources) → IsWellFormed doc → AreFit doc sources.built.net → IsBuiltWithin [] 2048 doc sources.files sources.built
-    → length sources.files ≡ length doc.routers → All (λ t. length t ≤ 1048576) sources.files → IsFound words sources.built.net doc list answer
+    → length sources.files ≡ length doc.routers → All (λ t. length t ≤ 1048576) sources.files → IsFound words.bound words.conflicts sources.built.net doc list answer
     → WritesAnswer words doc sources.built sources.files list answer done → IsRepaired words files done
 done_told files words doc sources list answer done is free read well_formed fit built count bytes found writes =
     let Editable : List (List ℕ) → Type 0 = λ fs. IsEditable doc sources.built fs in
@@ -165,7 +168,7 @@ done_told files words doc sources list answer done is free read well_formed fit 
 
 pub repaired : (held one : Option Files) → one ≡ held → (words : RepairWords) (doc : Document) (sources : Sources) (list : List Edit) (answer : Answer) (done : Done) → ReadBefore words held doc → has_clash words doc ≡ false
     → ReadSources words one doc sources → IsWellFormed doc → AreFit doc sources.built.net → IsBuiltWithin [] 2048 doc sources.files sources.built
-    → length sources.files ≡ length doc.routers → All (λ t. length t ≤ 1048576) sources.files → IsFound words sources.built.net doc list answer
+    → length sources.files ≡ length doc.routers → All (λ t. length t ≤ 1048576) sources.files → IsFound words.bound words.conflicts sources.built.net doc list answer
     → WritesAnswer words doc sources.built sources.files list answer done → Answers (WritesCertificate words) (IsRepairRefusal words) (IsRepaired words) held (Ok done)
 repaired held one same words doc sources list answer done before free told well_formed fit built count bytes found writes = go held before (subst P same told)
   where
@@ -175,9 +178,3 @@ repaired held one same words doc sources list answer done before free told well_
     go : (h : Option Files) → ReadBefore words h doc → P h → Answers (WritesCertificate words) (IsRepairRefusal words) (IsRepaired words) h (Ok done)
     go None b t = (own words doc sources list answer done writes, tt)
     go (Some files) b t = (own words doc sources list answer done writes, done_told files words doc sources list answer done b free (t b) well_formed fit built count bytes found writes)
-
--- a count is no missing file
-pub stop_cause : (failed absent long : Type 0) (document : List ℕ) (fault : EditFault) (stop : Stop) → StopsFor document fault stop → HasStopCause failed absent long stop
-stop_cause failed absent long document (faults.Limit what count) stop (inl memory) = subst (λ (s : Stop). HasStopCause failed absent long s) (sym memory) tt
-stop_cause failed absent long document (faults.Limit what count) stop (inr told) = subst (λ (s : Stop). HasStopCause failed absent long s) (sym told) (record { missing = λ missing. absurd (cc); too_long = λ long. absurd (cc) })
-stop_cause failed absent long document faults.Memory stop is = subst (λ (s : Stop). HasStopCause failed absent long s) (sym is) tt

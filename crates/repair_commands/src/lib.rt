@@ -7,4 +7,4 @@ mod answers;
 pub mod laws;
 mod repairing;
 
-pub use repairing::{fault_stop, repair};
+pub use repairing::{find_repair, repair};

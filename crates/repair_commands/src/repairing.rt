@@ -1,13 +1,12 @@
 //! The command `repair DOC --out SUFFIX --proof NAME [--max-price N] [--conflicts N]`.
-ghost use Rattle.std.specs.Prelude.{◌≡◌, ◌≤◌, ◌⊎◌, length, IfOk, IfErr};
-ghost use Rattle.edit_list.specs.declared.edit_kinds.EditFault.TheVariants as faults;
+ghost use Rattle.std.specs.Prelude.{◌≡◌, ◌≤◌, length, IfOk, IfErr};
 ghost use Rattle.arc_repair.specs.Answers.{IsRepairFault};
 ghost use Rattle.run_files.specs.Answers.{Answers, OnlyReads};
 ghost use Rattle.run_files.specs.Limits.{least_limit};
 ghost use Rattle.run_inputs.specs.Inputs.{AreFit};
 ghost use Rattle.repair_commands.specs.Repairs.{has_clash, IsRepaired, IsRepairRefusal};
 ghost use Rattle.repair_commands.specs.Repairs.{WritesCertificate};
-ghost use Rattle.repair_commands.specs.Steps.{IsFound, StopsFor};
+ghost use Rattle.repair_commands.specs.Steps.{IsFound};
 
 use crate::answers::answer_done;
 use arc_base::limits::{CONFLICT_LIMIT, POLICY_LIMIT, PRICE_LIMIT};
@@ -19,7 +18,7 @@ use edit_list::{Edit, EditFault, edits};
 use file_copies::{clashes, copy_names};
 use net_model::{Document, Network};
 use run_files::{Done, Limits, Stop, refused};
-use run_inputs::{read_document, read_sources};
+use run_inputs::{fault_stop, read_document, read_sources};
 use std::alloc::Global;
 
 /// Whether an output has the name of a file that is read, or of another output.
@@ -32,33 +31,25 @@ fn has_clash(alloc: Global, words: &RepairWords, doc: &Document) -> Result<bool,
     Ok(clashes(&words.document, routers, outputs.as_slice()))
 }
 
-/// The stop for a fault in listing edits or making their formula: a count that passes its limit
-/// refuses the document.
-pub fn fault_stop(alloc: Global, document: &Name, fault: EditFault) -> Stop
-    ensures { StopsFor document.now fault result }
-{
-    match fault {
-        EditFault::Limit(what, count) => refused(alloc, document, 0, Kind::Limit(what, count)),
-        EditFault::Memory => Stop::Memory,
-    }
-}
-
-/// The edits of the network, and its cheapest repair within the words' bound.
-fn find_repair(
+/// The edits of the network, and its cheapest repair within a bound on the price and a limit of
+/// conflicts.
+pub fn find_repair(
     alloc: Global,
-    words: &RepairWords,
     net: &Network,
     doc: &Document,
+    bound: u32,
+    conflicts: u64,
 ) -> Result<(List<Edit>, Answer), EditFault>
     requires fit { AreFit doc.now net.now }
     requires policies { length doc.now.policies ≤ POLICY_LIMIT }
-    requires bound { words.now.bound ≤ PRICE_LIMIT }
-    requires most { words.now.conflicts ≤ CONFLICT_LIMIT }
-    ensures found { IfOk result (λ found. IsFound words.now net.now doc.now found.0 found.1) }
-    ensures fault { IfErr result (IsRepairFault net.now doc.now words.now.bound) }
+    requires bound { bound ≤ PRICE_LIMIT }
+    requires most { conflicts ≤ CONFLICT_LIMIT }
+    ensures found { IfOk result
+        (λ found. IsFound bound conflicts net.now doc.now found.0 found.1) }
+    ensures fault { IfErr result (IsRepairFault net.now doc.now bound) }
 {
     let list = edits(alloc, net, doc)?;
-    let answer = arc_repair::repair_of(alloc, net, doc, &list, words.bound, words.conflicts)?;
+    let answer = arc_repair::repair_of(alloc, net, doc, &list, bound, conflicts)?;
     Ok((list, answer))
 }
 
@@ -77,7 +68,8 @@ pub fn repair<S: Store>(alloc: Global, words: &RepairWords, store: &mut S) -> Re
         return Err(refused(alloc, &words.document, 0, Kind::OutputName));
     }
     let sources = read_sources(alloc, &words.document, &doc, &[], Limits::Editing, store)?;
-    let (list, answer) = match find_repair(alloc, words, &sources.built.net, &doc) {
+    let net = &sources.built.net;
+    let (list, answer) = match find_repair(alloc, net, &doc, words.bound, words.conflicts) {
         Ok(found) => found,
         Err(fault) => return Err(fault_stop(alloc, &words.document, fault)),
     };

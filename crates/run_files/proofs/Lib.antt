@@ -6,3 +6,4 @@ pub mod RoutersRead
 pub mod Answering
 pub mod Stops
 pub mod LinesJudged
+pub mod OneAnswer

@@ -42,9 +42,3 @@ module _ (name : List ℕ) (Come : List ℕ → List (List ℕ) → Type 0) wher
     pub line_taken : (line : List ℕ) → line ≡ after.line.items → IfSome now (λ files. MovesOn files name before after (Ok true)) →
         (Q : Files → Type 0) → ((files : Files) → StandsAt (line ∷ left_lines files name after) files → Q files) → IfSome held Q
     line_taken line is moves Q leads = mapped held (λ files. StandsAt (line ∷ left_lines files name after) files) Q leads (with_line line is moves)
-
-    -- no line is left
-    pub at_end : (Q : Files → Type 0) → ((files : Files) → StandsAt [] files → Q files) → IfSome now (λ files. MovesOn files name before after (Ok false)) → IfSome held Q
-    at_end Q ends moves =
-        told_and {P = λ files. StandsAt (left_lines files name before) files} {Q = λ files. MovesOn files name before after (Ok false)} {R = Q}
-        held now same (λ files at none. ends files (subst (λ (text : List ℕ). StandsAt (lines text) files) none.0 at)) stands moves

@@ -9,3 +9,10 @@ not_failed (Ok x) cause is = cc
 not_failed (Err (stops.Refused r)) cause is = cc
 not_failed (Err stops.Memory) cause is = cc
 not_failed (Err stops.Failed) cause is = cause
+
+-- they have a cause wherever they come
+pub any_cause : {X : Type 0} (failed absent long : Type 0) (result : Result X Stop) → IfErr result (HasStopCause ⊥ ⊥ ⊥) → IfErr result (HasStopCause failed absent long)
+any_cause failed absent long (Ok x) cause = tt
+any_cause failed absent long (Err (stops.Refused r)) cause = record { missing = λ is. absurd (cause.missing is); too_long = λ is. absurd (cause.too_long is) }
+any_cause failed absent long (Err stops.Memory) cause = tt
+any_cause failed absent long (Err stops.Failed) cause = absurd cause

@@ -1,4 +1,4 @@
--- The traffic classes of a document's policies, which must not be too many.
+-- Counts that may pass their limit: of traffic classes, of edits, and of a formula.
 use Rattle.std.specs.Prelude.{◌≡◌, ℕ, ◌≤◌, ◌<◌, ◌⊎◌, List, [], length, Result, Ok, Err}
 use Rattle.arc_base.specs.declared.limits.TheConstants.{CLASS_LIMIT}
 use Rattle.arc_base.specs.declared.refusal.Kind.TheVariants.{Limit}
@@ -9,6 +9,8 @@ use Rattle.net_model.specs.declared.policies.Document.{Document}
 use Rattle.net_model.specs.declared.policies.Policy.{Policy}
 use Rattle.net_model.specs.declared.rows.Network.{Network}
 use Rattle.traffic_classes.specs.AllClasses.{AreAllClasses, FirstHaveMore}
+use Rattle.edit_list.specs.declared.edit_kinds.EditFault.{EditFault}
+use Rattle.edit_list.specs.declared.edit_kinds.EditFault.TheVariants as faults
 use Rattle.run_files.specs.declared.limits.Limits.{Limits}
 use Rattle.run_files.specs.declared.outcome.FileRefusal.{FileRefusal}
 use Rattle.run_files.specs.declared.outcome.Stop.{Stop}
@@ -50,3 +52,9 @@ pub record RefusesClasses (limits : Limits) (document : List ℕ) (files : Files
 abbrev pub IsJudgingRefusal : Limits → List ℕ → Files → FileRefusal → Type 0
 IsJudgingRefusal limits document files r =
     IsInputRefusal limits [] document files r ⊎ RefusesClasses limits document files r
+
+-- a count that passes its limit refuses the document, unless memory runs out
+abbrev pub StopsFor : List ℕ → EditFault → Stop → Type 0
+StopsFor document (faults.Limit what count) stop =
+    (stop ≡ stops.Memory) ⊎ (stop ≡ stops.Refused (refusal_of document 0 (Limit what count)))
+StopsFor document faults.Memory stop = stop ≡ stops.Memory

@@ -1,3 +1,4 @@
 pub mod Inputs
 pub mod Counts
 pub mod Determined
+pub mod TrueVerdicts

@@ -1,7 +1,9 @@
-//! The traffic classes of a document's policies are counted.
-ghost use Rattle.run_inputs.specs.Counts.{CountsClasses};
+//! Counts that may pass their limit: of the traffic classes of a document's policies, of its edits,
+//! and of their formula.
+ghost use Rattle.run_inputs.specs.Counts.{CountsClasses, StopsFor};
 
 use arc_base::{Kind, LimitKind, List, Name};
+use edit_list::EditFault;
 use net_model::{Network, Policy};
 use run_files::{Stop, refused};
 use std::alloc::Global;
@@ -24,5 +26,16 @@ pub fn count_classes(
             Err(refused(alloc, document, 0, kind))
         }
         Err(ClassFault::Memory) => Err(Stop::Memory),
+    }
+}
+
+/// The stop for a fault in listing edits or making their formula: a count that passes its limit
+/// refuses the document.
+pub fn fault_stop(alloc: Global, document: &Name, fault: EditFault) -> Stop
+    ensures { StopsFor document.now fault result }
+{
+    match fault {
+        EditFault::Limit(what, count) => refused(alloc, document, 0, Kind::Limit(what, count)),
+        EditFault::Memory => Stop::Memory,
     }
 }

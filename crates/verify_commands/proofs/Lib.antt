@@ -4,6 +4,3 @@ pub mod Verified
 pub mod TraceOnce
 pub mod OneTrace
 pub mod Traced
-pub mod Checked
-pub mod CheckOnce
-pub mod VerifiedAccepted

@@ -1,5 +1,5 @@
 -- Words and files have one trace, or one first refusal.
-use Rattle.std.proofs.Common.{◌≡◌, ℕ, inl, inr, List, length, sym, ◌∙◌, ap, subst}
+use Rattle.std.proofs.Common.{◌≡◌, inl, inr, length, sym, ◌∙◌, subst}
 use Rattle.arc_outside.specs.Files.{Files}
 use Rattle.net_model.specs.declared.policies.Document.{Document}
 use Rattle.net_model.specs.declared.rows.Network.{Network}
@@ -10,6 +10,7 @@ use Rattle.command_words.specs.declared.commands.TraceWords.{TraceWords}
 use Rattle.run_files.specs.declared.limits.Limits.TheVariants.{Judging}
 use Rattle.run_files.specs.declared.outcome.Done.{Done}
 use Rattle.run_files.specs.declared.outcome.FileRefusal.{FileRefusal}
+use Rattle.run_files.proofs.OneAnswer.{same_done}
 use Rattle.run_inputs.specs.Determined.{IsDetermined}
 use Rattle.run_inputs.proofs.Determined.{determined}
 use Rattle.verify_commands.specs.Traces.{HasLinks, HasTrace, IsTraceRefusal, IsTraced, down_flags}
@@ -43,12 +44,6 @@ has_trace words files done t = record { doc = t.doc; net = t.net; input = t.inpu
 
 pub traced_or_refused : (words : TraceWords) (files : Files) (done : Done) (r : FileRefusal) → IsTraced words files done → IsTraceRefusal words files r → ⊥
 traced_or_refused words files done r t refused = traced_or_not words files (has_trace words files done t) r refused
-
-pub same_done : (d e : Done) → d.text ≡ e.text → d.writes ≡ e.writes → d.status ≡ e.status → d ≡ e
-same_done d e texts writes statuses =
-    ap (λ (t : List ℕ). record { text = t; writes = d.writes; status = d.status }) texts
-    ∙ ap (λ (w : List (List ℕ × List ℕ)). record { text = e.text; writes = w; status = d.status }) writes
-    ∙ ap (λ (n : ℕ). record { text = e.text; writes = e.writes; status = n }) statuses
 
 pub traced_once : (words : TraceWords) (files : Files) (done other : Done) → IsTraced words files done → IsTraced words files other → done ≡ other
 traced_once words files done other t s =

@@ -11,7 +11,7 @@ use Rattle.net_model.specs.declared.verdicts.Verdict.{Verdict}
 use Rattle.net_model.specs.Policies.{Meets, MeetsDocument}
 use Rattle.net_model.specs.Validity.{IsValid}
 use Rattle.net_model.specs.Witnesses.{IsRight, is_yes}
-use Rattle.net_laws.proofs.RightVerdicts.{right_verdicts_are_true, right_verdicts_decide}
+use Rattle.net_laws.proofs.RightVerdicts.{right_verdicts_decide}
 use Rattle.run_files.specs.declared.limits.Limits.TheVariants.{Judging}
 use Rattle.run_files.specs.declared.outcome.Done.{Done}
 use Rattle.run_files.specs.declared.outcome.FileRefusal.{FileRefusal}
@@ -20,17 +20,11 @@ use Rattle.run_inputs.specs.Counts.{IsJudgingRefusal}
 use Rattle.run_inputs.specs.Determined.{IsDetermined, IsJudgedOnce}
 use Rattle.run_inputs.specs.Inputs.{HoldsInput}
 use Rattle.run_inputs.proofs.Determined.{determined, judged_once}
-use Rattle.verify_commands.specs.Verifies.{IsTrueOf, IsVerified, IsVerdictOn, SaysNo, SaysRefused, SaysYes, TellsVerdicts, verdicts_status}
+use Rattle.run_inputs.specs.TrueVerdicts.{IsTrueOf}
+use Rattle.run_inputs.proofs.AllTrue.{all_true}
+use Rattle.verify_commands.specs.Verifies.{IsVerified, IsVerdictOn, SaysNo, SaysRefused, SaysYes, TellsVerdicts, verdicts_status}
 
--- right verdicts are true
-pub all_true : (net : Network) → IsValid net → (policies : List Policy) (vs : List Verdict) → AllZip (IsRight net) policies vs → AllZip (IsTrueOf net) policies vs
-all_true net valid [] [] right = tt
-all_true net valid [] (v ∷ vs) right = absurd right
-all_true net valid (policy ∷ policies) [] right = absurd right
-all_true net valid (policy ∷ policies) (v ∷ vs) right =
-    (record { ends = right.0.ends; are_ends = right.0.are_ends; says = right_verdicts_are_true net valid policy v right.0 }, all_true net valid policies vs right.1)
-
--- and those that are fixed are right
+-- verdicts that are fixed are right
 pub all_right : (net : Network) (document policies : List Policy) (vs : List Verdict) → AllZip (IsVerdictOn net document) policies vs → AllZip (IsRight net) policies vs
 all_right net document [] [] judged = tt
 all_right net document [] (v ∷ vs) judged = absurd judged

@@ -1,4 +1,2 @@
 pub mod Verifies
 pub mod Traces
-pub mod Checks
-pub mod ReportLines

@@ -6,12 +6,9 @@ use Rattle.net_model.specs.declared.policies.Document.{Document}
 use Rattle.net_model.specs.declared.policies.Policy.{Policy}
 use Rattle.net_model.specs.declared.rows.Network.{Network}
 use Rattle.net_model.specs.declared.verdicts.Verdict.{Verdict}
-use Rattle.net_model.specs.Forwarding.{Ends, AreEnds}
-use Rattle.net_model.specs.Packets.{subject}
 use Rattle.net_model.specs.Policies.{MeetsDocument}
 use Rattle.net_model.specs.Validity.{IsValid}
 use Rattle.net_model.specs.Witnesses.{IsRight, is_yes}
-use Rattle.net_laws.specs.Laws.{Says}
 use Rattle.verdicts.specs.Fixed.{IsFixed}
 use Rattle.policy_report.specs.Reports.{report_text}
 use Rattle.run_files.specs.declared.limits.Limits.TheVariants.{Judging}
@@ -19,6 +16,7 @@ use Rattle.run_files.specs.declared.outcome.Done.{Done}
 use Rattle.run_files.specs.declared.outcome.FileRefusal.{FileRefusal}
 use Rattle.run_inputs.specs.Counts.{PoliciesHaveFewClasses, IsJudgingRefusal}
 use Rattle.run_inputs.specs.Inputs.{HoldsInput}
+use Rattle.run_inputs.specs.TrueVerdicts.{IsTrueOf}
 
 -- the verdict on one of the policies is right, and it is the one with the witness that is fixed
 pub record IsVerdictOn (net : Network) (policies : List Policy) (policy : Policy)
@@ -29,13 +27,6 @@ pub record IsVerdictOn (net : Network) (policies : List Policy) (policy : Policy
 -- 0 where each verdict is a yes, and else 1
 abbrev pub verdicts_status : List Verdict → ℕ
 verdicts_status verdicts = if list_all is_yes verdicts then 0 else 1
-
--- what a verdict says of its policy is true: a yes that the network meets it, a no that what it
--- asks does not hold, a refusal that it is not clear
-pub record IsTrueOf (net : Network) (policy : Policy) (v : Verdict) : Type 0 where
-  pub ends : Ends
-  pub are_ends : AreEnds net (subject policy) ends
-  pub says : Says net ends (subject policy) policy.kind v
 
 -- the report of the verdicts on the document's policies, one for each, and each of them is true
 pub record IsVerified (document : List ℕ) (files : Files) (done : Done) : Type 0 where

@@ -7,8 +7,6 @@ ghost use Rattle.run_files.specs.declared.outcome.Done.{Done};
 ghost use Rattle.run_files.specs.declared.outcome.FileRefusal.{FileRefusal};
 ghost use Rattle.run_files.specs.Answers.{IsTold};
 ghost use Rattle.run_inputs.specs.Counts.{IsJudgingRefusal};
-ghost use Rattle.verify_commands.specs.Checks.{IsChecked, IsCheckRefusal, TellsReportCheck};
-ghost use Rattle.verify_commands.specs.Checks.{VerifiedIsAccepted};
 ghost use Rattle.verify_commands.specs.Traces.{IsTraced, IsTraceRefusal, TellsTrace};
 ghost use Rattle.verify_commands.specs.Verifies.{IsVerified, TellsVerdicts};
 
@@ -24,13 +22,6 @@ pub fn trace_is_told()
         (λ status before after. TellsTrace words status before) }
 {}
 
-/// What the status of `check` says.
-pub fn check_is_told()
-    ensures { (document certificate : List ℕ) →
-        IsTold (IsCheckRefusal document certificate) (IsChecked document certificate)
-        (λ status before after. TellsReportCheck document certificate status before) }
-{}
-
 /// The words and the files give at most one trace and at most one first refusal, and never both.
 pub fn trace_is_determined()
     ensures one_trace { (words : TraceWords) (files : Files) (done other : Done)
@@ -39,24 +30,4 @@ pub fn trace_is_determined()
         → IsTraceRefusal words files r → IsTraceRefusal words files s → r ≡ s }
     ensures not_both { (words : TraceWords) (files : Files) (done : Done) (r : FileRefusal)
         → IsTraced words files done → IsTraceRefusal words files r → ⊥ }
-{}
-
-/// The document, the certificate and the router files give at most one answer of `check` and at
-/// most one first refusal, and never both.
-pub fn check_is_determined()
-    ensures one_answer { (document certificate : List ℕ) (files : Files) (done other : Done)
-        → IsChecked document certificate files done
-        → IsChecked document certificate files other → done ≡ other }
-    ensures one_refusal { (document certificate : List ℕ) (files : Files) (r s : FileRefusal)
-        → IsCheckRefusal document certificate files r
-        → IsCheckRefusal document certificate files s → r ≡ s }
-    ensures not_both { (document certificate : List ℕ) (files : Files)
-        (done : Done) (r : FileRefusal) → IsChecked document certificate files done
-        → IsCheckRefusal document certificate files r → ⊥ }
-{}
-
-/// Every report that `verify` printed is accepted by `check` once it is saved under a name, if the
-/// document and its router files are unchanged.
-pub fn verified_is_accepted()
-    ensures { VerifiedIsAccepted }
 {}

@@ -1,7 +1,7 @@
 use Rattle.std.proofs.Common.{arith, refl}
 use Rattle.arc_outside.proofs.Counting.{stood}
-use Rattle.run_files.proofs.Stops.{not_failed}
-use Rattle.generate_commands.proofs.Answered.{answers, any_cause}
+use Rattle.run_files.proofs.Stops.{any_cause, not_failed}
+use Rattle.generate_commands.proofs.Answered.{answers}
 use Rattle.arc_run.proofs.top.answer.Goals as goal
 
 pub returns-in-Verify-clause-answer : goal.returns-in-Verify-clause-answer

@@ -3,7 +3,8 @@ use Rattle.std.proofs.lemmas.Result.{err_from_is_err_and}
 use Rattle.std.specs.Prelude.{Err}
 use Rattle.arc_outside.proofs.Counting.{stood}
 use Rattle.run_files.proofs.Stops.{not_failed}
-use Rattle.repair_commands.proofs.Repaired.{counts_stopped, repaired, stop_cause, whole}
+use Rattle.run_inputs.proofs.EditFaults.{stop_cause}
+use Rattle.repair_commands.proofs.Repaired.{counts_stopped, repaired, whole}
 use Rattle.repair_commands.proofs.repairing.repair.Goals as goal
 
 pub returns-in-Err-clause-answer : goal.returns-in-Err-clause-answer
@@ -23,7 +24,7 @@ returns-in-Err-clause-reads g c = record {
 
 pub answer_done-requires-clause-whole : goal.answer_done-requires-clause-whole
 answer_done-requires-clause-whole g c =
-    whole c.args.words.now c.in_ok-doc.doc c.in_ok-sources.sources c.in-Ok.found.0 c.in-Ok.found.1 c.in-Ok.ensures.found.answered.is_answer
+    whole c.in_ok-sources.sources.built.net c.in_ok-doc.doc c.in-Ok.found.0 c.args.words.now.bound c.args.words.now.conflicts c.in-Ok.found.1 c.in-Ok.ensures.found.answered.is_answer
 
 pub returns-in_err-done-clause-answer : goal.returns-in_err-done-clause-answer
 returns-in_err-done-clause-answer g c =

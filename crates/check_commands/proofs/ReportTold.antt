@@ -19,10 +19,11 @@ use Rattle.run_inputs.specs.Inputs.{HoldsDocument, HoldsInput, IsFit, ReadsFiles
 use Rattle.run_files.specs.Judgements.{judgement_status, judgement_text}
 use Rattle.run_files.specs.Limits.{proof_limit}
 use Rattle.run_inputs.proofs.Determined.{determined, judged_once}
-use Rattle.verify_commands.specs.Checks.{IsAccepted, IsChecked, IsCheckRefusal, IsRejected, IsUnchecked, RefusesInput, TellsReportCheck, judgement_of}
-use Rattle.verify_commands.specs.ReportLines.{JudgesLines}
-use Rattle.verify_commands.proofs.Verified.{all_true}
+use Rattle.check_commands.specs.ReportChecks.{IsAccepted, IsChecked, IsCheckRefusal, IsRejected, IsUnchecked, RefusesInput, TellsReportCheck, judgement_of}
+use Rattle.check_commands.specs.Readings.{JudgesReport}
+use Rattle.run_inputs.proofs.AllTrue.{all_true}
 use Rattle.run_files.specs.Refusals.{bytes_at, read_refusal}
+use Rattle.run_files.proofs.OneAnswer.{refused_none}
 
 -- what is answered for a certificate where it and the document are held
 abbrev pub IsGiven : List ℕ → List ℕ → Document → Option Files → Result Done Stop → Type 0
@@ -51,25 +52,22 @@ classes_stopped (Some files) document certificate doc input stops.Memory told co
 classes_stopped (Some files) document certificate doc input stops.Failed told counts = λ is fits. tt
 
 -- a file that was within its limit is not refused later
-pub refused_none : (o : Option FileRefusal) (r : FileRefusal) → o ≡ None → o ≡ Some r → ⊥
-refused_none o r e f = absurd (cc)
-
 stopped_here : (held : Option Files) (document certificate : List ℕ) (doc : Document) (net : Network) (judged : Document) (stop : Stop)
-    → IfSome held (λ files. JudgesLines proof_limit net judged certificate files (Err stop)) → IsGiven document certificate doc held (Err stop)
+    → IfSome held (λ files. JudgesReport proof_limit net judged certificate files (Err stop)) → IsGiven document certificate doc held (Err stop)
 stopped_here None document certificate doc net judged stop told = tt
 stopped_here (Some files) document certificate doc net judged (stops.Refused r) told = λ is fits. absurd (refused_none (read_refusal proof_limit files certificate) r fits told)
 stopped_here (Some files) document certificate doc net judged stops.Memory told = λ is fits. tt
 stopped_here (Some files) document certificate doc net judged stops.Failed told = λ is fits. tt
 
 pub lines_stopped : (held later : Option Files) → later ≡ held → (document certificate : List ℕ) (doc : Document) (net : Network) (judged : Document) (stop : Stop)
-    → IfSome later (λ files. JudgesLines proof_limit net judged certificate files (Err stop)) → IsGiven document certificate doc held (Err stop)
+    → IfSome later (λ files. JudgesReport proof_limit net judged certificate files (Err stop)) → IsGiven document certificate doc held (Err stop)
 lines_stopped held later same document certificate doc net judged stop told =
-    stopped_here held document certificate doc net judged stop (subst (λ (o : Option Files). IfSome o (λ files. JudgesLines proof_limit net judged certificate files (Err stop))) same told)
+    stopped_here held document certificate doc net judged stop (subst (λ (o : Option Files). IfSome o (λ files. JudgesReport proof_limit net judged certificate files (Err stop))) same told)
 
 -- the judgement where nothing is refused
 judged_here : (held : Option Files) (document certificate : List ℕ) (doc : Document) (input : Input) (judgement : Judgement) (done : Done) → ReadInput document doc held input
     → IsFit input → PoliciesHaveFewClasses input.net input.doc.policies
-    → IfSome held (λ files. JudgesLines proof_limit input.net input.doc certificate files (Ok judgement))
+    → IfSome held (λ files. JudgesReport proof_limit input.net input.doc certificate files (Ok judgement))
     → done.text ≡ judgement_text (judgement_of judgement) → done.status ≡ judgement_status (judgement_of judgement) → IsJudging done → IsGiven document certificate doc held (Ok done)
 judged_here None document certificate doc input judgement done told fit classes judges text_is status own = tt
 judged_here (Some files) document certificate doc input judgement done told fit classes judges text_is status own = λ is fits. record {
@@ -89,10 +87,10 @@ judged_here (Some files) document certificate doc input judgement done told fit 
 
 pub judged : (held later : Option Files) → later ≡ held → (document certificate : List ℕ) (doc : Document) (input : Input) (judgement : Judgement) (done : Done) → ReadInput document doc held input
     → IsFit input → PoliciesHaveFewClasses input.net input.doc.policies
-    → IfSome later (λ files. JudgesLines proof_limit input.net input.doc certificate files (Ok judgement))
+    → IfSome later (λ files. JudgesReport proof_limit input.net input.doc certificate files (Ok judgement))
     → done.text ≡ judgement_text (judgement_of judgement) → done.status ≡ judgement_status (judgement_of judgement) → IsJudging done → IsGiven document certificate doc held (Ok done)
 judged held later same document certificate doc input judgement done told fit classes judges text_is status own =
-    let P : Option Files → Type 0 = λ o. IfSome o (λ files. JudgesLines proof_limit input.net input.doc certificate files (Ok judgement)) in
+    let P : Option Files → Type 0 = λ o. IfSome o (λ files. JudgesReport proof_limit input.net input.doc certificate files (Ok judgement)) in
     judged_here held document certificate doc input judgement done told fit classes (subst P same judges) text_is status own
 
 -- of accepted, rejected and refused only one is said

@@ -17,9 +17,8 @@ use Rattle.run_files.specs.declared.limits.Limits.TheVariants.{Judging}
 use Rattle.run_files.specs.declared.outcome.Done.{Done}
 use Rattle.run_files.specs.declared.outcome.FileRefusal.{FileRefusal}
 use Rattle.run_inputs.specs.Counts.{PoliciesHaveFewClasses, RefusesClasses}
-use Rattle.run_inputs.specs.Inputs.{HoldsDocument, HoldsInput, HoldTheSame, RefusesDocument}
-use Rattle.run_inputs.specs.Inputs.{IsFilesRefusal}
-use Rattle.verify_commands.specs.Verifies.{IsTrueOf, IsVerified}
+use Rattle.run_inputs.specs.Inputs.{HoldsDocument, HoldsInput, IsFilesRefusal, RefusesDocument}
+use Rattle.run_inputs.specs.TrueVerdicts.{IsTrueOf}
 use Rattle.run_files.specs.Judgements.{judgement_status, judgement_text}
 use Rattle.run_files.specs.Limits.{document_limit, proof_limit}
 use Rattle.run_files.specs.Refusals.{bytes_at, read_refusal}
@@ -108,11 +107,3 @@ pub record TellsReportCheck (document certificate : List ℕ) (status : ℕ)
   pub rejected_exactly : (status ≡ 1) ↔ IsRejected document certificate files
   pub refused_exactly : (status ≡ 5) ↔ IsUnchecked document certificate files
   pub nothing_else : (status ≡ 0) ⊎ ((status ≡ 1) ⊎ (status ≡ 5))
-
--- the text that `verify` printed is an accepted certificate once it is saved under a name, if the
--- document and its router files are unchanged
-abbrev pub VerifiedIsAccepted : Type 0
-VerifiedIsAccepted =
-    (document certificate : List ℕ) (before after : Files) (done : Done) →
-    IsVerified document before done → HoldTheSame document before after
-    → after certificate ≡ Some done.text → IsAccepted document certificate after

@@ -1,5 +1,5 @@
-use Rattle.verify_commands.proofs.CheckOnce.{checked_once, refused_once, checked_or_refused}
-use Rattle.verify_commands.proofs.laws.check_is_determined.Goals as goal
+use Rattle.check_commands.proofs.OneReport.{checked_once, refused_once, checked_or_refused}
+use Rattle.check_commands.proofs.laws.check_is_determined.Goals as goal
 
 pub returns-clause-one_answer : goal.returns-clause-one_answer
 returns-clause-one_answer c = checked_once

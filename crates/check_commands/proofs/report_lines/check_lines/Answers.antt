@@ -1,8 +1,8 @@
 use Rattle.std.proofs.Common.{◌∙◌, ap}
 use Rattle.std.proofs.lemmas.Result.{err_from_is_err_and}
 use Rattle.run_files.specs.Judgements.{judgement_status, judgement_text}
-use Rattle.verify_commands.proofs.Checked.{classes_stopped, files_stopped, judged, lines_stopped}
-use Rattle.verify_commands.proofs.checking.check_lines.Goals as goal
+use Rattle.check_commands.proofs.ReportTold.{classes_stopped, files_stopped, judged, lines_stopped}
+use Rattle.check_commands.proofs.report_lines.check_lines.Goals as goal
 
 pub returns-in_err-input-clause-told : goal.returns-in_err-input-clause-told
 returns-in_err-input-clause-told g c =

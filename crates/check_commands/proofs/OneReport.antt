@@ -12,15 +12,15 @@ use Rattle.report_check.proofs.OneOutcome.{one_outcome}
 use Rattle.run_files.specs.declared.limits.Limits.TheVariants.{Judging}
 use Rattle.run_files.specs.declared.outcome.Done.{Done}
 use Rattle.run_files.specs.declared.outcome.FileRefusal.{FileRefusal}
-use Rattle.verify_commands.specs.Checks.{IsChecked, IsCheckRefusal, RefusesCertificate, judgement_of}
+use Rattle.check_commands.specs.ReportChecks.{IsChecked, IsCheckRefusal, RefusesCertificate, judgement_of}
 use Rattle.run_inputs.specs.Counts.{IsJudgingRefusal, RefusesClasses}
 use Rattle.run_inputs.specs.Inputs.{HoldsInput, IsFilesRefusal}
 use Rattle.run_files.specs.Judgements.{judgement_status, judgement_text}
 use Rattle.run_files.specs.Limits.{proof_limit}
 use Rattle.run_files.specs.Refusals.{bytes_at, read_refusal}
-use Rattle.verify_commands.proofs.Checked.{held_or_refused}
+use Rattle.check_commands.proofs.ReportTold.{held_or_refused}
 use Rattle.run_inputs.proofs.Determined.{determined, judged_once, document_none, held_none, no_value, one_value}
-use Rattle.verify_commands.proofs.OneTrace.{same_done}
+use Rattle.run_files.proofs.OneAnswer.{same_done}
 
 module _ (document certificate : List ℕ) (files : Files) where
   pub checked_once : (done other : Done) → IsChecked document certificate files done → IsChecked document certificate files other → done ≡ other

@@ -1,4 +1,4 @@
--- Every report that `verify` put is one that `check` accepts: its verdicts are right, and each witness has few lines.
+-- Every report that `verify` printed is one that `check` accepts: its verdicts are right, and each witness has few lines.
 use Rattle.std.proofs.Common.{◌≡◌, ℕ, ◌≤◌, false, inl, inr, List, [], ◌∷◌, length, map, refl, sym, ◌∙◌, ap, subst, arith}
 use Rattle.std.proofs.lemmas.Bool.{le-ltb}
 use Rattle.std.proofs.lemmas.Bool.Decides.{eqb_tells}
@@ -27,7 +27,7 @@ use Rattle.report_check.specs.Lengths as lengths
 use Rattle.report_check.specs.Lengths.{HasFewLines}
 use Rattle.report_check.proofs.Short.{right_reports_are_short}
 use Rattle.arc_outside.specs.Files.{Files}
-use Rattle.verify_commands.specs.Checks.{VerifiedIsAccepted}
+use Rattle.certificate_laws.specs.Laws.{VerifiedIsAccepted}
 use Rattle.run_files.specs.declared.limits.Limits.TheVariants.{Judging}
 use Rattle.run_files.specs.Limits.{proof_limit}
 use Rattle.run_files.specs.Refusals.{bytes_at, read_refusal, refusal_within}
