@@ -14,7 +14,7 @@ use run_files::Limits;
 use run_inputs::read_files;
 use run_messages::{
     Subject, Subnets, WrongWord, clash, document_fault, document_item, edits_of_new_lists,
-    front_of, line_at, subject_of, wrong_word,
+    front_of, line_at, missing_face, subject_of, wrong_word,
 };
 use std::alloc::Global;
 use std::io;
@@ -92,6 +92,47 @@ fn explain_overlap(
         Some(said) => say(rt, &[b"arcv: ", said.as_slice()]),
         None => Ok(()),
     }
+}
+
+/// What is to be said of an end of a link.
+fn missing_end(
+    rt: &HostRuntime,
+    doc: &Document,
+    router: &Name,
+    face: &Name,
+    store: &mut DiskStore<HostRuntime>,
+) -> Option<String> {
+    for name in doc.routers.slice() {
+        let text = text_again(rt, name, store)?;
+        if let Some(said) = missing_face(rt.alloc(), &text, router, face) {
+            return Some(said);
+        }
+    }
+    None
+}
+
+/// The interfaces of the link that are not in the files of their routers.
+fn explain_ends(
+    rt: &HostRuntime,
+    refusal: &FileRefusal,
+    store: &mut DiskStore<HostRuntime>,
+) -> io::Result<()> {
+    let Some(doc) = document_alone(rt, &refusal.name, store) else {
+        return Ok(());
+    };
+    let place = (refusal.number as usize).wrapping_sub(1);
+    let Some(link) = doc.links.slice().get(place) else {
+        return Ok(());
+    };
+    for (router, face) in [
+        (&link.a_router, &link.a_face),
+        (&link.b_router, &link.b_face),
+    ] {
+        if let Some(said) = missing_end(rt, &doc, router, face, store) {
+            say(rt, &[b"arcv: ", front_of(said.as_bytes())])?;
+        }
+    }
+    Ok(())
 }
 
 /// The names of the files that a command over these router files may write.
@@ -234,10 +275,11 @@ pub fn explain_refusal(
         }
         subject => {
             explain_part(rt, subject, refusal, store)?;
-            if matches!(refusal.reason, Reason::Kind(Kind::Overlap)) {
-                return explain_overlap(rt, words, refusal, store);
+            match refusal.reason {
+                Reason::Kind(Kind::Overlap) => explain_overlap(rt, words, refusal, store),
+                Reason::Kind(Kind::LinkFace) => explain_ends(rt, refusal, store),
+                _ => Ok(()),
             }
-            Ok(())
         }
     }
 }

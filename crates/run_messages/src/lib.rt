@@ -8,6 +8,7 @@
 mod commands;
 mod documents;
 mod edits;
+mod interfaces;
 mod lines;
 #[cfg(test)]
 mod message_tests;
@@ -25,6 +26,7 @@ mod words;
 pub use commands::{VERSION, asks_for_help, asks_for_version, near_form};
 pub use documents::{document_fault, document_item};
 pub use edits::edits_of_new_lists;
+pub use interfaces::missing_face;
 pub use lines::{WrongWord, line_at, wrong_word};
 pub use outputs::clash;
 pub use overlaps::Subnets;

@@ -1,6 +1,6 @@
 use crate::{
-    Blocks, Subject, Subnets, clash, edits_of_new_lists, front_of, has_barred, policy_words,
-    rejection_of, subject_of, visible,
+    Blocks, Subject, Subnets, clash, edits_of_new_lists, front_of, has_barred, missing_face,
+    policy_words, rejection_of, subject_of, visible,
 };
 use arc_base::{Kind, LimitKind, List, Name, Prefix};
 use command_words::{ApplyWords, Command};
@@ -205,6 +205,48 @@ fn overlaps_are_found(rt: HostRuntime) -> Result<(), Fail> {
     let want = b"r1:Serial0/0 (10.1.0.1/24) and r2:Serial0/0 (10.1.0.129/25) share addresses, and \
         no link joins them";
     assert!(rt; said.as_slice() == want.as_slice());
+    Ok(())
+}
+
+const R3: &[u8] = b"hostname r3
+interface FastEthernet0/1
+interface GigabitEthernet0/1
+interface GigabitEthernet0/11
+interface Ethernet0/1
+interface Serial0/1
+";
+
+/// Interfaces of links at r3, and what is said of them.
+const ENDS: &[(&str, Option<&str>)] = &[
+    ("GigabitEthernet0/1", None),
+    (
+        "Gi0/1",
+        Some("r3 has no interface Gi0/1; is it r3:GigabitEthernet0/1?"),
+    ),
+    (
+        "fastethernet0/1",
+        Some("r3 has no interface fastethernet0/1; is it r3:FastEthernet0/1?"),
+    ),
+    ("0/1", Some("r3 has no interface 0/1")),
+    ("Gi0/2", Some("r3 has no interface Gi0/2")),
+    (
+        "0/11",
+        Some("r3 has no interface 0/11; is it r3:GigabitEthernet0/11?"),
+    ),
+    ("Serials0/1", Some("r3 has no interface Serials0/1")),
+    ("Gi", Some("r3 has no interface Gi")),
+];
+
+#[test]
+fn near_interfaces_are_found(rt: HostRuntime) -> Result<(), Fail> {
+    let alloc = rt.alloc();
+    let router = Name::make(alloc, b"r3")?;
+    for (face, want) in ENDS {
+        let face = Name::make(alloc, face.as_bytes())?;
+        let said = missing_face(alloc, R3, &router, &face);
+        assert_eq!(rt; said.as_deref(), *want);
+        assert!(rt; missing_face(alloc, R1, &router, &face).is_none());
+    }
     Ok(())
 }
 

@@ -25,7 +25,8 @@ pub struct Subnets {
     earlier: usize,
 }
 
-fn config_of(alloc: Global, text: &[u8]) -> Option<Config>
+/// What a router file says, if it can be read.
+pub(crate) fn config_of(alloc: Global, text: &[u8]) -> Option<Config>
     requires { length text.now < 2 ^ 32 }
 {
     let lines = cut(alloc, text).ok()?;

@@ -1,0 +1,61 @@
+//! Which interface a link names that its router does not have.
+ghost use Rattle.std.specs.Prelude.{◌<◌, ◌^◌, length};
+
+use crate::overlaps::config_of;
+use arc_base::Name;
+use ios_config::{Config, FaceText};
+use std::alloc::Global;
+use std::str;
+
+/// The letters of an interface's name, and its numbers.
+fn parts(name: &[u8]) -> Option<(&[u8], &[u8])> {
+    let end = name.iter().position(|byte| !byte.is_ascii_alphabetic())?;
+    Some((name.get(..end)?, name.get(end..)?))
+}
+
+/// Whether the command line of IOS would take the word for the name: its letters may be fewer, and
+/// small or capital.
+fn is_near(word: &[u8], name: &[u8]) -> bool {
+    let (Some((front, unit)), Some((kind, numbers))) = (parts(word), parts(name)) else {
+        return false;
+    };
+    match kind.get(..front.len()) {
+        Some(letters) => letters.eq_ignore_ascii_case(front) && unit == numbers,
+        None => false,
+    }
+}
+
+/// The one interface of a router that the word may mean.
+fn near_face<'a>(config: &'a Config, word: &[u8]) -> Option<&'a FaceText> {
+    let faces = config.faces.slice();
+    let mut near = faces.iter().filter(|face| is_near(word, face.name.bytes()));
+    let first = near.next()?;
+    match near.next() {
+        Some(_) => None,
+        None => Some(first),
+    }
+}
+
+/// What is to be said of an end of a link, where this is the file of its router and lacks its
+/// interface.
+pub fn missing_face(alloc: Global, text: &[u8], router: &Name, face: &Name) -> Option<String>
+    requires { length text.now < 2 ^ 32 }
+{
+    let config = config_of(alloc, text)?;
+    let hostname = config.hostname.as_ref()?;
+    let mut faces = config.faces.slice().iter();
+    if !hostname.name.is(router.bytes()) || faces.any(|it| it.name.is(face.bytes())) {
+        return None;
+    }
+    let near = near_face(&config, face.bytes());
+    let (router, face) = (
+        str::from_utf8(router.bytes()).ok()?,
+        str::from_utf8(face.bytes()).ok()?,
+    );
+    match near.and_then(|near| str::from_utf8(near.name.bytes()).ok()) {
+        Some(near) => {
+            format!(in alloc; "{router} has no interface {face}; is it {router}:{near}?").ok()
+        }
+        None => format!(in alloc; "{router} has no interface {face}").ok(),
+    }
+}
