@@ -25,7 +25,8 @@ use Rattle.line_patcher.specs.Patches.{line_end}
 use Rattle.line_patcher.specs.SessionLines.{session_lines}
 use Rattle.settings_edit_laws.specs.Additions.{process_lines}
 use Rattle.edit_list.specs.NewLists.{named_lists}
-use Rattle.line_edit_laws.specs.Sites.{Written, written, Chunk, Single, Site, chunk_commands, own_commands}
+use Rattle.line_edit_laws.specs.Sites.{Written, written, Chunk, Single, Site}
+use Rattle.line_edit_laws.specs.Sites.{chunk_commands, own_commands}
 use Rattle.patch_laws.specs.EntrySites.{class_written, prefix_written}
 use Rattle.patch_laws.specs.Fits.{row_line}
 use Rattle.patch_laws.specs.NewListSites.{list_chunks}
