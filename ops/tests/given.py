@@ -1,5 +1,6 @@
 """Where tests find examples and recorded answers; a built program, where there is one."""
 import os
+import signal
 import subprocess
 import sys
 import tempfile
@@ -27,10 +28,10 @@ def read(path: str) -> str:
 
 
 def tool(name: str, *words: str, folder: str = TOP, given: str = "") -> subprocess.CompletedProcess[str]:
-    """Runs a command of bin/ as a user would."""
+    """Runs a command of bin/ as a user would, to whom Ctrl-C is an interrupt also where these tests run in the background."""
     return subprocess.run(
         [sys.executable, os.path.join(TOP, "bin", name), *words], cwd=folder, input=given, capture_output=True, text=True, check=False,
-        env={**os.environ, "PYTHONDONTWRITEBYTECODE": "1"},
+        env={**os.environ, "PYTHONDONTWRITEBYTECODE": "1"}, preexec_fn=lambda: signal.signal(signal.SIGINT, signal.SIG_DFL),
     )
 
 
