@@ -59,11 +59,10 @@ zip_more xs ys i x y now next p same within is_x is_y pair was put =
 pub zip_all : {X Y : Type 0} (xs : List X) (ys : List Y) (i : ℕ) (now : List (X × Y)) → length ys ≡ length xs → length xs ≤ i → now ≡ take i (zip xs ys) → now ≡ zip xs ys
 zip_all xs ys i now same past was = let whole : length (zip xs ys) ≡ length xs = pairs_length xs ys same in was ∙ take_all i (zip xs ys) (omega arith)
 
--- one item, some, and two more
-pub framed : {X : Type 0} (old m : List X) (a b c : X) (one two three four : List X) → one ≡ old ++ a ∷ [] → two ≡ one ++ m → three ≡ two ++ b ∷ [] → four ≡ three ++ c ∷ [] → four ≡ old ++ (a ∷ m ++ b ∷ c ∷ [])
-framed old m a b c one two three four e f g h =
-    h ∙ ap (λ l. l ++ c ∷ []) g ∙ ap (λ l. (l ++ b ∷ []) ++ c ∷ []) f ∙ ap (λ l. ((l ++ m) ++ b ∷ []) ++ c ∷ []) e ∙
-    append_assoc ((old ++ a ∷ []) ++ m) (b ∷ []) (c ∷ []) ∙ append_assoc (old ++ a ∷ []) m (b ∷ c ∷ []) ∙ append_assoc old (a ∷ []) (m ++ b ∷ c ∷ [])
+-- one item, some, and one more
+pub framed : {X : Type 0} (old m : List X) (a b : X) (one two three : List X) → one ≡ old ++ a ∷ [] → two ≡ one ++ m → three ≡ two ++ b ∷ [] → three ≡ old ++ (a ∷ m ++ b ∷ [])
+framed old m a b one two three e f g =
+    g ∙ ap (λ l. l ++ b ∷ []) f ∙ ap (λ l. (l ++ m) ++ b ∷ []) e ∙ append_assoc (old ++ a ∷ []) m (b ∷ []) ∙ append_assoc old (a ∷ []) (m ++ b ∷ [])
 
 -- items counted from 1, one more
 pub counted_grown : {X Y : Type 0} (f : ℕ × X → Y) (xs : List X) (i : ℕ) (x : X) (old now next : List Y) (y : Y) → i < length xs → x ≡ get_or xs i x → y ≡ f (i + 1, x) → now ≡ old ++ map f (enumerate_from 1 (take i xs)) → next ≡ now ++ y ∷ [] →

@@ -4,3 +4,4 @@ pub mod NewFaces
 pub mod Tables
 pub mod BuiltFiles
 pub mod Patched
+pub mod Untouched

@@ -1,27 +1,29 @@
 -- What tables tell of edits: few things, each at its number.
-use Rattle.std.proofs.Common.{◌≡◌, ℕ, ◌+◌, ◌<◌, ◌≤◌, ◌++◌, Bool, true, false, not, List, [], ◌∷◌, length, get_or, take, ap, sym, ◌∙◌, arith, map, unwrap_or, Result, OnOk, if◌then◌else◌}
+use Rattle.std.proofs.Common.{◌≡◌, ℕ, ◌+◌, ◌<◌, ◌≤◌, ◌++◌, Bool, true, false, not, List, [], ◌∷◌, length, get_or, take, ap, refl, sym, ◌∙◌, ◌==◌, arith, map, set, unwrap_or, Result, OnOk, if◌then◌else◌}
 use Rattle.std.specs.Prelude.{Option, Some, None, slice_get}
-use Rattle.std.specs.List.{filter_map, zip, range_with_len}
-use Rattle.std.proofs.lemmas.List.{get_or_read}
+use Rattle.std.specs.List.{cons_option, filter_map, zip, range_with_len}
+use Rattle.std.proofs.lemmas.List.{get_or_read, length-append, take_all}
 use Rattle.std.proofs.lemmas.Option.{get_or_from_slice_get, slice_get_within}
 use Rattle.std.proofs.lemmas.List.FromFn.{length-map-range_with_len}
 use Rattle.std.specs.Option.{option_map_or}
 use Rattle.net_model.specs.declared.rows.Network.{Network}
 use Rattle.net_build.specs.declared.built.ListPlace.{ListPlace}
 use Rattle.ios_lines.specs.declared.line.Line.{Line}
+use Rattle.ios_words.specs.declared.commands.Command.{Command}
 use Rattle.edit_list.specs.declared.edit_kinds.Edit.{Edit}
 use Rattle.arc_base.specs.Numbered.{if_number, of_number, is_empty, placed, IsTableOf}
 use Rattle.edit_list.specs.Prices.{if_chosen, chosen_of}
 use Rattle.edit_list.proofs.Counts.{few_picked}
 use Rattle.edit_list.specs.NewLists.{new_lists, new_lists_of, new_names_of}
 use Rattle.edit_space.specs.Working.{AreNewNames}
-use Rattle.arc_base.proofs.Grouped.{things_told, told_at, picked_unless_empty}
+use Rattle.arc_base.proofs.Grouped.{grouped_more, things_told, told_at, picked_unless_empty}
 use Rattle.edit_list.proofs.Placing.{placed_picked, placed_not_picked}
 use Rattle.edit_list.proofs.PriceSteps.{pairs_length}
 use Rattle.line_patcher.specs.declared.additions.NewNumber.{NewNumber}
 use Rattle.line_patcher.specs.declared.texts.Table.{Table}
 use Rattle.line_patcher.specs.Patches.{end_of, row_bytes, ended, following, patched_row}
 use Rattle.line_patcher.specs.Working.{row_around}
+use Rattle.line_patcher.specs.Written.{line_of, lines_at}
 use Rattle.line_patcher.proofs.Growing.{put_same}
 
 -- edits put no more things anywhere than there are edits
@@ -70,13 +72,43 @@ module _ {L X : Type 0} (router : L → ℕ) (f : ℕ → List X) (whole lists :
   pub not_edited_more : (filled : Bool) → filled ≡ not (is_empty (unwrap_or (slice_get groups i) [])) → filled ≡ false → now ≡ filter_map edited (take i (placed lists)) → now ≡ filter_map edited (take (i + 1) (placed lists))
   not_edited_more filled says test was = placed_not_picked edited lists i list within is now (sym (picks filled false says test)) was
 
--- what stands around a row, as the table tells it
-pub around : (text end : List ℕ) (table : Table) (count : ℕ) (before after : List (ℕ × List ℕ)) (numbers : List (ℕ × NewNumber)) (number : ℕ) (row : Line) → IsTableOf count (λ k. of_number k before) table.before.items →
-    IsTableOf count (λ k. of_number k numbers) table.numbers.items → IsTableOf count (λ k. of_number k after) table.after.items → number < count → row_around text end table number row ≡ patched_row text end before numbers after (number, row)
+-- the lines of the commands at a number
+pub lines-number : (n : ℕ) (commands : List (ℕ × Command)) → of_number n (lines_at commands) ≡ map line_of (of_number n commands)
+lines-number n [] = refl
+lines-number n (c ∷ commands) = by (c.0 == n) (lines-number n commands)
+  where
+    by : (b : Bool) → of_number n (lines_at commands) ≡ map line_of (of_number n commands) →
+        cons_option (if b then Some (line_of c.1) else None) (of_number n (lines_at commands)) ≡ map line_of (cons_option (if b then Some c.1 else None) (of_number n commands))
+    by true rest = ap (λ (ls : List (List ℕ)). line_of c.1 ∷ ls) rest
+    by false rest = rest
+
+-- one thing more, in its group
+pub grouped_next : {X : Type 0} (count : ℕ) (things : List (ℕ × X)) (number : ℕ) (x : X) (now next : List (List X)) →
+    now ≡ map (λ k. of_number k things) (range_with_len 0 count) → next ≡ set now number (get_or now number [] ++ x ∷ []) →
+    next ≡ map (λ k. of_number k (things ++ (number, x) ∷ [])) (range_with_len 0 count)
+grouped_next {X} count things number x now next was put =
+    let whole : List (ℕ × X) = things ++ (number, x) ∷ [] in
+    let long : length whole ≡ length things + 1 = length-append things ((number, x) ∷ []) in
+    grouped_more count whole (length things) number x now next (omega (arith, long)) (sym (get_or-seam things (number, x)))
+    (was ∙ (λ i. map (λ (k : ℕ). of_number k (sym (take-front things ((number, x) ∷ [])) i)) (range_with_len 0 count))) put ∙
+    (λ i. map (λ (k : ℕ). of_number k (take_all (length things + 1) whole (omega (arith, long)) i)) (range_with_len 0 count))
+  where
+    get_or-seam : (xs : List (ℕ × X)) (y : ℕ × X) → get_or (xs ++ y ∷ []) (length xs) y ≡ y
+    get_or-seam [] y = refl
+    get_or-seam (z ∷ xs) y = get_or-seam xs y
+
+    take-front : (xs ys : List (ℕ × X)) → take (length xs) (xs ++ ys) ≡ xs
+    take-front [] ys = refl
+    take-front (z ∷ xs) ys = ap (λ (l : List (ℕ × X)). z ∷ l) (take-front xs ys)
+
+-- what is around a row, as the table has it
+pub around : (text end : List ℕ) (table : Table) (count : ℕ) (before after : List (ℕ × Command)) (numbers : List (ℕ × NewNumber)) (number : ℕ) (row : Line) → IsTableOf count (λ k. of_number k before) table.before.items →
+    IsTableOf count (λ k. of_number k numbers) table.numbers.items → IsTableOf count (λ k. of_number k after) table.after.items → number < count →
+    row_around text end table number row ≡ patched_row text end (lines_at before) numbers (lines_at after) (number, row)
 around text end table count before after numbers number row b n a low =
-    let eb = things_told table.before.items (λ k. of_number k before) count number (unwrap_or (slice_get table.before.items number) []) b low (λ i. unwrap_or (slice_get table.before.items number) []) in
-    let en = things_told table.numbers.items (λ k. of_number k numbers) count number (unwrap_or (slice_get table.numbers.items number) []) n low (λ i. unwrap_or (slice_get table.numbers.items number) []) in
-    let ea = things_told table.after.items (λ k. of_number k after) count number (unwrap_or (slice_get table.after.items number) []) a low (λ i. unwrap_or (slice_get table.after.items number) []) in
+    let eb = ap (map line_of) (things_told table.before.items (λ k. of_number k before) count number (unwrap_or (slice_get table.before.items number) []) b low refl) ∙ sym (lines-number number before) in
+    let en = things_told table.numbers.items (λ k. of_number k numbers) count number (unwrap_or (slice_get table.numbers.items number) []) n low refl in
+    let ea = ap (map line_of) (things_told table.after.items (λ k. of_number k after) count number (unwrap_or (slice_get table.after.items number) []) a low refl) ∙ sym (lines-number number after) in
     λ i. ended end (eb i) ++ row_bytes text row (en i) ++ end_of text row ++ following end row.end (ea i)
 
 -- a table of groups, by the things that it was made of

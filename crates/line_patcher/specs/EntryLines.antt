@@ -1,5 +1,4 @@
--- The lines of entries that edits add at the front of lists, and the new numbers of the old
--- entries.
+-- The entries that edits add at the front of lists, and the new numbers of the old entries.
 use Rattle.std.specs.Prelude.{ℕ, ◌+◌, ◌*◌, ◌&&◌, not, Bool, true, false, Option, Some, None, List}
 use Rattle.std.specs.Prelude.{[], map, find, length, bytes_eq, slice_get, slice_index}
 use Rattle.std.specs.Prelude.{if◌then◌else◌}
@@ -11,9 +10,8 @@ use Rattle.net_model.specs.declared.lists.PacketList.{PacketList}
 use Rattle.net_model.specs.declared.lists.RouteList.{RouteList}
 use Rattle.net_model.specs.declared.policies.Class.{Class}
 use Rattle.net_model.specs.declared.rows.Network.{Network}
+use Rattle.ios_words.specs.declared.commands.Command.{Command}
 use Rattle.ios_words.specs.declared.commands.Command.TheVariants as commands
-use Rattle.ios_words.specs.declared.kinds.BlockKind.TheVariants as blocks
-use Rattle.ios_words.specs.Plain.{plain_line}
 use Rattle.ios_words.specs.Printed.{route_text}
 use Rattle.ios_config.specs.declared.settings.ListForm.{ListForm}
 use Rattle.ios_config.specs.declared.settings.ListForm.TheVariants.{Block, Lines, PrefixLines}
@@ -31,33 +29,30 @@ use Rattle.line_patcher.specs.declared.additions.NewNumber.{NewNumber}
 abbrev pub order_at : ListPlace → ℕ → ℕ → Option ℕ
 order_at place step at = if place.numbered then Some (step * at) else None
 
--- the line of an entry of a packet list that is written in this form
-abbrev pub packet_line : ListForm → List ℕ → Option ℕ → PacketEntry → List ℕ
-packet_line Block name order entry =
-    plain_line blocks.Extended (commands.Entry order (packet_text entry))
-packet_line Lines name order entry =
-    plain_line blocks.Top (commands.ListLine name (packet_text entry))
-packet_line PrefixLines name order entry = []
+-- an entry of a packet list that is written in this form
+abbrev pub packet_command : ListForm → List ℕ → Option ℕ → PacketEntry → Command
+packet_command Lines name order entry = commands.ListLine name (packet_text entry)
+packet_command _ name order entry = commands.Entry order (packet_text entry)
 
--- the line of the new entry at this place of a packet list, which turns its answer for a class
-abbrev pub class_line : ListPlace → PacketList → ℕ × Class → List ℕ
-class_line place list entry =
-    packet_line place.form list.name (order_at place 10 entry.0)
+-- the new entry at this place of a packet list, which turns its answer for a class
+abbrev pub class_command : ListPlace → PacketList → ℕ × Class → Command
+class_command place list entry =
+    packet_command place.form list.name (order_at place 10 entry.0)
     (opposite_packet_entry list.entries entry.1)
 
--- the line of the new entry at this place of a route list, which turns its answer for a prefix
-abbrev pub prefix_line : ListPlace → RouteList → ℕ × Prefix → List ℕ
-prefix_line place list entry =
-    plain_line blocks.Top (commands.PrefixLine list.name (order_at place 5 entry.0)
-    (route_text (opposite_route_entry list.entries entry.1).permit entry.1))
+-- the new entry at this place of a route list, which turns its answer for a prefix
+abbrev pub prefix_command : ListPlace → RouteList → ℕ × Prefix → Command
+prefix_command place list entry =
+    commands.PrefixLine list.name (order_at place 5 entry.0)
+    (route_text (opposite_route_entry list.entries entry.1).permit entry.1)
 
--- the lines of the new entries of a packet list
-abbrev pub class_lines : ListPlace → PacketList → List Class → List (List ℕ)
-class_lines place list classes = map (class_line place list) (enumerate_from 1 classes)
+-- the new entries of a packet list
+abbrev pub class_commands : ListPlace → PacketList → List Class → List Command
+class_commands place list classes = map (class_command place list) (enumerate_from 1 classes)
 
--- the lines of the new entries of a route list
-abbrev pub prefix_lines : ListPlace → RouteList → List Prefix → List (List ℕ)
-prefix_lines place list prefixes = map (prefix_line place list) (enumerate_from 1 prefixes)
+-- the new entries of a route list
+abbrev pub prefix_commands : ListPlace → RouteList → List Prefix → List Command
+prefix_commands place list prefixes = map (prefix_command place list) (enumerate_from 1 prefixes)
 
 -- whether a list in this form is a packet list
 abbrev pub is_packet_form : ListForm → Bool
@@ -79,9 +74,9 @@ route_place own name =
 abbrev pub first_line : ListPlace → ℕ
 first_line place = slice_index place.entries 0
 
--- each of the lines, to be added before the first entry of a list
-abbrev pub at_front : ListPlace → List (List ℕ) → List (ℕ × List ℕ)
-at_front place lines = map (λ line. (first_line place, line)) lines
+-- each of the commands, to be added before the first entry of a list
+abbrev pub at_front : ListPlace → List Command → List (ℕ × Command)
+at_front place entries = map (λ entry. (first_line place, entry)) entries
 
 -- the new number of the entry at this line and this place of its list, after this many new entries:
 -- the word of its line, and the number
@@ -130,16 +125,16 @@ for_route_list net own things id =
     (slice_get net.route_lists id) []
 
 -- the new entries of the packet list at this place, each before its first one
-abbrev pub packet_list_entries : Network → Places → List Edit → ℕ → List (ℕ × List ℕ)
+abbrev pub packet_list_entries : Network → Places → List Edit → ℕ → List (ℕ × Command)
 packet_list_entries net own chosen id =
     for_packet_list net own
-    (λ list place. at_front place (class_lines place list (list_classes chosen id))) id
+    (λ list place. at_front place (class_commands place list (list_classes chosen id))) id
 
 -- and those of the route list
-abbrev pub route_list_entries : Network → Places → List Edit → ℕ → List (ℕ × List ℕ)
+abbrev pub route_list_entries : Network → Places → List Edit → ℕ → List (ℕ × Command)
 route_list_entries net own chosen id =
     for_route_list net own
-    (λ list place. at_front place (prefix_lines place list (list_prefixes chosen id))) id
+    (λ list place. at_front place (prefix_commands place list (list_prefixes chosen id))) id
 
 -- the new numbers of the packet list's old entries, which are the first words of their lines and
 -- rise by 10

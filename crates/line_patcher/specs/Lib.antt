@@ -1,3 +1,4 @@
+pub mod Written
 pub mod SessionLines
 pub mod NewListLines
 pub mod EntryLines

@@ -1,4 +1,4 @@
--- The lines that edits add to the process of a router: those that turn sessions.
+-- What edits add to the process of a router to turn sessions.
 use Rattle.std.specs.Prelude.{ℕ, not, Option, Some, List, option_map, option_and_then, slice_get}
 use Rattle.std.specs.List.{filter_map}
 use Rattle.net_model.specs.declared.rows.Protocol.{Protocol}
@@ -7,25 +7,24 @@ use Rattle.net_model.specs.declared.rows.FaceRow.{FaceRow}
 use Rattle.net_model.specs.declared.rows.SessionRow.{SessionRow}
 use Rattle.net_model.specs.declared.rows.Network.{Network}
 use Rattle.net_model.specs.Routing.{session_at}
+use Rattle.ios_words.specs.declared.commands.Command.{Command}
 use Rattle.ios_words.specs.declared.commands.Command.TheVariants as commands
-use Rattle.ios_words.specs.declared.kinds.BlockKind.TheVariants as blocks
-use Rattle.ios_words.specs.Plain.{plain_line}
 use Rattle.edit_list.specs.declared.edit_kinds.Edit.{Edit}
 use Rattle.edit_list.specs.Changes.{session_change}
 use Rattle.arc_base.specs.Numbered.{of_number}
 
--- the line that turns the session of an interface: under OSPF it makes it passive or active, under
--- eBGP it shuts its neighbour down or up
-abbrev pub turning_line : Protocol → FaceRow → Option SessionRow → Option (List ℕ)
-turning_line Ospf row session =
-    Some (plain_line blocks.Ospf (commands.Passive (not row.passive) (Some row.name)))
-turning_line Bgp row session =
-    option_map (λ s. plain_line blocks.Bgp (commands.NeighborDown s.peer (not s.down))) session
+-- the command that turns the session of an interface: under OSPF it makes it passive or active,
+-- under eBGP it shuts its neighbour down or up
+abbrev pub turning_command : Protocol → FaceRow → Option SessionRow → Option Command
+turning_command Ospf row session = Some (commands.Passive (not row.passive) (Some row.name))
+turning_command Bgp row session =
+    option_map (λ s. commands.NeighborDown s.peer (not s.down)) session
 
--- the line that turns the session of the interface at this place
-abbrev pub session_line : Network → ℕ → Option (List ℕ)
-session_line net face =
-    option_and_then (λ row. turning_line net.protocol row (session_at net (record { 0 = face })))
+-- the command that turns the session of the interface at this place
+abbrev pub session_command : Network → ℕ → Option Command
+session_command net face =
+    option_and_then
+    (λ row. turning_command net.protocol row (session_at net (record { 0 = face })))
     (slice_get net.faces face)
 
 -- the interface whose session the edit turns, with its router
@@ -38,6 +37,7 @@ turned_face net edit =
 abbrev pub turned_faces : Network → List Edit → ℕ → List ℕ
 turned_faces net chosen router = of_number router (filter_map (turned_face net) chosen)
 
--- the lines that turn sessions of a router, in the order of the edits
-abbrev pub session_lines : Network → List Edit → ℕ → List (List ℕ)
-session_lines net chosen router = filter_map (session_line net) (turned_faces net chosen router)
+-- the commands that turn sessions of a router, in the order of the edits
+abbrev pub session_commands : Network → List Edit → ℕ → List Command
+session_commands net chosen router =
+    filter_map (session_command net) (turned_faces net chosen router)

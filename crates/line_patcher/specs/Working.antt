@@ -1,5 +1,6 @@
 -- What the functions that make the new files keep.
-use Rattle.std.specs.Prelude.{◌≡◌, ℕ, ◌+◌, ◌≤◌, Some, List, [], ◌++◌, length, slice_get, unwrap_or}
+use Rattle.std.specs.Prelude.{◌≡◌, ℕ, ◌+◌, ◌≤◌, Some, List, [], ◌++◌, length, map, slice_get}
+use Rattle.std.specs.Prelude.{unwrap_or}
 use Rattle.arc_base.specs.declared.place.Face.{Face}
 use Rattle.arc_base.specs.declared.span.Span.{Span}
 use Rattle.ios_lines.specs.declared.line.Line.{Line}
@@ -14,6 +15,7 @@ use Rattle.line_patcher.specs.declared.texts.Table.{Table}
 use Rattle.line_patcher.specs.SessionLines.{turned_faces}
 use Rattle.line_patcher.specs.NewListLines.{face_places}
 use Rattle.line_patcher.specs.EntryLines.{edited_packet_lists, edited_route_lists}
+use Rattle.line_patcher.specs.Written.{line_of}
 use Rattle.line_patcher.specs.Patches.{end_of, row_bytes, ended, following}
 
 -- the interface of a new list
@@ -50,7 +52,7 @@ pub record LiesWithin (text : List ℕ) (row : Line) : Type 0 where
 -- a row with what the table adds at its number
 abbrev pub row_around : List ℕ → List ℕ → Table → ℕ → Line → List ℕ
 row_around text end table number row =
-    ended end (unwrap_or (slice_get table.before.items number) []) ++
+    ended end (map line_of (unwrap_or (slice_get table.before.items number) [])) ++
     row_bytes text row (unwrap_or (slice_get table.numbers.items number) []) ++
     end_of text row ++
-    following end row.end (unwrap_or (slice_get table.after.items number) [])
+    following end row.end (map line_of (unwrap_or (slice_get table.after.items number) []))

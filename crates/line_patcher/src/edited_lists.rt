@@ -6,12 +6,13 @@ ghost use Rattle.line_patcher.specs.EntryLines.{packet_list_numbers, route_list_
 
 use crate::additions::NewNumber;
 use crate::entries::{
-    packet_place, push_class_lines, push_numbers, push_prefix_lines, route_place,
+    packet_place, push_class_commands, push_numbers, push_prefix_commands, route_place,
 };
+use arc_base::Memory;
 use arc_base::groups::things_at;
 use arc_base::limits::EDIT_LIMIT;
-use arc_base::{Memory, Name};
 use edit_space::Changes;
+use ios_words::Command;
 use net_build::Places;
 use net_model::Network;
 use std::alloc::Global;
@@ -19,7 +20,7 @@ use std::alloc::Global;
 /// Adds the new entries of the packet list at a place.
 fn push_packet_list(
     alloc: Global,
-    lines: &mut Vec<(u32, Name)>,
+    commands: &mut Vec<(u32, Command)>,
     net: &Network,
     own: &Places,
     changes: &Changes,
@@ -27,7 +28,7 @@ fn push_packet_list(
 ) -> Result<(), Memory>
     requires changes { AreChanges net.now changes.now }
     requires few { length changes.now.edits.items ≤ EDIT_LIMIT }
-    ensures { OnOk result (lines.new.items ≡ lines.old.items ++
+    ensures { OnOk result (commands.new.items ≡ commands.old.items ++
         packet_list_entries net.now own.now changes.now.edits.items id) }
 {
     let Some(list) = net.packet_lists.get(id) else {
@@ -37,13 +38,13 @@ fn push_packet_list(
         return Ok(());
     };
     let classes = things_at(&changes.packet_lists, id);
-    push_class_lines(alloc, lines, place, list, classes)
+    push_class_commands(alloc, commands, place, list, classes)
 }
 
 /// Adds the new entries of the route list at a place.
 fn push_route_list(
     alloc: Global,
-    lines: &mut Vec<(u32, Name)>,
+    commands: &mut Vec<(u32, Command)>,
     net: &Network,
     own: &Places,
     changes: &Changes,
@@ -51,7 +52,7 @@ fn push_route_list(
 ) -> Result<(), Memory>
     requires changes { AreChanges net.now changes.now }
     requires few { length changes.now.edits.items ≤ EDIT_LIMIT }
-    ensures { OnOk result (lines.new.items ≡ lines.old.items ++
+    ensures { OnOk result (commands.new.items ≡ commands.old.items ++
         route_list_entries net.now own.now changes.now.edits.items id) }
 {
     let Some(list) = net.route_lists.get(id) else {
@@ -61,7 +62,7 @@ fn push_route_list(
         return Ok(());
     };
     let prefixes = things_at(&changes.route_lists, id);
-    push_prefix_lines(alloc, lines, place, list, prefixes)
+    push_prefix_commands(alloc, commands, place, list, prefixes)
 }
 
 /// Adds the new numbers of the packet list at a place.
@@ -113,7 +114,7 @@ fn push_route_numbers(
 /// Adds the new entries of packet lists.
 pub fn push_packet_entries(
     alloc: Global,
-    lines: &mut Vec<(u32, Name)>,
+    commands: &mut Vec<(u32, Command)>,
     net: &Network,
     own: &Places,
     changes: &Changes,
@@ -121,11 +122,11 @@ pub fn push_packet_entries(
 ) -> Result<(), Memory>
     requires changes { AreChanges net.now changes.now }
     requires few { length changes.now.edits.items ≤ EDIT_LIMIT }
-    ensures { OnOk result (lines.new.items ≡ lines.old.items ++
+    ensures { OnOk result (commands.new.items ≡ commands.old.items ++
         flat_map (packet_list_entries net.now own.now changes.now.edits.items) ids.now) }
 {
     for id in ids {
-        push_packet_list(alloc, lines, net, own, changes, *id)?;
+        push_packet_list(alloc, commands, net, own, changes, *id)?;
     }
     Ok(())
 }
@@ -133,7 +134,7 @@ pub fn push_packet_entries(
 /// Adds the new entries of route lists.
 pub fn push_route_entries(
     alloc: Global,
-    lines: &mut Vec<(u32, Name)>,
+    commands: &mut Vec<(u32, Command)>,
     net: &Network,
     own: &Places,
     changes: &Changes,
@@ -141,11 +142,11 @@ pub fn push_route_entries(
 ) -> Result<(), Memory>
     requires changes { AreChanges net.now changes.now }
     requires few { length changes.now.edits.items ≤ EDIT_LIMIT }
-    ensures { OnOk result (lines.new.items ≡ lines.old.items ++
+    ensures { OnOk result (commands.new.items ≡ commands.old.items ++
         flat_map (route_list_entries net.now own.now changes.now.edits.items) ids.now) }
 {
     for id in ids {
-        push_route_list(alloc, lines, net, own, changes, *id)?;
+        push_route_list(alloc, commands, net, own, changes, *id)?;
     }
     Ok(())
 }

@@ -1,19 +1,19 @@
-//! The lines of entries at the front of lists, and the new numbers of the old ones.
+//! New entries at the front of lists, and the new numbers of the old ones.
 ghost use Rattle.std.specs.Prelude.{◌≡◌, ◌<◌, ◌≤◌, ◌+◌, ◌*◌, ◌^◌, ◌++◌, length, IfOk, OnOk};
 ghost use Rattle.std.specs.Option.{option_copied};
 ghost use Rattle.net_rules.specs.Lists.{packet_text};
-ghost use Rattle.line_patcher.specs.EntryLines.{order_at, packet_line, class_line, prefix_line};
-ghost use Rattle.line_patcher.specs.EntryLines.{class_lines, prefix_lines, is_packet_form};
+ghost use Rattle.line_patcher.specs.EntryLines.{order_at, packet_command, class_command};
+ghost use Rattle.line_patcher.specs.EntryLines.{prefix_command, class_commands, prefix_commands};
 ghost use Rattle.line_patcher.specs.EntryLines.{packet_place, route_place, first_line, at_front};
-ghost use Rattle.line_patcher.specs.EntryLines.{new_numbers};
+ghost use Rattle.line_patcher.specs.EntryLines.{new_numbers, is_packet_form};
 
 use crate::additions::NewNumber;
-use crate::printed::{printed, route_text};
+use crate::printed::route_text;
 use arc_base::limits::EDIT_LIMIT;
 use arc_base::{Memory, Name, Prefix};
 use edit_space::{opposite_packet_entry, opposite_route_entry};
 use ios_config::ListForm;
-use ios_words::{BlockKind, Command, PacketText};
+use ios_words::{Command, PacketText};
 use net_build::{ListPlace, Places};
 use net_model::{Class, PacketEntry, PacketList, RouteList};
 use std::alloc::Global;
@@ -43,61 +43,56 @@ pub fn packet_text(entry: &PacketEntry) -> PacketText
     }
 }
 
-/// The line of an entry of a packet list that is written in a form.
-fn packet_line(
+/// An entry of a packet list that is written in a form.
+fn packet_command(
     alloc: Global,
     form: ListForm,
     name: &[u8],
     order: Option<u32>,
     entry: &PacketEntry,
-) -> Result<Name, Memory>
-    ensures { IfOk result (λ line. line ≡ packet_line form name.now order entry.now) }
+) -> Result<Command, Memory>
+    ensures { IfOk result (λ command. command ≡ packet_command form name.now order entry.now) }
 {
     match form {
-        ListForm::Block => {
-            let command = Command::Entry(order, packet_text(entry));
-            printed(alloc, BlockKind::Extended, &command)
-        }
         ListForm::Lines => {
-            let command = Command::ListLine(Name::make(alloc, name)?, packet_text(entry));
-            printed(alloc, BlockKind::Top, &command)
+            let name = Name::make(alloc, name)?;
+            Ok(Command::ListLine(name, packet_text(entry)))
         }
-        ListForm::PrefixLines => Ok(Name::of(Vec::new(alloc))),
+        _ => Ok(Command::Entry(order, packet_text(entry))),
     }
 }
 
-/// The line of a new entry of a packet list, which turns its answer for a class.
-fn class_line(
+/// A new entry of a packet list, which turns its answer for a class.
+fn class_command(
     alloc: Global,
     place: &ListPlace,
     list: &PacketList,
     at: u32,
     class: Class,
-) -> Result<Name, Memory>
+) -> Result<Command, Memory>
     requires { 10 * at < 2 ^ 32 }
-    ensures { IfOk result (λ line. line ≡ class_line place.now list.now (at, class)) }
+    ensures { IfOk result (λ command. command ≡ class_command place.now list.now (at, class)) }
 {
     let entry = opposite_packet_entry(list, class);
     let order = order_at(place, 10, at);
-    packet_line(alloc, place.form, list.name.bytes(), order, &entry)
+    packet_command(alloc, place.form, list.name.bytes(), order, &entry)
 }
 
-/// The line of a new entry of a route list, which turns its answer for a prefix.
-fn prefix_line(
+/// A new entry of a route list, which turns its answer for a prefix.
+fn prefix_command(
     alloc: Global,
     place: &ListPlace,
     list: &RouteList,
     at: u32,
     prefix: Prefix,
-) -> Result<Name, Memory>
+) -> Result<Command, Memory>
     requires { 5 * at < 2 ^ 32 }
-    ensures { IfOk result (λ line. line ≡ prefix_line place.now list.now (at, prefix)) }
+    ensures { IfOk result (λ command. command ≡ prefix_command place.now list.now (at, prefix)) }
 {
     let permit = opposite_route_entry(list, prefix).permit;
     let order = order_at(place, 5, at);
     let name = Name::make(alloc, list.name.bytes())?;
-    let command = Command::PrefixLine(name, order, route_text(permit, &prefix));
-    printed(alloc, BlockKind::Top, &command)
+    Ok(Command::PrefixLine(name, order, route_text(permit, &prefix)))
 }
 
 fn first_line(place: &ListPlace) -> u32
@@ -110,41 +105,41 @@ fn first_line(place: &ListPlace) -> u32
 }
 
 /// Adds the new entries of a packet list.
-pub fn push_class_lines(
+pub fn push_class_commands(
     alloc: Global,
-    lines: &mut Vec<(u32, Name)>,
+    commands: &mut Vec<(u32, Command)>,
     place: &ListPlace,
     list: &PacketList,
     classes: &[Class],
 ) -> Result<(), Memory>
     requires { length classes.now ≤ EDIT_LIMIT }
-    ensures { OnOk result (lines.new.items ≡ lines.old.items ++
-        at_front place.now (class_lines place.now list.now classes.now)) }
+    ensures { OnOk result (commands.new.items ≡ commands.old.items ++
+        at_front place.now (class_commands place.now list.now classes.now)) }
 {
     let first = first_line(place);
     for (at, class) in classes.iter().enumerate() {
-        let line = class_line(alloc, place, list, at as u32 + 1, *class)?;
-        lines.push((first, line))?;
+        let command = class_command(alloc, place, list, at as u32 + 1, *class)?;
+        commands.push((first, command))?;
     }
     Ok(())
 }
 
 /// Adds the new entries of a route list.
-pub fn push_prefix_lines(
+pub fn push_prefix_commands(
     alloc: Global,
-    lines: &mut Vec<(u32, Name)>,
+    commands: &mut Vec<(u32, Command)>,
     place: &ListPlace,
     list: &RouteList,
     prefixes: &[Prefix],
 ) -> Result<(), Memory>
     requires { length prefixes.now ≤ EDIT_LIMIT }
-    ensures { OnOk result (lines.new.items ≡ lines.old.items ++
-        at_front place.now (prefix_lines place.now list.now prefixes.now)) }
+    ensures { OnOk result (commands.new.items ≡ commands.old.items ++
+        at_front place.now (prefix_commands place.now list.now prefixes.now)) }
 {
     let first = first_line(place);
     for (at, prefix) in prefixes.iter().enumerate() {
-        let line = prefix_line(alloc, place, list, at as u32 + 1, *prefix)?;
-        lines.push((first, line))?;
+        let command = prefix_command(alloc, place, list, at as u32 + 1, *prefix)?;
+        commands.push((first, command))?;
     }
     Ok(())
 }

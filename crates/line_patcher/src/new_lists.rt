@@ -1,49 +1,46 @@
-//! The lines of new lists, and those that bind them.
+//! New lists, and what binds them.
 ghost use Rattle.std.specs.Prelude.{false, ◌≡◌, ◌<◌, ◌≤◌, ◌+◌, ◌*◌, ◌^◌, ◌++◌, map, flat_map};
 ghost use Rattle.std.specs.Prelude.{length, All, IfOk, OnOk};
 ghost use Rattle.std.specs.List.{filter_map, zip, enumerate_from};
-ghost use Rattle.net_model.specs.Routing.{session_at};
 ghost use Rattle.ios_words.specs.Printed.{all_routes};
-ghost use Rattle.edit_list.specs.After.{class_entry, every_packet};
+ghost use Rattle.edit_list.specs.After.{every_packet};
 ghost use Rattle.edit_space.specs.Working.{AreChanges};
-ghost use Rattle.line_patcher.specs.NewListLines.{deny_line, new_route_lines, deny_class_line};
-ghost use Rattle.line_patcher.specs.NewListLines.{new_packet_lines, new_list_lines, filter_line};
-ghost use Rattle.line_patcher.specs.NewListLines.{group_line_among, entry_line, head_line};
-ghost use Rattle.line_patcher.specs.NewListLines.{permit_all_line};
+ghost use Rattle.line_patcher.specs.NewListLines.{deny_prefix, permit_all, new_route_commands};
+ghost use Rattle.line_patcher.specs.NewListLines.{new_entry, deny_class, new_entries};
+ghost use Rattle.line_patcher.specs.NewListLines.{new_packet_commands, new_list_commands};
+ghost use Rattle.line_patcher.specs.NewListLines.{filter_command, group_command};
 ghost use Rattle.line_patcher.specs.Working.{face_of};
 
 use crate::entries::packet_text;
-use crate::printed::{printed, route_text};
+use crate::printed::route_text;
 use arc_base::groups::things_at;
 use arc_base::limits::EDIT_LIMIT;
 use arc_base::{Memory, Name, Prefix};
 use edit_list::NewList;
 use edit_space::{Changes, any};
-use ios_words::{BlockKind, Command, RouteText, whole};
+use ios_words::{Command, RouteText, whole};
 use net_build::FacePlace;
 use net_model::{Class, Network, PacketEntry, Service};
 use std::alloc::Global;
 
-/// The line of a new route list that denies a prefix.
-fn deny_line(alloc: Global, name: &[u8], place: u32, prefix: &Prefix) -> Result<Name, Memory>
+/// The entry of a new route list that denies a prefix.
+fn deny_prefix(alloc: Global, name: &[u8], place: u32, prefix: &Prefix) -> Result<Command, Memory>
     requires { 5 * place < 2 ^ 32 }
-    ensures { IfOk result (λ line. line ≡ deny_line name.now (place, prefix.now)) }
+    ensures { IfOk result (λ command. command ≡ deny_prefix name.now (place, prefix.now)) }
 {
     let name = Name::make(alloc, name)?;
-    let command = Command::PrefixLine(name, Some(5 * place), route_text(false, prefix));
-    printed(alloc, BlockKind::Top, &command)
+    Ok(Command::PrefixLine(name, Some(5 * place), route_text(false, prefix)))
 }
 
-/// The line of a new route list that permits all prefixes.
-fn permit_all_line(alloc: Global, name: &[u8], number: u32) -> Result<Name, Memory>
-    ensures { IfOk result (λ line. line ≡ permit_all_line name.now number) }
+/// The entry of a new route list that permits all prefixes.
+fn permit_all(alloc: Global, name: &[u8], number: u32) -> Result<Command, Memory>
+    ensures { IfOk result (λ command. command ≡ permit_all name.now number) }
 {
     let name = Name::make(alloc, name)?;
-    let command = Command::PrefixLine(name, Some(number), all_routes());
-    printed(alloc, BlockKind::Top, &command)
+    Ok(Command::PrefixLine(name, Some(number), all_routes()))
 }
 
-/// The entry of all prefixes.
+/// What an entry for all prefixes says.
 fn all_routes() -> RouteText
     ensures { result ≡ all_routes }
 {
@@ -55,114 +52,103 @@ fn all_routes() -> RouteText
     }
 }
 
-/// Adds the lines that deny prefixes.
-fn push_deny_lines(
+/// Adds the entries that deny prefixes.
+fn push_deny_prefixes(
     alloc: Global,
-    lines: &mut Vec<Name>,
+    commands: &mut Vec<Command>,
     name: &[u8],
     prefixes: &[Prefix],
 ) -> Result<(), Memory>
     requires { length prefixes.now ≤ EDIT_LIMIT }
-    ensures { OnOk result (lines.new.items ≡ lines.old.items ++
-        map (deny_line name.now) (enumerate_from 1 prefixes.now)) }
+    ensures { OnOk result (commands.new.items ≡ commands.old.items ++
+        map (deny_prefix name.now) (enumerate_from 1 prefixes.now)) }
 {
     for (place, prefix) in prefixes.iter().enumerate() {
-        lines.push(deny_line(alloc, name, place as u32 + 1, prefix)?)?;
+        commands.push(deny_prefix(alloc, name, place as u32 + 1, prefix)?)?;
     }
     Ok(())
 }
 
-/// Adds the lines of a new route list.
+/// Adds a new route list.
 fn push_route_list(
     alloc: Global,
-    lines: &mut Vec<Name>,
+    commands: &mut Vec<Command>,
     name: &[u8],
     prefixes: &[Prefix],
 ) -> Result<(), Memory>
     requires { length prefixes.now ≤ EDIT_LIMIT }
     ensures { OnOk result
-        (lines.new.items ≡ lines.old.items ++ new_route_lines name.now prefixes.now) }
+        (commands.new.items ≡ commands.old.items ++ new_route_commands name.now prefixes.now) }
 {
-    push_deny_lines(alloc, lines, name, prefixes)?;
+    push_deny_prefixes(alloc, commands, name, prefixes)?;
     let number = 5 * (prefixes.len() as u32 + 1);
-    lines.push(permit_all_line(alloc, name, number)?)?;
+    commands.push(permit_all(alloc, name, number)?)?;
     Ok(())
 }
 
 /// An entry of a new packet list.
-fn entry_line(alloc: Global, entry: &PacketEntry) -> Result<Name, Memory>
-    ensures { IfOk result (λ line. line ≡ entry_line entry.now) }
+fn new_entry(entry: &PacketEntry) -> Command
+    ensures { result ≡ new_entry entry.now }
 {
-    let command = Command::Entry(None, packet_text(entry));
-    printed(alloc, BlockKind::Extended, &command)
+    Command::Entry(None, packet_text(entry))
 }
 
 /// The entry of a new packet list that denies a class.
-fn deny_entry(class: &Class) -> PacketEntry
-    ensures { result ≡ class_entry false class.now }
+fn deny_class(class: &Class) -> Command
+    ensures { result ≡ deny_class class.now }
 {
-    PacketEntry {
+    new_entry(&PacketEntry {
         permit: false,
         from: class.from,
         to: class.to,
         service: class.service,
-    }
+    })
 }
 
 /// The last entry of a new packet list, which permits every packet.
-fn every_packet() -> PacketEntry
-    ensures { result ≡ every_packet }
+fn permit_every_packet() -> Command
+    ensures { result ≡ new_entry every_packet }
 {
-    PacketEntry {
+    new_entry(&PacketEntry {
         permit: true,
         from: any(),
         to: any(),
         service: Service::whole(),
-    }
+    })
 }
 
-fn head_line(alloc: Global, name: &[u8]) -> Result<Name, Memory>
-    ensures { IfOk result (λ line. line ≡ head_line name.now) }
-{
-    let command = Command::ListBlock(true, Name::make(alloc, name)?);
-    printed(alloc, BlockKind::Top, &command)
-}
-
-/// Adds the lines that deny classes.
-fn push_deny_class_lines(
-    alloc: Global,
-    lines: &mut Vec<Name>,
-    classes: &[Class],
-) -> Result<(), Memory>
-    ensures { OnOk result (lines.new.items ≡ lines.old.items ++ map deny_class_line classes.now) }
+/// Adds the entries of a new packet list.
+fn push_new_entries(commands: &mut Vec<Command>, classes: &[Class]) -> Result<(), Memory>
+    ensures { OnOk result
+        (commands.new.items ≡ commands.old.items ++ new_entries classes.now) }
 {
     for class in classes {
-        lines.push(entry_line(alloc, &deny_entry(class))?)?;
+        commands.push(deny_class(class))?;
     }
+    commands.push(permit_every_packet())?;
     Ok(())
 }
 
-/// Adds the lines of a new packet list.
+/// Adds a new packet list.
 fn push_packet_list(
     alloc: Global,
-    lines: &mut Vec<Name>,
+    commands: &mut Vec<Command>,
     name: &[u8],
     classes: &[Class],
 ) -> Result<(), Memory>
     ensures { OnOk result
-        (lines.new.items ≡ lines.old.items ++ new_packet_lines name.now classes.now) }
+        (commands.new.items ≡ commands.old.items ++ new_packet_commands name.now classes.now) }
 {
-    lines.push(head_line(alloc, name)?)?;
-    push_deny_class_lines(alloc, lines, classes)?;
-    lines.push(entry_line(alloc, &every_packet())?)?;
-    lines.push(Name::make(alloc, b"!")?)?;
+    commands.push(Command::ListBlock(true, Name::make(alloc, name)?))?;
+    push_new_entries(commands, classes)?;
+    commands.push(Command::Inert)?;
     Ok(())
 }
 
-/// Adds the lines of a new list.
+/// Adds a new list.
 fn push_new_list(
     alloc: Global,
-    lines: &mut Vec<Name>,
+    commands: &mut Vec<Command>,
     net: &Network,
     changes: &Changes,
     list: NewList,
@@ -171,15 +157,25 @@ fn push_new_list(
     requires changes { AreChanges net.now changes.now }
     requires within { (face_of list).0 < length net.now.faces }
     requires few { length changes.now.edits.items ≤ EDIT_LIMIT }
-    ensures { OnOk result (lines.new.items ≡ lines.old.items ++
-        new_list_lines changes.now.edits.items list name.now) }
+    ensures { OnOk result (commands.new.items ≡ commands.old.items ++
+        new_list_commands changes.now.edits.items list name.now) }
 {
     match list {
         NewList::Route(face) => {
-            push_route_list(alloc, lines, name, things_at(&changes.new_routes, face.0))
+            push_route_list(
+                alloc,
+                commands,
+                name,
+                things_at(&changes.new_routes, face.0),
+            )
         }
         NewList::Packet(face) => {
-            push_packet_list(alloc, lines, name, things_at(&changes.new_packets, face.0))
+            push_packet_list(
+                alloc,
+                commands,
+                name,
+                things_at(&changes.new_packets, face.0),
+            )
         }
     }
 }
@@ -203,34 +199,34 @@ pub fn named_lists(
     Ok(named)
 }
 
-/// The lines of new lists.
-pub fn lines_of_new_lists(
+/// All new lists of a router.
+pub fn commands_of_new_lists(
     alloc: Global,
     net: &Network,
     changes: &Changes,
     named: &[NamedList],
-) -> Result<Vec<Name>, Memory>
+) -> Result<Vec<Command>, Memory>
     requires changes { AreChanges net.now changes.now }
     requires within { All (λ n. (face_of n.0).0 < length net.now.faces) named.now }
     requires few { length changes.now.edits.items ≤ EDIT_LIMIT }
-    ensures { IfOk result (λ lines.
-        lines.items ≡ flat_map (λ n. new_list_lines changes.now.edits.items n.0 n.1) named.now) }
+    ensures { IfOk result (λ commands. commands.items
+        ≡ flat_map (λ n. new_list_commands changes.now.edits.items n.0 n.1) named.now) }
 {
-    let mut lines = Vec::new(alloc);
+    let mut commands = Vec::new(alloc);
     for (list, name) in named {
-        push_new_list(alloc, &mut lines, net, changes, *list, name.bytes())?;
+        push_new_list(alloc, &mut commands, net, changes, *list, name.bytes())?;
     }
-    Ok(lines)
+    Ok(commands)
 }
 
-/// The line that binds a new route list.
-fn filter_line(
+/// The command that binds a new route list.
+fn filter_command(
     alloc: Global,
     net: &Network,
     list: NewList,
     name: &[u8],
-) -> Result<Option<Name>, Memory>
-    ensures { IfOk result (λ line. line ≡ filter_line net.now list name.now) }
+) -> Result<Option<Command>, Memory>
+    ensures { IfOk result (λ command. command ≡ filter_command net.now list name.now) }
 {
     let NewList::Route(face) = list else {
         return Ok(None);
@@ -238,36 +234,36 @@ fn filter_line(
     let Some(session) = net.session_at(face) else {
         return Ok(None);
     };
-    let command = Command::NeighborList(session.peer, Name::make(alloc, name)?);
-    Ok(Some(printed(alloc, BlockKind::Bgp, &command)?))
+    let name = Name::make(alloc, name)?;
+    Ok(Some(Command::NeighborList(session.peer, name)))
 }
 
-/// Adds the lines that bind new route lists.
-pub fn push_filter_lines(
+/// Adds the commands that bind new route lists.
+pub fn push_filter_commands(
     alloc: Global,
-    lines: &mut Vec<Name>,
+    commands: &mut Vec<Command>,
     net: &Network,
     named: &[NamedList],
 ) -> Result<(), Memory>
-    ensures { OnOk result (lines.new.items ≡ lines.old.items ++
-        filter_map (λ n. filter_line net.now n.0 n.1) named.now) }
+    ensures { OnOk result (commands.new.items ≡ commands.old.items ++
+        filter_map (λ n. filter_command net.now n.0 n.1) named.now) }
 {
     for (list, name) in named {
-        if let Some(line) = filter_line(alloc, net, *list, name.bytes())? {
-            lines.push(line)?;
+        if let Some(command) = filter_command(alloc, net, *list, name.bytes())? {
+            commands.push(command)?;
         }
     }
     Ok(())
 }
 
-/// The line that binds a new packet list, with the last command line of its interface.
-fn group_line(
+/// The command that binds a new packet list, with the last command line of its interface.
+fn group_command(
     alloc: Global,
     faces: &[FacePlace],
     list: NewList,
     name: &[u8],
-) -> Result<Option<(u32, Name)>, Memory>
-    ensures { IfOk result (λ line. line ≡ group_line_among faces.now list name.now) }
+) -> Result<Option<(u32, Command)>, Memory>
+    ensures { IfOk result (λ command. command ≡ group_command faces.now list name.now) }
 {
     let NewList::Packet(face) = list else {
         return Ok(None);
@@ -275,24 +271,23 @@ fn group_line(
     let Some(place) = faces.get(face.0 as usize) else {
         return Ok(None);
     };
-    let command = Command::Group(Name::make(alloc, name)?, true);
-    let line = printed(alloc, BlockKind::Interface, &command)?;
-    Ok(Some((place.last, line)))
+    let name = Name::make(alloc, name)?;
+    Ok(Some((place.last, Command::Group(name, true))))
 }
 
-/// Adds the lines that bind new packet lists.
-pub fn push_group_lines(
+/// Adds the commands that bind new packet lists.
+pub fn push_group_commands(
     alloc: Global,
-    lines: &mut Vec<(u32, Name)>,
+    commands: &mut Vec<(u32, Command)>,
     faces: &[FacePlace],
     named: &[NamedList],
 ) -> Result<(), Memory>
-    ensures { OnOk result (lines.new.items ≡ lines.old.items ++
-        filter_map (λ n. group_line_among faces.now n.0 n.1) named.now) }
+    ensures { OnOk result (commands.new.items ≡ commands.old.items ++
+        filter_map (λ n. group_command faces.now n.0 n.1) named.now) }
 {
     for (list, name) in named {
-        if let Some(line) = group_line(alloc, faces, *list, name.bytes())? {
-            lines.push(line)?;
+        if let Some(command) = group_command(alloc, faces, *list, name.bytes())? {
+            commands.push(command)?;
         }
     }
     Ok(())

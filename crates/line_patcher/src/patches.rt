@@ -39,7 +39,7 @@ fn patched_file(
     let lines = &built.lines.slice()[router];
     let own = &built.places.slice()[router];
     let all = Additions::of(alloc, built, plan, router as u32, own)?;
-    patched_text(alloc, text, lines, &all)
+    patched_text(alloc, text, lines, all)
 }
 
 /// The router files after the chosen edits, in the order of the document. A file that no chosen

@@ -1,65 +1,45 @@
-//! The lines that turn sessions.
-ghost use Rattle.std.specs.Prelude.{◌≡◌, ◌++◌, not, Some, IfOk, OnOk};
+//! The commands that turn sessions.
+ghost use Rattle.std.specs.Prelude.{◌≡◌, ◌++◌, IfOk, OnOk};
 ghost use Rattle.std.specs.List.{filter_map};
-ghost use Rattle.ios_words.specs.declared.commands.Command.TheVariants.{Passive, NeighborDown};
-ghost use Rattle.ios_words.specs.declared.kinds.BlockKind.TheVariants as blocks;
-ghost use Rattle.ios_words.specs.Plain.{plain_line};
-ghost use Rattle.line_patcher.specs.SessionLines.{session_line};
+ghost use Rattle.line_patcher.specs.SessionLines.{session_command};
 
-use crate::printed::printed;
 use arc_base::{Face, Memory, Name};
-use ios_words::{BlockKind, Command};
-use net_model::{FaceRow, Network, Protocol, SessionRow};
+use ios_words::Command;
+use net_model::{Network, Protocol};
 use std::alloc::Global;
 
-/// Whether the interface is passive, turned.
-fn passive_line(alloc: Global, row: &FaceRow) -> Result<Name, Memory>
-    ensures { IfOk result (λ line. line ≡
-        plain_line blocks.Ospf (Passive (not row.now.passive) (Some row.now.name))) }
-{
-    let name = Name::make(alloc, row.name.bytes())?;
-    let command = Command::Passive(!row.passive, Some(name));
-    printed(alloc, BlockKind::Ospf, &command)
-}
-
-/// Whether the neighbour is shut down, turned.
-fn neighbor_line(alloc: Global, session: &SessionRow) -> Result<Name, Memory>
-    ensures { IfOk result (λ line. line ≡
-        plain_line blocks.Bgp (NeighborDown session.now.peer (not session.now.down))) }
-{
-    let command = Command::NeighborDown(session.peer, !session.down);
-    printed(alloc, BlockKind::Bgp, &command)
-}
-
-/// The line that turns the session of an interface of the network.
-fn session_line(alloc: Global, net: &Network, face: Face) -> Result<Option<Name>, Memory>
-    ensures { IfOk result (λ line. line ≡ session_line net.now face.0) }
+/// The command that turns the session of an interface of the network.
+fn session_command(alloc: Global, net: &Network, face: Face) -> Result<Option<Command>, Memory>
+    ensures { IfOk result (λ command. command ≡ session_command net.now face.0) }
 {
     let Some(row) = net.faces.get(face.0) else {
         return Ok(None);
     };
     match net.protocol {
-        Protocol::Ospf => Ok(Some(passive_line(alloc, row)?)),
+        Protocol::Ospf => {
+            let name = Name::make(alloc, row.name.bytes())?;
+            Ok(Some(Command::Passive(!row.passive, Some(name))))
+        }
         Protocol::Bgp => match net.session_at(face) {
-            Some(session) => Ok(Some(neighbor_line(alloc, session)?)),
+            Some(session) => Ok(Some(Command::NeighborDown(session.peer, !session.down))),
             None => Ok(None),
         },
     }
 }
 
-/// Adds the lines that turn the sessions of these interfaces.
-pub fn push_session_lines(
+/// Adds the commands that turn the sessions of these interfaces.
+pub fn push_session_commands(
     alloc: Global,
-    lines: &mut Vec<Name>,
+    commands: &mut Vec<Command>,
     net: &Network,
     faces: &[u32],
 ) -> Result<(), Memory>
-    ensures { OnOk result
-        (lines.new.items ≡ lines.old.items ++ filter_map (session_line net.now) faces.now) }
+    ensures { OnOk result (commands.new.items ≡
+        commands.old.items ++ filter_map (session_command net.now) faces.now) }
 {
     for face in faces {
-        if let Some(line) = session_line(alloc, net, Face(*face))? {
-            lines.push(line)?;
+        if let Some(command) = session_command(alloc, net, Face(*face))? {
+            commands.push(command)?;
         }
     }
     Ok(())

@@ -1,26 +1,33 @@
-//! The text of a file with what is added to it.
-ghost use Rattle.std.specs.Prelude.{◌≡◌, ◌<◌, ◌-◌, ◌^◌, ◌++◌, ◌∷◌, [], flat_map, length, All, IfOk};
-ghost use Rattle.std.specs.Prelude.{OnOk};
+//! The text of a file with what is added to it. Only here do commands become bytes.
+ghost use Rattle.std.specs.Prelude.{◌≡◌, ◌<◌, ◌-◌, ◌^◌, ◌++◌, ◌∷◌, [], flat_map, length, map, All};
+ghost use Rattle.std.specs.Prelude.{IfOk, OnOk};
 ghost use Rattle.ios_lines.specs.Lines.{AreLinesOf};
 ghost use Rattle.arc_base.specs.Numbered.{of_number, IsTableOf};
 ghost use Rattle.line_patcher.specs.Patches.{end_of, line_end, row_bytes, ended, following};
 ghost use Rattle.line_patcher.specs.Patches.{patched_text};
 ghost use Rattle.line_patcher.specs.Working.{LiesWithin, row_around};
+ghost use Rattle.line_patcher.specs.Written.{line_of, lines_at};
 
 use crate::additions::{Additions, NewNumber};
+use crate::printed::push_line;
 use arc_base::groups::{Group, add, empty_groups, grouped, things_at};
 use arc_base::{Memory, Name, push_number};
 use ios_lines::{Line, Lines};
+use ios_words::Command;
 use std::alloc::Global;
 
-/// The lines at each place below the count.
-fn lines_at(alloc: Global, count: u32, lines: &[(u32, Name)]) -> Result<Vec<Group<Name>>, Memory>
+/// The commands at each number below the count, which are moved and not copied.
+fn commands_at(
+    alloc: Global,
+    count: u32,
+    commands: Vec<(u32, Command)>,
+) -> Result<Vec<Group<Command>>, Memory>
     ensures { IfOk result (λ groups.
-        IsTableOf count (λ number. of_number number lines.now) groups.items) }
+        IsTableOf count (λ number. of_number number commands.items) groups.items) }
 {
     let mut groups = empty_groups(alloc, count)?;
-    for (number, line) in lines {
-        add(&mut groups, *number, Name::make(alloc, line.bytes())?)?;
+    for (number, command) in commands {
+        add(&mut groups, number, command)?;
     }
     Ok(groups)
 }
@@ -45,37 +52,55 @@ fn end_of<'a>(text: &'a [u8], row: &Line) -> &'a [u8]
     &text[from..from + row.end as usize]
 }
 
-/// Adds lines that are each ended.
-fn push_ended(text: &mut Vec<u8>, end: &[u8], lines: &[Name]) -> Result<(), Memory>
-    ensures { OnOk result (text.new.items ≡ text.old.items ++ ended end.now lines.now) }
-{
-    for line in lines {
-        text.extend_from_slice(line.bytes())?;
-        text.extend_from_slice(end)?;
-    }
-    Ok(())
-}
-
-/// Appends lines, each after an end.
-fn push_begun(text: &mut Vec<u8>, end: &[u8], lines: &[Name]) -> Result<(), Memory>
+/// Adds the lines of commands, each ended.
+fn push_ended(
+    alloc: Global,
+    text: &mut Vec<u8>,
+    end: &[u8],
+    commands: &[Command],
+) -> Result<(), Memory>
     ensures { OnOk result
-        (text.new.items ≡ text.old.items ++ flat_map (λ line. end.now ++ line) lines.now) }
+        (text.new.items ≡ text.old.items ++ ended end.now (map line_of commands.now)) }
 {
-    for line in lines {
+    for command in commands {
+        push_line(alloc, text, command)?;
         text.extend_from_slice(end)?;
-        text.extend_from_slice(line.bytes())?;
     }
     Ok(())
 }
 
-/// Appends lines after a row with an end of `len` bytes.
-fn push_following(text: &mut Vec<u8>, end: &[u8], len: u8, lines: &[Name]) -> Result<(), Memory>
-    ensures { OnOk result (text.new.items ≡ text.old.items ++ following end.now len lines.now) }
+/// Adds the lines of commands, each after an end.
+fn push_begun(
+    alloc: Global,
+    text: &mut Vec<u8>,
+    end: &[u8],
+    commands: &[Command],
+) -> Result<(), Memory>
+    ensures { OnOk result (text.new.items ≡
+        text.old.items ++ flat_map (λ line. end.now ++ line) (map line_of commands.now)) }
+{
+    for command in commands {
+        text.extend_from_slice(end)?;
+        push_line(alloc, text, command)?;
+    }
+    Ok(())
+}
+
+/// Adds the lines of commands after a row with an end of `len` bytes.
+fn push_following(
+    alloc: Global,
+    text: &mut Vec<u8>,
+    end: &[u8],
+    len: u8,
+    commands: &[Command],
+) -> Result<(), Memory>
+    ensures { OnOk result
+        (text.new.items ≡ text.old.items ++ following end.now len (map line_of commands.now)) }
 {
     if len == 0 {
-        push_begun(text, end, lines)
+        push_begun(alloc, text, end, commands)
     } else {
-        push_ended(text, end, lines)
+        push_ended(alloc, text, end, commands)
     }
 }
 
@@ -126,9 +151,9 @@ fn push_row_bytes(
 /// What is added at each line.
 #[derive(Debug, Drop)]
 struct Table {
-    before: Vec<Group<Name>>,
+    before: Vec<Group<Command>>,
     numbers: Vec<Group<NewNumber>>,
-    after: Vec<Group<Name>>,
+    after: Vec<Group<Command>>,
 }
 
 /// Appends a row with what is added before it, in it and after it.
@@ -145,30 +170,39 @@ fn push_row(
     ensures { OnOk result
         (new.new.items ≡ new.old.items ++ row_around text.now end.now table.now number row.now) }
 {
-    push_ended(new, end, things_at(&table.before, number))?;
+    push_ended(alloc, new, end, things_at(&table.before, number))?;
     push_row_bytes(alloc, new, text, row, things_at(&table.numbers, number))?;
     new.extend_from_slice(end_of(text, row))?;
-    push_following(new, end, row.end, things_at(&table.after, number))
+    push_following(alloc, new, end, row.end, things_at(&table.after, number))
 }
 
-/// The text of a file, of which these are the lines, with what is added to it.
+/// The text of a file, of which these are the lines, with what is added to it. A file to which
+/// nothing is added is copied as it is.
 pub fn patched_text(
     alloc: Global,
     text: &[u8],
     lines: &Lines,
-    all: &Additions,
+    all: Additions,
 ) -> Result<Name, Memory>
     requires few { length text.now < 2 ^ 32 - 1 }
     requires lines { AreLinesOf text.now lines.now }
-    ensures { IfOk result (λ new. new ≡ patched_text text.now lines.now all.now.before.items
-        all.now.numbers.items all.now.after.items) }
+    ensures { IfOk result (λ new. new ≡ patched_text text.now lines.now
+        (lines_at all.before.items) all.numbers.items (lines_at all.after.items)) }
 {
+    if all.is_empty() {
+        return Name::make(alloc, text);
+    }
     let rows = lines.rows.slice();
     let count = rows.len() as u32 + 1;
+    let Additions {
+        before,
+        numbers,
+        after,
+    } = all;
     let table = Table {
-        before: lines_at(alloc, count, &all.before)?,
-        numbers: grouped(alloc, count, &all.numbers)?,
-        after: lines_at(alloc, count, &all.after)?,
+        before: commands_at(alloc, count, before)?,
+        numbers: grouped(alloc, count, &numbers)?,
+        after: commands_at(alloc, count, after)?,
     };
     let end = line_end(text, rows);
     let mut new = Vec::new(alloc);

@@ -1,7 +1,7 @@
 -- The process and the interfaces of a file grow by what edits put at their ends.
-use Rattle.std.proofs.Common.{◌≡◌, ◌≢◌, ℕ, ◌+◌, ◌≤◌, ◌==◌, ◌⊎◌, inl, inr, Bool, true, false, if◌then◌else◌, Some, None, List, [], ◌∷◌, ◌++◌, map, refl, sym, ap, subst, ◌∙◌, arith, ⊎_elim, Contains, append-nil, not}
-use Rattle.std.specs.List.{AllZip, cons_option, filter_map, flat_map, zip}
-use Rattle.std.proofs.lemmas.Bool.{cases_Bool, eq-eqb}
+use Rattle.std.proofs.Common.{◌≡◌, ◌≢◌, ℕ, ◌+◌, ◌≤◌, ◌⊎◌, inl, inr, Bool, true, false, Some, None, List, [], ◌∷◌, ◌++◌, map, refl, sym, ap, subst, ◌∙◌, arith, ⊎_elim, Contains, append-nil, not}
+use Rattle.std.specs.List.{flat_map}
+use Rattle.std.proofs.lemmas.Bool.{cases_Bool}
 use Rattle.std.proofs.lemmas.Option.{none-some}
 use Rattle.std.proofs.lemmas.List.{map-append}
 use Rattle.arc_base.proofs.Items.{Contains-cases, Contains-none, Contains-head, Contains-tail, Contains-filter, Contains-piece, from_filter, from_map}
@@ -14,8 +14,7 @@ use Rattle.ios_config.specs.declared.commands.FileCommand.{FileCommand}
 use Rattle.ios_config.specs.declared.settings.ProcessText.{ProcessText}
 use Rattle.ios_config.specs.Bare.{bare}
 use Rattle.ios_config.specs.Groups.{Part, Block, is_same, part_in, part_of, distinct, members, groups}
-use Rattle.ios_config.specs.Appended.{IsLineOf}
-use Rattle.ios_config.specs.ProcessLines.{HasProcess, IsQuiet}
+use Rattle.ios_config.specs.ProcessLines.{HasProcess}
 use Rattle.ios_config.specs.Texts.{is_entry, process_by, process_of}
 use Rattle.ios_config.proofs.HeadsFirst.{part-block}
 use Rattle.ios_config.proofs.JoinedParts.{is-self}
@@ -24,30 +23,32 @@ use Rattle.ios_config.proofs.PartLists.{is_same-Decides, others}
 use Rattle.ios_config.proofs.ProcessBlocks.{rising-filter}
 use Rattle.net_build.specs.declared.built.Places.{Places}
 use Rattle.edit_list.specs.declared.edit_kinds.Edit.{Edit}
-use Rattle.edit_list.specs.declared.list_kinds.NewList.{NewList}
 use Rattle.arc_base.specs.Numbered.{of_number}
-use Rattle.edit_list.proofs.NewListFacts.{picked_from}
 use Rattle.line_patcher.specs.declared.additions.NewNumber.{NewNumber}
-use Rattle.line_patcher.specs.Additions.{numbers_at}
-use Rattle.line_patcher.specs.NewListLines.{face_places, filter_lines}
-use Rattle.line_patcher.specs.SessionLines.{session_lines}
-use Rattle.settings_edit_laws.specs.Additions.{process_lines}
-use Rattle.edit_list.specs.NewLists.{named_lists}
+use Rattle.line_patcher.specs.Additions.{all_at, numbers_at, process_commands}
+use Rattle.line_patcher.specs.NewListLines.{group_commands}
 use Rattle.settings_edit_laws.specs.SettingsAfter.{process_with}
 use Rattle.line_edit_laws.specs.Sites.{Written, in_block, says_other}
 use Rattle.patch_laws.specs.EditFiles.{IsEditedFile}
-use Rattle.patch_laws.specs.EditSites.{as_written, entries_at, group_written, process_written, with_number, written_at}
-use Rattle.patch_laws.specs.EndLines.{process_kind, unplaced}
+use Rattle.patch_laws.specs.EditSites.{entries_at, with_number}
+use Rattle.patch_laws.specs.EndLines.{unplaced}
+use Rattle.patch_laws.specs.Written.{written_of}
 use Rattle.patch_laws.specs.ListsGrow.{list_begun}
 use Rattle.patch_laws.proofs.EditGrow.{own, grow_at, after_at, new_at, grow-is}
 use Rattle.patch_laws.proofs.EditLists.{list-group, none-at, of-append}
-use Rattle.patch_laws.proofs.EditParts.{entry-at, EndAt, OfProcess, OfFace, FaceEnd, end-at, face-end, block-own, number-at, named-names, process-there, process-last}
-use Rattle.patch_laws.proofs.EndLines.{processes-grow, process-lines-read}
+use Rattle.patch_laws.proofs.EditParts.{entry-at, EndAt, OfProcess, OfFace, FaceEnd, end-at, face-end, block-own, number-at}
+use Rattle.patch_laws.proofs.EditBusy.{AtFace, face-line, last-line, process-here}
+use Rattle.patch_laws.proofs.EndLines.{processes-grow}
+use Rattle.patch_laws.proofs.RowLines.{of-number-here}
 use Rattle.patch_laws.proofs.FileParts.{GroupOf, group-of, rising, one-line}
 
 -- a written line's command without numbers
 abbrev pub plainly : Written → FileCommand
 plainly w = unplaced w.command
+
+pub plainly-written : (commands : List Command) → map plainly (map written_of commands) ≡ map unplaced commands
+plainly-written [] = refl
+plainly-written (command ∷ commands) = ap (λ (l : List FileCommand). unplaced command ∷ l) (plainly-written commands)
 
 pub bare-written : (block : ℕ) (ws : List Written) → map bare (map (in_block block) ws) ≡ map plainly ws
 bare-written block [] = refl
@@ -67,20 +68,6 @@ ends-grown n (c ∷ d ∷ g) last h tail up has latest others end =
     let rest = ends-grown (c.line + 1) (d ∷ g) last h tail up.1 deeper (λ x there. latest x (Contains-tail c x (d ∷ g) there)) (λ x there other. others x (Contains-tail c x (d ∷ g) there) other) end in
     let one : map bare (h c) ≡ bare c ∷ [] = others c (Contains-head c (d ∷ g)) (λ same. omega (arith, next, low, same)) in
     map-append bare (h c) (flat_map h (d ∷ g)) ∙ (λ i. one i ++ rest i)
-
--- what stands at one number
-pub all-here : (n : ℕ) (ws : List Written) → of_number n (written_at n ws) ≡ ws
-all-here n [] = refl
-all-here n (w ∷ ws) = by (n == n) (eq-eqb n n refl) (all-here n ws)
-  where
-    by : (b : Bool) → (n == n) ≡ true → of_number n (written_at n ws) ≡ ws → of_number n (written_at n (w ∷ ws)) ≡ w ∷ ws
-    by b is rest = ap (λ (c : Bool). cons_option (if c then Some w else None) (of_number n (written_at n ws))) is ∙ ap (λ (l : List Written). w ∷ l) rest
-
-zip-commands : (R : List ℕ → Command → Type 0) (xs : List (List ℕ)) (ys : List Command) → AllZip R xs ys → map plainly (map as_written (zip xs ys)) ≡ map unplaced ys
-zip-commands R [] [] all = refl
-zip-commands R [] (y ∷ ys) all = absurd all
-zip-commands R (x ∷ xs) [] all = absurd all
-zip-commands R (x ∷ xs) (y ∷ ys) all = ap (λ (l : List FileCommand). unplaced y ∷ l) (zip-commands R xs ys all.1)
 
 -- whether a command heads a process
 abbrev heads_process : Command → Bool
@@ -217,7 +204,7 @@ module _ (net : Network) (places : List Places) (chosen : List Edit) (router : �
     -- the group of the process
     module _ (heads : heads_process first.command ≡ true) where
       abbrev h : HasProcess cs f.process
-      h = process-there net places chosen router text lines cs f
+      h = process-here net places chosen router text lines cs f
 
       first-head : first ≡ h.head
       first-head =
@@ -260,34 +247,33 @@ module _ (net : Network) (places : List Places) (chosen : List Edit) (router : �
       last-there : Contains (members cs q) h.last
       last-there = Contains-filter (λ (d : FileCommand). is_same q (part_of d)) cs h.last h.block.last_among (ap (is_same q) (block-is h.last h.block.last_among h.block.last_block ∙ sym part-is) ∙ is-self q)
 
-      last-ends : ends_at h.last ≡ process_written net chosen router
+      last-ends : ends_at h.last ≡ map written_of (process_commands net chosen router)
       last-ends =
-          let groups_at = filter_map (λ (named : NewList × List ℕ). group_written (face_places places) named.0 named.1) (named_lists net chosen router) in
-          let last = process-last net places chosen router text lines cs f in
+          let groups_at = group_commands net places chosen router in
+          let process_at = all_at own_at.process_last (process_commands net chosen router) in
+          let last = last-line net places chosen router text lines cs f in
           let none : of_number h.last.line groups_at ≡ [] = none-at h.last.line groups_at (λ item there same.
-          (let (named, among, picked) = picked_from (λ (named : NewList × List ℕ). group_written (face_places places) named.0 named.1) (named_lists net chosen router) item there in
-          not-face h.last item.1 last-there (face-end net places chosen router text lines cs f h.last item.1 named.0 named.1 h.block.last_among among (picked ∙ (λ i. Some (same i, item.1)))))) in
-          of-append h.last.line (written_at own_at.process_last (process_written net chosen router)) groups_at ∙
-          (let same = sym last in λ i. of_number (same i) (written_at own_at.process_last (process_written net chosen router)) ++ none i) ∙
-          append-nil (of_number own_at.process_last (written_at own_at.process_last (process_written net chosen router))) ∙ all-here own_at.process_last (process_written net chosen router)
+          (let a = subst (λ (n : ℕ). AtFace net places chosen router text lines cs f (n, item.1)) same (face-line net places chosen router text lines cs f item there) in
+          not-face h.last (written_of item.1) last-there (face-end net places chosen router text lines cs f h.last item.1 h.block.last_among a))) in
+          ap (map written_of)
+          (of-append h.last.line process_at groups_at ∙ (let same = sym last in λ i. of_number (same i) process_at ++ none i) ∙ append-nil (of_number own_at.process_last process_at) ∙
+          of-number-here own_at.process_last own_at.process_last (process_commands net chosen router) refl)
 
-      pub process-shape : map bare (flat_map grown_at (members cs q)) ≡ map bare (members cs q) ++ map unplaced (process_lines net chosen router)
+      pub process-shape : map bare (flat_map grown_at (members cs q)) ≡ map bare (members cs q) ++ map unplaced (process_commands net chosen router)
       process-shape =
           let none = no-begun first.command heads in
-          let read = (process-lines-read net chosen router h.head.line f.writable f.fits (named-names net places chosen router text lines cs f)).0 in
-          ends-grown 1 (members cs q) h.last grown_at (map unplaced (process_lines net chosen router)) (rising-filter (λ (d : FileCommand). is_same q (part_of d)) 1 cs (rising (text_lines text) cs f.stand)) last-there
+          ends-grown 1 (members cs q) h.last grown_at (map unplaced (process_commands net chosen router)) (rising-filter (λ (d : FileCommand). is_same q (part_of d)) 1 cs (rising (text_lines text) cs f.stand)) last-there
           (λ d there. h.block.latest d (members-of cs q d there).0 ((members-of cs q d there).1 ∙ part-is))
           (λ c there other. bare-plain none c there ∙ ap (λ (l : List Written). bare c ∷ map plainly l) (other-ends c there other))
           (bare-plain none h.last last-there ∙ ap (λ (l : List Written). bare h.last ∷ map plainly l) last-ends ∙
-          ap (λ (l : List FileCommand). bare h.last ∷ l)
-          (zip-commands (λ (line : List ℕ) (command : Command). IsLineOf line (process_kind net.protocol) h.head.line command × IsQuiet command) (session_lines net chosen router ++ filter_lines net chosen router) (process_lines net chosen router) read))
+          ap (λ (l : List FileCommand). bare h.last ∷ l) (plainly-written (process_commands net chosen router)))
 
   pub processes : (q : Part) → Contains (distinct (map part_of cs)) q → process_of (map bare (flat_map grown_at (members cs q))) ≡ map (process_with net chosen router) (process_of (map bare (members cs q)))
   processes q known =
       let g = known-group cs q known in
       ⊎_elim
       (λ (heads : heads_process g.first.command ≡ true).
-      ap process_of (process-shape q g.first g.rest g.is heads) ∙ ap (λ (l : List FileCommand). process_of (map bare l ++ map unplaced (process_lines net chosen router))) g.is ∙
+      ap process_of (process-shape q g.first g.rest g.is heads) ∙ ap (λ (l : List FileCommand). process_of (map bare l ++ map unplaced (process_commands net chosen router))) g.is ∙
       processes-grow net chosen router g.first g.rest ∙ ap (λ (l : List FileCommand). map (process_with net chosen router) (process_of (map bare l))) (sym g.is))
       (λ (other : heads_process g.first.command ≡ false).
       let n = grown-first g.first g.among in

@@ -1,5 +1,5 @@
 -- Whatever edits put into a file stands at a line of one of its commands.
-use Rattle.std.proofs.Common.{◌≡◌, ◌≢◌, ℕ, ◌+◌, Bool, true, false, if◌then◌else◌, Some, List, [], ◌∷◌, ◌++◌, length, map, sym, ap, subst, ◌∙◌, ⊎_elim, Contains}
+use Rattle.std.proofs.Common.{◌≡◌, ◌≢◌, ℕ, ◌+◌, Bool, true, false, if◌then◌else◌, Some, List, [], ◌∷◌, length, map, sym, ap, subst, ◌∙◌, ◌⊎◌, inl, inr, ⊎_elim, Contains}
 use Rattle.std.specs.Prelude.{slice_get, option_map, unwrap_or}
 use Rattle.std.specs.List.{flat_map, enumerate_from}
 use Rattle.std.proofs.lemmas.Option.{none-some, same_Some}
@@ -11,6 +11,7 @@ use Rattle.net_model.specs.declared.rows.Network.{Network}
 use Rattle.ios_lines.specs.declared.line.Lines.{Lines}
 use Rattle.ios_lines.specs.Texts.{text_lines}
 use Rattle.ios_words.specs.declared.commands.Command.{Command}
+use Rattle.ios_words.specs.declared.commands.Command.TheVariants as commands
 use Rattle.ios_config.specs.declared.commands.FileCommand.{FileCommand}
 use Rattle.ios_config.specs.declared.settings.Given.{Given}
 use Rattle.ios_config.specs.declared.settings.ListText.{ListText}
@@ -18,6 +19,8 @@ use Rattle.ios_config.specs.declared.settings.ProcessText.{ProcessText}
 use Rattle.ios_config.specs.ProcessLines.{HasProcess}
 use Rattle.ios_config.specs.Texts.{config_of}
 use Rattle.ios_config.proofs.ProcessBlocks.{process-blocks}
+use Rattle.arc_base.specs.declared.place.Face.{Face}
+use Rattle.net_build.specs.declared.built.FacePlace.{FacePlace}
 use Rattle.net_build.specs.declared.built.ListPlace.{ListPlace}
 use Rattle.net_build.specs.declared.built.Places.{Places}
 use Rattle.net_build.specs.Places.{list_place}
@@ -27,10 +30,9 @@ use Rattle.edit_list.specs.declared.list_kinds.NewList.TheVariants.{Route, Packe
 use Rattle.edit_list.specs.Changes.{list_prefixes, list_classes}
 use Rattle.edit_list.proofs.NewListFacts.{picked_from}
 use Rattle.line_patcher.specs.declared.additions.NewNumber.{NewNumber}
-use Rattle.line_patcher.specs.Additions.{all_at, lines_before, lines_after, numbers_at}
-use Rattle.line_patcher.specs.EntryLines.{first_line, new_number, new_numbers, at_front, class_lines, prefix_lines, edited_packet_lists, edited_route_lists, packet_list_entries, route_list_entries, packet_list_numbers, route_list_numbers}
-use Rattle.line_patcher.specs.NewListLines.{face_places, group_line_among, group_lines, lines_of_new_lists, filter_lines}
-use Rattle.line_patcher.specs.SessionLines.{session_lines}
+use Rattle.line_patcher.specs.Additions.{all_at, commands_after, numbers_at, process_commands}
+use Rattle.line_patcher.specs.EntryLines.{first_line, new_number, new_numbers, edited_packet_lists, edited_route_lists, packet_list_numbers, route_list_numbers}
+use Rattle.line_patcher.specs.NewListLines.{face_places, group_command, group_commands}
 use Rattle.edit_list.specs.NewLists.{named_lists}
 use Rattle.patch_laws.specs.EditFiles.{HasFace, HasPacketList, HasRouteList, IsEditedFile}
 use Rattle.patch_laws.specs.EditSiteLaws.{own_places}
@@ -59,16 +61,23 @@ of-enumerated {X} n (x ∷ xs) item there = ⊎_elim
     (λ more. Contains-tail x item.1 xs (of-enumerated (n + 1) xs item more))
     (Contains-cases (n, x) item (enumerate_from (n + 1) xs) there)
 
-pub numbered-command : (cs : List FileCommand) (list : ListText) → Contains (config_of cs).lists list → (word step count : ℕ) (item : ℕ × NewNumber) → Contains (new_numbers (list_place list) word step count) item → AtCommand cs item.0
-numbered-command cs list there word step count item among = by list.numbered among
+-- a new number is that of an entry of a list
+pub record NumberItem (cs : List FileCommand) (item : ℕ × NewNumber) : Type 0 where
+  pub list : ListText
+  pub among : Contains (config_of cs).lists list
+  pub entry : Given Command
+  pub has : Contains list.entries entry
+  pub line : item.0 ≡ entry.line
+
+numbered-entry : (cs : List FileCommand) (list : ListText) → Contains (config_of cs).lists list → (word step count : ℕ) (item : ℕ × NewNumber) → Contains (new_numbers (list_place list) word step count) item → NumberItem cs item
+numbered-entry cs list there word step count item among = by list.numbered among
   where
-    by : (b : Bool) → Contains (if b then map (new_number word step count) (enumerate_from 1 (map (λ (g : Given Command). g.line) list.entries)) else []) item → AtCommand cs item.0
+    by : (b : Bool) → Contains (if b then map (new_number word step count) (enumerate_from 1 (map (λ (g : Given Command). g.line) list.entries)) else []) item → NumberItem cs item
     by false has = absurd (Contains-none item has)
     by true has =
         let (entry, in_places, is) = from_map (new_number word step count) (enumerate_from 1 (map (λ (g : Given Command). g.line) list.entries)) item has in
         let (g, in_entries, line) = from_map (λ (g : Given Command). g.line) list.entries entry.1 (of-enumerated 1 (map (λ (g : Given Command). g.line) list.entries) entry in_places) in
-        let c = entry-command cs list (list-group cs list there) g in_entries in
-        record { command = c.command; among = c.among; line = ap (λ (p : ℕ × NewNumber). p.0) (sym is) ∙ sym line ∙ sym c.line }
+        record { list = list; among = there; entry = g; has = in_entries; line = ap (λ (p : ℕ × NewNumber). p.0) (sym is) ∙ sym line }
 
 -- things that all stand at one number
 pub at-one : {X Y : Type 0} (number : ℕ) (f : X → Y) (xs : List X) (item : ℕ × Y) → Contains (map (λ (x : X). (number, f x)) xs) item → item.0 ≡ number
@@ -94,66 +103,62 @@ module _ (net : Network) (places : List Places) (chosen : List Edit) (router : �
   pub routes-of : (id : ℕ) → Contains (edited_route_lists net chosen router) id → (row : RouteList) × (slice_get net.route_lists id ≡ Some row) × HasRouteList cs row
   routes-of id there = let e = edited-routes net chosen router id there in (e.row, e.at, file.routes id e.row e.at e.own e.some)
 
-  pub before-command : (item : ℕ × List ℕ) → Contains (lines_before net own chosen router) item → AtCommand cs item.0
-  before-command item there = ⊎_elim
-      (λ front. ⊎_elim
-      (λ new. record { command = process-here.head; among = process-here.block.among; line = at-one own.process (λ (l : List ℕ). l) (lines_of_new_lists net chosen router) item new ∙ process-line })
-      (λ packets.
-      let (id, among, has) = from_piece (packet_list_entries net own chosen) (edited_packet_lists net chosen router) item packets in
-      let (row, at, h) = packets-of id among in
-      let here = subst (λ (l : List (ℕ × List ℕ)). Contains l item) (packets-have net cs (λ (list : PacketList) (place : ListPlace). at_front place (class_lines place list (list_classes chosen id))) id row h at) has in
-      let c = first-command cs h.list h.among h.some in
-      record { command = c.command; among = c.among; line = at-one (first_line (list_place h.list)) (λ (l : List ℕ). l) (class_lines (list_place h.list) row (list_classes chosen id)) item here ∙ c.line })
-      (Contains-append_cases (all_at own.process (lines_of_new_lists net chosen router)) (flat_map (packet_list_entries net own chosen) (edited_packet_lists net chosen router)) item front))
-      (λ routes.
-      let (id, among, has) = from_piece (route_list_entries net own chosen) (edited_route_lists net chosen router) item routes in
-      let (row, at, h) = routes-of id among in
-      let here = subst (λ (l : List (ℕ × List ℕ)). Contains l item) (routes-have net cs (λ (list : RouteList) (place : ListPlace). at_front place (prefix_lines place list (list_prefixes chosen id))) id row h at) has in
-      let c = first-command cs h.list h.among h.some in
-      record { command = c.command; among = c.among; line = at-one (first_line (list_place h.list)) (λ (l : List ℕ). l) (prefix_lines (list_place h.list) row (list_prefixes chosen id)) item here ∙ c.line })
-      (Contains-append_cases (all_at own.process (lines_of_new_lists net chosen router) ++ flat_map (packet_list_entries net own chosen) (edited_packet_lists net chosen router)) (flat_map (route_list_entries net own chosen) (edited_route_lists net chosen router)) item there)
-
-  pub number-command : (item : ℕ × NewNumber) → Contains (numbers_at net own chosen router) item → AtCommand cs item.0
-  number-command item there = ⊎_elim
+  pub number-item : (item : ℕ × NewNumber) → Contains (numbers_at net own chosen router) item → NumberItem cs item
+  number-item item there = ⊎_elim
       (λ packets.
       let (id, among, has) = from_piece (packet_list_numbers net own chosen) (edited_packet_lists net chosen router) item packets in
       let (row, at, h) = packets-of id among in
       let here = subst (λ (l : List (ℕ × NewNumber)). Contains l item) (packets-have net cs (λ (list : PacketList) (place : ListPlace). new_numbers place 0 10 (length (list_classes chosen id))) id row h at) has in
-      numbered-command cs h.list h.among 0 10 (length (list_classes chosen id)) item here)
+      numbered-entry cs h.list h.among 0 10 (length (list_classes chosen id)) item here)
       (λ routes.
       let (id, among, has) = from_piece (route_list_numbers net own chosen) (edited_route_lists net chosen router) item routes in
       let (row, at, h) = routes-of id among in
       let here = subst (λ (l : List (ℕ × NewNumber)). Contains l item) (routes-have net cs (λ (list : RouteList) (place : ListPlace). new_numbers place 4 5 (length (list_prefixes chosen id))) id row h at) has in
-      numbered-command cs h.list h.among 4 5 (length (list_prefixes chosen id)) item here)
+      numbered-entry cs h.list h.among 4 5 (length (list_prefixes chosen id)) item here)
       (Contains-append_cases (flat_map (packet_list_numbers net own chosen) (edited_packet_lists net chosen router)) (flat_map (route_list_numbers net own chosen) (edited_route_lists net chosen router)) item there)
 
-  -- a binding stands at the last line of its interface
-  pub record AtFace (number : ℕ) : Type 0 where
-    pub face : ℕ
-    pub has : HasFace net places router cs face
-    pub block : HasFaceBlock cs has.face
-    pub line : number ≡ block.last.line
+  pub number-command : (item : ℕ × NewNumber) → Contains (numbers_at net own chosen router) item → AtCommand cs item.0
+  number-command item there =
+      let n = number-item item there in
+      let c = entry-command cs n.list (list-group cs n.list n.among) n.entry n.has in
+      record { command = c.command; among = c.among; line = n.line ∙ sym c.line }
 
-  pub face-line : (named : NewList × List ℕ) → Contains (named_lists net chosen router) named → (item : ℕ × List ℕ) → group_line_among (face_places places) named.0 named.1 ≡ Some item → AtFace item.0
-  face-line named among item e = by named.0 named.1 among e
+  -- a binding comes after the last line of its interface
+  pub record AtFace (item : ℕ × Command) : Type 0 where
+    pub face : Face
+    pub name : List ℕ
+    pub named : Contains (named_lists net chosen router) (Packet face, name)
+    pub has : HasFace net places router cs face.0
+    pub block : HasFaceBlock cs has.face
+    pub line : item.0 ≡ block.last.line
+    pub says : item.1 ≡ commands.Group name true
+
+  pub face-line : (item : ℕ × Command) → Contains (group_commands net places chosen router) item → AtFace item
+  face-line item there =
+      let (named, among, is) = picked_from (λ (n : NewList × List ℕ). group_command (face_places places) n.0 n.1) (named_lists net chosen router) item there in
+      by named.0 named.1 among is
     where
-      by : (list : NewList) (name : List ℕ) → Contains (named_lists net chosen router) (list, name) → group_line_among (face_places places) list name ≡ Some item → AtFace item.0
+      by : (list : NewList) (name : List ℕ) → Contains (named_lists net chosen router) (list, name) → group_command (face_places places) list name ≡ Some item → AtFace item
       by (Route face) name among e = absurd (none-some item e)
       by (Packet face) name among e =
           let h = file.faces face name among in
           let b = face-blocks (text_lines text) cs h.face file.stand h.among in
-          let is : Some (h.face.last, _) ≡ Some item = sym (ap (option_map _) h.place_is) ∙ e in
-          record { face = face.0; has = h; block = b; line = ap (λ (p : ℕ × List ℕ). p.0) (sym (same_Some _ item is)) ∙ b.last_line }
+          let new : Command = commands.Group name true in
+          let is : Some (h.face.last, new) ≡ Some item = sym (ap (option_map {U = ℕ × Command} (λ (place : FacePlace). (place.last, new))) h.place_is) ∙ e in
+          let both : item ≡ (h.face.last, new) = sym (same_Some (h.face.last, new) item is) in
+          record { face = face; name = name; named = among; has = h; block = b; line = ap (λ (p : ℕ × Command). p.0) both ∙ b.last_line; says = ap (λ (p : ℕ × Command). p.1) both }
 
-  pub after-command : (item : ℕ × List ℕ) → Contains (lines_after net places own chosen router) item → AtCommand cs item.0
+  -- what comes after a line is of the process, or is a binding
+  pub after-item : (item : ℕ × Command) → Contains (commands_after net places own chosen router) item → ((item.0 ≡ own.process_last) × Contains (process_commands net chosen router) item.1) ⊎ AtFace item
+  after-item item there = ⊎_elim
+      (λ process.
+      let (command, among, is) = from_map (λ (k : Command). (own.process_last, k)) (process_commands net chosen router) item process in
+      inl (ap (λ (p : ℕ × Command). p.0) (sym is), subst (λ (p : ℕ × Command). Contains (process_commands net chosen router) p.1) is among))
+      (λ faces. inr (face-line item faces))
+      (Contains-append_cases (all_at own.process_last (process_commands net chosen router)) (group_commands net places chosen router) item there)
+
+  pub after-command : (item : ℕ × Command) → Contains (commands_after net places own chosen router) item → AtCommand cs item.0
   after-command item there = ⊎_elim
-      (λ process. record {
-        command = process-here.last;
-        among = process-here.block.last_among;
-        line = at-one own.process_last (λ (l : List ℕ). l) (session_lines net chosen router ++ filter_lines net chosen router) item process ∙ last-line;
-      })
-      (λ faces.
-      let (named, among, is) = picked_from (λ (n : NewList × List ℕ). group_line_among (face_places places) n.0 n.1) (named_lists net chosen router) item faces in
-      let a = face-line named among item is in
-      record { command = a.block.last; among = a.block.block.last_among; line = a.line })
-      (Contains-append_cases (all_at own.process_last (session_lines net chosen router ++ filter_lines net chosen router)) (group_lines net places chosen router) item there)
+      (λ process. record { command = process-here.last; among = process-here.block.last_among; line = process.0 ∙ last-line })
+      (λ a. record { command = a.block.last; among = a.block.block.last_among; line = a.line })
+      (after-item item there)

@@ -25,7 +25,8 @@ use Rattle.line_patcher.specs.declared.additions.NewNumber.{NewNumber}
 use Rattle.line_patcher.specs.EntryLines.{new_number}
 use Rattle.line_edit_laws.specs.Sites.{Written, in_block}
 use Rattle.patch_laws.specs.EditSites.{with_number}
-use Rattle.patch_laws.specs.EntrySites.{class_written, packet_written, prefix_written}
+use Rattle.line_patcher.specs.EntryLines.{class_commands, packet_command, prefix_command}
+use Rattle.patch_laws.specs.Written.{written_of}
 use Rattle.patch_laws.proofs.EditRising.{Rises, numbers_of}
 
 -- the number of a command that is an entry
@@ -182,21 +183,21 @@ module _ (word step count : ℕ) (given_new : FileCommand → List NewNumber) wh
 
 -- new entries of packet lists have the numbers of their places
 packets-count : (b k : ℕ) (row : PacketList) (classes : List Class) →
-    (let new : List Written = map (λ (e : ℕ × Class). packet_written forms.Block row.name (if true then Some (10 * e.0) else None) (opposite_packet_entry row.entries e.1)) (enumerate_from k classes) in
+    (let new : List Written = map written_of (map (λ (e : ℕ × Class). packet_command forms.Block row.name (if true then Some (10 * e.0) else None) (opposite_packet_entry row.entries e.1)) (enumerate_from k classes)) in
     Counts 10 k (numbers (map (in_block b) new)) × (length (numbers (map (in_block b) new)) ≡ length classes))
 packets-count b k row [] = (tt, refl)
 packets-count b k row (c ∷ classes) = let (all, long) = packets-count b (k + 1) row classes in ((refl, all), ap suc long)
 
 pub classes-count : (b : ℕ) (place : ListPlace) (row : PacketList) (classes : List Class) → place.form ≡ forms.Block → place.numbered ≡ true →
-    Counts 10 1 (numbers (map (in_block b) (map (class_written place row) (enumerate_from 1 classes)))) × (length (numbers (map (in_block b) (map (class_written place row) (enumerate_from 1 classes)))) ≡ length classes)
+    Counts 10 1 (numbers (map (in_block b) (map written_of (class_commands place row classes)))) × (length (numbers (map (in_block b) (map written_of (class_commands place row classes)))) ≡ length classes)
 classes-count b place row classes form numbered =
-    let same : map (class_written place row) (enumerate_from 1 classes) ≡ map (λ (e : ℕ × Class). packet_written forms.Block row.name (if true then Some (10 * e.0) else None) (opposite_packet_entry row.entries e.1)) (enumerate_from 1 classes) =
-    λ i. map (λ (e : ℕ × Class). packet_written (form i) row.name (if numbered i then Some (10 * e.0) else None) (opposite_packet_entry row.entries e.1)) (enumerate_from 1 classes) in
+    let same : map written_of (class_commands place row classes) ≡ map written_of (map (λ (e : ℕ × Class). packet_command forms.Block row.name (if true then Some (10 * e.0) else None) (opposite_packet_entry row.entries e.1)) (enumerate_from 1 classes)) =
+    λ i. map written_of (map (λ (e : ℕ × Class). packet_command (form i) row.name (if numbered i then Some (10 * e.0) else None) (opposite_packet_entry row.entries e.1)) (enumerate_from 1 classes)) in
     subst (λ (ws : List Written). Counts 10 1 (numbers (map (in_block b) ws)) × (length (numbers (map (in_block b) ws)) ≡ length classes)) (sym same) (packets-count b 1 row classes)
 
 -- and those of route lists
 pub prefixes-count : (b k : ℕ) (place : ListPlace) (row : RouteList) (prefixes : List Prefix) → place.numbered ≡ true →
-    Counts 5 k (numbers (map (in_block b) (map (prefix_written place row) (enumerate_from k prefixes)))) × (length (numbers (map (in_block b) (map (prefix_written place row) (enumerate_from k prefixes)))) ≡ length prefixes)
+    Counts 5 k (numbers (map (in_block b) (map written_of (map (prefix_command place row) (enumerate_from k prefixes))))) × (length (numbers (map (in_block b) (map written_of (map (prefix_command place row) (enumerate_from k prefixes))))) ≡ length prefixes)
 prefixes-count b k place row [] numbered = (tt, refl)
 prefixes-count b k place row (p ∷ prefixes) numbered =
     let (all, long) = prefixes-count b (k + 1) place row prefixes numbered in ((ap (λ (o : Bool). if o then Some (5 * k) else None) numbered, all), ap suc long)

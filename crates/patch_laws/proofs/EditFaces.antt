@@ -38,8 +38,8 @@ use Rattle.edit_list.specs.NewLists.{new_lists, new_lists_of, new_names_of, name
 use Rattle.arc_base.specs.Numbered.{if_number, of_number}
 use Rattle.edit_list.proofs.NewListFacts.{new_lists_apart, pairs_picked}
 use Rattle.line_patcher.specs.declared.additions.NewNumber.{NewNumber}
-use Rattle.line_patcher.specs.Additions.{numbers_at}
-use Rattle.line_patcher.specs.NewListLines.{face_places, group_line}
+use Rattle.line_patcher.specs.Additions.{all_at, numbers_at, process_commands}
+use Rattle.line_patcher.specs.NewListLines.{face_places, group_command}
 use Rattle.settings_edit_laws.specs.Additions.{list_for, new_inbound}
 use Rattle.settings_edit_laws.specs.Plain.{said}
 use Rattle.settings_edit_laws.specs.SettingsAfter.{face_with}
@@ -48,19 +48,20 @@ use Rattle.settings_edit_laws.proofs.Pairs.{any_of}
 use Rattle.settings_edit_laws.proofs.SessionFacts.{one_face}
 use Rattle.line_edit_laws.specs.Sites.{Written}
 use Rattle.patch_laws.specs.EditFiles.{IsEditedFile, HasFace}
-use Rattle.patch_laws.specs.EditSites.{group_written, process_written, with_number, written_at}
+use Rattle.patch_laws.specs.EditSites.{with_number}
 use Rattle.patch_laws.specs.EndLines.{unplaced}
 use Rattle.patch_laws.specs.FaceBlocks.{HasFaceBlock}
 use Rattle.patch_laws.specs.ListsGrow.{list_begun}
-use Rattle.patch_laws.proofs.EditBlocks.{plainly, ends-grown, known-group, members-of, grown-first, bare-plain}
+use Rattle.patch_laws.proofs.EditBlocks.{plainly, plainly-written, ends-grown, known-group, members-of, grown-first, bare-plain}
 use Rattle.patch_laws.proofs.EditGrow.{own, grow_at, after_at}
 use Rattle.patch_laws.proofs.EditLists.{none-at, of-append}
 use Rattle.patch_laws.proofs.EditOnce.{Apart}
-use Rattle.patch_laws.proofs.EditParts.{EndAt, OfProcess, OfFace, end-at, block-own, process-there, process-last}
+use Rattle.patch_laws.proofs.EditParts.{EndAt, OfProcess, OfFace, end-at, block-own}
+use Rattle.patch_laws.proofs.EditBusy.{last-line, process-here}
 use Rattle.patch_laws.proofs.EndLines.{faces-grow}
 use Rattle.patch_laws.proofs.FaceBlocks.{face-blocks}
 use Rattle.patch_laws.proofs.FileParts.{group-of, rising, one-line}
-use Rattle.patch_laws.proofs.SessionReads.{picked_twice}
+use Rattle.settings_edit_laws.proofs.Pairs.{picked_twice}
 
 -- whether a command heads an interface
 abbrev heads_face : Command → Bool
@@ -250,8 +251,8 @@ module _ (net : Network) (places : List Places) (chosen : List Edit) (router : �
     abbrev binding : List ℕ → FileCommand
     binding n = unplaced (commands.Group n true)
 
-    abbrev wrote : NewList × List ℕ → Option (ℕ × Written)
-    wrote named = group_written (face_places places) named.0 named.1
+    abbrev wrote : NewList × List ℕ → Option (ℕ × Command)
+    wrote named = group_command (face_places places) named.0 named.1
 
     -- a binding stands after this interface where it is one of it
     last-is-named : (h-face : FaceText) (e : HasFaceBlock cs h-face) (row : List ℕ) → h-face.name ≡ row → (h-face.last == b.last.line) ≡ bytes_eq row name
@@ -270,31 +271,34 @@ module _ (net : Network) (places : List Places) (chosen : List Edit) (router : �
         false≢true (sym other ∙ (bytes_eq-Decides row name).1 (sym named ∙ whole))) ∙ sym other)
         (cases_Bool (bytes_eq row name))
 
-    bound-here : (named : NewList × List ℕ) → Contains (named_lists net chosen router) named → option_map plainly (option_and_then (if_number b.last.line) (wrote named)) ≡ option_map binding (bound name named)
+    bound-here : (named : NewList × List ℕ) → Contains (named_lists net chosen router) named → option_map unplaced (option_and_then (if_number b.last.line) (wrote named)) ≡ option_map binding (bound name named)
     bound-here (Route face, n) there = refl
     bound-here (Packet face, n) there =
         let h = f.faces face n there in
         let e = face-blocks (text_lines text) cs h.face f.stand h.among in
-        let w : Written = record { line = group_line n; command = commands.Group n true } in
-        ap (λ (o : Option FacePlace). option_map plainly (option_and_then (if_number b.last.line) (option_map (λ (place : FacePlace). (place.last, w)) o))) h.place_is ∙
-        ap (λ (c : Bool). option_map plainly (if c then Some w else None)) (last-is-named h.face e h.row.name h.name) ∙ by (bytes_eq h.row.name name) ∙
+        let w : Command = commands.Group n true in
+        ap (λ (o : Option FacePlace). option_map unplaced (option_and_then (if_number b.last.line) (option_map (λ (place : FacePlace). (place.last, w)) o))) h.place_is ∙
+        ap (λ (c : Bool). option_map unplaced (if c then Some w else None)) (last-is-named h.face e h.row.name h.name) ∙ by (bytes_eq h.row.name name) ∙
         ap (λ (o : Option FaceRow). option_map binding (option_and_then (λ (row : FaceRow). if bytes_eq row.name name then Some n else None) o)) (sym h.at)
       where
-        by : (c : Bool) → option_map plainly (if c then Some (record { line = group_line n; command = commands.Group n true }) else None) ≡ option_map binding (if c then Some n else None)
+        by : (c : Bool) → option_map unplaced (if c then Some (commands.Group n true) else None) ≡ option_map binding (if c then Some n else None)
         by true = refl
         by false = refl
 
     last-ends : map plainly (ends_at b.last) ≡ map binding (filter_map (bound name) (named_lists net chosen router))
     last-ends =
         let n = b.last.line in
-        let lines_at = written_at own_at.process_last (process_written net chosen router) in
-        let p = process-there net places chosen router text lines cs f in
-        let none : of_number n lines_at ≡ [] = none-at n lines_at (λ item there same.
-        (let (w, among, made) = from_map (λ (x : Written). (own_at.process_last, x)) (process_written net chosen router) item there in
-        let line : p.last.line ≡ n = sym (process-last net places chosen router text lines cs f) ∙ ap (λ (x : ℕ × Written). x.0) made ∙ same in
+        let process_at = all_at own_at.process_last (process_commands net chosen router) in
+        let p = process-here net places chosen router text lines cs f in
+        let none : of_number n process_at ≡ [] = none-at n process_at (λ item there same.
+        (let (k, among, made) = from_map (λ (x : Command). (own_at.process_last, x)) (process_commands net chosen router) item there in
+        let line : p.last.line ≡ n = sym (last-line net places chosen router text lines cs f) ∙ ap (λ (x : ℕ × Command). x.0) made ∙ same in
         not-process b.last last-there p (one-line 1 cs b.last p.last up b.block.last_among p.block.last_among (sym line)))) in
-        ap (map plainly) (of-append n lines_at (filter_map wrote (named_lists net chosen router)) ∙ ap (λ (l : List Written). l ++ of_number n (filter_map wrote (named_lists net chosen router))) none ∙ picked_twice (if_number n) wrote (named_lists net chosen router)) ∙
-        picks-alike (λ (named : NewList × List ℕ). option_and_then (if_number n) (wrote named)) (bound name) plainly binding (named_lists net chosen router) bound-here
+        plainly-written (of_number n (process_at ++ filter_map wrote (named_lists net chosen router))) ∙
+        ap (map unplaced)
+        (of-append n process_at (filter_map wrote (named_lists net chosen router)) ∙ ap (λ (l : List Command). l ++ of_number n (filter_map wrote (named_lists net chosen router))) none ∙
+        picked_twice (if_number n) wrote (λ (named : NewList × List ℕ). option_and_then (if_number n) (wrote named)) (λ named. refl) (named_lists net chosen router)) ∙
+        picks-alike (λ (named : NewList × List ℕ). option_and_then (if_number n) (wrote named)) (bound name) unplaced binding (named_lists net chosen router) bound-here
 
     no-list : list_begun first.command ≡ None
     no-list = ap list_begun heads

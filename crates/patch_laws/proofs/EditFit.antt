@@ -1,10 +1,10 @@
 -- All that edits put into a file may stand in lines, and rows with new numbers are lines.
-use Rattle.std.proofs.Common.{◌≡◌, ℕ, suc, ◌+◌, ◌^◌, ◌<◌, ◌==◌, ◌⊎◌, inl, inr, true, false, Option, Some, None, List, [], ◌∷◌, ◌++◌, length, refl, sym, ap, subst, ◌∙◌, arith, ⊎_elim, Contains, decimal, append_assoc}
-use Rattle.std.specs.Prelude.{slice_get, slice_range, nat_lt, option_map}
+use Rattle.std.proofs.Common.{◌≡◌, ℕ, suc, ◌+◌, ◌^◌, ◌<◌, ◌==◌, ◌⊎◌, inl, inr, true, false, Option, Some, List, [], ◌∷◌, ◌++◌, length, refl, sym, ap, subst, ◌∙◌, arith, ⊎_elim, Contains, decimal}
+use Rattle.std.specs.Prelude.{slice_get, slice_range, nat_lt}
 use Rattle.std.specs.Option.{option_map_or}
-use Rattle.std.specs.List.{AllByRecursion, enumerate_from, flat_map, list_all}
+use Rattle.std.specs.List.{AllByRecursion, enumerate_from, list_all}
 use Rattle.std.proofs.lemmas.Bool.{eqb-true, eqb-false, and_parts, ltb-true}
-use Rattle.std.proofs.lemmas.Option.{none-some, same_Some}
+use Rattle.std.proofs.lemmas.Option.{same_Some}
 use Rattle.std.proofs.lemmas.List.{length-append}
 use Rattle.std.proofs.lemmas.List.Elements.{Contains-append_cases}
 use Rattle.arc_base.specs.declared.span.Span.{Span}
@@ -18,39 +18,38 @@ use Rattle.ios_lines.specs.Texts.{part}
 use Rattle.ios_lines.proofs.EndedLines.{rows-make}
 use Rattle.ios_lines.proofs.Slices.{length-slice_range}
 use Rattle.ios_words.proofs.PlainWords.{decimal-plain}
+use Rattle.ios_words.specs.declared.commands.Command.{Command}
 use Rattle.ios_words.specs.declared.commands.Command.TheVariants as commands
 use Rattle.ios_words.specs.declared.commands.RouteText.{RouteText}
 use Rattle.ios_words.specs.declared.kinds.BlockKind.TheVariants as kinds
 use Rattle.ios_words.specs.Commands.{ReadBy}
 use Rattle.ios_words.specs.Language.{rows}
 use Rattle.ios_config.specs.declared.commands.FileCommand.{FileCommand}
-use Rattle.net_build.specs.declared.built.FacePlace.{FacePlace}
 use Rattle.net_build.specs.declared.built.Places.{Places}
 use Rattle.edit_list.specs.declared.edit_kinds.Edit.{Edit}
 use Rattle.edit_list.specs.declared.list_kinds.NewList.{NewList}
-use Rattle.edit_list.specs.declared.list_kinds.NewList.TheVariants.{Route, Packet}
+use Rattle.edit_list.specs.declared.list_kinds.NewList.TheVariants.{Packet}
 use Rattle.arc_base.specs.Numbered.{of_number}
-use Rattle.edit_list.proofs.NewListFacts.{picked_from}
 use Rattle.line_patcher.specs.declared.additions.NewNumber.{NewNumber}
-use Rattle.line_patcher.specs.Additions.{all_at, lines_before, lines_after, numbers_at}
-use Rattle.line_patcher.specs.EntryLines.{edited_packet_lists, edited_route_lists, packet_list_entries, route_list_entries}
-use Rattle.line_patcher.specs.NewListLines.{face_places, filter_lines, group_line, group_line_among, group_lines, lines_of_new_lists, new_list_lines}
+use Rattle.line_patcher.specs.Additions.{all_at, commands_after, commands_before, entries_before, lines_before, lines_after, numbers_at, process_commands}
+use Rattle.line_patcher.specs.NewListLines.{commands_of_new_lists, new_list_commands}
 use Rattle.line_patcher.specs.Patches.{end_of, line_end, row_bytes}
-use Rattle.line_patcher.specs.SessionLines.{session_lines}
+use Rattle.line_patcher.specs.Written.{line_of, lines_at}
 use Rattle.edit_list.specs.NewLists.{named_lists}
-use Rattle.line_edit_laws.specs.Sites.{Site, Written}
+use Rattle.line_edit_laws.specs.Sites.{Site}
 use Rattle.patch_laws.specs.EditFiles.{IsEditedFile}
 use Rattle.patch_laws.specs.EditSiteLaws.{own_places}
-use Rattle.patch_laws.specs.EditSites.{entry_table, with_number}
+use Rattle.patch_laws.specs.EditSites.{with_number}
+use Rattle.patch_laws.specs.EndLines.{IsProcessLine}
 use Rattle.patch_laws.specs.EntrySites.{IsSequenced}
 use Rattle.patch_laws.specs.Fits.{CanBePatched, Fits, IsFit, IsLineEnd}
 use Rattle.patch_laws.specs.NewListSites.{IsNewName}
-use Rattle.patch_laws.proofs.EditBusy.{AtCommand, number-command}
+use Rattle.patch_laws.proofs.EditBusy.{AtCommand, after-item, number-command}
 use Rattle.patch_laws.proofs.EditEntries.{all-from, all-of, new-lines-fit, table-entry}
 use Rattle.patch_laws.proofs.EditLists.{from-number}
 use Rattle.patch_laws.proofs.EditRenumber.{new-row, r}
 use Rattle.patch_laws.proofs.EditRows.{CommandRow}
-use Rattle.patch_laws.proofs.EditThere.{are-named, entry-bytes}
+use Rattle.patch_laws.proofs.EditThere.{are-named}
 use Rattle.patch_laws.proofs.EndLines.{group-lines-fit, process-lines-read}
 use Rattle.patch_laws.proofs.PatchedLines.{hanging-ended}
 use Rattle.patch_laws.proofs.RowLines.{line-end, row-facts}
@@ -90,48 +89,32 @@ module _ (sequences : (ws : List (List ℕ)) (list : List ℕ) (n : ℕ) (entry 
   abbrev end : List ℕ
   end = line_end text lines.rows
 
-  -- the lines that are put before others
-  entries-fit : (item : ℕ × List ℕ) → Contains (flat_map (packet_list_entries net own chosen) (edited_packet_lists net chosen router) ++ flat_map (route_list_entries net own chosen) (edited_route_lists net chosen router)) item → IsFit item.1
-  entries-fit item there =
-      let (w, among, is) = from_map (λ (w : ℕ × Written). (w.0, w.1.line)) (entry_table net own chosen router) item (subst (λ (l : List (ℕ × List ℕ)). Contains l item) (sym (entry-bytes net own chosen router)) there) in
-      let e = table-entry net places chosen router text lines cs file w among in
-      subst IsFit (ap (λ (p : ℕ × List ℕ). p.1) is) e.fit
+  -- the lines of commands
+  lines-fit : (commands : List (ℕ × Command)) → ((item : ℕ × Command) → Contains commands item → IsFit (line_of item.1)) → (line : ℕ × List ℕ) → Contains (lines_at commands) line → IsFit line.1
+  lines-fit commands each line there =
+      let (item, among, is) = from_map (λ (c : ℕ × Command). (c.0, line_of c.1)) commands line there in
+      subst IsFit (ap (λ (p : ℕ × List ℕ). p.1) is) (each item among)
 
-  news-fit : (item : ℕ × List ℕ) → Contains (all_at own.process (lines_of_new_lists net chosen router)) item → IsFit item.1
+  -- those that are added before others
+  news-fit : (item : ℕ × Command) → Contains (all_at own.process (commands_of_new_lists net chosen router)) item → IsFit (line_of item.1)
   news-fit item there =
-      let (line, among, is) = from_map (λ (l : List ℕ). (own.process, l)) (lines_of_new_lists net chosen router) item there in
-      let (named, in_named, has) = from_piece (λ (n : NewList × List ℕ). new_list_lines chosen n.0 n.1) (named_lists net chosen router) line among in
+      let (command, among, is) = from_map (λ (k : Command). (own.process, k)) (commands_of_new_lists net chosen router) item there in
+      let (named, in_named, has) = from_piece (λ (n : NewList × List ℕ). new_list_commands chosen n.0 n.1) (named_lists net chosen router) command among in
       let name = all-of (IsNewName chosen) (named_lists net chosen router) file.names named in_named in
-      subst IsFit (ap (λ (p : ℕ × List ℕ). p.1) is) (all-of IsFit (new_list_lines chosen named.0 named.1) (new-lines-fit chosen named.0 named.1 name) line has)
+      subst (λ (p : ℕ × Command). IsFit (line_of p.1)) is (all-of (λ (k : Command). IsFit (line_of k)) (new_list_commands chosen named.0 named.1) (new-lines-fit chosen named.0 named.1 name) command has)
 
-  before-fit : (item : ℕ × List ℕ) → Contains before item → IsFit item.1
-  before-fit item there =
-      let new = all_at own.process (lines_of_new_lists net chosen router) in
-      let packets = flat_map (packet_list_entries net own chosen) (edited_packet_lists net chosen router) in
-      let routes = flat_map (route_list_entries net own chosen) (edited_route_lists net chosen router) in
-      ⊎_elim (news-fit item) (entries-fit item) (Contains-append_cases new (packets ++ routes) item (subst (λ (l : List (ℕ × List ℕ)). Contains l item) (append_assoc new packets routes) there))
+  before-fit : (item : ℕ × Command) → Contains (commands_before net own chosen router) item → IsFit (line_of item.1)
+  before-fit item there = ⊎_elim (news-fit item) (λ entry. (table-entry net places chosen router text lines cs file item entry).fit)
+      (Contains-append_cases (all_at own.process (commands_of_new_lists net chosen router)) (entries_before net own chosen router) item there)
 
-  -- those that are put after others
-  group-fit : (named : NewList × List ℕ) → Contains (named_lists net chosen router) named → (item : ℕ × List ℕ) → group_line_among (face_places places) named.0 named.1 ≡ Some item → IsFit item.1
-  group-fit named among item e = by named.0 e
-    where
-      place-by : (o : Option FacePlace) → option_map (λ (place : FacePlace). (place.last, group_line named.1)) o ≡ Some item → IsFit item.1
-      place-by None is = absurd (none-some item is)
-      place-by (Some place) is = subst IsFit (ap (λ (p : ℕ × List ℕ). p.1) (same_Some (place.last, group_line named.1) item is)) (group-lines-fit named.1 0 (are-named net places chosen router text lines cs file named among)).1
-
-      by : (list : NewList) → group_line_among (face_places places) list named.1 ≡ Some item → IsFit item.1
-      by (Route face) is = absurd (none-some item is)
-      by (Packet face) is = place-by (slice_get (face_places places) face.0) is
-
-  after-fit : (item : ℕ × List ℕ) → Contains after item → IsFit item.1
-  after-fit item there = ⊎_elim
-      (λ process.
-      let (line, among, is) = from_map (λ (l : List ℕ). (own.process_last, l)) (session_lines net chosen router ++ filter_lines net chosen router) item process in
-      subst IsFit (ap (λ (p : ℕ × List ℕ). p.1) is) (all-of IsFit (session_lines net chosen router ++ filter_lines net chosen router) (process-lines-read net chosen router 0 file.writable file.fits (are-named net places chosen router text lines cs file)).1 line among))
-      (λ faces.
-      let (named, among, is) = picked_from (λ (n : NewList × List ℕ). group_line_among (face_places places) n.0 n.1) (named_lists net chosen router) item faces in
-      group-fit named among item is)
-      (Contains-append_cases (all_at own.process_last (session_lines net chosen router ++ filter_lines net chosen router)) (group_lines net places chosen router) item there)
+  -- those that are added after others
+  after-fit : (item : ℕ × Command) → Contains (commands_after net places own chosen router) item → IsFit (line_of item.1)
+  after-fit item there =
+      let named = are-named net places chosen router text lines cs file in
+      ⊎_elim
+      (λ process. (all-of (IsProcessLine net.protocol 0) (process_commands net chosen router) (process-lines-read net chosen router 0 file.writable file.fits named) item.1 process.1).fit)
+      (λ a. subst (λ (k : Command). IsFit (line_of k)) (sym a.says) (group-lines-fit a.name 0 (named (Packet a.face, a.name) a.named)).1)
+      (after-item net places chosen router text lines cs file item there)
 
   -- the bytes of a row with its numbers
   record Bytes (row : Line) (line : List ℕ) : Type 0 where
@@ -168,9 +151,10 @@ module _ (sequences : (ws : List (List ℕ)) (list : List ℕ) (n : ℕ) (entry 
   fits-at is k row at fact =
       let within : LiesWithin text row = row-within text lines k row file.are at in
       let b : Bytes row (row_bytes text row (of_number (1 + k) numbers)) = bytes-at k row at in
+      let after-lines = at-number IsFit (1 + k) after (lines-fit (commands_after net places own chosen router) after-fit) in
       record {
-        before_fit = at-number IsFit (1 + k) before before-fit;
-        after_fit = at-number IsFit (1 + k) after after-fit;
+        before_fit = at-number IsFit (1 + k) before (lines-fit (commands_before net own chosen router) before-fit);
+        after_fit = after-lines;
         ended_row = λ e. ⊎_elim
             (λ (ended : IsEnded (ended_row text row)). record { free = b.free ended.free; ends = ⊎_elim (λ one. inl (one.0, b.no_return one.1)) (λ two. inr two) ended.ends })
             (λ un.
@@ -181,7 +165,7 @@ module _ (sequences : (ws : List (List ℕ)) (list : List ℕ) (n : ℕ) (entry 
         hanging_row = λ e.
             let none = no-end row within e in
             let un = bare-row row none fact in
-            (none, hanging-ended end (row_bytes text row (of_number (1 + k) numbers)) (of_number (1 + k) after) is (b.free un.free) (b.some un.some) (at-number IsFit (1 + k) after after-fit));
+            (none, hanging-ended end (row_bytes text row (of_number (1 + k) numbers)) (of_number (1 + k) after) is (b.free un.free) (b.some un.some) after-lines);
       }
     where
       empty-list : (xs : List ℕ) → length xs ≡ 0 → xs ≡ []

@@ -1,10 +1,10 @@
 -- The entries that edits put before the first one of a list are those of the settings after the edits.
-use Rattle.std.proofs.Common.{◌≡◌, ◌≢◌, ℕ, ◌+◌, ◌⊎◌, inl, inr, Bool, true, false, if◌then◌else◌, Option, Some, List, [], ◌∷◌, ◌++◌, map, refl, sym, ap, ◌∙◌, ⊎_elim, Contains, append-nil}
+use Rattle.std.proofs.Common.{◌≡◌, ◌≢◌, ℕ, ◌+◌, ◌⊎◌, inl, inr, Bool, true, false, if◌then◌else◌, Option, Some, None, List, [], ◌∷◌, ◌++◌, map, refl, sym, ap, ◌∙◌, ⊎_elim, Contains, append-nil}
 use Rattle.std.specs.Prelude.{AllPairs}
 use Rattle.std.specs.List.{enumerate_from, flat_map}
 use Rattle.std.proofs.lemmas.Option.{same_Some, none-some}
 use Rattle.arc_base.specs.declared.prefix.Prefix.{Prefix}
-use Rattle.arc_base.proofs.Items.{Contains-cases, Contains-none, Contains-head, Contains-tail, AllPairs-first, AllPairs-rest, from_map}
+use Rattle.arc_base.proofs.Items.{Contains-cases, Contains-none, Contains-head, Contains-tail, AllPairs-first, AllPairs-rest}
 use Rattle.ios_words.specs.declared.commands.Command.{Command}
 use Rattle.ios_words.specs.declared.commands.Command.TheVariants as commands
 use Rattle.ios_config.specs.declared.commands.FileCommand.{FileCommand}
@@ -23,22 +23,19 @@ use Rattle.net_model.specs.declared.lists.RouteList.{RouteList}
 use Rattle.net_model.specs.declared.policies.Class.{Class}
 use Rattle.net_build.specs.declared.built.ListPlace.{ListPlace}
 use Rattle.edit_list.specs.After.{opposite_packet_entry, opposite_route_entry}
-use Rattle.settings_edit_laws.specs.Additions.{packet_line, route_line}
+use Rattle.settings_edit_laws.specs.Additions.{route_line}
 use Rattle.settings_edit_laws.specs.Plain.{said}
 use Rattle.settings_edit_laws.proofs.Pairs.{any_of}
-use Rattle.line_edit_laws.specs.Sites.{Written}
-use Rattle.patch_laws.specs.EditSites.{written_at}
+use Rattle.patch_laws.specs.Written.{written_of}
 use Rattle.arc_base.specs.PrefixText.{number_of}
 use Rattle.std.specs.Option.{option_map_or}
 use Rattle.net_model.specs.declared.lists.RouteEntry.{RouteEntry}
 use Rattle.ios_config.specs.declared.settings.Given.{Given}
 use Rattle.ios_config.specs.Texts.{is_standard}
-use Rattle.line_patcher.specs.EntryLines.{order_at}
-use Rattle.patch_laws.specs.EntrySites.{packet_written, class_written, prefix_written}
+use Rattle.line_patcher.specs.EntryLines.{class_commands, order_at, packet_command, prefix_command}
 use Rattle.patch_laws.specs.ListsGrow.{list_begun}
-use Rattle.patch_laws.proofs.EditBlocks.{all-here}
 use Rattle.patch_laws.proofs.EditFaces.{same-stand}
-use Rattle.patch_laws.proofs.EditLists.{none-at, of-append}
+use Rattle.patch_laws.proofs.EditLists.{of-append}
 use Rattle.patch_laws.proofs.EditListGroups.{written}
 use Rattle.patch_laws.proofs.EditOnce.{Apart}
 
@@ -60,30 +57,22 @@ module _ {X : Type 0} (n : ℕ) (T : ℕ → List (ℕ × X)) where
           let first = none i (Contains-head i ids) (λ same. AllPairs-first (λ (a : ℕ) (b : ℕ). a ≢ b) i one ids apart later same) in
           of-append n (T i) (flat_map T ids) ∙ ap (λ (l : List X). l ++ of_number n (flat_map T ids)) first ∙ deeper later (λ id there. none id (Contains-tail i id ids there))
 
--- written lines at another number
-pub other-none : (n m : ℕ) (ws : List Written) → m ≢ n → of_number n (written_at m ws) ≡ []
-other-none n m ws other = none-at n (written_at m ws) (λ item there same.
-    (let (w, among, made) = from_map (λ (x : Written). (m, x)) ws item there in other (ap (λ (p : ℕ × Written). p.0) made ∙ same)))
-
-pub these-here : (n m : ℕ) (ws : List Written) → m ≡ n → of_number n (written_at m ws) ≡ ws
-these-here n m ws same = ap (λ (k : ℕ). of_number n (written_at k ws)) same ∙ all-here n ws
-
 -- the new entries without their numbers
 entries-written : (f : ListForm) (name : List ℕ) (es : List PacketEntry) (place : ListPlace) (k : ℕ) (classes : List Class) → (f ≡ forms.Block) ⊎ (f ≡ forms.Lines) →
-    written (map (λ (e : ℕ × Class). packet_written f name (order_at place 10 e.0) (opposite_packet_entry es e.1)) (enumerate_from k classes)) ≡ map said (map (λ (c : Class). packet_line f name (opposite_packet_entry es c)) classes)
+    written (map written_of (map (λ (e : ℕ × Class). packet_command f name (order_at place 10 e.0) (opposite_packet_entry es e.1)) (enumerate_from k classes))) ≡ map said (map (λ (c : Class). packet_command f name None (opposite_packet_entry es c)) classes)
 entries-written f name es place k [] packet = refl
-entries-written forms.Block name es place k (c ∷ classes) packet = ap (λ (l : List (Given Command)). said (packet_line forms.Block name (opposite_packet_entry es c)) ∷ l) (entries-written forms.Block name es place (k + 1) classes packet)
-entries-written forms.Lines name es place k (c ∷ classes) packet = ap (λ (l : List (Given Command)). said (packet_line forms.Lines name (opposite_packet_entry es c)) ∷ l) (entries-written forms.Lines name es place (k + 1) classes packet)
+entries-written forms.Block name es place k (c ∷ classes) packet = ap (λ (l : List (Given Command)). said (packet_command forms.Block name None (opposite_packet_entry es c)) ∷ l) (entries-written forms.Block name es place (k + 1) classes packet)
+entries-written forms.Lines name es place k (c ∷ classes) packet = ap (λ (l : List (Given Command)). said (packet_command forms.Lines name None (opposite_packet_entry es c)) ∷ l) (entries-written forms.Lines name es place (k + 1) classes packet)
 entries-written forms.PrefixLines name es place k (c ∷ classes) (inl e) = absurd cc
 entries-written forms.PrefixLines name es place k (c ∷ classes) (inr e) = absurd cc
 
 pub classes-written : (place : ListPlace) (row : PacketList) (form : ListForm) (name : List ℕ) (es : List PacketEntry) (classes : List Class) → (form ≡ forms.Block) ⊎ (form ≡ forms.Lines) → place.form ≡ form → row.name ≡ name → row.entries ≡ es →
-    written (map (class_written place row) (enumerate_from 1 classes)) ≡ map said (map (λ (c : Class). packet_line form name (opposite_packet_entry es c)) classes)
+    written (map written_of (class_commands place row classes)) ≡ map said (map (λ (c : Class). packet_command form name None (opposite_packet_entry es c)) classes)
 classes-written place row form name es classes packet form_is name_is es_are =
-    (λ i. written (map (λ (e : ℕ × Class). packet_written (form_is i) (name_is i) (order_at place 10 e.0) (opposite_packet_entry (es_are i) e.1)) (enumerate_from 1 classes))) ∙ entries-written form name es place 1 classes packet
+    (λ i. written (map written_of (map (λ (e : ℕ × Class). packet_command (form_is i) (name_is i) (order_at place 10 e.0) (opposite_packet_entry (es_are i) e.1)) (enumerate_from 1 classes)))) ∙ entries-written form name es place 1 classes packet
 
 pub routes-written : (name : List ℕ) (es : List RouteEntry) (place : ListPlace) (row : RouteList) (k : ℕ) (prefixes : List Prefix) → row.name ≡ name → row.entries ≡ es →
-    written (map (prefix_written place row) (enumerate_from k prefixes)) ≡ map said (map (λ (p : Prefix). route_line name (opposite_route_entry es p)) prefixes)
+    written (map written_of (map (prefix_command place row) (enumerate_from k prefixes))) ≡ map said (map (λ (p : Prefix). route_line name (opposite_route_entry es p)) prefixes)
 routes-written name es place row k [] name_is es_are = refl
 routes-written name es place row k (p ∷ prefixes) name_is es_are =
     (let one : said (route_line row.name (opposite_route_entry row.entries p)) ≡ said (route_line name (opposite_route_entry es p)) = λ i. said (route_line (name_is i) (opposite_route_entry (es_are i) p)) in

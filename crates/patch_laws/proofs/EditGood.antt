@@ -32,13 +32,14 @@ use Rattle.net_build.specs.declared.built.Places.{Places}
 use Rattle.edit_list.specs.declared.edit_kinds.Edit.{Edit}
 use Rattle.arc_base.specs.Numbered.{of_number}
 use Rattle.line_patcher.specs.declared.additions.NewNumber.{NewNumber}
-use Rattle.line_patcher.specs.Additions.{lines_after, numbers_at}
+use Rattle.line_patcher.specs.Additions.{entries_before, lines_after, numbers_at}
 use Rattle.line_patcher.specs.Patches.{line_end, row_bytes}
 use Rattle.edit_list.specs.NewLists.{named_lists}
+use Rattle.patch_laws.specs.Written.{written_of}
 use Rattle.line_edit_laws.specs.Sites.{AreChunks, AreGood, Chunk, IsEntryOf, IsGood, IsInnerOf, IsOfBlock, IsRewrittenFor, IsSingleLine, Single, Site, Written, chunk_commands, in_block, new_commands, own_commands, says_other, site_commands}
 use Rattle.patch_laws.specs.EditFiles.{IsEditedFile}
 use Rattle.patch_laws.specs.EditSiteLaws.{own_places}
-use Rattle.patch_laws.specs.EditSites.{entries_at, entry_table, new_key, put, singles, with_number}
+use Rattle.patch_laws.specs.EditSites.{entries_at, new_key, put, singles, with_number}
 use Rattle.patch_laws.specs.EntrySites.{IsSequenced}
 use Rattle.patch_laws.specs.Fits.{ends_with_return, hung_line, row_line, without_last}
 use Rattle.patch_laws.specs.NewListSites.{AreClear, list_chunks}
@@ -85,7 +86,9 @@ module _ (sequences : (ws : List (List ℕ)) (list : List ℕ) (n : ℕ) (entry 
 
   -- the list that has its first entry at the command
   record FirstOf (c : FileCommand) (w : Written) : Type 0 where
-    table : TableEntry cs (c.line, w)
+    command : Command
+    is : written_of command ≡ w
+    table : TableEntry cs (c.line, command)
     first : Given Command
     among : Contains table.list.entries first
     line : c.line ≡ first.line
@@ -93,13 +96,14 @@ module _ (sequences : (ws : List (List ℕ)) (list : List ℕ) (n : ℕ) (entry 
 
   first-of : (c : FileCommand) → Contains cs c → (w : Written) → Contains (entries_at net own chosen router c) w → FirstOf c w
   first-of c among w there =
-      let t = table-entry net places chosen router text lines cs file (c.line, w) (from-number c.line (entry_table net own chosen router) w there) in
+      let (command, at_number, is) = from_map written_of (of_number c.line (entries_before net own chosen router)) w there in
+      let t = table-entry net places chosen router text lines cs file (c.line, command) (from-number c.line (entries_before net own chosen router) command at_number) in
       let f = first-entry t.list t.some in
       let has : Contains t.list.entries f.first = subst (λ (es : List (Given Command)). Contains es f.first) (sym f.is) (Contains-head f.first f.more) in
       let e = entry-command cs t.list (list-group cs t.list t.among) f.first has in
       let line : c.line ≡ f.first.line = t.number ∙ f.line in
       let same : e.command ≡ c = one-command (text_lines text) cs e.command c file.stand e.among among (e.line ∙ sym line) in
-      record { table = t; first = f.first; among = has; line = line; entry = ap (λ (d : FileCommand). is_entry d.command) (sym same) ∙ e.entry }
+      record { command = command; is = is; table = t; first = f.first; among = has; line = line; entry = ap (λ (d : FileCommand). is_entry d.command) (sym same) ∙ e.entry }
 
   -- at a command of no block the entries are single lines, and else lines of its block
   single-there : (c : FileCommand) → Contains cs c → c.block ≡ 0 → (w : Written) → Contains (entries_at net own chosen router c) w → IsSingleLine w
@@ -107,7 +111,7 @@ module _ (sequences : (ws : List (List ℕ)) (list : List ℕ) (n : ℕ) (entry 
       let f = first-of c among w there in
       ⊎_elim
       (λ block. let b = block-entry-of (text_lines text) cs file.stand f.table.list f.table.among c f.first among f.among f.line block.0 block.1 in absurd (b.of.some top))
-      (λ single. single.1)
+      (λ single. subst IsSingleLine f.is single.1)
       f.table.stands
 
   inner-there : (c : FileCommand) → Contains cs c → c.block ≢ 0 → (w : Written) → Contains (entries_at net own chosen router c) w → IsEntryOf cs c w
@@ -116,7 +120,7 @@ module _ (sequences : (ws : List (List ℕ)) (list : List ℕ) (n : ℕ) (entry 
       ⊎_elim
       (λ block.
       let b = block-entry-of (text_lines text) cs file.stand f.table.list f.table.among c f.first among f.among f.line block.0 block.1 in
-      record {
+      let entry : IsEntryOf cs c (written_of f.command) = record {
         is_inner = record {
           within = kinds.Extended;
           head = b.of.head;
@@ -130,7 +134,8 @@ module _ (sequences : (ws : List (List ℕ)) (list : List ℕ) (n : ℕ) (entry 
           part = block.2.part c.block;
         };
         no_head = b.no_head;
-      })
+      } in
+      subst (IsEntryOf cs c) f.is entry)
       (λ single. absurd (some (⊎_elim
       (λ form. file.tops c among f.table.list.name (inl (line-entry-of (text_lines text) cs file.stand f.table.list f.table.among c f.first among f.among f.line form)))
       (λ form. file.tops c among f.table.list.name (inr (prefix-entry-of (text_lines text) cs file.stand f.table.list f.table.among c f.first among f.among f.line form)))

@@ -14,7 +14,7 @@ use Rattle.ios_lines.specs.Texts.{part, text_lines}
 use Rattle.ios_words.specs.declared.commands.Command.{Command}
 use Rattle.ios_words.specs.declared.commands.Command.TheVariants as commands
 use Rattle.ios_config.specs.declared.commands.FileCommand.{FileCommand}
-use Rattle.ios_config.specs.Groups.{Part, is_same, part_in, part_of, distinct, members}
+use Rattle.ios_config.specs.Groups.{is_same, part_in, part_of}
 use Rattle.ios_config.specs.Groups as groups
 use Rattle.ios_config.specs.Texts.{config_of}
 use Rattle.ios_config.proofs.HeadsFirst.{part-block, block-low}
@@ -33,9 +33,10 @@ use Rattle.edit_list.specs.NewLists.{named_lists}
 use Rattle.line_edit_laws.specs.Grown.{IsGrown, AreFreshParts}
 use Rattle.line_edit_laws.specs.Sites.{Site, Written, Single, chunk_commands, in_block, says_other, own_commands, site_commands, new_commands}
 use Rattle.patch_laws.specs.EditFiles.{IsEditedFile}
-use Rattle.patch_laws.specs.EditSites.{added, end_table, entries_at, grow, new_key, new_tops, put, singles, with_number}
+use Rattle.patch_laws.specs.EditSites.{added, ends_at, entries_at, grow, new_key, new_tops, put, singles, with_number}
 use Rattle.patch_laws.specs.NewListSites.{list_chunks, new_chunks}
-use Rattle.patch_laws.proofs.EditParts.{entry-at, end-at, end-part, all-in, process-there, process-head}
+use Rattle.patch_laws.proofs.EditParts.{entry-at, end-at, end-part, all-in}
+use Rattle.patch_laws.proofs.EditBusy.{process-here, process-line}
 use Rattle.patch_laws.proofs.FileParts.{rising, prefix-command, listed}
 use Rattle.patch_laws.proofs.NewListGroups.{part_for, segment-of, single-commands}
 
@@ -135,7 +136,7 @@ module _ (net : Network) (places : List Places) (chosen : List Edit) (router : �
   new_at c = with_number c.command (of_number c.line (numbers_at net own chosen router))
 
   abbrev pub after_at : FileCommand → List Written
-  after_at c = of_number c.line (end_table net places own chosen router)
+  after_at c = ends_at net places own chosen router c
 
   -- what stands for a command, all as commands of its block
   pub grow-is : (c : FileCommand) → grow_at c ≡ map (in_block c.block) (entries_at net own chosen router c) ++ (says_other c (new_at c) ∷ map (in_block c.block) (after_at c))
@@ -172,13 +173,13 @@ module _ (net : Network) (places : List Places) (chosen : List Edit) (router : �
 
   module _ (f : IsEditedFile net places chosen router text lines cs) where
     abbrev pub head_at : FileCommand
-    head_at = (process-there net places chosen router text lines cs f).head
+    head_at = (process-here net places chosen router text lines cs f).head
 
     pub split : SplitAt cs head_at
-    split = split-at 1 cs head_at (rising (text_lines text) cs f.stand) (process-there net places chosen router text lines cs f).block.among
+    split = split-at 1 cs head_at (rising (text_lines text) cs f.stand) (process-here net places chosen router text lines cs f).block.among
 
     head-line : head_at.line ≡ own.process
-    head-line = sym (process-head net places chosen router text lines cs f)
+    head-line = sym (process-line net places chosen router text lines cs f)
 
     abbrev pub back_at : List FileCommand
     back_at = head_at ∷ split.back

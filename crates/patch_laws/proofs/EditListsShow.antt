@@ -1,7 +1,7 @@
 -- The lists of a file show the entries of the edits before their own.
 use Rattle.std.proofs.Common.{◌≡◌, ◌≢◌, ℕ, ◌==◌, ◌&&◌, ◌⊎◌, inl, inr, Bool, true, false, if◌then◌else◌, Option, Some, None, List, [], ◌∷◌, ◌++◌, map, refl, sym, ap, subst, ◌∙◌, ⊎_elim, Contains, append-nil}
 use Rattle.std.specs.Prelude.{AllPairs, bytes_eq, option_and_then, slice_get, slice_index}
-use Rattle.std.specs.List.{cons_option, enumerate_from, filter_map, flat_map}
+use Rattle.std.specs.List.{cons_option, filter_map, flat_map}
 use Rattle.std.proofs.lemmas.Bool.{and_parts, eq-eqb, eqb-true}
 use Rattle.std.proofs.lemmas.Option.{same_Some, none-some}
 use Rattle.std.proofs.lemmas.Slice.Eq.{bytes_eq-Decides}
@@ -34,21 +34,21 @@ use Rattle.edit_list.specs.After.{opposite_packet_entry, opposite_route_entry}
 use Rattle.edit_list.specs.Changes.{list_prefixes, list_classes}
 use Rattle.arc_base.specs.Numbered.{if_number, is_empty, of_number, placed}
 use Rattle.edit_list.proofs.NewListFacts.{pairs_picked, picked_from, picks, placed_apart, placed_there}
-use Rattle.line_patcher.specs.EntryLines.{first_line, edited_packet_list, edited_route_list, edited_packet_lists, edited_route_lists}
-use Rattle.settings_edit_laws.specs.Additions.{class_for, front_lines, if_own_list, packet_line, prefix_for, route_line}
+use Rattle.line_patcher.specs.EntryLines.{at_front, class_commands, first_line, edited_packet_list, edited_route_list, edited_packet_lists, edited_route_lists, packet_command, packet_list_entries, prefix_commands, route_list_entries}
+use Rattle.settings_edit_laws.specs.Additions.{class_for, front_lines, if_own_list, prefix_for, route_line}
 use Rattle.settings_edit_laws.specs.Plain.{said, plain_entry}
 use Rattle.settings_edit_laws.proofs.NewNames.{numbered}
 use Rattle.settings_edit_laws.proofs.ListRows.{things_same}
 use Rattle.settings_edit_laws.proofs.TextKinds.{packet_texts, route_texts}
 use Rattle.settings_edit_laws.proofs.SessionFacts.{one_named}
 use Rattle.settings_edit_laws.proofs.Tables.{plain_packet_entries, plain_route_entries}
-use Rattle.line_edit_laws.specs.Sites.{Written}
 use Rattle.patch_laws.specs.EditFiles.{IsEditedFile, HasPacketList, HasRouteList}
-use Rattle.patch_laws.specs.EditSites.{class_table, entries_at, prefix_table, written_at}
-use Rattle.patch_laws.specs.EntrySites.{class_written, prefix_written}
+use Rattle.patch_laws.specs.EditSites.{entries_at}
+use Rattle.patch_laws.specs.Written.{written_of}
 use Rattle.patch_laws.specs.ListsGrow.{list_begun}
 use Rattle.patch_laws.proofs.EditBlocks.{members-of}
-use Rattle.patch_laws.proofs.EditFrontLines.{flat-none, flat-one, other-none, these-here, classes-written, routes-written, same-packets, same-routes}
+use Rattle.patch_laws.proofs.RowLines.{of-number-here, of-number-other}
+use Rattle.patch_laws.proofs.EditFrontLines.{flat-none, flat-one, classes-written, routes-written, same-packets, same-routes}
 use Rattle.patch_laws.proofs.EditFronts.{FirstOf, none-front, some-front}
 use Rattle.patch_laws.proofs.EditGrow.{own, grow_at}
 use Rattle.patch_laws.proofs.EditGrown.{ListsShow}
@@ -233,14 +233,14 @@ module _ (net : Network) (places : List Places) (chosen : List Edit) (router : �
       line-of list t = ap (λ (gs : List (Given Command)). slice_index (map (λ (g : Given Command). g.line) gs) 0) (t.entries_are ∙ es) ∙ sym c.line
 
       -- packet lists
-      abbrev class_at : ℕ → List (ℕ × Written)
-      class_at id = class_table net own_at chosen id
+      abbrev class_at : ℕ → List (ℕ × Command)
+      class_at id = packet_list_entries net own_at chosen id
 
       abbrev made_classes : List Class
       made_classes = filter_map (class_for net router x.0) chosen
 
-      class-table : (id : ℕ) (row : PacketList) (h : HasPacketList cs row) → slice_get net.packet_lists id ≡ Some row → class_at id ≡ written_at (first_line (list_place h.list)) (map (class_written (list_place h.list) row) (enumerate_from 1 (list_classes chosen id)))
-      class-table id row h at = packets-have net cs (λ (list : PacketList) (place : ListPlace). written_at (first_line place) (map (class_written place list) (enumerate_from 1 (list_classes chosen id)))) id row h at
+      class-table : (id : ℕ) (row : PacketList) (h : HasPacketList cs row) → slice_get net.packet_lists id ≡ Some row → class_at id ≡ at_front (list_place h.list) (class_commands (list_place h.list) row (list_classes chosen id))
+      class-table id row h at = packets-have net cs (λ (list : PacketList) (place : ListPlace). at_front place (class_commands place list (list_classes chosen id))) id row h at
 
       -- a table of another list has nothing here
       pub class-off : (id : ℕ) → Contains (edited_packet_lists net chosen router) id → ((row : PacketList) → slice_get net.packet_lists id ≡ Some row → row.router.0 ≡ router → (h : HasPacketList cs row) → list_classes chosen id ≢ [] → IsThis h.list → ⊥) → of_number n (class_at id) ≡ []
@@ -248,7 +248,7 @@ module _ (net : Network) (places : List Places) (chosen : List Edit) (router : �
           let r = edited-packets net chosen router id there in
           let h = f.packets id r.row r.at r.own r.some in
           ap (of_number n) (class-table id r.row h r.at) ∙
-          other-none n (first_line (list_place h.list)) (map (class_written (list_place h.list) r.row) (enumerate_from 1 (list_classes chosen id))) (λ line. never r.row r.at r.own h r.some (this h.list h.among (by-line h.list h.among h.some line)))
+          of-number-other (first_line (list_place h.list)) n (class_commands (list_place h.list) r.row (list_classes chosen id)) (λ line. never r.row r.at r.own h r.some (this h.list h.among (by-line h.list h.among h.some line)))
 
       -- where the edits put nothing into this list
       pub no-class-here : made_classes ≡ [] → of_number n (flat_map class_at (edited_packet_lists net chosen router)) ≡ []
@@ -257,22 +257,22 @@ module _ (net : Network) (places : List Places) (chosen : List Edit) (router : �
 
       -- where they put some
       pub classes-here : (id : ℕ) (row : PacketList) → slice_get net.packet_lists id ≡ Some row → row.router.0 ≡ router → row.name ≡ x.0 → (h : HasPacketList cs row) → list_classes chosen id ≢ [] → IsThis h.list →
-          of_number n (flat_map class_at (edited_packet_lists net chosen router)) ≡ map (class_written (list_place h.list) row) (enumerate_from 1 (list_classes chosen id))
+          of_number n (flat_map class_at (edited_packet_lists net chosen router)) ≡ class_commands (list_place h.list) row (list_classes chosen id)
       classes-here id row at here named h some t =
           flat-one n class_at (edited_packet_lists net chosen router) id (edited-apart router (edited_packet_list chosen) net.packet_lists (λ p y made. picked-place (is_empty (list_classes chosen p.0)) p.1.router.0 p.0 y made)) (class-in id row at here some)
           (λ other there differ. class-off other there (λ row_o at_o here_o h_o some_o t_o.
           differ (one_named (λ (l : PacketList). l.router.0) (λ (l : PacketList). l.name) net.packet_lists other id row_o row f.valid.packet_lists_named_apart at_o at (here_o ∙ sym here) (sym h_o.name ∙ t_o.name ∙ sym named)))) ∙
-          ap (of_number n) (class-table id row h at) ∙ these-here n (first_line (list_place h.list)) (map (class_written (list_place h.list) row) (enumerate_from 1 (list_classes chosen id))) (line-of h.list t)
+          ap (of_number n) (class-table id row h at) ∙ of-number-here (first_line (list_place h.list)) n (class_commands (list_place h.list) row (list_classes chosen id)) (line-of h.list t)
 
       -- route lists
-      abbrev prefix_at : ℕ → List (ℕ × Written)
-      prefix_at id = prefix_table net own_at chosen id
+      abbrev prefix_at : ℕ → List (ℕ × Command)
+      prefix_at id = route_list_entries net own_at chosen id
 
       abbrev made_prefixes : List Prefix
       made_prefixes = filter_map (prefix_for net router x.0) chosen
 
-      prefix-table : (id : ℕ) (row : RouteList) (h : HasRouteList cs row) → slice_get net.route_lists id ≡ Some row → prefix_at id ≡ written_at (first_line (list_place h.list)) (map (prefix_written (list_place h.list) row) (enumerate_from 1 (list_prefixes chosen id)))
-      prefix-table id row h at = routes-have net cs (λ (list : RouteList) (place : ListPlace). written_at (first_line place) (map (prefix_written place list) (enumerate_from 1 (list_prefixes chosen id)))) id row h at
+      prefix-table : (id : ℕ) (row : RouteList) (h : HasRouteList cs row) → slice_get net.route_lists id ≡ Some row → prefix_at id ≡ at_front (list_place h.list) (prefix_commands (list_place h.list) row (list_prefixes chosen id))
+      prefix-table id row h at = routes-have net cs (λ (list : RouteList) (place : ListPlace). at_front place (prefix_commands place list (list_prefixes chosen id))) id row h at
 
       -- a table of another list has nothing here
       pub prefix-off : (id : ℕ) → Contains (edited_route_lists net chosen router) id → ((row : RouteList) → slice_get net.route_lists id ≡ Some row → row.router.0 ≡ router → (h : HasRouteList cs row) → list_prefixes chosen id ≢ [] → IsThis h.list → ⊥) → of_number n (prefix_at id) ≡ []
@@ -280,7 +280,7 @@ module _ (net : Network) (places : List Places) (chosen : List Edit) (router : �
           let r = edited-routes net chosen router id there in
           let h = f.routes id r.row r.at r.own r.some in
           ap (of_number n) (prefix-table id r.row h r.at) ∙
-          other-none n (first_line (list_place h.list)) (map (prefix_written (list_place h.list) r.row) (enumerate_from 1 (list_prefixes chosen id))) (λ line. never r.row r.at r.own h r.some (this h.list h.among (by-line h.list h.among h.some line)))
+          of-number-other (first_line (list_place h.list)) n (prefix_commands (list_place h.list) r.row (list_prefixes chosen id)) (λ line. never r.row r.at r.own h r.some (this h.list h.among (by-line h.list h.among h.some line)))
 
       -- where the edits put nothing into this list
       pub no-prefix-here : made_prefixes ≡ [] → of_number n (flat_map prefix_at (edited_route_lists net chosen router)) ≡ []
@@ -289,52 +289,54 @@ module _ (net : Network) (places : List Places) (chosen : List Edit) (router : �
 
       -- where they put some
       pub prefixes-here : (id : ℕ) (row : RouteList) → slice_get net.route_lists id ≡ Some row → row.router.0 ≡ router → row.name ≡ x.0 → (h : HasRouteList cs row) → list_prefixes chosen id ≢ [] → IsThis h.list →
-          of_number n (flat_map prefix_at (edited_route_lists net chosen router)) ≡ map (prefix_written (list_place h.list) row) (enumerate_from 1 (list_prefixes chosen id))
+          of_number n (flat_map prefix_at (edited_route_lists net chosen router)) ≡ prefix_commands (list_place h.list) row (list_prefixes chosen id)
       prefixes-here id row at here named h some t =
           flat-one n prefix_at (edited_route_lists net chosen router) id (edited-apart router (edited_route_list chosen) net.route_lists (λ p y made. picked-place (is_empty (list_prefixes chosen p.0)) p.1.router.0 p.0 y made)) (prefix-in id row at here some)
           (λ other there differ. prefix-off other there (λ row_o at_o here_o h_o some_o t_o.
           differ (one_named (λ (l : RouteList). l.router.0) (λ (l : RouteList). l.name) net.route_lists other id row_o row f.valid.route_lists_named_apart at_o at (here_o ∙ sym here) (sym h_o.name ∙ t_o.name ∙ sym named)))) ∙
-          ap (of_number n) (prefix-table id row h at) ∙ these-here n (first_line (list_place h.list)) (map (prefix_written (list_place h.list) row) (enumerate_from 1 (list_prefixes chosen id))) (line-of h.list t)
+          ap (of_number n) (prefix-table id row h at) ∙ of-number-here (first_line (list_place h.list)) n (prefix_commands (list_place h.list) row (list_prefixes chosen id)) (line-of h.list t)
 
       -- at a packet list stand only entries of packet lists
-      pub only-classes : x.1 ≢ kinds.Prefix → entries_at net own_at chosen router c.command ≡ of_number n (flat_map class_at (edited_packet_lists net chosen router))
+      pub only-classes : x.1 ≢ kinds.Prefix → entries_at net own_at chosen router c.command ≡ map written_of (of_number n (flat_map class_at (edited_packet_lists net chosen router)))
       only-classes kind =
           let none : of_number n (flat_map prefix_at (edited_route_lists net chosen router)) ≡ [] =
           flat-none n prefix_at (edited_route_lists net chosen router) (λ id there. prefix-off id there (λ row at here h some t. kind (sym t.kind ∙ h.kind))) in
-          of-append n (flat_map class_at (edited_packet_lists net chosen router)) (flat_map prefix_at (edited_route_lists net chosen router)) ∙
-          ap (λ (l : List Written). of_number n (flat_map class_at (edited_packet_lists net chosen router)) ++ l) none ∙ append-nil (of_number n (flat_map class_at (edited_packet_lists net chosen router)))
+          ap (map written_of)
+          (of-append n (flat_map class_at (edited_packet_lists net chosen router)) (flat_map prefix_at (edited_route_lists net chosen router)) ∙
+          ap (λ (l : List Command). of_number n (flat_map class_at (edited_packet_lists net chosen router)) ++ l) none ∙ append-nil (of_number n (flat_map class_at (edited_packet_lists net chosen router))))
 
       -- and at a route list only those of route lists
-      pub only-prefixes : x.1 ≡ kinds.Prefix → entries_at net own_at chosen router c.command ≡ of_number n (flat_map prefix_at (edited_route_lists net chosen router))
+      pub only-prefixes : x.1 ≡ kinds.Prefix → entries_at net own_at chosen router c.command ≡ map written_of (of_number n (flat_map prefix_at (edited_route_lists net chosen router)))
       only-prefixes kind =
           let none : of_number n (flat_map class_at (edited_packet_lists net chosen router)) ≡ [] =
           flat-none n class_at (edited_packet_lists net chosen router) (λ id there. class-off id there (λ row at here h some t. extended-prefix (sym h.kind ∙ t.kind ∙ kind))) in
-          of-append n (flat_map class_at (edited_packet_lists net chosen router)) (flat_map prefix_at (edited_route_lists net chosen router)) ∙
-          ap (λ (l : List Written). l ++ of_number n (flat_map prefix_at (edited_route_lists net chosen router))) none
+          ap (map written_of)
+          (of-append n (flat_map class_at (edited_packet_lists net chosen router)) (flat_map prefix_at (edited_route_lists net chosen router)) ∙
+          ap (λ (l : List Command). l ++ of_number n (flat_map prefix_at (edited_route_lists net chosen router))) none)
 
       -- what stands before the first entry of a packet list
-      classes-front : x.1 ≢ kinds.Prefix → written (entries_at net own_at chosen router c.command) ≡ map said (map (λ (z : Class). packet_line x.2 x.0 (opposite_packet_entry (packet_entries mine) z)) made_classes)
+      classes-front : x.1 ≢ kinds.Prefix → written (entries_at net own_at chosen router c.command) ≡ map said (map (λ (z : Class). packet_command x.2 x.0 None (opposite_packet_entry (packet_entries mine) z)) made_classes)
       classes-front kind = ap written (only-classes kind) ∙ by made_classes refl
         where
-          by : (ms : List Class) → made_classes ≡ ms → written (of_number n (flat_map class_at (edited_packet_lists net chosen router))) ≡ map said (map (λ (z : Class). packet_line x.2 x.0 (opposite_packet_entry (packet_entries mine) z)) made_classes)
-          by [] made = ap written (no-class-here made) ∙ ap (λ (l : List Class). map said (map (λ (z : Class). packet_line x.2 x.0 (opposite_packet_entry (packet_entries mine) z)) l)) (sym made)
+          by : (ms : List Class) → made_classes ≡ ms → written (map written_of (of_number n (flat_map class_at (edited_packet_lists net chosen router)))) ≡ map said (map (λ (z : Class). packet_command x.2 x.0 None (opposite_packet_entry (packet_entries mine) z)) made_classes)
+          by [] made = ap (λ (l : List Command). written (map written_of l)) (no-class-here made) ∙ ap (λ (l : List Class). map said (map (λ (z : Class). packet_command x.2 x.0 None (opposite_packet_entry (packet_entries mine) z)) l)) (sym made)
           by (z ∷ zs) made =
               let s = classes-found z zs made kind in
               let packet : (x.2 ≡ forms.Block) ⊎ (x.2 ≡ forms.Lines) = ⊎_elim (λ block. inl (sym s.is_this.form ∙ block)) (λ lines. inr (sym s.is_this.form ∙ lines.0)) s.has.form in
               let same : s.row.entries ≡ packet_entries mine = s.has.entries ∙ sym (plain_packet_entries s.has.list) ∙ ap (filter_map (λ (g : Given Command). packet_entry g.value)) (sym (shown-entries s.has.list s.is_this)) in
-              ap written (classes-here s.id s.row s.at s.here s.named s.has s.some s.is_this) ∙ classes-written (list_place s.has.list) s.row x.2 x.0 (packet_entries mine) (list_classes chosen s.id) packet s.is_this.form s.named same ∙
-              ap (λ (l : List Class). map said (map (λ (y : Class). packet_line x.2 x.0 (opposite_packet_entry (packet_entries mine) y)) l)) s.same
+              ap (λ (l : List Command). written (map written_of l)) (classes-here s.id s.row s.at s.here s.named s.has s.some s.is_this) ∙ classes-written (list_place s.has.list) s.row x.2 x.0 (packet_entries mine) (list_classes chosen s.id) packet s.is_this.form s.named same ∙
+              ap (λ (l : List Class). map said (map (λ (y : Class). packet_command x.2 x.0 None (opposite_packet_entry (packet_entries mine) y)) l)) s.same
 
       -- and before that of a route list
       prefixes-front : x.1 ≡ kinds.Prefix → written (entries_at net own_at chosen router c.command) ≡ map said (map (λ (z : Prefix). route_line x.0 (opposite_route_entry (route_entries mine) z)) made_prefixes)
       prefixes-front kind = ap written (only-prefixes kind) ∙ by made_prefixes refl
         where
-          by : (ms : List Prefix) → made_prefixes ≡ ms → written (of_number n (flat_map prefix_at (edited_route_lists net chosen router))) ≡ map said (map (λ (z : Prefix). route_line x.0 (opposite_route_entry (route_entries mine) z)) made_prefixes)
-          by [] made = ap written (no-prefix-here made) ∙ ap (λ (l : List Prefix). map said (map (λ (z : Prefix). route_line x.0 (opposite_route_entry (route_entries mine) z)) l)) (sym made)
+          by : (ms : List Prefix) → made_prefixes ≡ ms → written (map written_of (of_number n (flat_map prefix_at (edited_route_lists net chosen router)))) ≡ map said (map (λ (z : Prefix). route_line x.0 (opposite_route_entry (route_entries mine) z)) made_prefixes)
+          by [] made = ap (λ (l : List Command). written (map written_of l)) (no-prefix-here made) ∙ ap (λ (l : List Prefix). map said (map (λ (z : Prefix). route_line x.0 (opposite_route_entry (route_entries mine) z)) l)) (sym made)
           by (z ∷ zs) made =
               let s = prefixes-found z zs made kind in
               let same : s.row.entries ≡ route_entries mine = s.has.entries ∙ sym (plain_route_entries s.has.list) ∙ ap (filter_map (λ (g : Given Command). route_entry g.value)) (sym (shown-entries s.has.list s.is_this)) in
-              ap written (prefixes-here s.id s.row s.at s.here s.named s.has s.some s.is_this) ∙ routes-written x.0 (route_entries mine) (list_place s.has.list) s.row 1 (list_prefixes chosen s.id) s.named same ∙
+              ap (λ (l : List Command). written (map written_of l)) (prefixes-here s.id s.row s.at s.here s.named s.has s.some s.is_this) ∙ routes-written x.0 (route_entries mine) (list_place s.has.list) s.row 1 (list_prefixes chosen s.id) s.named same ∙
               ap (λ (l : List Prefix). map said (map (λ (y : Prefix). route_line x.0 (opposite_route_entry (route_entries mine) y)) l)) s.same
 
       front-here : (k : ListKind) → x.1 ≡ k → written (entries_at net own_at chosen router c.command) ≡ map said (front_lines net chosen router mine k)
@@ -353,8 +355,8 @@ module _ (net : Network) (places : List Places) (chosen : List Edit) (router : �
       no-prefixes kind (z ∷ zs) made = let s = prefixes-found z zs made kind in absurd (s.has.some (s.is_this.entries_are ∙ empty))
 
       front-none : (k : ListKind) → x.1 ≡ k → front_lines net chosen router mine k ≡ []
-      front-none kinds.Extended kind = ap (map (λ (z : Class). packet_line x.2 x.0 (opposite_packet_entry (packet_entries mine) z))) (no-classes (λ p. extended-prefix (sym kind ∙ p)) (filter_map (class_for net router x.0) chosen) refl)
-      front-none kinds.Standard kind = ap (map (λ (z : Class). packet_line x.2 x.0 (opposite_packet_entry (packet_entries mine) z))) (no-classes (λ p. standard-prefix (sym kind ∙ p)) (filter_map (class_for net router x.0) chosen) refl)
+      front-none kinds.Extended kind = ap (map (λ (z : Class). packet_command x.2 x.0 None (opposite_packet_entry (packet_entries mine) z))) (no-classes (λ p. extended-prefix (sym kind ∙ p)) (filter_map (class_for net router x.0) chosen) refl)
+      front-none kinds.Standard kind = ap (map (λ (z : Class). packet_command x.2 x.0 None (opposite_packet_entry (packet_entries mine) z))) (no-classes (λ p. standard-prefix (sym kind ∙ p)) (filter_map (class_for net router x.0) chosen) refl)
       front-none kinds.Prefix kind = ap (map (λ (z : Prefix). route_line x.0 (opposite_route_entry (route_entries mine) z))) (no-prefixes kind (filter_map (prefix_for net router x.0) chosen) refl)
 
     show-by : (gs : List (Given Command)) → entries (members cs q) ≡ gs →

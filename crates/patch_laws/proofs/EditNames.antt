@@ -33,7 +33,9 @@ use Rattle.edit_list.specs.NewLists.{named_lists}
 use Rattle.line_edit_laws.specs.Sites.{Written, chunk_commands, in_block, says_other}
 use Rattle.patch_laws.specs.EditFiles.{IsEditedFile}
 use Rattle.patch_laws.specs.EditSites.{entries_at, new_key, with_number}
-use Rattle.patch_laws.specs.NewListSites.{deny_written, head_written, list_chunks, new_chunks, packet_written, permit_all_written, route_written}
+use Rattle.line_patcher.specs.NewListLines.{deny_prefix, new_entries, new_route_commands, permit_all}
+use Rattle.patch_laws.specs.NewListSites.{list_chunks, new_chunks}
+use Rattle.patch_laws.specs.Written.{written_of}
 use Rattle.patch_laws.proofs.EditGrow.{own, grow_at, more_at, after_at, new_at, grow-is, split, back_at, in-front, in-back}
 use Rattle.patch_laws.proofs.EditParts.{entry-at, EndAt, OfProcess, OfFace, end-at, all-in, process-line}
 use Rattle.patch_laws.proofs.NewListGroups.{single-commands}
@@ -105,11 +107,11 @@ entry-unnamed (commands.Hostname name) is = absurd cc
 entry-unnamed _ is = refl
 
 -- the commands of new lists
-deny-unnamed : (name : List ℕ) (es : List (ℕ × Prefix)) (last : ℕ) → AllByRecursion (λ (w : Written). hostname w.command ≡ None) (map (deny_written name) es ++ permit_all_written name last ∷ [])
+deny-unnamed : (name : List ℕ) (es : List (ℕ × Prefix)) (last : ℕ) → AllByRecursion (λ (w : Written). hostname w.command ≡ None) (map written_of (map (deny_prefix name) es ++ permit_all name last ∷ []))
 deny-unnamed name [] last = (refl, tt)
 deny-unnamed name (e ∷ es) last = (refl, deny-unnamed name es last)
 
-class-unnamed : (cs : List Class) → AllByRecursion (λ (w : Written). hostname w.command ≡ None) (packet_written cs)
+class-unnamed : (cs : List Class) → AllByRecursion (λ (w : Written). hostname w.command ≡ None) (map written_of (new_entries cs))
 class-unnamed [] = (refl, tt)
 class-unnamed (c ∷ cs) = (refl, class-unnamed cs)
 
@@ -129,14 +131,14 @@ added-unnamed chosen key ((list, name) ∷ ns) t there =
         IsUnnamed t
     by list (inr late) deeper = deeper late
     by (Route face) (inl early) deeper =
-        written-unnamed 0 (route_written name (new_prefixes chosen face.0)) (deny-unnamed name (enumerate_from 1 (new_prefixes chosen face.0)) (5 * (length (new_prefixes chosen face.0) + 1))) t
-        (subst (λ (l : List FileCommand). Contains l t) (single-commands (route_written name (new_prefixes chosen face.0))) early)
+        written-unnamed 0 (map written_of (new_route_commands name (new_prefixes chosen face.0))) (deny-unnamed name (enumerate_from 1 (new_prefixes chosen face.0)) (5 * (length (new_prefixes chosen face.0) + 1))) t
+        (subst (λ (l : List FileCommand). Contains l t) (single-commands (map written_of (new_route_commands name (new_prefixes chosen face.0)))) early)
     by (Packet face) (inl early) deeper =
-        let entries = map (in_block key) (packet_written (new_classes chosen face.0)) in
+        let entries = map (in_block key) (map written_of (new_entries (new_classes chosen face.0))) in
         ⊎_elim
-        (λ (here : in_block key (head_written name) ≡ t). ap (λ (v : FileCommand). hostname v.command) (sym here))
-        (λ later. written-unnamed key (packet_written (new_classes chosen face.0)) (class-unnamed (new_classes chosen face.0)) t later)
-        (Contains-cases (in_block key (head_written name)) t entries (subst (λ (l : List FileCommand). Contains l t) (append-nil (in_block key (head_written name) ∷ entries)) early))
+        (λ (here : in_block key (written_of (commands.ListBlock true name)) ≡ t). ap (λ (v : FileCommand). hostname v.command) (sym here))
+        (λ later. written-unnamed key (map written_of (new_entries (new_classes chosen face.0))) (class-unnamed (new_classes chosen face.0)) t later)
+        (Contains-cases (in_block key (written_of (commands.ListBlock true name))) t entries (subst (λ (l : List FileCommand). Contains l t) (append-nil (in_block key (written_of (commands.ListBlock true name)) ∷ entries)) early))
 
 module _ (net : Network) (places : List Places) (chosen : List Edit) (router : ℕ) (text : List ℕ) (lines : Lines) (cs : List FileCommand) (f : IsEditedFile net places chosen router text lines cs) where
   abbrev grown_at : FileCommand → List FileCommand

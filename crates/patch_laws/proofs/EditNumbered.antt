@@ -29,6 +29,7 @@ use Rattle.settings_edit_laws.specs.Additions.{class_for, prefix_for}
 use Rattle.line_edit_laws.specs.Sites.{Written, in_block, says_other}
 use Rattle.patch_laws.specs.EditFiles.{IsEditedFile}
 use Rattle.patch_laws.specs.EditSites.{entries_at}
+use Rattle.patch_laws.specs.Written.{written_of}
 use Rattle.patch_laws.proofs.EditCounted.{Counts, alone, classes-count, counts-append, counts-rise, front-numbers, none-alone, numbers, numbers-append, numbers-are, prefixes-count, renumbered, rises-of, unchanged}
 use Rattle.patch_laws.proofs.EditFronts.{FirstOf, first-of, members-rise, none-elsewhere}
 use Rattle.patch_laws.proofs.EditGrow.{own, grow_at, new_at, grow-is}
@@ -109,14 +110,14 @@ module _ (net : Network) (places : List Places) (chosen : List Edit) (router : �
         where
           by : (zs : List Class) → filter_map (class_for net router list.name) chosen ≡ zs → Rises (numbers (flat_map grown_at group))
           by [] made = as-before
-              (only-classes net places chosen router text lines cs f g.part g.first g.rest g.is x g.begun e more es c kind ∙ no-class-here net places chosen router text lines cs f g.part g.first g.rest g.is x g.begun e more es c made)
+              (only-classes net places chosen router text lines cs f g.part g.first g.rest g.is x g.begun e more es c kind ∙ ap (map written_of) (no-class-here net places chosen router text lines cs f g.part g.first g.rest g.is x g.begun e more es c made))
               (λ d there. no-packets net places chosen router text lines cs f g.part g.first g.rest g.is x g.begun d there kind made)
           by (z ∷ zs) made =
               let s = classes-found net places chosen router text lines cs f g.part g.first g.rest g.is x g.begun z zs made kind in
               let has = also-numbered s.has.list s.has.among s.is_this.entries_are in
               let form : s.has.list.form ≡ forms.Block = ⊎_elim (λ block. block) (λ rows. absurd (false≢true (sym (lines-unnumbered (text_lines text) cs f.stand s.has.list s.has.among rows.0) ∙ has))) s.has.form in
               let front = only-classes net places chosen router text lines cs f g.part g.first g.rest g.is x g.begun e more es c kind ∙
-              classes-here net places chosen router text lines cs f g.part g.first g.rest g.is x g.begun e more es c s.id s.row s.at s.here s.named s.has s.some s.is_this in
+              ap (map written_of) (classes-here net places chosen router text lines cs f g.part g.first g.rest g.is x g.begun e more es c s.id s.row s.at s.here s.named s.has s.some s.is_this) in
               counted 0 10 (length (list_classes chosen s.id)) s.has.list (λ k. omega arith) s.is_this.entries_are has (λ d there. some-packets net places chosen router text lines cs f g.part g.first g.rest g.is x g.begun d there kind s)
               (subst (λ (ws : List Written). Counts 10 1 (numbers (map (in_block c.command.block) ws)) × (length (numbers (map (in_block c.command.block) ws)) ≡ length (list_classes chosen s.id))) (sym front)
               (classes-count c.command.block (list_place s.has.list) s.row (list_classes chosen s.id) form has))
@@ -126,13 +127,13 @@ module _ (net : Network) (places : List Places) (chosen : List Edit) (router : �
         where
           by : (zs : List Prefix) → filter_map (prefix_for net router list.name) chosen ≡ zs → Rises (numbers (flat_map grown_at group))
           by [] made = as-before
-              (only-prefixes net places chosen router text lines cs f g.part g.first g.rest g.is x g.begun e more es c kind ∙ no-prefix-here net places chosen router text lines cs f g.part g.first g.rest g.is x g.begun e more es c made)
+              (only-prefixes net places chosen router text lines cs f g.part g.first g.rest g.is x g.begun e more es c kind ∙ ap (map written_of) (no-prefix-here net places chosen router text lines cs f g.part g.first g.rest g.is x g.begun e more es c made))
               (λ d there. no-routes net places chosen router text lines cs f g.part g.first g.rest g.is x g.begun d there kind made)
           by (z ∷ zs) made =
               let s = prefixes-found net places chosen router text lines cs f g.part g.first g.rest g.is x g.begun z zs made kind in
               let has = also-numbered s.has.list s.has.among s.is_this.entries_are in
               let front = only-prefixes net places chosen router text lines cs f g.part g.first g.rest g.is x g.begun e more es c kind ∙
-              prefixes-here net places chosen router text lines cs f g.part g.first g.rest g.is x g.begun e more es c s.id s.row s.at s.here s.named s.has s.some s.is_this in
+              ap (map written_of) (prefixes-here net places chosen router text lines cs f g.part g.first g.rest g.is x g.begun e more es c s.id s.row s.at s.here s.named s.has s.some s.is_this) in
               counted 4 5 (length (list_prefixes chosen s.id)) s.has.list (λ k. omega arith) s.is_this.entries_are has (λ d there. some-routes net places chosen router text lines cs f g.part g.first g.rest g.is x g.begun d there kind s)
               (subst (λ (ws : List Written). Counts 5 1 (numbers (map (in_block c.command.block) ws)) × (length (numbers (map (in_block c.command.block) ws)) ≡ length (list_prefixes chosen s.id))) (sym front)
               (prefixes-count c.command.block 1 (list_place s.has.list) s.row (list_prefixes chosen s.id) has))

@@ -19,7 +19,7 @@ use Rattle.ios_config.specs.declared.settings.ListKind.TheVariants.{Extended, St
 use Rattle.ios_config.specs.declared.settings.ListText.{ListText}
 use Rattle.ios_config.specs.Commands.{opened_by}
 use Rattle.ios_config.specs.Groups as groups
-use Rattle.ios_config.specs.Groups.{Part, Block, is_same, part_in, part_of, members}
+use Rattle.ios_config.specs.Groups.{Part, Block, is_same, part_in, part_of}
 use Rattle.ios_config.specs.LineLists.{AreCommandsIn}
 use Rattle.ios_config.specs.Rising.{FallsAt, NumbersRise, rises}
 use Rattle.ios_config.specs.Texts.{config_of, entries, entry_number, is_entry, is_numbered}

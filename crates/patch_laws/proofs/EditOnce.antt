@@ -37,7 +37,9 @@ use Rattle.line_edit_laws.specs.Sites.{Written, chunk_commands, in_block, says_o
 use Rattle.patch_laws.specs.EditFiles.{IsEditedFile}
 use Rattle.patch_laws.specs.EditSites.{entries_at, new_key, with_number}
 use Rattle.patch_laws.specs.ListsGrow.{list_begun}
-use Rattle.patch_laws.specs.NewListSites.{AreDifferent, deny_written, head_written, list_chunks, new_chunks, packet_written, permit_all_written, route_written}
+use Rattle.line_patcher.specs.NewListLines.{deny_prefix, new_entries, new_route_commands, permit_all}
+use Rattle.patch_laws.specs.NewListSites.{AreDifferent, list_chunks, new_chunks}
+use Rattle.patch_laws.specs.Written.{written_of}
 use Rattle.patch_laws.proofs.EditGrow.{own, put_at, grow_at, more_at, after_at, new_at, grow-is, split, back_at, grown-is, in-front, in-back}
 use Rattle.patch_laws.proofs.EditParts.{entry-at, EndAt, OfProcess, OfFace, end-at, all-in, process-line}
 use Rattle.patch_laws.proofs.FileParts.{listed}
@@ -204,11 +206,11 @@ excluded-begun _ name there = absurd (Contains-none _ there)
 abbrev HeadsList : List (NewList × List ℕ) → Command → Type 0
 HeadsList ns u = IsSilent u ⊎ ((named : NewList × List ℕ) × Contains ns named × (u ≡ commands.ListBlock true named.1))
 
-deny-silent : (name : List ℕ) (es : List (ℕ × Prefix)) (last : ℕ) → AllByRecursion (λ (w : Written). IsSilent w.command) (map (deny_written name) es ++ permit_all_written name last ∷ [])
+deny-silent : (name : List ℕ) (es : List (ℕ × Prefix)) (last : ℕ) → AllByRecursion (λ (w : Written). IsSilent w.command) (map written_of (map (deny_prefix name) es ++ permit_all name last ∷ []))
 deny-silent name [] last = ((refl, refl), tt)
 deny-silent name (e ∷ es) last = ((refl, refl), deny-silent name es last)
 
-class-silent : (cs : List Class) → AllByRecursion (λ (w : Written). IsSilent w.command) (packet_written cs)
+class-silent : (cs : List Class) → AllByRecursion (λ (w : Written). IsSilent w.command) (map written_of (new_entries cs))
 class-silent [] = ((refl, refl), tt)
 class-silent (c ∷ cs) = ((refl, refl), class-silent cs)
 
@@ -219,26 +221,26 @@ written-silent block ws all t there =
 
 chunk-stands : (chosen : List Edit) (key : ℕ) (n : NewList × List ℕ) (t : FileCommand) → Contains (flat_map chunk_commands (new_chunks chosen key n.0 n.1)) t → IsSilent t.command ⊎ (t.command ≡ commands.ListBlock true n.1)
 chunk-stands chosen key (Route face, name) t there =
-    inl (written-silent 0 (route_written name (new_prefixes chosen face.0)) (deny-silent name (enumerate_from 1 (new_prefixes chosen face.0)) (5 * (length (new_prefixes chosen face.0) + 1))) t
-    (subst (λ (l : List FileCommand). Contains l t) (single-commands (route_written name (new_prefixes chosen face.0))) there))
+    inl (written-silent 0 (map written_of (new_route_commands name (new_prefixes chosen face.0))) (deny-silent name (enumerate_from 1 (new_prefixes chosen face.0)) (5 * (length (new_prefixes chosen face.0) + 1))) t
+    (subst (λ (l : List FileCommand). Contains l t) (single-commands (map written_of (new_route_commands name (new_prefixes chosen face.0)))) there))
 chunk-stands chosen key (Packet face, name) t there =
-    let entries = map (in_block key) (packet_written (new_classes chosen face.0)) in
+    let entries = map (in_block key) (map written_of (new_entries (new_classes chosen face.0))) in
     ⊎_elim
-    (λ (here : in_block key (head_written name) ≡ t). inr (ap (λ (v : FileCommand). v.command) (sym here)))
-    (λ later. inl (written-silent key (packet_written (new_classes chosen face.0)) (class-silent (new_classes chosen face.0)) t later))
-    (Contains-cases (in_block key (head_written name)) t entries (subst (λ (l : List FileCommand). Contains l t) (append-nil (in_block key (head_written name) ∷ entries)) there))
+    (λ (here : in_block key (written_of (commands.ListBlock true name)) ≡ t). inr (ap (λ (v : FileCommand). v.command) (sym here)))
+    (λ later. inl (written-silent key (map written_of (new_entries (new_classes chosen face.0))) (class-silent (new_classes chosen face.0)) t later))
+    (Contains-cases (in_block key (written_of (commands.ListBlock true name))) t entries (subst (λ (l : List FileCommand). Contains l t) (append-nil (in_block key (written_of (commands.ListBlock true name)) ∷ entries)) there))
 
 chunk-once : (chosen : List Edit) (key : ℕ) (n : NewList × List ℕ) → AllPairs Apart (flat_map chunk_commands (new_chunks chosen key n.0 n.1))
 chunk-once chosen key (Route face, name) = all-pairs Apart _ (λ x y in_x in_y clash. by x (chunk-stands chosen key (Route face, name) x in_x) in_x y clash)
   where
     by : (x : FileCommand) → IsSilent x.command ⊎ (x.command ≡ commands.ListBlock true name) → Contains (flat_map chunk_commands (new_chunks chosen key (Route face) name)) x → (y : FileCommand) → Clash x.command y.command → ⊥
-    by x stands_x in_x y clash = silent-first x.command y.command (written-silent 0 (route_written name (new_prefixes chosen face.0)) (deny-silent name (enumerate_from 1 (new_prefixes chosen face.0)) (5 * (length (new_prefixes chosen face.0) + 1))) x
-        (subst (λ (l : List FileCommand). Contains l x) (single-commands (route_written name (new_prefixes chosen face.0))) in_x)).0 clash
+    by x stands_x in_x y clash = silent-first x.command y.command (written-silent 0 (map written_of (new_route_commands name (new_prefixes chosen face.0))) (deny-silent name (enumerate_from 1 (new_prefixes chosen face.0)) (5 * (length (new_prefixes chosen face.0) + 1))) x
+        (subst (λ (l : List FileCommand). Contains l x) (single-commands (map written_of (new_route_commands name (new_prefixes chosen face.0)))) in_x)).0 clash
 chunk-once chosen key (Packet face, name) =
-    let entries = map (in_block key) (packet_written (new_classes chosen face.0)) in
-    let silent = written-silent key (packet_written (new_classes chosen face.0)) (class-silent (new_classes chosen face.0)) in
-    subst (AllPairs Apart) (sym (append-nil (in_block key (head_written name) ∷ entries)))
-    (AllPairs-append Apart (in_block key (head_written name) ∷ []) entries (AllPairs-single Apart (in_block key (head_written name)))
+    let entries = map (in_block key) (map written_of (new_entries (new_classes chosen face.0))) in
+    let silent = written-silent key (map written_of (new_entries (new_classes chosen face.0))) (class-silent (new_classes chosen face.0)) in
+    subst (AllPairs Apart) (sym (append-nil (in_block key (written_of (commands.ListBlock true name)) ∷ entries)))
+    (AllPairs-append Apart (in_block key (written_of (commands.ListBlock true name)) ∷ []) entries (AllPairs-single Apart (in_block key (written_of (commands.ListBlock true name))))
     (all-pairs Apart entries (λ x y in_x in_y clash. silent-first x.command y.command (silent x in_x).0 clash))
     (λ x y in_x in_y clash. silent-last x.command y.command (silent y in_y).1 clash))
 

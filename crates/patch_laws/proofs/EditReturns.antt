@@ -3,7 +3,6 @@
 use Rattle.std.proofs.Common.{◌≡◌, ◌≢◌, ℕ, ◌⊎◌, inl, inr, Bool, true, false, List, [], ◌∷◌, ◌++◌, map, refl, sym, ap, subst, ◌∙◌, ⊎_elim, Contains}
 use Rattle.std.proofs.lemmas.Bool.{cases_Bool, true≢false}
 use Rattle.std.proofs.lemmas.Option.{none-some}
-use Rattle.std.proofs.lemmas.List.Elements.{Contains-append_cases}
 use Rattle.net_model.specs.declared.rows.Network.{Network}
 use Rattle.ios_lines.specs.declared.line.Lines.{Lines}
 use Rattle.ios_lines.specs.Kinds.{is_indented, kind}
@@ -26,17 +25,14 @@ use Rattle.ios_config.specs.LineLists.{AreCommandsIn}
 use Rattle.ios_config.specs.ProcessLines.{HasProcess}
 use Rattle.net_build.specs.declared.built.Places.{Places}
 use Rattle.edit_list.specs.declared.edit_kinds.Edit.{Edit}
-use Rattle.edit_list.specs.declared.list_kinds.NewList.{NewList}
 use Rattle.arc_base.specs.Numbered.{of_number}
-use Rattle.edit_list.proofs.NewListFacts.{picked_from}
-use Rattle.line_patcher.specs.Additions.{all_at, lines_after}
-use Rattle.line_patcher.specs.NewListLines.{face_places, filter_lines, group_line_among, group_lines}
-use Rattle.line_patcher.specs.SessionLines.{session_lines}
-use Rattle.edit_list.specs.NewLists.{named_lists}
+use Rattle.arc_base.proofs.Items.{from_map}
+use Rattle.line_patcher.specs.Additions.{commands_after, lines_after}
+use Rattle.line_patcher.specs.Written.{line_of}
 use Rattle.line_edit_laws.specs.Sites.{IsOfBlock, IsRewrittenFor, Site}
 use Rattle.patch_laws.specs.EditFiles.{IsEditedFile}
 use Rattle.patch_laws.specs.EditSiteLaws.{own_places}
-use Rattle.patch_laws.proofs.EditBusy.{at-one, face-line, last-line, process-here}
+use Rattle.patch_laws.proofs.EditBusy.{after-item, last-line, process-here}
 use Rattle.patch_laws.proofs.EditLists.{from-number}
 use Rattle.patch_laws.proofs.EditRows.{CommandRow, one-command}
 use Rattle.patch_laws.proofs.ReturnedLines.{kept-kind}
@@ -104,17 +100,15 @@ module _ (net : Network) (places : List Places) (chosen : List Edit) (router : �
   }
 
   pub ends-block : (c : FileCommand) → Contains cs c → (line : List ℕ) → Contains (of_number c.line (lines_after net places own chosen router)) line → EndsBlock cs c
-  ends-block c among line there = ⊎_elim
+  ends-block c among line there =
+      let (item, in_commands, at_line) = from_map (λ (k : ℕ × Command). (k.0, line_of k.1)) (commands_after net places own chosen router) (c.line, line) (from-number c.line (lines_after net places own chosen router) line there) in
+      let number : c.line ≡ item.0 = ap (λ (p : ℕ × List ℕ). p.0) (sym at_line) in
+      ⊎_elim
       (λ process.
       let here : HasProcess cs file.process = process-here net places chosen router text lines cs file in
-      at-last c here.head here.last here.within (⊎_elim (λ ospf. inr (inl ospf.0)) (λ bgp. inr (inr bgp.0)) here.kind) among here.block
-      (at-one own.process_last (λ (l : List ℕ). l) (session_lines net chosen router ++ filter_lines net chosen router) (c.line, line) process ∙ last-line net places chosen router text lines cs file))
-      (λ faces.
-      let (named, in_named, is) = picked_from (λ (n : NewList × List ℕ). group_line_among (face_places places) n.0 n.1) (named_lists net chosen router) (c.line, line) faces in
-      let a = face-line net places chosen router text lines cs file named in_named (c.line, line) is in
-      at-last c a.block.head a.block.last kinds.Interface (inl refl) among a.block.block a.line)
-      (Contains-append_cases (all_at own.process_last (session_lines net chosen router ++ filter_lines net chosen router)) (group_lines net places chosen router) (c.line, line)
-      (from-number c.line (lines_after net places own chosen router) line there))
+      at-last c here.head here.last here.within (⊎_elim (λ ospf. inr (inl ospf.0)) (λ bgp. inr (inr bgp.0)) here.kind) among here.block (number ∙ process.0 ∙ last-line net places chosen router text lines cs file))
+      (λ a. at-last c a.block.head a.block.last kinds.Interface (inl refl) among a.block.block (number ∙ a.line))
+      (after-item net places chosen router text lines cs file item in_commands)
 
 -- a line of such a block that ends with a carriage return is written without it
 module _ (text : List ℕ) (lines : Lines) (cs : List FileCommand) (c : FileCommand) (among : Contains cs c) (are : AreLinesOf text lines) (stand : AreCommandsIn (text_lines text) cs) (r : CommandRow text lines cs c) (e : EndsBlock cs c)

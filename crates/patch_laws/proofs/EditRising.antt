@@ -9,6 +9,7 @@ use Rattle.arc_base.specs.declared.prefix.Prefix.{Prefix}
 use Rattle.arc_base.proofs.Items.{Contains-cases, Contains-none, from_map, from_piece}
 use Rattle.net_model.specs.declared.policies.Class.{Class}
 use Rattle.ios_words.specs.declared.commands.Command.{Command}
+use Rattle.ios_words.specs.declared.commands.Command.TheVariants as commands
 use Rattle.ios_config.specs.declared.commands.FileCommand.{FileCommand}
 use Rattle.ios_config.specs.declared.settings.Given.{Given}
 use Rattle.ios_config.specs.declared.settings.ListText.{ListText}
@@ -22,7 +23,9 @@ use Rattle.edit_list.specs.Changes.{new_prefixes, new_classes}
 use Rattle.settings_edit_laws.proofs.Pairs.{of_any}
 use Rattle.line_edit_laws.specs.Grown.{HasGrownGroups}
 use Rattle.line_edit_laws.specs.Sites.{chunk_commands, in_block}
-use Rattle.patch_laws.specs.NewListSites.{AreDifferent, deny_written, head_written, list_chunks, new_chunks, packet_written, permit_all_written, route_written}
+use Rattle.line_patcher.specs.NewListLines.{deny_prefix, new_entries, new_route_commands, permit_all}
+use Rattle.patch_laws.specs.NewListSites.{AreDifferent, list_chunks, new_chunks}
+use Rattle.patch_laws.specs.Written.{written_of}
 use Rattle.patch_laws.proofs.EditLists.{list-entries-are}
 use Rattle.patch_laws.proofs.NewListGroups.{Seg, are-segs, segment-members, segment-parts, segs, segs-together, single-commands, together}
 
@@ -49,23 +52,23 @@ no-fall es all line falls =
     true≢false (sym (rises-at es falls.place falls.earlier falls.later all falls.at_place (ap (slice_get es) step ∙ falls.at_next)) ∙ falls.falls)
 
 -- the entries of a new route list
-routes-rise : (name : List ℕ) (k : ℕ) (prefixes : List Prefix) (last : ℕ) → last ≡ 5 * (k + length prefixes) → Rises (numbers_of (entries (map (in_block 0) (map (deny_written name) (enumerate_from k prefixes) ++ permit_all_written name last ∷ []))))
+routes-rise : (name : List ℕ) (k : ℕ) (prefixes : List Prefix) (last : ℕ) → last ≡ 5 * (k + length prefixes) → Rises (numbers_of (entries (map (in_block 0) (map written_of (map (deny_prefix name) (enumerate_from k prefixes) ++ permit_all name last ∷ [])))))
 routes-rise name k [] last is = tt
 routes-rise name k (p ∷ []) last is = (lt-ltb (5 * k) last (omega arith), tt)
 routes-rise name k (p ∷ q ∷ prefixes) last is = (lt-ltb (5 * k) (5 * (k + 1)) (omega arith), routes-rise name (k + 1) (q ∷ prefixes) last (is ∙ omega arith))
 
 -- and of a new packet list
-packets-rise : (key : ℕ) (classes : List Class) → Rises (numbers_of (entries (map (in_block key) (packet_written classes))))
+packets-rise : (key : ℕ) (classes : List Class) → Rises (numbers_of (entries (map (in_block key) (map written_of (new_entries classes)))))
 packets-rise key [] = tt
 packets-rise key (c ∷ []) = (refl, tt)
 packets-rise key (c ∷ d ∷ classes) = (refl, packets-rise key (d ∷ classes))
 
 new-rise : (chosen : List Edit) (key : ℕ) (list : NewList) (name : List ℕ) → Rises (numbers_of (entries (flat_map chunk_commands (new_chunks chosen key list name))))
 new-rise chosen key (Route face) name =
-    subst (λ (vs : List FileCommand). Rises (numbers_of (entries vs))) (sym (single-commands (route_written name (new_prefixes chosen face.0))))
+    subst (λ (vs : List FileCommand). Rises (numbers_of (entries vs))) (sym (single-commands (map written_of (new_route_commands name (new_prefixes chosen face.0)))))
     (routes-rise name 1 (new_prefixes chosen face.0) (5 * (length (new_prefixes chosen face.0) + 1)) (omega arith))
 new-rise chosen key (Packet face) name =
-    let block : List FileCommand = in_block key (head_written name) ∷ map (in_block key) (packet_written (new_classes chosen face.0)) in
+    let block : List FileCommand = in_block key (written_of (commands.ListBlock true name)) ∷ map (in_block key) (map written_of (new_entries (new_classes chosen face.0))) in
     subst (λ (vs : List FileCommand). Rises (numbers_of (entries vs))) {x = block} (sym (append-nil block)) (packets-rise key (new_classes chosen face.0))
 
 segs-rise : (chosen : List Edit) (key : ℕ) (ns : List (NewList × List ℕ)) (seg : List FileCommand) → Contains (map (λ (s : Seg). s.1) (segs chosen key ns)) seg → Rises (numbers_of (entries seg))

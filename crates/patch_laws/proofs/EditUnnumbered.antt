@@ -24,11 +24,12 @@ use Rattle.edit_list.specs.declared.edit_kinds.Edit.{Edit}
 use Rattle.arc_base.specs.Numbered.{of_number}
 use Rattle.edit_list.proofs.NewListFacts.{picked_from, picks}
 use Rattle.line_patcher.specs.declared.additions.NewNumber.{NewNumber}
-use Rattle.line_patcher.specs.Additions.{numbers_at}
+use Rattle.line_patcher.specs.Additions.{entries_before, numbers_at}
+use Rattle.patch_laws.specs.Written.{written_of}
 use Rattle.line_edit_laws.specs.Sites.{Single, Written, chunk_commands, in_block, own_commands, says_other}
 use Rattle.patch_laws.specs.EditFiles.{IsEditedFile}
 use Rattle.patch_laws.specs.EditSiteLaws.{own_places}
-use Rattle.patch_laws.specs.EditSites.{end_table, entries_at, entry_table, grow, inner_entries, new_key, put, singles, with_number}
+use Rattle.patch_laws.specs.EditSites.{ends_at, entries_at, grow, inner_entries, new_key, put, singles, with_number}
 use Rattle.patch_laws.proofs.EditEntries.{table-entry}
 use Rattle.patch_laws.proofs.EditLists.{ListGroup, entry-command, first-entry, from-number, list-group}
 use Rattle.patch_laws.proofs.EditNumbers.{rise-in}
@@ -75,7 +76,7 @@ entry-with (commands.PrefixLine name order entry) (n ∷ more) = refl
 entry-with _ (n ∷ more) = refl
 
 module _ (net : Network) (places : List Places) (chosen : List Edit) (router : ℕ) (text : List ℕ) (lines : Lines) (cs : List FileCommand) (f : IsEditedFile net places chosen router text lines cs)
-    (list : ListText) (listed : Contains (config_of cs).lists list) (group : ListGroup cs list) (none : list.numbered ≡ false) (ends : (c : FileCommand) → Contains (members cs group.part) c → of_number c.line (end_table net places (own_places cs) chosen router) ≡ []) where
+    (list : ListText) (listed : Contains (config_of cs).lists list) (group : ListGroup cs list) (none : list.numbered ≡ false) (ends : (c : FileCommand) → Contains (members cs group.part) c → ends_at net places (own_places cs) chosen router c ≡ []) where
   abbrev own : Places
   own = own_places cs
 
@@ -99,10 +100,11 @@ module _ (net : Network) (places : List Places) (chosen : List Edit) (router : �
 
   new-none : (c : FileCommand) → Contains cs c → q ≡ part_of c → (w : Written) → Contains (entries_at net own chosen router c) w → entry_number w.command ≡ None
   new-none c among part w there =
-      let t = table-entry net places chosen router text lines cs f (c.line, w) (from-number c.line (entry_table net own chosen router) w there) in
+      let (command, at_number, made) = from_map written_of (of_number c.line (entries_before net own chosen router)) w there in
+      let t = table-entry net places chosen router text lines cs f (c.line, command) (from-number c.line (entries_before net own chosen router) command at_number) in
       let e = first-entry t.list t.some in
       let has : Contains t.list.entries e.first = subst (λ (es : List (Given Command)). Contains es e.first) (sym e.is) (Contains-head e.first e.more) in
-      t.order (same-list c among part t.list t.among e.first has (t.number ∙ e.line))
+      subst (λ (x : Written). entry_number x.command ≡ None) made (t.order (same-list c among part t.list t.among e.first has (t.number ∙ e.line)))
 
   own-none : (c : FileCommand) → Contains (members cs q) c → is_entry c.command ≡ true → (ns : List NewNumber) → of_number c.line (numbers_at net own chosen router) ≡ ns → entry_number (with_number c.command ns) ≡ None
   own-none c there entry (new ∷ more) is =
@@ -129,8 +131,8 @@ module _ (net : Network) (places : List Places) (chosen : List Edit) (router : �
       ap (λ (x : FileCommand). entry_number x.command) (sym itself) ∙
       own-none c there (sym (entry-with c.command (of_number c.line (numbers_at net own chosen router))) ∙ ap (λ (x : FileCommand). is_entry x.command) itself ∙ entry) (of_number c.line (numbers_at net own chosen router)) refl)
       (λ later. absurd (Contains-none v (subst (λ (ws : List Written). Contains (map (in_block c.block) ws) v) (ends c there) later)))
-      (Contains-cases (says_other c (put net places own chosen router text lines (new_key lines) c).command) v (map (in_block c.block) (of_number c.line (end_table net places own chosen router))) more))
-      (Contains-append_cases (map (in_block c.block) (inner_entries net own chosen router c)) (says_other c (put net places own chosen router text lines (new_key lines) c).command ∷ map (in_block c.block) (of_number c.line (end_table net places own chosen router))) v owns))
+      (Contains-cases (says_other c (put net places own chosen router text lines (new_key lines) c).command) v (map (in_block c.block) (ends_at net places own chosen router c)) more))
+      (Contains-append_cases (map (in_block c.block) (inner_entries net own chosen router c)) (says_other c (put net places own chosen router text lines (new_key lines) c).command ∷ map (in_block c.block) (ends_at net places own chosen router c)) v owns))
       (Contains-append_cases (flat_map chunk_commands (map Single (singles net own chosen router c))) (own_commands c (put net places own chosen router text lines (new_key lines) c)) v in_grown)
     where
       m : Contains cs c × (q ≡ part_of c)

@@ -1,12 +1,13 @@
 -- The lines that edits put at the ends of processes and interfaces are read as their commands, and set what the edits add.
-use Rattle.std.proofs.Common.{◌≡◌, ℕ, zero, suc, ◌-◌, ◌^◌, ◌<◌, ◌==◌, true, Option, Some, None, List, [], ◌∷◌, ◌++◌, length, map, refl, sym, ◌∙◌, ap, subst, arith, IsTrue}
-use Rattle.std.specs.Prelude.{Contains, slice_get, option_map}
+use Rattle.std.proofs.Common.{◌≡◌, ℕ, zero, suc, ◌-◌, ◌^◌, ◌<◌, ◌==◌, Bool, true, false, not, Option, Some, None, List, [], ◌∷◌, ◌++◌, length, map, refl, sym, ◌∙◌, ap, subst, arith, IsTrue}
+use Rattle.std.specs.Prelude.{Contains, slice_get, option_map, option_and_then}
 use Rattle.std.specs.Option.{option_map_or, option_or}
-use Rattle.std.specs.List.{AllZip, AllByRecursion, filter_map, cons_option}
+use Rattle.std.specs.List.{AllByRecursion, filter_map, cons_option}
 use Rattle.std.proofs.lemmas.Option.{none-some, same_Some}
 use Rattle.std.proofs.lemmas.List.{map-append}
 use Rattle.arc_base.specs.declared.place.Face.{Face}
 use Rattle.arc_base.proofs.Items.{Contains-head, Contains-tail, Contains-none}
+use Rattle.net_model.specs.declared.rows.FaceRow.{FaceRow}
 use Rattle.net_model.specs.declared.rows.SessionRow.{SessionRow}
 use Rattle.net_model.specs.declared.rows.Network.{Network}
 use Rattle.net_model.specs.declared.rows.Protocol.{Protocol}
@@ -24,57 +25,72 @@ use Rattle.ios_config.specs.declared.commands.FileCommand.{FileCommand}
 use Rattle.ios_config.specs.declared.settings.FaceText.{FaceText}
 use Rattle.ios_config.specs.declared.settings.ProcessKind.{ProcessKind}
 use Rattle.ios_config.specs.declared.settings.ProcessText.{ProcessText}
-use Rattle.ios_config.specs.Appended.{IsLineOf}
 use Rattle.ios_config.specs.Bare.{bare}
 use Rattle.ios_config.specs.Effects.{face_bound}
-use Rattle.ios_config.specs.ProcessLines.{IsQuiet, AreLinesIn}
 use Rattle.ios_config.specs.Texts.{given, last_line, face_text, process_by, process_text}
 use Rattle.ios_config.specs.Texts as faces
 use Rattle.ios_config.proofs.EffectsOnGroups.{last-binding}
-use Rattle.edit_list.specs.declared.edit_kinds.Edit.{Edit}
 use Rattle.edit_list.specs.declared.list_kinds.NewList.{NewList}
 use Rattle.edit_list.specs.declared.list_kinds.NewList.TheVariants as lists
-use Rattle.line_patcher.specs.NewListLines as patched
-use Rattle.line_patcher.specs.SessionLines.{session_lines}
-use Rattle.settings_edit_laws.specs.Additions.{filter_line, process_lines, turning_line, new_inbound}
+use Rattle.line_patcher.specs.Additions.{process_commands}
+use Rattle.line_patcher.specs.NewListLines.{filter_command, filter_commands}
+use Rattle.line_patcher.specs.SessionLines.{session_command, session_commands, turned_faces, turning_command}
+use Rattle.settings_edit_laws.specs.Additions.{new_inbound}
 use Rattle.edit_list.specs.NewLists.{named_lists}
 use Rattle.settings_edit_laws.specs.Plain.{said}
 use Rattle.settings_edit_laws.specs.Premises.{IsWritable}
 use Rattle.settings_edit_laws.specs.SettingsAfter.{face_with, process_with}
-use Rattle.patch_laws.specs.EndLines.{AreNamed, process_kind, ProcessLinesAreRead, GroupLinesAreFit, ProcessesGrow, FacesGrow}
-use Rattle.patch_laws.specs.Fits.{IsFit}
+use Rattle.patch_laws.specs.EndLines.{IsProcessLine, ProcessLinesAreRead, GroupLinesAreFit, ProcessesGrow, FacesGrow}
 use Rattle.patch_laws.proofs.PlainWritten.{plain-fit}
-use Rattle.patch_laws.proofs.SessionFiles.{sessions-fit}
-use Rattle.patch_laws.proofs.SessionReads.{Match, inner_is, session_in, session-lines-read}
+use Rattle.patch_laws.proofs.SessionReads.{inner_is, session_in}
 
--- two things that are picked of each item go together
-picked-in : {E X Y : Type 0} (R : X → Y → Type 0) (f : E → Option X) (h : E → Option Y) (es : List E) → ((e : E) → Contains es e → Match R (f e) (h e)) → AllZip R (filter_map f es) (filter_map h es)
-picked-in R f h [] match = tt
-picked-in {E} {X} {Y} R f h (e ∷ es) match = by (f e) (h e) (match e (Contains-head e es)) (picked-in R f h es (λ x there. match x (Contains-tail e x es there)))
-  where
-    by : (x : Option X) (y : Option Y) → Match R x y → AllZip R (filter_map f es) (filter_map h es) → AllZip R (cons_option x (filter_map f es)) (cons_option y (filter_map h es))
-    by None None m rest = rest
-    by (Some x) (Some y) m rest = (m, rest)
-    by None (Some y) m rest = absurd m
-    by (Some x) None m rest = absurd m
-
-zip-both : {X Y : Type 0} (R : X → Y → Type 0) (xs : List X) (ys : List Y) (us : List X) (vs : List Y) → AllZip R xs ys → AllZip R us vs → AllZip R (xs ++ us) (ys ++ vs)
-zip-both R [] [] us vs one two = two
-zip-both R [] (y ∷ ys) us vs one two = absurd one
-zip-both R (x ∷ xs) [] us vs one two = absurd one
-zip-both R (x ∷ xs) (y ∷ ys) us vs one two = (one.0, zip-both R xs ys us vs one.1 two)
-
-picked-fit : {E X : Type 0} (P : X → Type 0) (f : E → Option X) (es : List E) → ((e : E) (x : X) → Contains es e → f e ≡ Some x → P x) → AllByRecursion P (filter_map f es)
-picked-fit P f [] each = tt
-picked-fit {E} {X} P f (e ∷ es) each = by (f e) refl (picked-fit P f es (λ y x there. each y x (Contains-tail e y es there)))
+-- each thing that is picked
+picked-all : {E X : Type 0} (P : X → Type 0) (f : E → Option X) (es : List E) → ((e : E) (x : X) → Contains es e → f e ≡ Some x → P x) → AllByRecursion P (filter_map f es)
+picked-all P f [] each = tt
+picked-all {E} {X} P f (e ∷ es) each = by (f e) refl (picked-all P f es (λ y x there. each y x (Contains-tail e y es there)))
   where
     by : (o : Option X) → f e ≡ o → AllByRecursion P (filter_map f es) → AllByRecursion P (cons_option o (filter_map f es))
     by None is rest = rest
     by (Some x) is rest = (each e x (Contains-head e es) is, rest)
 
-module _ (net : Network) (writable : IsWritable net) (fits : FitsProtocol net.protocol net) (router block : ℕ) where
-  abbrev LineIs : List ℕ → Command → Type 0
-  LineIs line command = IsLineOf line (process_kind net.protocol) block command × IsQuiet command
+module _ (net : Network) (writable : IsWritable net) (fits : FitsProtocol net.protocol net) (block : ℕ) where
+  abbrev IsLine : Command → Type 0
+  IsLine command = IsProcessLine net.protocol block command
+
+  -- the lines that turn sessions
+  passive-line : (place : ℕ) (row : FaceRow) → slice_get net.faces place ≡ Some row → (b : Bool) → IsProcessLine Ospf block (commands.Passive b (Some row.name))
+  passive-line place row at b =
+      let line = read-plain kinds.Ospf (commands.Passive b (Some row.name)) tt (writable.faces place row at) tt in
+      let inner = inner_is kinds.Ospf block (commands.Passive b (Some row.name)) line line.kind refl (record { stands = refl; excludes = refl; unnamed = refl }) in
+      record { line = inner.0; quiet = inner.1; fit = plain-fit kinds.Ospf (commands.Passive b (Some row.name)) line (some b) }
+    where
+      some : (b : Bool) → 0 < length (plain_line kinds.Ospf (commands.Passive b (Some row.name)))
+      some true = omega arith
+      some false = omega arith
+
+  down-line : (s : SessionRow) → Contains net.sessions s → (b : Bool) → IsProcessLine Bgp block (commands.NeighborDown s.peer b)
+  down-line s there b =
+      let line = read-plain kinds.Bgp (commands.NeighborDown s.peer b) tt tt (writable.peers s there) in
+      let inner = inner_is kinds.Bgp block (commands.NeighborDown s.peer b) line line.kind refl (record { stands = refl; excludes = refl; unnamed = refl }) in
+      record { line = inner.0; quiet = inner.1; fit = plain-fit kinds.Bgp (commands.NeighborDown s.peer b) line (some b) }
+    where
+      some : (b : Bool) → 0 < length (plain_line kinds.Bgp (commands.NeighborDown s.peer b))
+      some true = omega arith
+      some false = omega arith
+
+  turning-line : (place : ℕ) (row : FaceRow) → slice_get net.faces place ≡ Some row → (p : Protocol) (o : Option SessionRow) → session_at net (record { 0 = place }) ≡ o → (command : Command) →
+      turning_command p row o ≡ Some command → IsProcessLine p block command
+  turning-line place row at Ospf o is command e = subst (IsProcessLine Ospf block) (same_Some (commands.Passive (not row.passive) (Some row.name)) command e) (passive-line place row at (not row.passive))
+  turning-line place row at Bgp None is command e = absurd (none-some command e)
+  turning-line place row at Bgp (Some s) is command e =
+      subst (IsProcessLine Bgp block) (same_Some (commands.NeighborDown s.peer (not s.down)) command e) (down-line s (session_in (λ (t : SessionRow). t.face.0 == place) net.sessions s is) (not s.down))
+
+  session-line : (place : ℕ) (command : Command) → session_command net place ≡ Some command → IsLine command
+  session-line place command = by (slice_get net.faces place) refl
+    where
+      by : (o : Option FaceRow) → slice_get net.faces place ≡ o → option_and_then (λ (row : FaceRow). turning_command net.protocol row (session_at net (record { 0 = place }))) o ≡ Some command → IsLine command
+      by None at e = absurd (none-some command e)
+      by (Some row) at e = turning-line place row at net.protocol (session_at net (record { 0 = place })) refl command e
 
   -- where there is a session, the network runs eBGP
   runs-bgp : (face : Face) (s : SessionRow) → session_at net face ≡ Some s → net.protocol ≡ Bgp
@@ -85,41 +101,24 @@ module _ (net : Network) (writable : IsWritable net) (fits : FitsProtocol net.pr
       by Bgp some = refl
 
   -- a line that binds a new route list
-  of-named : (list : NewList) (name : List ℕ) → IsTrue (is_name name) → Match LineIs (patched.filter_line net list name) (filter_line net name list)
-  of-named (lists.Packet face) name is = tt
-  of-named (lists.Route face) name is = by (session_at net face) refl
+  filter-line : (list : NewList) (name : List ℕ) (command : Command) → IsTrue (is_name name) → filter_command net list name ≡ Some command → IsLine command
+  filter-line (lists.Packet face) name command is e = absurd (none-some command e)
+  filter-line (lists.Route face) name command is e = by (session_at net face) refl e
     where
-      by : (o : Option SessionRow) → session_at net face ≡ o → Match LineIs (option_map (λ (s : SessionRow). plain_line kinds.Bgp (commands.NeighborList s.peer name)) o) (option_map (λ (s : SessionRow). commands.NeighborList s.peer name) o)
-      by None at = tt
-      by (Some s) at =
-          let small : s.peer < 2 ^ 32 = writable.peers s (session_in (λ (t : SessionRow). t.face.0 == face.0) net.sessions s at) in
-          let line = read-plain kinds.Bgp (commands.NeighborList s.peer name) tt is small in
-          subst (λ (q : Protocol). IsLineOf (plain_line kinds.Bgp (commands.NeighborList s.peer name)) (process_kind q) block (commands.NeighborList s.peer name) × IsQuiet (commands.NeighborList s.peer name)) (sym (runs-bgp face s at))
-          (inner_is kinds.Bgp block (commands.NeighborList s.peer name) line line.kind refl (record { stands = refl; excludes = refl; unnamed = refl }))
-
-  filter-fit : (list : NewList) (name line : List ℕ) → IsTrue (is_name name) → patched.filter_line net list name ≡ Some line → IsFit line
-  filter-fit (lists.Packet face) name line is e = absurd (none-some line e)
-  filter-fit (lists.Route face) name line is e = by (session_at net face) refl e
-    where
-      by : (o : Option SessionRow) → session_at net face ≡ o → option_map (λ (s : SessionRow). plain_line kinds.Bgp (commands.NeighborList s.peer name)) o ≡ Some line → IsFit line
-      by None at e = absurd (none-some line e)
+      by : (o : Option SessionRow) → session_at net face ≡ o → option_map (λ (s : SessionRow). commands.NeighborList s.peer name) o ≡ Some command → IsLine command
+      by None at e = absurd (none-some command e)
       by (Some s) at e =
           let small : s.peer < 2 ^ 32 = writable.peers s (session_in (λ (t : SessionRow). t.face.0 == face.0) net.sessions s at) in
-          subst IsFit (same_Some (plain_line kinds.Bgp (commands.NeighborList s.peer name)) line e) (plain-fit kinds.Bgp (commands.NeighborList s.peer name) (read-plain kinds.Bgp (commands.NeighborList s.peer name) tt is small) (omega arith))
-
-  lines-read : (chosen : List Edit) → AreNamed net chosen router → AreLinesIn (process_kind net.protocol) block (session_lines net chosen router ++ patched.filter_lines net chosen router) (process_lines net chosen router)
-  lines-read chosen named =
-      zip-both LineIs (session_lines net chosen router) (filter_map (turning_line net router) chosen) (patched.filter_lines net chosen router) (filter_map (λ (l : NewList × List ℕ). filter_line net l.1 l.0) (named_lists net chosen router))
-      (session-lines-read net writable router block chosen)
-      (picked-in LineIs (λ (l : NewList × List ℕ). patched.filter_line net l.0 l.1) (λ (l : NewList × List ℕ). filter_line net l.1 l.0) (named_lists net chosen router) (λ l there. of-named l.0 l.1 (named l there)))
-
-  lines-fit : (chosen : List Edit) → AreNamed net chosen router → AllByRecursion IsFit (session_lines net chosen router ++ patched.filter_lines net chosen router)
-  lines-fit chosen named =
-      AllByRecursion-append IsFit (session_lines net chosen router) (patched.filter_lines net chosen router) (sessions-fit net writable chosen router)
-      (picked-fit IsFit (λ (l : NewList × List ℕ). patched.filter_line net l.0 l.1) (named_lists net chosen router) (λ l line there e. filter-fit l.0 l.1 line (named l there) e))
+          let line = read-plain kinds.Bgp (commands.NeighborList s.peer name) tt is small in
+          let inner = inner_is kinds.Bgp block (commands.NeighborList s.peer name) line line.kind refl (record { stands = refl; excludes = refl; unnamed = refl }) in
+          let whole : IsProcessLine Bgp block (commands.NeighborList s.peer name) = record { line = inner.0; quiet = inner.1; fit = plain-fit kinds.Bgp (commands.NeighborList s.peer name) line (omega arith) } in
+          subst (λ (q : Protocol). IsProcessLine q block command) (sym (runs-bgp face s at)) (subst (IsProcessLine Bgp block) (same_Some (commands.NeighborList s.peer name) command e) whole)
 
 pub process-lines-read : ProcessLinesAreRead
-process-lines-read net chosen router block writable fits named = (lines-read net writable fits router block chosen named, lines-fit net writable fits router block chosen named)
+process-lines-read net chosen router block writable fits named =
+    AllByRecursion-append (IsProcessLine net.protocol block) (session_commands net chosen router) (filter_commands net chosen router)
+    (picked-all (IsProcessLine net.protocol block) (session_command net) (turned_faces net chosen router) (λ place command there e. session-line net writable fits block place command e))
+    (picked-all (IsProcessLine net.protocol block) (λ (l : NewList × List ℕ). filter_command net l.0 l.1) (named_lists net chosen router) (λ l command there e. filter-line net writable fits block l.0 l.1 command (named l there) e))
 
 -- a line that binds a new packet list
 pub group-lines-fit : GroupLinesAreFit
@@ -156,9 +155,9 @@ grown-process kind number head rest cs =
 pub processes-grow : ProcessesGrow
 processes-grow net chosen router head rest = by head.command
   where
-    by : (command : Command) → process_by command (bare head) (map bare rest ++ map bare_of (process_lines net chosen router)) ≡ map (process_with net chosen router) (process_by command (bare head) (map bare rest))
-    by (commands.RouterOspf number) = ap (λ (p : ProcessText). p ∷ []) (grown-process _ number head rest (process_lines net chosen router))
-    by (commands.RouterBgp number) = ap (λ (p : ProcessText). p ∷ []) (grown-process _ number head rest (process_lines net chosen router))
+    by : (command : Command) → process_by command (bare head) (map bare rest ++ map bare_of (process_commands net chosen router)) ≡ map (process_with net chosen router) (process_by command (bare head) (map bare rest))
+    by (commands.RouterOspf number) = ap (λ (p : ProcessText). p ∷ []) (grown-process _ number head rest (process_commands net chosen router))
+    by (commands.RouterBgp number) = ap (λ (p : ProcessText). p ∷ []) (grown-process _ number head rest (process_commands net chosen router))
     by _ = refl
 
 pub faces-grow : FacesGrow

@@ -1,16 +1,11 @@
 -- The lines of entries that are put into lists are read as these entries, and entries of other numbers as they were.
 use Rattle.std.proofs.Common.{◌≡◌, ◌≢◌, ℕ, ◌<◌, inl, inr, true, false, Option, Some, None, List, [], ◌∷◌, length, map, get_or, refl, sym, ap, subst, ◌∙◌, arith, decimal}
 use Rattle.std.specs.Prelude.{slice_get}
-use Rattle.std.specs.List.{enumerate_from}
 use Rattle.std.proofs.lemmas.Bool.{ne_eqb}
 use Rattle.std.proofs.lemmas.Option.{none-some, same_Some, get_or_from_slice_get, slice_get-map}
 use Rattle.std.specs.Prelude.{option_map}
 use Rattle.arc_base.specs.PrefixText.{BeginsAsNumber}
 use Rattle.arc_base.proofs.NumberTexts.{decimal-begins}
-use Rattle.arc_base.specs.declared.prefix.Prefix.{Prefix}
-use Rattle.net_model.specs.declared.lists.PacketList.{PacketList}
-use Rattle.net_model.specs.declared.lists.RouteList.{RouteList}
-use Rattle.net_model.specs.declared.policies.Class.{Class}
 use Rattle.ios_lines.specs.declared.line.Line.{Line}
 use Rattle.ios_lines.specs.Changes as changes
 use Rattle.ios_lines.specs.Ended as ended
@@ -33,24 +28,11 @@ use Rattle.ios_words.specs.Printed.{route_text}
 use Rattle.ios_words.proofs.PlainWords.{decimal-plain}
 use Rattle.ios_words.proofs.PlainLines.{listed-line, read-plain, route-line}
 use Rattle.ios_words.proofs.RenumberedLines as renumbering
-use Rattle.net_build.specs.declared.built.ListPlace.{ListPlace}
 use Rattle.net_rules.specs.Lists.{packet_text}
 use Rattle.edit_list.specs.After.{opposite_route_entry}
-use Rattle.line_patcher.specs.EntryLines.{order_at, class_line, prefix_line}
-use Rattle.line_edit_laws.specs.Sites.{bytes_of}
-use Rattle.patch_laws.specs.EntrySites.{class_written, prefix_written, EntriesHaveTheirLines, BlockEntriesAreRead, ListEntriesAreRead, PrefixEntriesAreRead, EntriesAreRenumbered}
+use Rattle.line_patcher.specs.EntryLines.{order_at}
+use Rattle.patch_laws.specs.EntrySites.{BlockEntriesAreRead, ListEntriesAreRead, PrefixEntriesAreRead, EntriesAreRenumbered}
 use Rattle.patch_laws.proofs.PlainWritten.{plain-entry, plain-fit, plain-single}
-
-class-bytes : (place : ListPlace) (list : PacketList) (es : List (ℕ × Class)) → bytes_of (map (class_written place list) es) ≡ map (class_line place list) es
-class-bytes place list [] = refl
-class-bytes place list (e ∷ es) = ap (λ ls. class_line place list e ∷ ls) (class-bytes place list es)
-
-prefix-bytes : (place : ListPlace) (list : RouteList) (es : List (ℕ × Prefix)) → bytes_of (map (prefix_written place list) es) ≡ map (prefix_line place list) es
-prefix-bytes place list [] = refl
-prefix-bytes place list (e ∷ es) = ap (λ ls. prefix_line place list e ∷ ls) (prefix-bytes place list es)
-
-pub entries-lines : EntriesHaveTheirLines
-entries-lines place packets classes routes prefixes = (class-bytes place packets (enumerate_from 1 classes), prefix-bytes place routes (enumerate_from 1 prefixes))
 
 some-spaced : (order : Option ℕ) (entry : PacketText) → 0 < length (plain_line kinds.Extended (commands.Entry order entry))
 some-spaced None entry = omega arith

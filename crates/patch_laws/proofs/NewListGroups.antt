@@ -27,13 +27,16 @@ use Rattle.edit_list.specs.Changes.{new_prefixes, new_classes}
 use Rattle.edit_list.specs.declared.edit_kinds.Edit.{Edit}
 use Rattle.edit_list.specs.declared.list_kinds.NewList.{NewList}
 use Rattle.edit_list.specs.declared.list_kinds.NewList.TheVariants.{Route, Packet}
-use Rattle.settings_edit_laws.specs.Additions.{route_line, packet_line}
+use Rattle.line_patcher.specs.EntryLines.{packet_command}
+use Rattle.settings_edit_laws.specs.Additions.{route_line}
 use Rattle.settings_edit_laws.specs.Plain.{said, plain_entry, plain_list}
 use Rattle.settings_edit_laws.specs.SettingsAfter.{new_list_text}
 use Rattle.line_edit_laws.specs.Sites.{Written, Single, chunk_commands, in_block}
 use Rattle.line_edit_laws.proofs.Grown.{front-fresh}
 use Rattle.patch_laws.specs.Grown.{new_groups}
-use Rattle.patch_laws.specs.NewListSites.{deny_written, permit_all_written, route_written, packet_written, head_written, new_chunks, list_chunks, AreDifferent}
+use Rattle.line_patcher.specs.NewListLines.{deny_prefix, new_entries, new_route_commands, permit_all}
+use Rattle.patch_laws.specs.NewListSites.{new_chunks, list_chunks, AreDifferent}
+use Rattle.patch_laws.specs.Written.{written_of}
 use Rattle.patch_laws.specs.Laws.{NewListsSetThemselves}
 
 -- commands of one part
@@ -131,7 +134,7 @@ single-commands (w ∷ ws) = ap (λ cs. in_block 0 w ∷ cs) (single-commands ws
 
 -- a new route list
 abbrev route_commands : List ℕ → List (ℕ × Prefix) → ℕ → List FileCommand
-route_commands name es last = map (in_block 0) (map (deny_written name) es ++ permit_all_written name last ∷ [])
+route_commands name es last = map (in_block 0) (map written_of (map (deny_prefix name) es ++ permit_all name last ∷ []))
 
 route-own : (name : List ℕ) (es : List (ℕ × Prefix)) (last : ℕ) → AllByRecursion (λ (v : FileCommand). part_of v ≡ PrefixLines name) (route_commands name es last)
 route-own name [] last = (refl, tt)
@@ -155,19 +158,19 @@ route-none name k [] last = (refl, refl)
 route-none name k (p ∷ prefixes) last = (refl, refl)
 
 -- a new packet list
-packet-own : (key : ℕ) (classes : List Class) → AllByRecursion (λ (v : FileCommand). part_of v ≡ Block key) (map (in_block key) (packet_written classes))
+packet-own : (key : ℕ) (classes : List Class) → AllByRecursion (λ (v : FileCommand). part_of v ≡ Block key) (map (in_block key) (map written_of (new_entries classes)))
 packet-own key [] = (refl, tt)
 packet-own key (c ∷ classes) = (refl, packet-own key classes)
 
-packet-entries : (name : List ℕ) (key : ℕ) (classes : List Class) → map plain_entry (entries (map bare (map (in_block key) (packet_written classes)))) ≡ map said (map (packet_line forms.Block name) (new_packet_entries classes))
+packet-entries : (name : List ℕ) (key : ℕ) (classes : List Class) → map plain_entry (entries (map bare (map (in_block key) (map written_of (new_entries classes))))) ≡ map said (map (packet_command forms.Block name None) (new_packet_entries classes))
 packet-entries name key [] = refl
-packet-entries name key (c ∷ classes) = ap (λ r. said (packet_line forms.Block name (class_entry false c)) ∷ r) (packet-entries name key classes)
+packet-entries name key (c ∷ classes) = ap (λ r. said (packet_command forms.Block name None (class_entry false c)) ∷ r) (packet-entries name key classes)
 
 pub segment-of : (chosen : List Edit) (key : ℕ) (list : NewList) (name : List ℕ) → IsSegment (part_for key list name) (flat_map chunk_commands (new_chunks chosen key list name))
 segment-of chosen key (Route face) name =
     let ps = new_prefixes chosen face.0 in
     let last = 5 * (length ps + 1) in
-    let is = single-commands (route_written name ps) in
+    let is = single-commands (map written_of (new_route_commands name ps)) in
     record {
       own = subst (AllByRecursion (λ (v : FileCommand). part_of v ≡ PrefixLines name)) (sym is) (route-own name (enumerate_from 1 ps) last);
       some = λ none. filled (enumerate_from 1 ps) (sym is ∙ none);
@@ -177,29 +180,29 @@ segment-of chosen key (Route face) name =
     filled [] e = absurd cc
     filled (x ∷ es) e = absurd cc
 segment-of chosen key (Packet face) name =
-    let cs = map (in_block key) (packet_written (new_classes chosen face.0)) in
-    let is = append-nil (in_block key (head_written name) ∷ cs) in
+    let cs = map (in_block key) (map written_of (new_entries (new_classes chosen face.0))) in
+    let is = append-nil (in_block key (written_of (commands.ListBlock true name)) ∷ cs) in
     record {
       own = subst (AllByRecursion (λ (v : FileCommand). part_of v ≡ Block key)) (sym is) (refl, packet-own key (new_classes chosen face.0));
       some = λ none. absurd (filled none);
     }
   where
-    filled : in_block key (head_written name) ∷ (map (in_block key) (packet_written (new_classes chosen face.0)) ++ []) ≡ [] → ⊥
+    filled : in_block key (written_of (commands.ListBlock true name)) ∷ (map (in_block key) (map written_of (new_entries (new_classes chosen face.0))) ++ []) ≡ [] → ⊥
     filled e = absurd cc
 
 -- what each sets
 one-list : (chosen : List Edit) (key : ℕ) (list : NewList) (name : List ℕ) → map plain_list (list_of (map bare (flat_map chunk_commands (new_chunks chosen key list name)))) ≡ new_list_text chosen name list ∷ []
 one-list chosen key (Route face) name =
-    ap (λ cs. map plain_list (list_of (map bare cs))) (single-commands (route_written name (new_prefixes chosen face.0))) ∙ route-list name 1 (new_prefixes chosen face.0) (5 * (length (new_prefixes chosen face.0) + 1))
+    ap (λ cs. map plain_list (list_of (map bare cs))) (single-commands (map written_of (new_route_commands name (new_prefixes chosen face.0)))) ∙ route-list name 1 (new_prefixes chosen face.0) (5 * (length (new_prefixes chosen face.0) + 1))
 one-list chosen key (Packet face) name =
-    ap (λ cs. map plain_list (list_of (map bare cs))) (append-nil (in_block key (head_written name) ∷ map (in_block key) (packet_written (new_classes chosen face.0)))) ∙
+    ap (λ cs. map plain_list (list_of (map bare cs))) (append-nil (in_block key (written_of (commands.ListBlock true name)) ∷ map (in_block key) (map written_of (new_entries (new_classes chosen face.0))))) ∙
     ap (λ (es : List (Given Command)). record { name = name; kind = list_kinds.Extended; form = forms.Block; numbered = false; entries = es } ∷ []) (packet-entries name key (new_classes chosen face.0))
 
 one-none : (chosen : List Edit) (key : ℕ) (list : NewList) (name : List ℕ) → (face_of (map bare (flat_map chunk_commands (new_chunks chosen key list name))) ≡ []) × (process_of (map bare (flat_map chunk_commands (new_chunks chosen key list name))) ≡ [])
 one-none chosen key (Route face) name =
     let ps = new_prefixes chosen face.0 in
     let both = route-none name 1 ps (5 * (length ps + 1)) in
-    let is = single-commands (route_written name ps) in
+    let is = single-commands (map written_of (new_route_commands name ps)) in
     (ap (λ cs. face_of (map bare cs)) is ∙ both.0, ap (λ cs. process_of (map bare cs)) is ∙ both.1)
 one-none chosen key (Packet face) name = (refl, refl)
 

@@ -8,6 +8,7 @@ use Rattle.ios_lines.specs.Ended.{IsEnded, IsUnended, AreEnded, ended_row}
 use Rattle.ios_lines.specs.Texts.{Join, IsEnd}
 use Rattle.ios_lines.proofs.Slices.{length-slice_range}
 use Rattle.arc_base.specs.Numbered.{of_number}
+use Rattle.ios_words.specs.declared.commands.Command.{Command}
 use Rattle.line_patcher.specs.Additions.{all_at}
 use Rattle.line_patcher.specs.Patches.{end_of, line_end}
 use Rattle.patch_laws.proofs.PatchedLines.{OnlyLastHangs}
@@ -16,17 +17,17 @@ use Rattle.line_patcher.specs.Working.{LiesWithin}
 use Rattle.line_patcher.proofs.RowsWithin.{rows-few}
 
 -- the things that all have one number
-number-step : (b : Bool) (line : List ℕ) (rest : List (List ℕ)) → cons_option (if b then Some line else None) rest ≡ (if b then line ∷ rest else rest)
+number-step : {X : Type 0} (b : Bool) (line : X) (rest : List X) → cons_option (if b then Some line else None) rest ≡ (if b then line ∷ rest else rest)
 number-step true line rest = refl
 number-step false line rest = refl
 
-pub of-number-here : (number k : ℕ) (lines : List (List ℕ)) → number ≡ k → of_number k (all_at number lines) ≡ lines
+pub of-number-here : (number k : ℕ) (lines : List Command) → number ≡ k → of_number k (all_at number lines) ≡ lines
 of-number-here number k [] same = refl
 of-number-here number k (line ∷ lines) same =
     number-step (number == k) line (of_number k (all_at number lines)) ∙ ap (λ (b : Bool). if b then line ∷ of_number k (all_at number lines) else of_number k (all_at number lines)) (eq-eqb number k same) ∙
-    ap (λ (ls : List (List ℕ)). line ∷ ls) (of-number-here number k lines same)
+    ap (λ (ls : List Command). line ∷ ls) (of-number-here number k lines same)
 
-pub of-number-other : (number k : ℕ) (lines : List (List ℕ)) → number ≢ k → of_number k (all_at number lines) ≡ []
+pub of-number-other : (number k : ℕ) (lines : List Command) → number ≢ k → of_number k (all_at number lines) ≡ []
 of-number-other number k [] other = refl
 of-number-other number k (line ∷ lines) other =
     number-step (number == k) line (of_number k (all_at number lines)) ∙ ap (λ (b : Bool). if b then line ∷ of_number k (all_at number lines) else of_number k (all_at number lines)) (ne_eqb number k other) ∙

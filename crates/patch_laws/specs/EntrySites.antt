@@ -1,15 +1,12 @@
--- The lines of entries that are added to lists, with the commands that they are read as, and
--- entries of other numbers.
+-- The lines of entries that are added to lists are read as these entries, and entries of other
+-- numbers as they were.
 use Rattle.std.specs.Prelude.{◌≡◌, ◌≢◌, ℕ, ◌+◌, ◌^◌, ◌<◌, true, false, Option, Some, List, ◌∷◌, map}
 use Rattle.std.specs.Prelude.{codes, decimal, slice_get, IsTrue}
-use Rattle.std.specs.List.{enumerate_from}
 use Rattle.arc_base.specs.declared.prefix.Prefix.{Prefix}
 use Rattle.arc_base.specs.declared.span.Span.{Span}
 use Rattle.arc_base.specs.PrefixText.{number_of}
 use Rattle.net_model.specs.declared.lists.PacketEntry.{PacketEntry}
-use Rattle.net_model.specs.declared.lists.PacketList.{PacketList}
 use Rattle.net_model.specs.declared.lists.RouteList.{RouteList}
-use Rattle.net_model.specs.declared.policies.Class.{Class}
 use Rattle.ios_lines.specs.declared.line.Line.{Line}
 use Rattle.ios_lines.specs.declared.line.Lines.{Lines}
 use Rattle.ios_lines.specs.ChangeLaws.{CanBeCut}
@@ -17,7 +14,6 @@ use Rattle.ios_lines.specs.Ended.{IsFree, HasNoReturn}
 use Rattle.ios_lines.specs.Lines.{AreLinesOf}
 use Rattle.ios_lines.specs.Rewritten.{rewritten}
 use Rattle.ios_lines.specs.Texts.{part}
-use Rattle.ios_words.specs.declared.commands.Command.{Command}
 use Rattle.ios_words.specs.declared.commands.Command.TheVariants as commands
 use Rattle.ios_words.specs.declared.commands.PacketText.{PacketText}
 use Rattle.ios_words.specs.declared.commands.RouteText.{RouteText}
@@ -27,54 +23,15 @@ use Rattle.ios_words.specs.Forms.{IsOrder}
 use Rattle.ios_words.specs.Language.{rows}
 use Rattle.arc_base.specs.NameForms.{is_name}
 use Rattle.ios_words.specs.Numbers.{list_kind}
-use Rattle.ios_words.specs.Printed.{route_text}
 use Rattle.ios_config.specs.declared.commands.FileCommand.{FileCommand}
-use Rattle.ios_config.specs.declared.settings.ListForm.{ListForm}
 use Rattle.ios_config.specs.declared.settings.ListForm.TheVariants as forms
 use Rattle.net_build.specs.declared.built.ListPlace.{ListPlace}
-use Rattle.net_rules.specs.Lists.{packet_text}
-use Rattle.edit_list.specs.After.{opposite_packet_entry, opposite_route_entry}
 use Rattle.edit_list.specs.Writable.{is_writable}
-use Rattle.line_patcher.specs.EntryLines.{order_at, packet_line, prefix_line, class_lines}
-use Rattle.line_patcher.specs.EntryLines.{prefix_lines}
-use Rattle.line_edit_laws.specs.Sites.{Written, written, Site, bytes_of, IsSingleLine, IsBlockLine}
-use Rattle.line_edit_laws.specs.Sites.{IsOfBlock}
-use Rattle.line_edit_laws.specs.Sites.{IsRewrittenFor}
+use Rattle.line_patcher.specs.EntryLines.{order_at, packet_command, prefix_command}
+use Rattle.line_patcher.specs.Written.{line_of}
+use Rattle.line_edit_laws.specs.Sites.{Site, IsSingleLine, IsBlockLine, IsOfBlock, IsRewrittenFor}
 use Rattle.patch_laws.specs.Fits.{IsFit}
-
--- what the line of an entry of a packet list is read as
-abbrev pub packet_command : ListForm → List ℕ → Option ℕ → PacketEntry → Command
-packet_command forms.Block name order entry = commands.Entry order (packet_text entry)
-packet_command forms.Lines name order entry = commands.ListLine name (packet_text entry)
-packet_command forms.PrefixLines name order entry = commands.Entry order (packet_text entry)
-
-abbrev pub packet_written : ListForm → List ℕ → Option ℕ → PacketEntry → Written
-packet_written form name order entry = record {
-  line = packet_line form name order entry;
-  command = packet_command form name order entry;
-}
-
--- the new entries of a packet list, and of a route list, counted from 1
-abbrev pub class_written : ListPlace → PacketList → ℕ × Class → Written
-class_written place list entry =
-    packet_written place.form list.name (order_at place 10 entry.0)
-    (opposite_packet_entry list.entries entry.1)
-
-abbrev pub prefix_written : ListPlace → RouteList → ℕ × Prefix → Written
-prefix_written place list entry =
-    written kinds.Top
-    (commands.PrefixLine list.name (order_at place 5 entry.0)
-    (route_text (opposite_route_entry list.entries entry.1).permit entry.1))
-
--- they are the lines that a patch adds there
-abbrev pub EntriesHaveTheirLines : Type 0
-EntriesHaveTheirLines =
-    (place : ListPlace) (packets : PacketList) (classes : List Class)
-    (routes : RouteList) (prefixes : List Prefix) →
-    (bytes_of (map (class_written place packets) (enumerate_from 1 classes))
-    ≡ class_lines place packets classes) ×
-    (bytes_of (map (prefix_written place routes) (enumerate_from 1 prefixes))
-    ≡ prefix_lines place routes prefixes)
+use Rattle.patch_laws.specs.Written.{written_of}
 
 -- an entry of a packet list that is written as a block is a line of the block, if one entry can say
 -- its services
@@ -82,22 +39,23 @@ abbrev pub BlockEntriesAreRead : Type 0
 BlockEntriesAreRead =
     (name : List ℕ) (order : Option ℕ) (entry : PacketEntry) → IsTrue (is_writable entry.service) →
     IsOrder 2147483647 order →
-    IsBlockLine kinds.Extended (packet_written forms.Block name order entry) ×
-    IsFit (packet_line forms.Block name order entry)
+    IsBlockLine kinds.Extended (written_of (packet_command forms.Block name order entry)) ×
+    IsFit (line_of (packet_command forms.Block name order entry))
 
 -- one of a packet list that is written as lines, and one of a route list, are lines of these lists
 abbrev pub ListEntriesAreRead : Type 0
 ListEntriesAreRead =
     (name : List ℕ) (order : Option ℕ) (entry : PacketEntry) → IsTrue (is_writable entry.service) →
     list_kind (number_of name) ≡ Some true →
-    IsSingleLine (packet_written forms.Lines name order entry) ×
-    IsFit (packet_line forms.Lines name order entry)
+    IsSingleLine (written_of (packet_command forms.Lines name order entry)) ×
+    IsFit (line_of (packet_command forms.Lines name order entry))
 
 abbrev pub PrefixEntriesAreRead : Type 0
 PrefixEntriesAreRead =
     (place : ListPlace) (list : RouteList) (entry : ℕ × Prefix) → IsTrue (is_name list.name) →
     list.name ≢ codes "sequence-number" → IsOrder 4294967294 (order_at place 5 entry.0) →
-    IsSingleLine (prefix_written place list entry) × IsFit (prefix_line place list entry)
+    IsSingleLine (written_of (prefix_command place list entry)) ×
+    IsFit (line_of (prefix_command place list entry))
 
 -- the row of a command in a text of these commands
 pub record HasRow (text : List ℕ) (lines : Lines) (c : FileCommand) (row : Line) : Type 0 where

@@ -1,5 +1,5 @@
 -- Laws of router files after edits: their network is the network after the edits.
-use Rattle.std.specs.Prelude.{◌≡◌, ℕ, ◌<◌, List, ◌++◌}
+use Rattle.std.specs.Prelude.{◌≡◌, ℕ, ◌<◌, List, ◌++◌, map}
 use Rattle.std.specs.List.{AllByRecursion, flat_map}
 use Rattle.net_model.specs.declared.policies.Document.{Document}
 use Rattle.net_model.specs.declared.rows.Network.{Network}
@@ -22,7 +22,8 @@ use Rattle.line_patcher.specs.Patches.{ArePatched, patched_text, line_end}
 use Rattle.line_edit_laws.specs.Grown.{HasGrownGroups}
 use Rattle.line_edit_laws.specs.Sites.{Site, new_lines, AreChunks, chunk_lines}
 use Rattle.edit_list.specs.declared.list_kinds.NewList.{NewList}
-use Rattle.line_patcher.specs.NewListLines.{new_list_lines}
+use Rattle.line_patcher.specs.NewListLines.{new_list_commands}
+use Rattle.line_patcher.specs.Written.{line_of}
 use Rattle.patch_laws.specs.NewListSites.{IsNewName, AreClear, AreDifferent, list_chunks}
 use Rattle.patch_laws.specs.NewListSites.{SetNewLists}
 use Rattle.patch_laws.specs.Grown.{GrowAsEdited}
@@ -70,7 +71,7 @@ abbrev pub NewListsHaveTheirLines : Type 0
 NewListsHaveTheirLines =
     (chosen : List Edit) (key : ℕ) (named : List (NewList × List ℕ)) →
     flat_map chunk_lines (list_chunks chosen key named)
-    ≡ flat_map (λ l. new_list_lines chosen l.0 l.1) named
+    ≡ map line_of (flat_map (λ l. new_list_commands chosen l.0 l.1) named)
 
 -- and they set these lists
 abbrev pub NewListsSetThemselves : Type 0

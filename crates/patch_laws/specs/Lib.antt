@@ -3,6 +3,7 @@ pub mod Fits
 pub mod Sites
 pub mod Grown
 pub mod NewListSites
+pub mod Written
 pub mod EntrySites
 pub mod ListsGrow
 pub mod EndLines

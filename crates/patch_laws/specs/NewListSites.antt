@@ -1,17 +1,11 @@
--- The lines of new lists with the commands that they are read as.
-use Rattle.std.specs.Prelude.{◌≡◌, ◌≢◌, ℕ, ◌+◌, ◌*◌, ◌≤◌, true, false, Some, None, List, [], ◌∷◌}
-use Rattle.std.specs.Prelude.{◌++◌, map, length, codes, Contains, IsTrue}
-use Rattle.std.specs.List.{AllByRecursion, enumerate_from, flat_map}
+-- What new lists are made of: single lines, or a block.
+use Rattle.std.specs.Prelude.{◌≡◌, ◌≢◌, ℕ, ◌+◌, ◌≤◌, true, false, List, [], ◌∷◌, ◌++◌, map, length}
+use Rattle.std.specs.Prelude.{codes, Contains, IsTrue}
+use Rattle.std.specs.List.{AllByRecursion, flat_map}
 use Rattle.arc_base.specs.declared.limits.TheConstants.{ENTRY_LIMIT}
-use Rattle.arc_base.specs.declared.prefix.Prefix.{Prefix}
-use Rattle.net_model.specs.declared.lists.PacketEntry.{PacketEntry}
 use Rattle.net_model.specs.declared.policies.Class.{Class}
 use Rattle.ios_words.specs.declared.commands.Command.TheVariants as commands
-use Rattle.ios_words.specs.declared.kinds.BlockKind.TheVariants as kinds
 use Rattle.arc_base.specs.NameForms.{is_name}
-use Rattle.ios_words.specs.Printed.{route_text, all_routes}
-use Rattle.net_rules.specs.Lists.{packet_text}
-use Rattle.edit_list.specs.After.{class_entry, every_packet}
 use Rattle.edit_list.specs.Changes.{new_prefixes, new_classes}
 use Rattle.edit_list.specs.declared.edit_kinds.Edit.{Edit}
 use Rattle.edit_list.specs.declared.list_kinds.NewList.{NewList}
@@ -22,43 +16,19 @@ use Rattle.settings_edit_laws.specs.SettingsAfter.{new_list_text}
 use Rattle.ios_config.specs.declared.commands.FileCommand.{FileCommand}
 use Rattle.ios_config.specs.Groups.{Block, is_same, part_of}
 use Rattle.ios_config.specs.Texts.{face_of, list_of, process_of}
-use Rattle.line_edit_laws.specs.Sites.{Written, written, Chunk, Single, NewBlock, chunk_commands}
+use Rattle.line_patcher.specs.NewListLines.{new_route_commands, new_entries}
+use Rattle.line_patcher.specs.Written.{line_of}
+use Rattle.line_edit_laws.specs.Sites.{Chunk, Single, NewBlock, chunk_commands}
 use Rattle.patch_laws.specs.Grown.{new_groups}
-
--- the entries of a new route list, counted from 1
-abbrev pub deny_written : List ℕ → ℕ × Prefix → Written
-deny_written name entry =
-    written kinds.Top
-    (commands.PrefixLine name (Some (5 * entry.0)) (route_text false entry.1))
-
-abbrev pub permit_all_written : List ℕ → ℕ → Written
-permit_all_written name number =
-    written kinds.Top (commands.PrefixLine name (Some number) all_routes)
-
-abbrev pub route_written : List ℕ → List Prefix → List Written
-route_written name prefixes =
-    map (deny_written name) (enumerate_from 1 prefixes) ++
-    permit_all_written name (5 * (length prefixes + 1)) ∷ []
-
--- the entries of a new packet list, and its head
-abbrev pub entry_written : PacketEntry → Written
-entry_written entry = written kinds.Extended (commands.Entry None (packet_text entry))
-
-abbrev pub deny_class_written : Class → Written
-deny_class_written class = entry_written (class_entry false class)
-
-abbrev pub packet_written : List Class → List Written
-packet_written classes = map deny_class_written classes ++ entry_written every_packet ∷ []
-
-abbrev pub head_written : List ℕ → Written
-head_written name = written kinds.Top (commands.ListBlock true name)
+use Rattle.patch_laws.specs.Written.{written_of}
 
 -- the chunks of a new list of this name; the block of a packet list has this number here
 abbrev pub new_chunks : List Edit → ℕ → NewList → List ℕ → List Chunk
 new_chunks chosen key (Route face) name =
-    map Single (route_written name (new_prefixes chosen face.0))
+    map Single (map written_of (new_route_commands name (new_prefixes chosen face.0)))
 new_chunks chosen key (Packet face) name =
-    NewBlock key (head_written name) (packet_written (new_classes chosen face.0)) (codes "!") ∷ []
+    NewBlock key (written_of (commands.ListBlock true name))
+    (map written_of (new_entries (new_classes chosen face.0))) (line_of commands.Inert) ∷ []
 
 -- the chunks of several, whose blocks are counted
 abbrev pub list_chunks : List Edit → ℕ → List (NewList × List ℕ) → List Chunk

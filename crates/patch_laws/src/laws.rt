@@ -2,17 +2,15 @@
 ghost use Rattle.patch_laws.specs.EndLines.{FacesGrow, GroupLinesAreFit, ProcessLinesAreRead};
 ghost use Rattle.patch_laws.specs.EndLines.{ProcessesGrow};
 ghost use Rattle.patch_laws.specs.EntrySites.{BlockEntriesAreRead, EntriesAreRenumbered};
-ghost use Rattle.patch_laws.specs.EntrySites.{EntriesHaveTheirLines, ListEntriesAreRead};
-ghost use Rattle.patch_laws.specs.EntrySites.{PrefixEntriesAreRead, PrefixLinesAreRenumbered};
-ghost use Rattle.patch_laws.specs.EntrySites.{NumbersAreWords};
+ghost use Rattle.patch_laws.specs.EntrySites.{ListEntriesAreRead, PrefixEntriesAreRead};
+ghost use Rattle.patch_laws.specs.EntrySites.{PrefixLinesAreRenumbered, NumbersAreWords};
 ghost use Rattle.patch_laws.specs.FaceBlocks.{FacesHaveBlocks};
 ghost use Rattle.patch_laws.specs.Files.{FilesHaveTheNetwork, SitedFilesAreAfter};
 ghost use Rattle.patch_laws.specs.Files.{SitedFilesHaveTheNetwork};
 ghost use Rattle.patch_laws.specs.EditSiteLaws.{CommandsGrowByEdits, CommandsHaveListLines};
 ghost use Rattle.patch_laws.specs.EditSiteLaws.{EditSitesAreGood, EditSitesAreThere};
 ghost use Rattle.patch_laws.specs.EditSiteLaws.{EditedFilesAreFiles, EditedFilesAreSited};
-ghost use Rattle.patch_laws.specs.EditSiteLaws.{EditedFilesHaveTheNetwork};
-ghost use Rattle.patch_laws.specs.EditSiteLaws.{EditedTextsCanBePatched};
+ghost use Rattle.patch_laws.specs.EditSiteLaws.{EditedFilesHaveTheNetwork, EditedTextsCanBePatched};
 ghost use Rattle.patch_laws.specs.ListsGrow.{ListsGrow};
 ghost use Rattle.patch_laws.specs.Laws.{GrownSettingsAreAfter, NewListsAreChunks};
 ghost use Rattle.patch_laws.specs.Laws.{NewListsHaveTheirLines, NewListsSetThemselves};
@@ -60,7 +58,6 @@ pub fn faces_have_blocks()
 /// The entries that edits add to lists are read as these entries, and an entry of an extended
 /// list's block with another number as the entry that it was.
 pub fn entries_are_read()
-    ensures lines { EntriesHaveTheirLines }
     ensures block { BlockEntriesAreRead }
     ensures list { ListEntriesAreRead }
     ensures prefix { PrefixEntriesAreRead }

@@ -1,5 +1,5 @@
 -- What edits put into one router's file costs at most 512 bytes for each of its edits, and the new numbers are small.
-use Rattle.std.proofs.Common.{◌≡◌, ℕ, zero, suc, ◌+◌, ◌*◌, ◌^◌, ◌<◌, ◌≤◌, ◌==◌, not, Bool, true, false, if◌then◌else◌, List, [], ◌∷◌, ◌++◌, length, map, refl, ap, subst, arith, codes}
+use Rattle.std.proofs.Common.{◌≡◌, ℕ, zero, suc, ◌+◌, ◌*◌, ◌^◌, ◌<◌, ◌≤◌, ◌==◌, not, Bool, true, false, if◌then◌else◌, List, [], ◌∷◌, ◌++◌, length, map, refl, ap, subst, arith}
 use Rattle.std.specs.Prelude.{Option, Some, None, slice_get, option_map, option_and_then, bytes_eq, ◌&&◌}
 use Rattle.std.specs.Option.{option_map_or}
 use Rattle.std.specs.List.{cons_option, enumerate_from, filter_map, flat_map, find, zip, AllByRecursion}
@@ -19,9 +19,8 @@ use Rattle.net_model.specs.Routing.{session_at}
 use Rattle.net_model.specs.Validity.{IsValid, IsValidPacketList, IsValidRouteList}
 use Rattle.net_model.proofs.Readings.{item_at_place}
 use Rattle.net_rules.specs.Lists.{packet_text}
+use Rattle.ios_words.specs.declared.commands.Command.{Command}
 use Rattle.ios_words.specs.declared.commands.Command.TheVariants as commands
-use Rattle.ios_words.specs.declared.kinds.BlockKind.TheVariants as kinds
-use Rattle.ios_words.specs.Plain.{plain_line}
 use Rattle.ios_words.specs.Printed.{all_routes, route_text}
 use Rattle.ios_config.specs.declared.settings.ListForm.{ListForm}
 use Rattle.ios_config.specs.declared.settings.ListForm.TheVariants.{Block, Lines, PrefixLines}
@@ -37,16 +36,17 @@ use Rattle.edit_list.specs.NewLists.{named_lists, new_lists_of, new_names_of}
 use Rattle.arc_base.specs.Numbered.{if_number}
 use Rattle.edit_list.proofs.Counts.{few_picked}
 use Rattle.line_patcher.specs.declared.additions.NewNumber.{NewNumber}
-use Rattle.line_patcher.specs.Additions.{lines_after, lines_before, numbers_at}
-use Rattle.line_patcher.specs.EntryLines.{first_line, class_line, edited_packet_lists, edited_route_lists, new_number, new_numbers, order_at, packet_line, packet_list_entries, packet_list_numbers, packet_place, prefix_line, route_list_entries, route_list_numbers, route_place, is_packet_form, at_front, class_lines, prefix_lines}
-use Rattle.line_patcher.specs.NewListLines.{entry_line, group_line, permit_all_line, deny_class_line, deny_line, face_places, filter_line, group_line_among, new_list_lines, new_packet_lines, new_route_lines}
-use Rattle.line_patcher.specs.SessionLines.{session_line, turned_faces, turning_line}
+use Rattle.line_patcher.specs.Additions.{commands_after, commands_before, lines_after, lines_before, numbers_at}
+use Rattle.line_patcher.specs.EntryLines.{at_front, class_command, class_commands, edited_packet_lists, edited_route_lists, first_line, is_packet_form, new_number, new_numbers, order_at, packet_command, packet_list_entries, packet_list_numbers, packet_place, prefix_command, prefix_commands, route_list_entries, route_list_numbers, route_place}
+use Rattle.line_patcher.specs.NewListLines.{deny_class, deny_prefix, face_places, filter_command, group_command, new_entries, new_entry, new_list_commands, new_packet_commands, new_route_commands, permit_all}
+use Rattle.line_patcher.specs.SessionLines.{session_command, turned_faces, turning_command}
+use Rattle.line_patcher.specs.Written.{line_of}
 use Rattle.settings_edit_laws.specs.Premises.{IsWritable}
 use Rattle.patch_laws.specs.NewListSites.{IsNewName}
 use Rattle.patch_laws.proofs.SessionReads.{session_in}
 use Rattle.patch_size_laws.proofs.Keyed.{total, total-append, total-flat, total-map, total-le, total-times, total-ones, picked-few, zip-few, flat-all, both-all}
 use Rattle.patch_size_laws.proofs.LineSizes.{IsSmallOrder, entry-line-few, list-line-few, prefix-line-few, list-head-few, group-few, neighbor-list-few, passive-few, neighbor-few}
-use Rattle.patch_size_laws.proofs.RowSizes.{cost, cost_of, put, IsSmall}
+use Rattle.patch_size_laws.proofs.RowSizes.{cost_of, put, IsSmall}
 
 -- ---- counted things
 
@@ -83,8 +83,18 @@ order-small true step at low few = let least : step * at ≤ 10 * at = times-le 
     times-le s zero low = omega arith
     times-le s (suc a) low = omega (arith, times-le s a low, low)
 
-all-put : (number : ℕ) (lines : List (List ℕ)) → put (map (λ (line : List ℕ). (number, line)) lines) ≡ cost lines
-all-put number lines = total-map (λ (x : ℕ × List ℕ). cost_of x.1) (λ (line : List ℕ). (number, line)) lines
+-- what the lines of commands cost
+abbrev price : Command → ℕ
+price command = cost_of (line_of command)
+
+abbrev prices : List Command → ℕ
+prices commands = total price commands
+
+abbrev placed : List (ℕ × Command) → ℕ
+placed commands = total (λ (x : ℕ × Command). price x.1) commands
+
+all-placed : (number : ℕ) (commands : List Command) → placed (map (λ (command : Command). (number, command)) commands) ≡ prices commands
+all-placed number commands = total-map (λ (x : ℕ × Command). price x.1) (λ (command : Command). (number, command)) commands
 
 -- how many edits make a new list
 abbrev pub new_size : List Edit → NewList → ℕ
@@ -116,25 +126,25 @@ module _ (net : Network) (valid : IsValid net) (writable : IsWritable net) (chos
 
   -- ---- sessions
 
-  session-few : (face : ℕ) (line : List ℕ) → session_line net face ≡ Some line → cost_of line ≤ 512
-  session-few face line is = of-row (slice_get net.faces face) refl is
+  session-few : (face : ℕ) (command : Command) → session_command net face ≡ Some command → price command ≤ 512
+  session-few face command is = of-row (slice_get net.faces face) refl is
     where
-      of-session : (o : Option SessionRow) → ((s : SessionRow) → o ≡ Some s → s.peer < 2 ^ 32) → option_map (λ (s : SessionRow). plain_line kinds.Bgp (commands.NeighborDown s.peer (not s.down))) o ≡ Some line → cost_of line ≤ 512
-      of-session None small e = absurd (none-some line e)
-      of-session (Some s) small e = omega (arith, ap length (same_Some (plain_line kinds.Bgp (commands.NeighborDown s.peer (not s.down))) line e), neighbor-few s.peer (not s.down) (small s refl))
+      of-session : (o : Option SessionRow) → ((s : SessionRow) → o ≡ Some s → s.peer < 2 ^ 32) → option_map (λ (s : SessionRow). commands.NeighborDown s.peer (not s.down)) o ≡ Some command → price command ≤ 512
+      of-session None small e = absurd (none-some command e)
+      of-session (Some s) small e = omega (arith, ap price (same_Some (commands.NeighborDown s.peer (not s.down)) command e), neighbor-few s.peer (not s.down) (small s refl))
 
-      of-protocol : (p : Protocol) (row : FaceRow) → length row.name ≤ 64 → turning_line p row (session_at net (record { 0 = face })) ≡ Some line → cost_of line ≤ 512
-      of-protocol Ospf row short e = omega (arith, ap length (same_Some (plain_line kinds.Ospf (commands.Passive (not row.passive) (Some row.name))) line e), passive-few (not row.passive) row.name short)
+      of-protocol : (p : Protocol) (row : FaceRow) → length row.name ≤ 64 → turning_command p row (session_at net (record { 0 = face })) ≡ Some command → price command ≤ 512
+      of-protocol Ospf row short e = omega (arith, ap price (same_Some (commands.Passive (not row.passive) (Some row.name)) command e), passive-few (not row.passive) row.name short)
       of-protocol Bgp row short e = of-session (session_at net (record { 0 = face })) (λ s at. writable.peers s (session_in (λ (t : SessionRow). t.face.0 == face) net.sessions s at)) e
 
-      of-row : (o : Option FaceRow) → slice_get net.faces face ≡ o → option_and_then (λ (row : FaceRow). turning_line net.protocol row (session_at net (record { 0 = face }))) o ≡ Some line → cost_of line ≤ 512
-      of-row None at e = absurd (none-some line e)
+      of-row : (o : Option FaceRow) → slice_get net.faces face ≡ o → option_and_then (λ (row : FaceRow). turning_command net.protocol row (session_at net (record { 0 = face }))) o ≡ Some command → price command ≤ 512
+      of-row None at e = absurd (none-some command e)
       of-row (Some row) at e = of-protocol net.protocol row (leb-true (length row.name) 64 (and_parts _ _ (writable.faces face row at)).0) e
 
-  sessions-few : (router : ℕ) → cost (filter_map (session_line net) (turned_faces net chosen router)) ≤ 512 * length (turned_faces net chosen router)
+  sessions-few : (router : ℕ) → prices (filter_map (session_command net) (turned_faces net chosen router)) ≤ 512 * length (turned_faces net chosen router)
   sessions-few router =
       let faces : List ℕ = turned_faces net chosen router in
-      omega (arith, picked-few (session_line net) cost_of (λ (face : ℕ). 512) faces session-few, consts faces)
+      omega (arith, picked-few (session_command net) price (λ (face : ℕ). 512) faces session-few, consts faces)
     where
       consts : (xs : List ℕ) → total (λ (x : ℕ). 512) xs ≡ 512 * length xs
       consts [] = refl
@@ -142,100 +152,101 @@ module _ (net : Network) (valid : IsValid net) (writable : IsWritable net) (chos
 
   -- ---- entries
 
-  class-line-few : (place : ListPlace) (list : PacketList) (e : ℕ × Class) → length list.name ≤ 64 → e.0 ≤ 8192 → cost_of (class_line place list e) ≤ 512
+  class-line-few : (place : ListPlace) (list : PacketList) (e : ℕ × Class) → length list.name ≤ 64 → e.0 ≤ 8192 → price (class_command place list e) ≤ 512
   class-line-few place list e short low = by place.form
     where
       order : Option ℕ
       order = order_at place 10 e.0
 
-      by : (form : ListForm) → cost_of (packet_line form list.name (order_at place 10 e.0) (opposite_packet_entry list.entries e.1)) ≤ 512
+      by : (form : ListForm) → price (packet_command form list.name (order_at place 10 e.0) (opposite_packet_entry list.entries e.1)) ≤ 512
       by Block = omega (arith, entry-line-few (order_at place 10 e.0) (packet_text (opposite_packet_entry list.entries e.1)) (order-small place.numbered 10 e.0 (omega arith) low))
       by Lines = omega (arith, list-line-few list.name (packet_text (opposite_packet_entry list.entries e.1)) short)
-      by PrefixLines = omega arith
+      by PrefixLines = omega (arith, entry-line-few (order_at place 10 e.0) (packet_text (opposite_packet_entry list.entries e.1)) (order-small place.numbered 10 e.0 (omega arith) low))
 
-  prefix-line-cost : (place : ListPlace) (list : RouteList) (e : ℕ × Prefix) → length list.name ≤ 64 → e.0 ≤ 8192 → cost_of (prefix_line place list e) ≤ 512
+  prefix-line-cost : (place : ListPlace) (list : RouteList) (e : ℕ × Prefix) → length list.name ≤ 64 → e.0 ≤ 8192 → price (prefix_command place list e) ≤ 512
   prefix-line-cost place list e short low =
       omega (arith, prefix-line-few list.name (order_at place 5 e.0) (route_text (opposite_route_entry list.entries e.1).permit e.1) short (order-small place.numbered 5 e.0 (omega arith) low) e.1.length e.1.length)
 
-  packet-entries-few : (own : Places) (id : ℕ) → put (packet_list_entries net own chosen id) ≤ 512 * length (list_classes chosen id)
+  packet-entries-few : (own : Places) (id : ℕ) → placed (packet_list_entries net own chosen id) ≤ 512 * length (list_classes chosen id)
   packet-entries-few own id = of-list (slice_get net.packet_lists id) refl
     where
       of-place : (list : PacketList) (o : Option ListPlace) → length list.name ≤ 64 →
-          put (option_map_or (λ place. at_front place (class_lines place list (list_classes chosen id))) o []) ≤ 512 * length (list_classes chosen id)
+          placed (option_map_or (λ place. at_front place (class_commands place list (list_classes chosen id))) o []) ≤ 512 * length (list_classes chosen id)
       of-place list None short = omega arith
       of-place list (Some place) short =
           let classes : List Class = list_classes chosen id in
           omega (
             arith,
-            all-put (first_line place) (class_lines place list classes),
-            total-map cost_of (class_line place list) (enumerate_from 1 classes),
-            counted-few (λ e. cost_of (class_line place list e)) 512 1 8192 classes (λ e low. class-line-few place list e short low) (omega (arith, classes-few id, few)),
+            all-placed (first_line place) (class_commands place list classes),
+            total-map price (class_command place list) (enumerate_from 1 classes),
+            counted-few (λ e. price (class_command place list e)) 512 1 8192 classes (λ e low. class-line-few place list e short low) (omega (arith, classes-few id, few)),
           )
 
       of-list : (o : Option PacketList) → slice_get net.packet_lists id ≡ o →
-          put (option_map_or (λ list. option_map_or (λ place. at_front place (class_lines place list (list_classes chosen id))) (packet_place own list.name) []) o []) ≤ 512 * length (list_classes chosen id)
+          placed (option_map_or (λ list. option_map_or (λ place. at_front place (class_commands place list (list_classes chosen id))) (packet_place own list.name) []) o []) ≤ 512 * length (list_classes chosen id)
       of-list None at = omega arith
       of-list (Some list) at = of-place list (packet_place own list.name) (packet-name id list at)
 
-  route-entries-few : (own : Places) (id : ℕ) → put (route_list_entries net own chosen id) ≤ 512 * length (list_prefixes chosen id)
+  route-entries-few : (own : Places) (id : ℕ) → placed (route_list_entries net own chosen id) ≤ 512 * length (list_prefixes chosen id)
   route-entries-few own id = of-list (slice_get net.route_lists id) refl
     where
       of-place : (list : RouteList) (o : Option ListPlace) → length list.name ≤ 64 →
-          put (option_map_or (λ place. at_front place (prefix_lines place list (list_prefixes chosen id))) o []) ≤ 512 * length (list_prefixes chosen id)
+          placed (option_map_or (λ place. at_front place (prefix_commands place list (list_prefixes chosen id))) o []) ≤ 512 * length (list_prefixes chosen id)
       of-place list None short = omega arith
       of-place list (Some place) short =
           let prefixes : List Prefix = list_prefixes chosen id in
           omega (
             arith,
-            all-put (first_line place) (prefix_lines place list prefixes),
-            total-map cost_of (prefix_line place list) (enumerate_from 1 prefixes),
-            counted-few (λ e. cost_of (prefix_line place list e)) 512 1 8192 prefixes (λ e low. prefix-line-cost place list e short low) (omega (arith, prefixes-few id, few)),
+            all-placed (first_line place) (prefix_commands place list prefixes),
+            total-map price (prefix_command place list) (enumerate_from 1 prefixes),
+            counted-few (λ e. price (prefix_command place list e)) 512 1 8192 prefixes (λ e low. prefix-line-cost place list e short low) (omega (arith, prefixes-few id, few)),
           )
 
       of-list : (o : Option RouteList) → slice_get net.route_lists id ≡ o →
-          put (option_map_or (λ list. option_map_or (λ place. at_front place (prefix_lines place list (list_prefixes chosen id))) (route_place own list.name) []) o []) ≤ 512 * length (list_prefixes chosen id)
+          placed (option_map_or (λ list. option_map_or (λ place. at_front place (prefix_commands place list (list_prefixes chosen id))) (route_place own list.name) []) o []) ≤ 512 * length (list_prefixes chosen id)
       of-list None at = omega arith
       of-list (Some list) at = of-place list (route_place own list.name) (route-name id list at)
 
   -- ---- new lists
 
-  route-lines-few : (name : List ℕ) (prefixes : List Prefix) → length name ≤ 64 → length prefixes ≤ 8192 → cost (new_route_lines name prefixes) ≤ 130 * length prefixes + 130
+  route-lines-few : (name : List ℕ) (prefixes : List Prefix) → length name ≤ 64 → length prefixes ≤ 8192 → prices (new_route_commands name prefixes) ≤ 130 * length prefixes + 130
   route-lines-few name prefixes short low =
-      let last : List ℕ = permit_all_line name (5 * (length prefixes + 1)) in
+      let last : Command = permit_all name (5 * (length prefixes + 1)) in
       omega (
         arith,
-        total-append cost_of (map (deny_line name) (enumerate_from 1 prefixes)) (last ∷ []),
-        total-map cost_of (deny_line name) (enumerate_from 1 prefixes),
-        counted-few (λ e. cost_of (deny_line name e)) 130 1 8192 prefixes (λ e within. omega (arith, prefix-line-few name (Some (5 * e.0)) (route_text false e.1) short (omega (arith, within)) e.1.length e.1.length)) (omega (arith, low)),
+        total-append price (map (deny_prefix name) (enumerate_from 1 prefixes)) (last ∷ []),
+        total-map price (deny_prefix name) (enumerate_from 1 prefixes),
+        counted-few (λ e. price (deny_prefix name e)) 130 1 8192 prefixes (λ e within. omega (arith, prefix-line-few name (Some (5 * e.0)) (route_text false e.1) short (omega (arith, within)) e.1.length e.1.length)) (omega (arith, low)),
         prefix-line-few name (Some (5 * (length prefixes + 1))) all_routes short (omega (arith, low)) (omega arith) (omega arith),
       )
 
-  packet-lines-few : (name : List ℕ) (classes : List Class) → length name ≤ 64 → cost (new_packet_lines name classes) ≤ 103 * length classes + 198
+  packet-lines-few : (name : List ℕ) (classes : List Class) → length name ≤ 64 → prices (new_packet_commands name classes) ≤ 103 * length classes + 198
   packet-lines-few name classes short =
-      let every : List ℕ = entry_line every_packet in
+      let every : Command = new_entry every_packet in
       omega (
         arith,
         list-head-few name short,
-        total-append cost_of (map deny_class_line classes) (every ∷ codes "!" ∷ []),
-        total-map cost_of deny_class_line classes,
-        total-le (λ class. cost_of (deny_class_line class)) (λ class. 103 * 1) classes (λ class. omega (arith, entry-line-few None (packet_text (class_entry false class)) tt)),
+        total-append price (new_entries classes) (commands.Inert ∷ []),
+        total-append price (map deny_class classes) (every ∷ []),
+        total-map price deny_class classes,
+        total-le (λ class. price (deny_class class)) (λ class. 103 * 1) classes (λ class. omega (arith, entry-line-few None (packet_text (class_entry false class)) tt)),
         total-times 103 (λ (class : Class). 1) classes,
         total-ones classes,
         entry-line-few None (packet_text every_packet) tt,
       )
 
-  abbrev filters : NewList × List ℕ → Option (List ℕ)
-  filters n = filter_line net n.0 n.1
+  abbrev filters : NewList × List ℕ → Option Command
+  filters n = filter_command net n.0 n.1
 
-  abbrev groups : List FacePlace → NewList × List ℕ → Option (ℕ × List ℕ)
-  groups faces n = group_line_among faces n.0 n.1
+  abbrev groups : List FacePlace → NewList × List ℕ → Option (ℕ × Command)
+  groups faces n = group_command faces n.0 n.1
 
   one-named : (faces : List FacePlace) (list : NewList) (name : List ℕ) → length name ≤ 64 → 1 ≤ new_size chosen list →
-      cost (new_list_lines chosen list name) + (cost (cons_option (filter_line net list name) []) + put (cons_option (group_line_among faces list name) [])) ≤ 512 * new_size chosen list
+      prices (new_list_commands chosen list name) + (prices (cons_option (filter_command net list name) []) + placed (cons_option (group_command faces list name) [])) ≤ 512 * new_size chosen list
   one-named faces (Route face) name short some = by (session_at net face) refl
     where
       by : (o : Option SessionRow) → session_at net face ≡ o →
-          cost (new_route_lines name (new_prefixes chosen face.0)) + (cost (cons_option (option_map (λ (s : SessionRow). plain_line kinds.Bgp (commands.NeighborList s.peer name)) o) []) + 0) ≤ 512 * length (new_prefixes chosen face.0)
+          prices (new_route_commands name (new_prefixes chosen face.0)) + (prices (cons_option (option_map (λ (s : SessionRow). commands.NeighborList s.peer name) o) []) + 0) ≤ 512 * length (new_prefixes chosen face.0)
       by None at = omega (arith, some, route-lines-few name (new_prefixes chosen face.0) short (omega (arith, new-prefixes-few face.0, few)))
       by (Some s) at =
           omega (
@@ -247,7 +258,7 @@ module _ (net : Network) (valid : IsValid net) (writable : IsWritable net) (chos
   one-named faces (Packet face) name short some = by (slice_get faces face.0)
     where
       by : (o : Option FacePlace) →
-          cost (new_packet_lines name (new_classes chosen face.0)) + (0 + put (cons_option (option_map (λ (place : FacePlace). (place.last, group_line name)) o) [])) ≤ 512 * length (new_classes chosen face.0)
+          prices (new_packet_commands name (new_classes chosen face.0)) + (0 + placed (cons_option (option_map (λ (place : FacePlace). (place.last, commands.Group name true)) o) [])) ≤ 512 * length (new_classes chosen face.0)
       by None = omega (arith, some, packet-lines-few name (new_classes chosen face.0) short)
       by (Some place) = omega (arith, some, packet-lines-few name (new_classes chosen face.0) short, group-few name short)
 
@@ -255,14 +266,14 @@ module _ (net : Network) (valid : IsValid net) (writable : IsWritable net) (chos
   is_filled n = 1 ≤ new_size chosen n.0
 
   named-few : (faces : List FacePlace) (ns : List (NewList × List ℕ)) → AllByRecursion (IsNewName chosen) ns → AllByRecursion is_filled ns →
-      cost (flat_map (λ (n : NewList × List ℕ). new_list_lines chosen n.0 n.1) ns) + (cost (filter_map filters ns) + put (filter_map (groups faces) ns)) ≤ 512 * total (λ (n : NewList × List ℕ). new_size chosen n.0) ns
+      prices (flat_map (λ (n : NewList × List ℕ). new_list_commands chosen n.0 n.1) ns) + (prices (filter_map filters ns) + placed (filter_map (groups faces) ns)) ≤ 512 * total (λ (n : NewList × List ℕ). new_size chosen n.0) ns
   named-few faces [] names filled = omega arith
   named-few faces (n ∷ ns) names filled =
-      let h : ℕ × List ℕ → ℕ = λ x. cost_of x.1 in
+      let h : ℕ × Command → ℕ = λ x. price x.1 in
       omega (
         arith,
-        total-append cost_of (new_list_lines chosen n.0 n.1) (flat_map (λ (m : NewList × List ℕ). new_list_lines chosen m.0 m.1) ns),
-        opt-total cost_of (filters n) (filter_map filters ns),
+        total-append price (new_list_commands chosen n.0 n.1) (flat_map (λ (m : NewList × List ℕ). new_list_commands chosen m.0 m.1) ns),
+        opt-total price (filters n) (filter_map filters ns),
         opt-total h (groups faces n) (filter_map (groups faces) ns),
         one-named faces n.0 n.1 (leb-true (length n.1) 64 (and_parts _ _ (and_parts _ _ names.0.name).0).1) filled.0,
         named-few faces ns names.1 filled.1,
@@ -273,28 +284,32 @@ module _ (net : Network) (valid : IsValid net) (writable : IsWritable net) (chos
   pub router-few : (places : List Places) (own : Places) (router : ℕ) → AllByRecursion (IsNewName chosen) (named_lists net chosen router) → AllByRecursion (λ (list : NewList). 1 ≤ new_size chosen list) (new_lists_of net chosen router) →
       put (lines_before net own chosen router) + put (lines_after net places own chosen router) ≤ 512 * weight net chosen router
   router-few places own router names filled =
-      let h : ℕ × List ℕ → ℕ = λ x. cost_of x.1 in
+      let cost_at : ℕ × List ℕ → ℕ = λ x. cost_of x.1 in
+      let line_at : ℕ × Command → ℕ × List ℕ = λ c. (c.0, line_of c.1) in
+      let h : ℕ × Command → ℕ = λ x. price x.1 in
       let named : List (NewList × List ℕ) = named_lists net chosen router in
       let faces : List FacePlace = face_places places in
-      let news : List (List ℕ) = flat_map (λ (n : NewList × List ℕ). new_list_lines chosen n.0 n.1) named in
-      let packets : List (ℕ × List ℕ) = flat_map (packet_list_entries net own chosen) (edited_packet_lists net chosen router) in
-      let routes : List (ℕ × List ℕ) = flat_map (route_list_entries net own chosen) (edited_route_lists net chosen router) in
-      let sessions : List (List ℕ) = filter_map (session_line net) (turned_faces net chosen router) in
-      let binds : List (List ℕ) = filter_map filters named in
+      let news : List Command = flat_map (λ (n : NewList × List ℕ). new_list_commands chosen n.0 n.1) named in
+      let packets : List (ℕ × Command) = flat_map (packet_list_entries net own chosen) (edited_packet_lists net chosen router) in
+      let routes : List (ℕ × Command) = flat_map (route_list_entries net own chosen) (edited_route_lists net chosen router) in
+      let sessions : List Command = filter_map (session_command net) (turned_faces net chosen router) in
+      let binds : List Command = filter_map filters named in
       omega (
         arith,
-        total-append h (map (λ (line : List ℕ). (own.process, line)) news ++ packets) routes,
-        total-append h (map (λ (line : List ℕ). (own.process, line)) news) packets,
-        all-put own.process news,
+        total-map cost_at line_at (commands_before net own chosen router),
+        total-map cost_at line_at (commands_after net places own chosen router),
+        total-append h (map (λ (command : Command). (own.process, command)) news) (packets ++ routes),
+        total-append h packets routes,
+        all-placed own.process news,
         total-flat h (packet_list_entries net own chosen) (edited_packet_lists net chosen router),
-        total-le (λ id. put (packet_list_entries net own chosen id)) (λ id. 512 * length (list_classes chosen id)) (edited_packet_lists net chosen router) (packet-entries-few own),
+        total-le (λ id. placed (packet_list_entries net own chosen id)) (λ id. 512 * length (list_classes chosen id)) (edited_packet_lists net chosen router) (packet-entries-few own),
         total-times 512 (λ id. length (list_classes chosen id)) (edited_packet_lists net chosen router),
         total-flat h (route_list_entries net own chosen) (edited_route_lists net chosen router),
-        total-le (λ id. put (route_list_entries net own chosen id)) (λ id. 512 * length (list_prefixes chosen id)) (edited_route_lists net chosen router) (route-entries-few own),
+        total-le (λ id. placed (route_list_entries net own chosen id)) (λ id. 512 * length (list_prefixes chosen id)) (edited_route_lists net chosen router) (route-entries-few own),
         total-times 512 (λ id. length (list_prefixes chosen id)) (edited_route_lists net chosen router),
-        total-append h (map (λ (line : List ℕ). (own.process_last, line)) (sessions ++ binds)) (filter_map (groups faces) named),
-        all-put own.process_last (sessions ++ binds),
-        total-append cost_of sessions binds,
+        total-append h (map (λ (command : Command). (own.process_last, command)) (sessions ++ binds)) (filter_map (groups faces) named),
+        all-placed own.process_last (sessions ++ binds),
+        total-append price sessions binds,
         sessions-few router,
         named-few faces named names (zip-all (λ (list : NewList). 1 ≤ new_size chosen list) (new_lists_of net chosen router) (new_names_of net chosen router) filled),
         zip-few (new_size chosen) (new_lists_of net chosen router) (new_names_of net chosen router),

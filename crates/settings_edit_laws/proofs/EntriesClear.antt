@@ -1,5 +1,5 @@
 -- No list of the files has too many entries after the edits.
-use Rattle.std.proofs.Common.{◌≡◌, ℕ, ◌+◌, ◌<◌, ◌≤◌, inl, inr, true, false, List, [], ◌∷◌, ◌++◌, length, map, sym, ◌∙◌, ap, subst, arith, nat_lt, length-append}
+use Rattle.std.proofs.Common.{◌≡◌, ℕ, ◌+◌, ◌<◌, ◌≤◌, inl, inr, true, false, List, [], ◌∷◌, ◌++◌, length, map, sym, ◌∙◌, ap, subst, arith, nat_lt, length-append, None}
 use Rattle.std.specs.Prelude.{Contains}
 use Rattle.std.specs.List.{filter_map}
 use Rattle.std.proofs.lemmas.Bool.{ltb-true}
@@ -27,7 +27,8 @@ use Rattle.edit_list.specs.Changes.{new_route_change, new_packet_change, new_pre
 use Rattle.arc_base.specs.Numbered.{if_number}
 use Rattle.edit_list.specs.After.{exact_entry, class_entry, opposite_route_entry, opposite_packet_entry, new_route_entries, new_packet_entries, any, every_packet}
 use Rattle.edit_list.proofs.Counts.{few_picked}
-use Rattle.settings_edit_laws.specs.Additions.{prefix_for, class_for, route_line, packet_line, front_lines}
+use Rattle.line_patcher.specs.EntryLines.{packet_command}
+use Rattle.settings_edit_laws.specs.Additions.{prefix_for, class_for, route_line, front_lines}
 use Rattle.edit_list.specs.NewLists.{named_lists}
 use Rattle.settings_edit_laws.specs.Plain.{said, plain_entry, plain_list}
 use Rattle.settings_edit_laws.specs.Premises.{HasRoom}
@@ -40,9 +41,9 @@ module _ (net : Network) (chosen : List Edit) (router : ℕ) where
   few_front list kinds.Prefix =
       omega (arith, length-map (filter_map (prefix_for net router list.name) chosen) (λ (p : Prefix). route_line list.name (opposite_route_entry (route_entries list) p)), few_picked (prefix_for net router list.name) chosen)
   few_front list kinds.Extended =
-      omega (arith, length-map (filter_map (class_for net router list.name) chosen) (λ (c : Class). packet_line list.form list.name (opposite_packet_entry (packet_entries list) c)), few_picked (class_for net router list.name) chosen)
+      omega (arith, length-map (filter_map (class_for net router list.name) chosen) (λ (c : Class). packet_command list.form list.name None (opposite_packet_entry (packet_entries list) c)), few_picked (class_for net router list.name) chosen)
   few_front list kinds.Standard =
-      omega (arith, length-map (filter_map (class_for net router list.name) chosen) (λ (c : Class). packet_line list.form list.name (opposite_packet_entry (packet_entries list) c)), few_picked (class_for net router list.name) chosen)
+      omega (arith, length-map (filter_map (class_for net router list.name) chosen) (λ (c : Class). packet_command list.form list.name None (opposite_packet_entry (packet_entries list) c)), few_picked (class_for net router list.name) chosen)
 
   few_with : (list : ListText) → length (list_with net chosen router list).entries ≤ length chosen + length list.entries
   few_with list =
@@ -67,8 +68,8 @@ module _ (net : Network) (chosen : List Edit) (router : ℕ) where
   few_new name (lists.Packet face) =
       omega (
         arith,
-        length-map (map (packet_line forms.Block name) (new_packet_entries (new_classes chosen face.0))) (λ (c : Command). said c),
-        length-map (new_packet_entries (new_classes chosen face.0)) (packet_line forms.Block name),
+        length-map (map (packet_command forms.Block name None) (new_packet_entries (new_classes chosen face.0))) (λ (c : Command). said c),
+        length-map (new_packet_entries (new_classes chosen face.0)) (packet_command forms.Block name None),
         length-append (map (class_entry false) (new_classes chosen face.0)) (every_packet ∷ []),
         length-map (new_classes chosen face.0) (class_entry false),
         few_new_classes face.0,

@@ -26,3 +26,4 @@ pub mod FittingEdits
 pub mod Room
 pub mod Untouched
 pub mod Writable
+pub mod Turned

@@ -27,9 +27,11 @@ use Rattle.edit_list.specs.declared.list_kinds.NewList.{NewList}
 use Rattle.edit_list.specs.declared.list_kinds.NewList.TheVariants as lists
 use Rattle.edit_list.proofs.NewListFacts.{picked_from}
 use Rattle.settings_edit_laws.specs.Plain.{said}
-use Rattle.settings_edit_laws.specs.Additions.{own_face, session_line, turning_line, filter_line, process_lines}
+use Rattle.line_patcher.specs.Additions.{process_commands}
+use Rattle.line_patcher.specs.NewListLines.{filter_command}
 use Rattle.edit_list.specs.NewLists.{named_lists}
 use Rattle.settings_edit_laws.specs.SettingsAfter.{process_with, AreSettingsAfter}
+use Rattle.settings_edit_laws.proofs.Turned.{own_face, session_line, turned_lines, turning_line}
 use Rattle.settings_edit_laws.proofs.Pairs.{last_append, picked_of_values, picks_nothing}
 
 -- the commands that edits add to a process: an interface is passive or not, a neighbour is shut down or not, or has a list bound
@@ -71,7 +73,7 @@ module _ (net : Network) (chosen : List Edit) (router : ℕ) where
   turning_added (edits.PacketList list class) c e = absurd (none-some c e)
   turning_added (edits.PacketNew face class) c e = absurd (none-some c e)
 
-  filter_added : (name : List ℕ) (list : NewList) (c : Command) → filter_line net name list ≡ Some c → IsAdded c
+  filter_added : (name : List ℕ) (list : NewList) (c : Command) → filter_command net list name ≡ Some c → IsAdded c
   filter_added name (lists.Route face) c e = by (session_at net face) e
     where
       by : (o : Option SessionRow) → option_map (λ (s : SessionRow). commands.NeighborList s.peer name) o ≡ Some c → IsAdded c
@@ -83,14 +85,14 @@ module _ (net : Network) (chosen : List Edit) (router : ℕ) where
   turning_lines = filter_map (turning_line net router) chosen
 
   abbrev pub filter_lines : List Command
-  filter_lines = filter_map (λ (l : NewList × List ℕ). filter_line net l.1 l.0) (named_lists net chosen router)
+  filter_lines = filter_map (λ (l : NewList × List ℕ). filter_command net l.0 l.1) (named_lists net chosen router)
 
   pub turning_lines_added : (c : Command) → Contains turning_lines c → IsAdded c
   turning_lines_added c there = let r = picked_from (turning_line net router) chosen c there in turning_added r.0 c r.2
 
   pub filter_lines_added : (c : Command) → Contains filter_lines c → IsAdded c
   filter_lines_added c there =
-      let r = picked_from (λ (l : NewList × List ℕ). filter_line net l.1 l.0) (named_lists net chosen router) c there in
+      let r = picked_from (λ (l : NewList × List ℕ). filter_command net l.0 l.1) (named_lists net chosen router) c there in
       filter_added r.0.1 r.0.0 c r.2
 
   -- the process after the edits is the one before with the lines of the edits
@@ -106,7 +108,7 @@ module _ (net : Network) (chosen : List Edit) (router : ℕ) where
   first_of_maps (p ∷ ps) (q ∷ qs) e = same_Some (bare_process q) (process_with net chosen router (bare_process p)) (ap (λ (l : List ProcessText). slice_get l 0) e)
 
   lines_agree : (o n : Option ProcessText) → ProcessAfter o n → IsSome o →
-      commands_of (unwrap_or (option_map (λ (p : ProcessText). p.lines) n) []) ≡ commands_of (unwrap_or (option_map (λ (p : ProcessText). p.lines) o) []) ++ process_lines net chosen router
+      commands_of (unwrap_or (option_map (λ (p : ProcessText). p.lines) n) []) ≡ commands_of (unwrap_or (option_map (λ (p : ProcessText). p.lines) o) []) ++ process_commands net chosen router
   lines_agree None None h some = absurd (none_is_none some)
     where
       none_is_none : IsSome {T = ProcessText} None → ⊥
@@ -114,8 +116,8 @@ module _ (net : Network) (chosen : List Edit) (router : ℕ) where
   lines_agree None (Some q) h some = absurd h
   lines_agree (Some p) None h some = absurd h
   lines_agree (Some p) (Some q) h some =
-      sym (bare_commands q.lines) ∙ ap (λ (r : ProcessText). commands_of r.lines) h ∙ map-append (λ (g : Given Command). g.value) (map bare_given p.lines) (map said (process_lines net chosen router)) ∙
-      ap (λ l. l ++ commands_of (map said (process_lines net chosen router))) (bare_commands p.lines) ∙ ap (λ l. commands_of p.lines ++ l) (said_commands (process_lines net chosen router))
+      sym (bare_commands q.lines) ∙ ap (λ (r : ProcessText). commands_of r.lines) h ∙ map-append (λ (g : Given Command). g.value) (map bare_given p.lines) (map said (process_commands net chosen router)) ∙
+      ap (λ l. l ++ commands_of (map said (process_commands net chosen router))) (bare_commands p.lines) ∙ ap (λ l. commands_of p.lines ++ l) (said_commands (process_commands net chosen router))
 
   module _ (old new : Config) (after : AreSettingsAfter net chosen router old new) where
     pub process_after : ProcessAfter (process_of old) (process_of new)
@@ -129,8 +131,8 @@ module _ (net : Network) (chosen : List Edit) (router : ℕ) where
         name_of (Some s) = refl
 
     module _ (has : IsSome (process_of old)) where
-      pub commands_after : commands_of (lines_of new) ≡ commands_of (lines_of old) ++ process_lines net chosen router
-      commands_after = lines_agree (process_of old) (process_of new) process_after has
+      pub commands_after : commands_of (lines_of new) ≡ commands_of (lines_of old) ++ (turning_lines ++ filter_lines)
+      commands_after = lines_agree (process_of old) (process_of new) process_after has ∙ ap (λ (l : List Command). commands_of (lines_of old) ++ (l ++ filter_lines)) (turned_lines net router chosen)
 
       -- what is said is what the old lines say, or what the added ones say after them
       pub said_after : {X : Type 0} (says : Command → Option X) →
@@ -152,10 +154,10 @@ module _ (net : Network) (chosen : List Edit) (router : ℕ) where
 
       -- a command that is added, or one that there was
       pub command_was : (c : Command) → Contains (commands_of (lines_of new)) c → Contains (commands_of (lines_of old)) c ⊎ IsAdded c
-      command_was c there = elim (Contains-append_cases (commands_of (lines_of old)) (process_lines net chosen router) c (subst (λ l. Contains l c) commands_after there)) [
+      command_was c there = elim (Contains-append_cases (commands_of (lines_of old)) (turning_lines ++ filter_lines) c (subst (λ l. Contains l c) commands_after there)) [
         | inl old ↦ inl old
         | inr added ↦ inr (elim (Contains-append_cases turning_lines filter_lines c added) [ inl t ↦ turning_lines_added c t | inr f ↦ filter_lines_added c f ])
       ]
 
       pub command_stays : (c : Command) → Contains (commands_of (lines_of old)) c → Contains (commands_of (lines_of new)) c
-      command_stays c there = subst (λ l. Contains l c) (sym commands_after) (Contains-append_left (commands_of (lines_of old)) (process_lines net chosen router) c there)
+      command_stays c there = subst (λ l. Contains l c) (sym commands_after) (Contains-append_left (commands_of (lines_of old)) (turning_lines ++ filter_lines) c there)

@@ -17,18 +17,10 @@ use Rattle.edit_space.proofs.ListKinds.{ListsOfKind}
 use Rattle.settings_edit_laws.specs.Plain.{said, plain_entry, plain_list}
 use Rattle.settings_edit_laws.specs.Additions.{if_own_list, front_lines, new_list_kind}
 use Rattle.settings_edit_laws.specs.SettingsAfter.{list_with, new_list_text}
+use Rattle.settings_edit_laws.proofs.Pairs.{picked_twice}
 use Rattle.settings_edit_laws.proofs.SessionFacts.{one_named}
 use Rattle.settings_edit_laws.proofs.Tables.{plain_picks, said_picks}
 use Rattle.settings_edit_laws.proofs.TextKinds.{TextsOfKind}
-
--- what is picked of what is picked
-picked_twice : {X Y Z : Type 0} (h : Y → Option Z) (g : X → Option Y) (k : X → Option Z) → ((x : X) → option_and_then h (g x) ≡ k x) → (xs : List X) → filter_map h (filter_map g xs) ≡ filter_map k xs
-picked_twice h g k same [] = refl
-picked_twice {X} {Y} {Z} h g k same (x ∷ xs) = by (g x) ∙ ap (λ o. cons_option o (filter_map h (filter_map g xs))) (same x) ∙ ap (cons_option (k x)) (picked_twice h g k same xs)
-  where
-    by : (o : Option Y) → filter_map h (cons_option o (filter_map g xs)) ≡ cons_option (option_and_then h o) (filter_map h (filter_map g xs))
-    by None = refl
-    by (Some y) = refl
 
 none_picked : {X Y : Type 0} (h : X → Option Y) → ((x : X) → h x ≡ None) → (xs : List X) → filter_map h xs ≡ []
 none_picked h none [] = refl

@@ -1,6 +1,6 @@
 -- Lists that go together, and the last things that are picked of a list.
 use Rattle.std.proofs.Common.{◌≡◌, ℕ, zero, suc, ◌⊎◌, inl, inr, true, Option, Some, None, List, [], ◌∷◌, ◌++◌, length, map, refl, sym, ◌∙◌, ap, subst, arith}
-use Rattle.std.specs.Prelude.{Any, Contains, slice_get, is_some}
+use Rattle.std.specs.Prelude.{Any, Contains, slice_get, is_some, option_and_then}
 use Rattle.std.specs.List.{AllZip, filter_map, last_or, cons_option}
 use Rattle.std.proofs.lemmas.Option.{none-some, same_Some}
 use Rattle.arc_base.proofs.Items.{Contains-head, Contains-tail, Contains-none}
@@ -12,6 +12,15 @@ rest (x ∷ xs) = xs
 abbrev first : {X : Type 0} → List X → Option X
 first [] = None
 first (x ∷ xs) = Some x
+
+-- what is picked of what is picked
+pub picked_twice : {X Y Z : Type 0} (h : Y → Option Z) (g : X → Option Y) (k : X → Option Z) → ((x : X) → option_and_then h (g x) ≡ k x) → (xs : List X) → filter_map h (filter_map g xs) ≡ filter_map k xs
+picked_twice h g k same [] = refl
+picked_twice {X} {Y} {Z} h g k same (x ∷ xs) = by (g x) ∙ ap (λ o. cons_option o (filter_map h (filter_map g xs))) (same x) ∙ ap (cons_option (k x)) (picked_twice h g k same xs)
+  where
+    by : (o : Option Y) → filter_map h (cons_option o (filter_map g xs)) ≡ cons_option (option_and_then h o) (filter_map h (filter_map g xs))
+    by None = refl
+    by (Some y) = refl
 
 -- two lists that are the same after maps go together
 pub maps_agree : {X Y Z W : Type 0} (f : Y → Z) (g : W → Z) (h : X → W) (xs : List X) (ys : List Y) → map f ys ≡ map g (map h xs) → AllZip (λ x y. f y ≡ g (h x)) xs ys

@@ -34,7 +34,8 @@ use Rattle.edit_list.specs.declared.list_kinds.NewList.{NewList}
 use Rattle.edit_list.specs.NewLists.{IsNewList, named_lists}
 use Rattle.edit_space.proofs.NamedFacts.{of_route_face}
 use Rattle.edit_list.proofs.NewListFacts.{picked_from}
-use Rattle.settings_edit_laws.specs.Additions.{own_face, session_line, turning_line, filter_line}
+use Rattle.line_patcher.specs.NewListLines.{filter_command}
+use Rattle.settings_edit_laws.proofs.Turned.{own_face, session_line, turning_line}
 use Rattle.settings_edit_laws.specs.SettingsAfter.{AreSettingsAfter}
 use Rattle.settings_edit_laws.proofs.Edited.{AreEdited, FileWas, file_was, face_row, session_is, face_text_now}
 use Rattle.settings_edit_laws.proofs.FaceRows.{any_was}
@@ -133,7 +134,7 @@ module _ (doc : Document) (net : Network) (old new : List Config) (chosen : List
 
     of_filter : (x : Command) → Contains (filter_lines net chosen router) x → names_peer x ≡ Some peer → IsKnown doc old c peer
     of_filter x there named =
-        let r = picked_from (λ (l : NewList × List ℕ). filter_line net l.1 l.0) (named_lists net chosen router) x there in
+        let r = picked_from (λ (l : NewList × List ℕ). filter_command net l.0 l.1) (named_lists net chosen router) x there in
         let b = filter_line_is net r.0.1 r.0.0 x r.2 in
         let made = subst (λ (l : NewList). IsNewList net chosen router l r.0.1) b.is_route (new_of_named net g.valid g.small chosen router r.0 r.1) in
         let of = of_route_face net g.valid chosen router b.face r.0.1 made in

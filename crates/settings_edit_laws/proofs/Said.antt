@@ -30,7 +30,8 @@ use Rattle.arc_base.specs.Numbered.{is_empty}
 use Rattle.edit_list.specs.After.{turned_if, passive_after}
 use Rattle.edit_space.proofs.NamedFacts.{of_route_face}
 use Rattle.edit_list.proofs.NewListFacts.{picked_from, picks}
-use Rattle.settings_edit_laws.specs.Additions.{own_face, session_line, turning_line, filter_line}
+use Rattle.line_patcher.specs.NewListLines.{filter_command}
+use Rattle.settings_edit_laws.proofs.Turned.{own_face, session_line, turning_line}
 use Rattle.settings_edit_laws.specs.SettingsAfter.{AreSettingsAfter}
 use Rattle.settings_edit_laws.proofs.Pairs.{picks_nothing, last_is_one}
 use Rattle.settings_edit_laws.proofs.Lines.{turning_lines, filter_lines, said_after}
@@ -82,7 +83,7 @@ pub record Binds (net : Network) (name : List ℕ) (list : NewList) (c : Command
   pub at : session_at net face ≡ Some session
   pub is : c ≡ commands.NeighborList session.peer name
 
-pub filter_line_is : (net : Network) (name : List ℕ) (list : NewList) (c : Command) → filter_line net name list ≡ Some c → Binds net name list c
+pub filter_line_is : (net : Network) (name : List ℕ) (list : NewList) (c : Command) → filter_command net list name ≡ Some c → Binds net name list c
 filter_line_is net name (lists.Packet face) c e = absurd (none-some c e)
 filter_line_is net name (lists.Route face) c e = by (session_at net face) refl e
   where
@@ -197,7 +198,7 @@ module _ (net : Network) (valid : IsValid net) (small : IsCountable net) (chosen
   -- a line that binds a list says nothing else
   binding_only : {X : Type 0} (says : Command → Option X) → ((peer : ℕ) (name : List ℕ) → says (commands.NeighborList peer name) ≡ None) → filter_map says (filter_lines net chosen router) ≡ []
   binding_only says silent = picks_nothing says (filter_lines net chosen router) (λ c there.
-      let r = picked_from (λ (l : NewList × List ℕ). filter_line net l.1 l.0) (named_lists net chosen router) c there in
+      let r = picked_from (λ (l : NewList × List ℕ). filter_command net l.0 l.1) (named_lists net chosen router) c there in
       let b = filter_line_is net r.0.1 r.0.0 c r.2 in
       ap says b.is ∙ silent b.session.peer r.0.1)
 
@@ -215,7 +216,7 @@ module _ (net : Network) (valid : IsValid net) (small : IsCountable net) (chosen
   pub bound_new : (peer : ℕ) (name : List ℕ) → Contains (names_bound peer) name → IsBoundNew peer name
   bound_new peer name there =
       let c = picked_from (says_filter peer) (filter_lines net chosen router) name there in
-      let r = picked_from (λ (l : NewList × List ℕ). filter_line net l.1 l.0) (named_lists net chosen router) c.0 c.1 in
+      let r = picked_from (λ (l : NewList × List ℕ). filter_command net l.0 l.1) (named_lists net chosen router) c.0 c.1 in
       let b = filter_line_is net r.0.1 r.0.0 c.0 r.2 in
       let said : says_filter peer (commands.NeighborList b.session.peer r.0.1) ≡ Some name = ap (says_filter peer) (sym b.is) ∙ c.2 in
       let new : IsNewList net chosen router (lists.Route b.face) r.0.1 = subst (λ (l : NewList). IsNewList net chosen router l r.0.1) b.is_route (new_of_named net valid small chosen router r.0 r.1) in
@@ -228,9 +229,9 @@ module _ (net : Network) (valid : IsValid net) (small : IsCountable net) (chosen
 
   pub bound_there : (face : Face) (s : SessionRow) (name : List ℕ) → IsNewList net chosen router (lists.Route face) name → session_at net face ≡ Some s → Contains (names_bound s.peer) name
   bound_there face s name new at =
-      let line : filter_line net name (lists.Route face) ≡ Some (commands.NeighborList s.peer name) = ap (option_map (λ (t : SessionRow). commands.NeighborList t.peer name)) at in
+      let line : filter_command net (lists.Route face) name ≡ Some (commands.NeighborList s.peer name) = ap (option_map (λ (t : SessionRow). commands.NeighborList t.peer name)) at in
       let there : Contains (filter_lines net chosen router) (commands.NeighborList s.peer name) =
-      picks (λ (l : NewList × List ℕ). filter_line net l.1 l.0) (named_lists net chosen router) (lists.Route face, name) (commands.NeighborList s.peer name) (named_of_new net valid small chosen router (lists.Route face) name new) line in
+      picks (λ (l : NewList × List ℕ). filter_command net l.0 l.1) (named_lists net chosen router) (lists.Route face, name) (commands.NeighborList s.peer name) (named_of_new net valid small chosen router (lists.Route face) name new) line in
       let test : (s.peer == s.peer) ≡ true = grind arith in
       picks (says_filter s.peer) (filter_lines net chosen router) (commands.NeighborList s.peer name) name there (ap (λ b. if b then Some name else None) test)
 

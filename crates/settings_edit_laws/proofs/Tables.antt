@@ -25,7 +25,8 @@ use Rattle.edit_list.specs.declared.edit_kinds.Edit.{Edit}
 use Rattle.edit_list.specs.declared.list_kinds.NewList.{NewList}
 use Rattle.edit_list.specs.NewLists.{IsNewList, named_lists}
 use Rattle.settings_edit_laws.specs.Plain.{said, without_number, plain_entry, plain_list}
-use Rattle.settings_edit_laws.specs.Additions.{new_list_kind, route_line, packet_line}
+use Rattle.line_patcher.specs.EntryLines.{packet_command}
+use Rattle.settings_edit_laws.specs.Additions.{new_list_kind, route_line}
 use Rattle.settings_edit_laws.specs.SettingsAfter.{list_with, new_list_text, new_list_texts, AreSettingsAfter}
 use Rattle.settings_edit_laws.proofs.NewNames.{one_list, new_of_named, named_of_new}
 use Rattle.settings_edit_laws.proofs.SessionFacts.{find_one}
@@ -159,7 +160,7 @@ said_picks entry line made is [] = refl
 said_picks entry line made is (x ∷ xs) =
     ap (λ o. cons_option o (filter_map (λ (g : Given Command). entry g.value) (map said (map line xs)))) (is x) ∙ ap (λ l. made x ∷ l) (said_picks entry line made is xs)
 
-pub packet_line_is : (form : ListForm) (name : List ℕ) (e : PacketEntry) → packet_entry (packet_line form name e) ≡ Some e
+pub packet_line_is : (form : ListForm) (name : List ℕ) (e : PacketEntry) → packet_entry (packet_command form name None e) ≡ Some e
 packet_line_is forms.Lines name e = refl
 packet_line_is forms.Block name e = refl
 packet_line_is forms.PrefixLines name e = refl

@@ -1,5 +1,5 @@
 -- How the lists of a kind stand in the files of routers: packet lists, and route lists.
-use Rattle.std.proofs.Common.{◌≡◌, ℕ, inl, inr, Bool, true, false, Option, Some, List, [], ◌∷◌, ◌++◌, map, refl, sym}
+use Rattle.std.proofs.Common.{◌≡◌, ℕ, inl, inr, Bool, true, false, Option, Some, None, List, [], ◌∷◌, ◌++◌, map, refl, sym}
 use Rattle.std.specs.Prelude.{slice_get, option_map, option_and_then}
 use Rattle.std.specs.List.{filter_map}
 use Rattle.std.proofs.lemmas.Bool.{false≢true}
@@ -26,7 +26,8 @@ use Rattle.edit_list.specs.NewLists.{IsNewList}
 use Rattle.edit_list.specs.After.{opposite_packet_entry, opposite_route_entry, class_entry, exact_entry, every_packet, any}
 use Rattle.edit_space.proofs.ListKinds.{ListsOfKind, packets, routes}
 use Rattle.settings_edit_laws.specs.Plain.{without_number}
-use Rattle.settings_edit_laws.specs.Additions.{if_own_list, class_for, prefix_for, packet_line, route_line, front_lines, new_list_lines, new_list_kind}
+use Rattle.line_patcher.specs.EntryLines.{packet_command}
+use Rattle.settings_edit_laws.specs.Additions.{if_own_list, class_for, prefix_for, route_line, front_lines, new_list_lines, new_list_kind}
 use Rattle.settings_edit_laws.proofs.Tables.{packet_without, route_without, packet_line_is, route_line_is}
 
 -- the texts of the lists of a kind, and what edits put into them
@@ -78,7 +79,7 @@ module _ (net : Network) (chosen : List Edit) where
   class_for_is router name (edits.PacketNew face class) = refl
 
   pub packet_front : (router : ℕ) (l : ListText) (k : ListKind) → is_packet_kind k ≡ true →
-      front_lines net chosen router l k ≡ map (λ (c : Class). packet_line l.form l.name (opposite_packet_entry (packet_entries l) c)) (filter_map (class_for net router l.name) chosen)
+      front_lines net chosen router l k ≡ map (λ (c : Class). packet_command l.form l.name None (opposite_packet_entry (packet_entries l) c)) (filter_map (class_for net router l.name) chosen)
   packet_front router l kinds.Extended p = refl
   packet_front router l kinds.Standard p = refl
   packet_front router l kinds.Prefix p = absurd (false≢true p)
@@ -98,10 +99,10 @@ module _ (net : Network) (chosen : List Edit) where
     for_is = class_for_is;
     opposite = opposite_packet_entry;
     edited_is = λ place router name kind entries. refl;
-    line = λ l. packet_line l.form l.name;
+    line = λ l. packet_command l.form l.name None;
     line_is = λ l. packet_line_is l.form l.name;
     front_is = λ router l. packet_front router l l.kind;
-    new_line = packet_line forms.Block;
+    new_line = λ name. packet_command forms.Block name None;
     new_line_is = packet_line_is forms.Block;
     first = λ f. map (class_entry false) (new_classes chosen f.0);
     last = every_packet;

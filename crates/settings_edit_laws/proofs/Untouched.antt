@@ -18,7 +18,8 @@ use Rattle.net_rules.specs.Lists.{packet_entries, route_entries}
 use Rattle.edit_list.specs.declared.edit_kinds.Edit.{Edit}
 use Rattle.edit_list.specs.declared.list_kinds.NewList.{NewList}
 use Rattle.edit_list.specs.After.{opposite_route_entry, opposite_packet_entry}
-use Rattle.settings_edit_laws.specs.Additions.{list_for, new_inbound, prefix_for, class_for, front_lines, route_line, packet_line}
+use Rattle.line_patcher.specs.EntryLines.{packet_command}
+use Rattle.settings_edit_laws.specs.Additions.{list_for, new_inbound, prefix_for, class_for, front_lines, route_line}
 use Rattle.edit_list.specs.NewLists.{named_lists}
 use Rattle.settings_edit_laws.specs.Plain.{said, plain_list}
 use Rattle.settings_edit_laws.specs.SettingsAfter.{face_with, list_with, new_list_text, new_list_texts, process_with, AreSettingsAfter}
@@ -38,8 +39,8 @@ module _ (net : Network) (chosen : List Edit) (router : ℕ) (lists : named_list
 
   front_none : (l : ListText) (k : ListKind) → front_lines net chosen router l k ≡ []
   front_none l kinds.Prefix = ap (map (λ (p : Prefix). route_line l.name (opposite_route_entry (route_entries l) p))) (prefixes l.name)
-  front_none l kinds.Extended = ap (map (λ (c : Class). packet_line l.form l.name (opposite_packet_entry (packet_entries l) c))) (classes l.name)
-  front_none l kinds.Standard = ap (map (λ (c : Class). packet_line l.form l.name (opposite_packet_entry (packet_entries l) c))) (classes l.name)
+  front_none l kinds.Extended = ap (map (λ (c : Class). packet_command l.form l.name None (opposite_packet_entry (packet_entries l) c))) (classes l.name)
+  front_none l kinds.Standard = ap (map (λ (c : Class). packet_command l.form l.name None (opposite_packet_entry (packet_entries l) c))) (classes l.name)
 
   list_same : (l : ListText) → list_with net chosen router l ≡ l
   list_same l = ap (λ (cs : List Command). record l { entries = map said cs ++ l.entries }) (front_none l l.kind)

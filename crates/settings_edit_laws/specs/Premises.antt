@@ -13,7 +13,8 @@ use Rattle.ios_config.specs.declared.settings.Config.{Config}
 use Rattle.ios_config.specs.declared.settings.ListText.{ListText}
 use Rattle.edit_list.specs.declared.edit_kinds.Edit.{Edit}
 use Rattle.edit_list.specs.declared.edit_kinds.Edit.TheVariants as edits
-use Rattle.settings_edit_laws.specs.Additions.{process_lines, prefix_for, class_for}
+use Rattle.settings_edit_laws.specs.Additions.{prefix_for, class_for}
+use Rattle.line_patcher.specs.Additions.{process_commands}
 use Rattle.edit_list.specs.NewLists.{named_lists}
 
 -- The edit makes a new list only where none is bound, and an entry of a packet list is for a class
@@ -42,7 +43,7 @@ pub record HasRoom (chosen : List Edit) (configs : List Config) : Type 0 where
 
 -- the edits add nothing to the file of the router
 pub record IsUntouched (net : Network) (chosen : List Edit) (router : ℕ) : Type 0 where
-  pub lines : process_lines net chosen router ≡ []
+  pub lines : process_commands net chosen router ≡ []
   pub lists : named_lists net chosen router ≡ []
   pub prefixes : (name : List ℕ) → filter_map (prefix_for net router name) chosen ≡ []
   pub classes : (name : List ℕ) → filter_map (class_for net router name) chosen ≡ []

@@ -11,9 +11,10 @@ use Rattle.edit_list.specs.declared.edit_kinds.Edit.{Edit}
 use Rattle.edit_list.specs.declared.list_kinds.NewList.{NewList}
 use Rattle.arc_base.specs.Numbered.{EachRow}
 use Rattle.settings_edit_laws.specs.Plain.{said, plain_list}
-use Rattle.settings_edit_laws.specs.Additions.{process_lines, new_inbound, front_lines}
+use Rattle.settings_edit_laws.specs.Additions.{new_inbound, front_lines}
 use Rattle.settings_edit_laws.specs.Additions.{new_list_lines, new_list_kind, new_list_form}
 use Rattle.edit_list.specs.NewLists.{named_lists}
+use Rattle.line_patcher.specs.Additions.{process_commands}
 
 -- an interface of the router after the edits: its new packet list is bound inbound, where it has
 -- one
@@ -46,7 +47,7 @@ new_list_texts net chosen router =
 -- the process of the router after the edits: it has their lines at its end
 abbrev pub process_with : Network → List Edit → ℕ → ProcessText → ProcessText
 process_with net chosen router process =
-    record process { lines = process.lines ++ map said (process_lines net chosen router) }
+    record process { lines = process.lines ++ map said (process_commands net chosen router) }
 
 -- The new settings of the router's file are the old ones after the edits of the network, except for
 -- the numbers of lines and of entries: the new lists are together somewhere among the old ones.

@@ -4,7 +4,7 @@ use Rattle.net_model.specs.declared.rows.Network.{Network}
 use Rattle.edit_list.specs.declared.edit_kinds.Edit.{Edit}
 use Rattle.edit_list.specs.declared.list_kinds.NewList.{NewList}
 use Rattle.edit_list.specs.Changes.{new_prefixes, new_classes, new_route_change}
-use Rattle.line_patcher.specs.NewListLines.{new_route_lines, new_packet_lines, new_list_lines}
+use Rattle.line_patcher.specs.NewListLines.{new_route_commands, new_packet_commands, new_list_commands}
 use Rattle.line_patcher.specs.Working.{face_of}
 use Rattle.line_patcher.proofs.Growing.{put_same}
 use Rattle.line_patcher.proofs.Tables.{at_number, few_put}
@@ -29,8 +29,8 @@ returns-in-Route c =
     let low : face.0 < length net.faces = subst (λ (l : NewList). (face_of l).0 < length net.faces) c.in-Route.is c.requires.within in
     let same : c.things_at.result.now ≡ new_prefixes chosen face.0 =
     at_number (new_prefixes chosen) (length net.faces) face.0 c.deref.result.now c.args.changes.now.new_routes.items c.things_at.result.now c.requires.changes.new_routes c.deref.ensures.value low c.things_at.ensures in
-    put_same c.push_route_list.result c.args.lines.now.items c.push_route_list.new.lines.items (new_route_lines c.args.name.now c.things_at.result.now) (new_list_lines chosen c.args.list c.args.name.now)
-    (ap (new_route_lines c.args.name.now) same ∙ ap (λ (l : NewList). new_list_lines chosen l c.args.name.now) (sym c.in-Route.is)) c.push_route_list.ensures
+    put_same c.push_route_list.result c.args.commands.now.items c.push_route_list.new.commands.items (new_route_commands c.args.name.now c.things_at.result.now) (new_list_commands chosen c.args.list c.args.name.now)
+    (ap (new_route_commands c.args.name.now) same ∙ ap (λ (l : NewList). new_list_commands chosen l c.args.name.now) (sym c.in-Route.is)) c.push_route_list.ensures
 
 pub returns-in-Packet : goal.returns-in-Packet
 returns-in-Packet c =
@@ -40,5 +40,5 @@ returns-in-Packet c =
     let low : face.0 < length net.faces = subst (λ (l : NewList). (face_of l).0 < length net.faces) c.in-Packet.is c.requires.within in
     let same : c.things_at-in-Packet.result.now ≡ new_classes chosen face.0 =
     at_number (new_classes chosen) (length net.faces) face.0 c.deref-in-Packet.result.now c.args.changes.now.new_packets.items c.things_at-in-Packet.result.now c.requires.changes.new_packets c.deref-in-Packet.ensures.value low c.things_at-in-Packet.ensures in
-    put_same c.push_packet_list.result c.args.lines.now.items c.push_packet_list.new.lines.items (new_packet_lines c.args.name.now c.things_at-in-Packet.result.now) (new_list_lines chosen c.args.list c.args.name.now)
-    (ap (new_packet_lines c.args.name.now) same ∙ ap (λ (l : NewList). new_list_lines chosen l c.args.name.now) (sym c.in-Packet.is)) c.push_packet_list.ensures
+    put_same c.push_packet_list.result c.args.commands.now.items c.push_packet_list.new.commands.items (new_packet_commands c.args.name.now c.things_at-in-Packet.result.now) (new_list_commands chosen c.args.list c.args.name.now)
+    (ap (new_packet_commands c.args.name.now) same ∙ ap (λ (l : NewList). new_list_commands chosen l c.args.name.now) (sym c.in-Packet.is)) c.push_packet_list.ensures

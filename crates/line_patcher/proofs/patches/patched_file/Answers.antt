@@ -8,6 +8,7 @@ use Rattle.net_build.specs.declared.built.Places.{Places}
 use Rattle.edit_list.specs.declared.edit_kinds.Edit.{Edit}
 use Rattle.line_patcher.specs.declared.additions.Additions.{Additions}
 use Rattle.line_patcher.specs.Patches.{IsPatched, patched_text}
+use Rattle.line_patcher.specs.Written.{lines_at}
 use Rattle.line_patcher.proofs.Patched.{is-patched}
 use Rattle.line_patcher.proofs.patches.patched_file.Goals as goal
 
@@ -34,6 +35,6 @@ returns c =
     let chosen : List Edit = c.args.plan.now.changes.edits.items in
     let text : List ℕ = c.args.text.now in
     let all : Additions = c.in_ok-all.all in
-    let Is : List ℕ → Type 0 = λ new. new ≡ patched_text text lines all.before.items all.numbers.items all.after.items in
+    let Is : List ℕ → Type 0 = λ new. new ≡ patched_text text lines (lines_at all.before.items) all.numbers.items (lines_at all.after.items) in
     IfOk-weaker c.patched_text.result Is (IsPatched built chosen i text)
     (λ new is. is-patched built chosen i text new lines own all at there c.in_ok-all.ensures.before c.in_ok-all.ensures.numbers c.in_ok-all.ensures.after is) c.patched_text.ensures

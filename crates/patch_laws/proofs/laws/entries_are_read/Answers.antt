@@ -1,9 +1,6 @@
-use Rattle.patch_laws.proofs.EntrySites.{entries-lines, block-entries, list-entries, prefix-entries, entries-renumbered}
+use Rattle.patch_laws.proofs.EntrySites.{block-entries, list-entries, prefix-entries, entries-renumbered}
 use Rattle.patch_laws.proofs.RenumberedPrefixes.{prefixes-renumbered, numbers-are-words}
 use Rattle.patch_laws.proofs.laws.entries_are_read.Goals as goal
-
-pub returns-clause-lines : goal.returns-clause-lines
-returns-clause-lines c = entries-lines
 
 pub returns-clause-block : goal.returns-clause-block
 returns-clause-block c = block-entries

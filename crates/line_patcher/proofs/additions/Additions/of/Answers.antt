@@ -23,8 +23,8 @@ named_lists-requires c =
     at_number (new_lists_of net chosen) (length net.routers) router c.deref.result.now c.args.plan.now.new_lists.items c.things_at-lists.result.now c.requires.plan.lists c.deref.ensures.value c.requires.router c.things_at-lists.ensures in
     ap length c.slice.ensures.items ∙ names_counted net chosen router c.args.plan.now.names.items c.index.result.now c.requires.plan.names c.requires.router c.index.ensures ∙ ap length (sym lists)
 
-pub lines_before-requires-clause-named : goal.lines_before-requires-clause-named
-lines_before-requires-clause-named c =
+pub commands_before-requires-clause-named : goal.commands_before-requires-clause-named
+commands_before-requires-clause-named c =
     let net : Network = c.args.built.now.net in
     let chosen : List Edit = c.args.plan.now.changes.edits.items in
     let router : ℕ = c.args.router in
@@ -34,8 +34,8 @@ lines_before-requires-clause-named c =
     c.slice.ensures.items ∙ names_are net chosen router c.args.plan.now.names.items c.index.result.now c.requires.plan.names c.requires.router c.index.ensures in
     c.deref-4.ensures.value ∙ c.in_ok-named.ensures ∙ (λ i. zip (lists i) (names i))
 
-pub lines_after-requires-clause-named : goal.lines_after-requires-clause-named
-lines_after-requires-clause-named c =
+pub commands_after-requires-clause-named : goal.commands_after-requires-clause-named
+commands_after-requires-clause-named c =
     let net : Network = c.args.built.now.net in
     let chosen : List Edit = c.args.plan.now.changes.edits.items in
     let router : ℕ = c.args.router in

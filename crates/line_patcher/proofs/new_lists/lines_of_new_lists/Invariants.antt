@@ -1,8 +1,0 @@
-use Rattle.std.proofs.Common.{◌≡◌, take, ℕ, List}
-use Rattle.std.specs.List.{flat_map}
-use Rattle.edit_list.specs.declared.list_kinds.NewList.{NewList}
-use Rattle.line_patcher.specs.NewListLines.{new_list_lines}
-use Rattle.line_patcher.proofs.new_lists.lines_of_new_lists.Given as goal
-
-abbrev pub invariant-loop-list : goal.invariant-loop-list
-invariant-loop-list l = l.lines.items ≡ flat_map (λ (n : NewList × List ℕ). new_list_lines l.changes.edits.items n.0 n.1) (take l.list-index l.named)

@@ -1,8 +1,0 @@
-use Rattle.line_patcher.specs.NewListLines.{deny_line}
-use Rattle.line_patcher.proofs.Growing.{counted_grown}
-use Rattle.line_patcher.proofs.new_lists.push_deny_lines.Goals as goal
-
-pub loop-place-preserved : goal.loop-place-preserved
-loop-place-preserved c =
-    counted_grown (deny_line c.args.name.now) c.args.prefixes.now c.loop-place.place c.index-prefixes-place.result c.args.lines.now.items c.loop-place.lines.items c.push.new.self.items c.in_ok-deny_line.field-0 c.loop-place-test.true
-    c.index-prefixes-place.is c.in_ok-deny_line.ensures c.loop-place.invariant c.in_ok-push.ensures.items

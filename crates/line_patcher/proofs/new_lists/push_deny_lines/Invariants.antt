@@ -1,7 +1,0 @@
-use Rattle.std.proofs.Common.{◌≡◌, ◌++◌, take, map}
-use Rattle.std.specs.List.{enumerate_from}
-use Rattle.line_patcher.specs.NewListLines.{deny_line}
-use Rattle.line_patcher.proofs.new_lists.push_deny_lines.Given as goal
-
-abbrev pub invariant-loop-place : goal.invariant-loop-place
-invariant-loop-place l = l.lines.items ≡ l.fn.lines.items ++ map (deny_line l.name) (enumerate_from 1 (take l.place l.prefixes))

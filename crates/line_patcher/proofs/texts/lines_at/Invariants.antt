@@ -1,9 +1,0 @@
-use Rattle.std.proofs.Common.{◌≡◌, ℕ, List, map, take}
-use Rattle.std.specs.List.{range_with_len}
-use Rattle.arc_base.specs.Numbered.{of_number}
-use Rattle.line_patcher.proofs.texts.lines_at.Given as goal
-
-abbrev pub invariant-loop-number : goal.invariant-loop-number
-invariant-loop-number l =
-    let group : ℕ → List (List ℕ) = λ k. of_number k (take l.number-index l.lines) in
-    l.groups.items ≡ map group (range_with_len 0 l.count)
