@@ -1,13 +1,12 @@
 -- A verdict is right for a policy where it is for the policy's ends in the network.
-use Rattle.std.proofs.Common.{◌≡◌, ℕ, Bool, false, IsTrue, refl, sym, subst}
+use Rattle.std.proofs.Common.{◌≡◌, ℕ, Bool, IsTrue, refl, sym, subst}
 use Rattle.std.specs.Prelude.{◌↔◌}
-use Rattle.std.proofs.lemmas.Bool.{false≢true}
 use Rattle.arc_base.specs.declared.place.Link.{Link}
 use Rattle.net_model.specs.declared.lists.Packet.{Packet}
 use Rattle.net_model.specs.declared.policies.Class.{Class}
 use Rattle.net_model.specs.declared.policies.Policy.{Policy}
 use Rattle.net_model.specs.declared.policies.PolicyKind.{PolicyKind}
-use Rattle.net_model.specs.declared.policies.PolicyKind.TheVariants.{Blocked, Through, Reach}
+use Rattle.net_model.specs.declared.policies.PolicyKind.TheVariants.{Reach}
 use Rattle.net_model.specs.declared.rows.Network.{Network}
 use Rattle.net_model.specs.Packets.{subject}
 use Rattle.net_model.specs.Forwarding.{Ends, AreEnds}
@@ -15,7 +14,7 @@ use Rattle.net_model.specs.Validity.{IsValid}
 use Rattle.net_model.proofs.Hosts.{one_pair_of_ends}
 use Rattle.arc_nodecut.specs.declared.verdict.NodeVerdict.{NodeVerdict}
 use Rattle.arc_nodecut.specs.declared.verdict.NodeVerdict.TheVariants.{Same, Direct, Apart, Denied, Cut, Refused}
-use Rattle.arc_nodecut.specs.NodeWitnesses.{IsRight, IsRightPast, IsRightPastFor}
+use Rattle.arc_nodecut.specs.NodeWitnesses.{IsRightNodeVerdict, IsRightPast, IsRightPastFor}
 use Rattle.arc_nodecut.specs.Shown.{IsShown}
 
 -- neither a denial nor a refusal
@@ -37,26 +36,17 @@ kind_right net ends k kind whole v is =
     subst (λ (asked : PolicyKind). IsRightPast net ends k whole v ↔ IsRightPastFor net ends asked whole v) (sym is) (λ x. x, λ x. x)
 
 pub shown_right : (net : Network) → IsValid net → (policy : Policy) (k : ℕ) → policy.kind ≡ Reach k → (ends : Ends) → AreEnds net (subject policy) ends → (v : NodeVerdict) → IsOther v →
-    (at : Network) (whole : Class) → at ≡ net → whole ≡ subject policy → (b : Bool) → (IsTrue b ↔ IsShown at ends k whole v) → IsTrue b ↔ IsRight net policy v
+    (at : Network) (whole : Class) → at ≡ net → whole ≡ subject policy → (b : Bool) → (IsTrue b ↔ IsShown at ends k whole v) → IsTrue b ↔ IsRightNodeVerdict net policy v
 shown_right net valid policy k reach ends are v other at whole same_net same_class b tells_at =
     let at_net : IsTrue b ↔ IsShown net ends k whole v = subst (λ (n : Network). IsTrue b ↔ IsShown n ends k whole v) same_net tells_at in
     let tells : IsTrue b ↔ IsShown net ends k (subject policy) v = subst (λ (c : Class). IsTrue b ↔ IsShown net ends k c v) same_class at_net in
     let shown : IsShown net ends k (subject policy) v ↔ IsRightPast net ends k (subject policy) v = shown_is net ends k (subject policy) v other in
     let kinds : IsRightPast net ends k (subject policy) v ↔ IsRightPastFor net ends policy.kind (subject policy) v = kind_right net ends k policy.kind (subject policy) v reach in (
       λ t. record { ends = ends; are_ends = are; right = kinds.0 (shown.0 (tells.0 t)) },
-      λ (right : IsRight net policy v).
+      λ (right : IsRightNodeVerdict net policy v).
           let same : right.ends ≡ ends = one_pair_of_ends net valid (subject policy) right.ends ends right.are_ends are in
           tells.1 (shown.1 (kinds.1 (subst (λ (e : Ends). IsRightPastFor net e policy.kind (subject policy) v) same right.right))),
     )
-
--- no verdict on another kind of policy is right
-not_for : (net : Network) (ends : Ends) (kind : PolicyKind) (whole : Class) (v : NodeVerdict) → ((k : ℕ) → kind ≡ Reach k → ⊥) → IsRightPastFor net ends kind whole v → ⊥
-not_for net ends Blocked whole v other right = right
-not_for net ends Through whole v other right = right
-not_for net ends (Reach k) whole v other right = other k refl
-
-pub not_reach : (net : Network) (policy : Policy) (v : NodeVerdict) → ((k : ℕ) → policy.kind ≡ Reach k → ⊥) → IsTrue false ↔ IsRight net policy v
-not_reach net policy v other = (λ t. absurd (false≢true t), λ right. absurd (not_for net right.ends policy.kind (subject policy) v other right.right))
 
 -- what is neither a denial nor a refusal
 pub is_other : (v : NodeVerdict) → ((class : Class) → v ≡ Denied class → ⊥) → ((p : Packet) (link : Link) → v ≡ Refused p link → ⊥) → IsOther v

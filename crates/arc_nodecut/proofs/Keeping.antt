@@ -1,9 +1,7 @@
 -- Sides that arcs keep to, as the check of a cut goes over the links.
-use Rattle.std.proofs.Common.{◌≡◌, ◌≢◌, ℕ, ◌<◌, ◌≤◌, ◌↔◌, Bool, true, IsTrue, List, length, map, All, Contains, refl, sym, ap, ◌∙◌, subst, arith}
+use Rattle.std.proofs.Common.{◌≡◌, ◌≢◌, ℕ, ◌≤◌, ◌↔◌, Bool, true, IsTrue, List, length, map, All, Contains, refl, sym, ap, ◌∙◌, subst}
 use Rattle.std.specs.List.Sorted.{IsStrictlyIncreasing}
-use Rattle.std.proofs.lemmas.Option.{slice_get_within}
 use Rattle.std.proofs.lemmas.List.Elements.{All-contains}
-use Rattle.graph_flow.proofs.Lists.{All-from_members}
 use Rattle.arc_base.specs.declared.place.Router.{Router}
 use Rattle.arc_base.specs.declared.prefix.Prefix.{Prefix}
 use Rattle.net_model.specs.declared.rows.Network.{Network}
@@ -15,7 +13,7 @@ use Rattle.net_model.specs.Witnesses.{IsOn}
 use Rattle.net_model.proofs.Arcs.{IsArc-unique}
 use Rattle.arc_nodecut.specs.Hops.{IsHop}
 use Rattle.arc_nodecut.specs.CutParts.{KeepsOver, KeepsBoth, IsInner, IsOff}
-use Rattle.arc_nodecut.specs.NodeWitnesses.{JoinsEnds, PartsAt, IsRightCut}
+use Rattle.arc_nodecut.specs.NodeWitnesses.{JoinsEnds, PartsAt, IsRightRouterCut}
 
 module _ (net : Network) (to : Prefix) (routers : List Router) (side : List Bool) (link : ℕ) (from_a : Bool) where
   module _ (tail head : Router) (hop : IsHop net to link from_a tail.0 head.0) where
@@ -46,11 +44,6 @@ module _ (net : Network) (to : Prefix) (routers : List Router) (side : List Bool
           (λ has. none (subst (Contains routers) (same_router hop.arc.head.router head hop.head_is) has)))),
     )
 
-module _ (net : Network) (to : Prefix) (routers : List Router) (side : List Bool) where
-  pub all_keep : (n : ℕ) → length net.links ≤ n → ((link : ℕ) → link < n → KeepsBoth net to routers side link) → (link : ℕ) → KeepsBoth net to routers side link
-  all_keep n all keeps link from_a arc is_arc routed over way on free =
-      keeps link (omega (arith, slice_get_within net.links arc.link arc.row is_arc.link, over, all)) from_a arc is_arc routed over way on free
-
 -- what the check of a cut looks at makes it right
 module _ (net : Network) (ends : Ends) (routers : List Router) (side : List Bool) where
   pub parts_if : length side ≡ length net.routers → IsOn side (source_router ends) → (¬ IsOn side (target_router ends)) → All (IsOff side) routers →
@@ -66,9 +59,6 @@ module _ (net : Network) (ends : Ends) (routers : List Router) (side : List Bool
     λ parts. tells.1 (λ link from_a arc is_arc routed over way on free. parts.closed arc is_arc routed on free),
   )
 
-  pub off_of : PartsAt net ends routers side → All (IsOff side) routers
-  off_of parts = All-from_members (IsOff side) routers (λ r has. parts.off r has)
-
   -- no link joins the ends where routers part them
   unjoined : PartsAt net ends routers side → All (λ r. r.0 ≢ target_router ends) routers → (link : ℕ) → ¬ JoinsEnds net ends link
   unjoined parts apart link j =
@@ -76,7 +66,7 @@ module _ (net : Network) (ends : Ends) (routers : List Router) (side : List Bool
       (λ has. All-contains (λ (r : Router). r.0 ≢ target_router ends) routers j.arc.head.router apart has j.head)))
 
   pub cut_if : (k : ℕ) (whole of_policy : Class) → whole ≡ of_policy → (source_router ends ≡ target_router ends → ⊥) → IsStrictlyIncreasing (map (λ (r : Router). r.0) routers) → All (IsInner net ends) routers →
-      length routers ≤ k → PartsAt net ends routers side → (b : Bool) → (IsTrue b ↔ IsClear net ends of_policy) → IsTrue b ↔ IsRightCut net ends k whole routers side
+      length routers ≤ k → PartsAt net ends routers side → (b : Bool) → (IsTrue b ↔ IsClear net ends of_policy) → IsTrue b ↔ IsRightRouterCut net ends k whole routers side
   cut_if k whole of_policy same apart rising inner few parts b tells =
       let not_target : All (λ (r : Router). r.0 ≢ target_router ends) routers = λ i d low. (let at : IsInner net ends _ = inner i d low in at.not_target) in (
         λ t. record {
@@ -93,5 +83,5 @@ module _ (net : Network) (ends : Ends) (routers : List Router) (side : List Bool
         λ right. tells.1 (subst (IsClear net ends) same right.clear),
       )
 
-  pub inner_of : (k : ℕ) (whole : Class) → IsRightCut net ends k whole routers side → All (IsInner net ends) routers
+  pub inner_of : (k : ℕ) (whole : Class) → IsRightRouterCut net ends k whole routers side → All (IsInner net ends) routers
   inner_of k whole right = λ i d low. record { within = right.within i d low; not_source = right.not_source i d low; not_target = right.not_target i d low }

@@ -14,7 +14,7 @@ use Rattle.net_model.specs.Witnesses.{IsPath, routers_of}
 use Rattle.witness_check.specs.Trails.{IsTrail, IsTrailOnce, Avoids}
 use Rattle.witness_check.proofs.Following.{one_way}
 use Rattle.witness_check.proofs.Repeats.{here, there, first_or_later, empty, pairs_none}
-use Rattle.arc_nodecut.specs.NodeWitnesses.{GoesBy, Passes, ShareOnlyEnds, IsServed, IsRightApart}
+use Rattle.arc_nodecut.specs.NodeWitnesses.{GoesBy, PassesRouter, ShareOnlyEnds, IsServed, IsRightApart}
 use Rattle.arc_nodecut.specs.NodePaths.{MayPass, KeepsOff, GoesOff}
 
 -- what holds of each arc's head holds of each router that is one
@@ -46,13 +46,13 @@ module _ (net : Network) (valid : IsValid net) (ends : Ends) where
   path_of P shown trail = record { arcs = trail.arcs; links = trail.over; leads = trail.leads }
 
   -- a router that is passed is on the path's way, which its links name
-  passed_on : (shown : LinkPath) (arcs : List Arc) (path : IsPath net ends shown) → path.arcs ≡ arcs → (router : ℕ) → Passes net ends shown router → Contains (routers_of (source_router ends) arcs) router
+  passed_on : (shown : LinkPath) (arcs : List Arc) (path : IsPath net ends shown) → path.arcs ≡ arcs → (router : ℕ) → PassesRouter net ends shown router → Contains (routers_of (source_router ends) arcs) router
   passed_on shown arcs path is router passes =
       let same : passes.path.arcs ≡ path.arcs =
       one_way net ends.to valid (source_router ends) (target_router ends) (target_router ends) shown.links passes.path.arcs path.arcs passes.path.links path.links passes.path.leads path.leads in
       subst (λ (xs : List Arc). Contains (routers_of (source_router ends) xs) router) (same ∙ is) passes.there
 
-  shared_head : (q : LinkPath) (router : ℕ) → Passes net ends q router → MayPass net ends q router → (router ≡ source_router ends) ⊎ (router ≡ target_router ends)
+  shared_head : (q : LinkPath) (router : ℕ) → PassesRouter net ends q router → MayPass net ends q router → (router ≡ source_router ends) ⊎ (router ≡ target_router ends)
   shared_head q router at_q (inl source) = inl source
   shared_head q router at_q (inr (inl target)) = inr target
   shared_head q router at_q (inr (inr avoid)) =
@@ -76,9 +76,9 @@ module _ (net : Network) (valid : IsValid net) (ends : Ends) where
         | inr off_source ↦ elim (eqb_tells router (target_router ends)) [
           | inl at ↦ inr (inl at.1)
           | inr off_target ↦
-              let at_p : Passes net ends p router = record { path = path_p; there = there (source_router ends) router (map head_router path_p.arcs) in_p } in
+              let at_p : PassesRouter net ends p router = record { path = path_p; there = there (source_router ends) router (map head_router path_p.arcs) in_p } in
               let never : (h : ℕ) → Contains (map head_router path_q.arcs) h → h ≢ router = λ (h : ℕ) (in_q : Contains (map head_router path_q.arcs) h) (same : h ≡ router).
-              (let at_q : Passes net ends q router =
+              (let at_q : PassesRouter net ends q router =
               record { path = path_q; there = there (source_router ends) router (map head_router path_q.arcs) (subst (Contains (map head_router path_q.arcs)) same in_q) } in
               elim (share router at_p at_q) [ inl source ↦ off_source.1 source | inr target ↦ off_target.1 target ]) in
               inr (inr (record { arcs = path_q.arcs; over = path_q.links; leads = path_q.leads; each = each_head (λ (h : ℕ). h ≢ router) path_q.arcs never }))

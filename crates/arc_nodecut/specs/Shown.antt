@@ -1,4 +1,4 @@
--- Which verdicts routers and links show to be right, beside denials and refusals.
+-- Which verdicts routers and links show to be right, besides denials and refusals.
 use Rattle.std.specs.Prelude.{ℕ}
 use Rattle.net_model.specs.declared.policies.Class.{Class}
 use Rattle.net_model.specs.declared.rows.Network.{Network}
@@ -6,13 +6,14 @@ use Rattle.net_model.specs.Forwarding.{Ends}
 use Rattle.arc_nodecut.specs.declared.verdict.NodeVerdict.{NodeVerdict}
 use Rattle.arc_nodecut.specs.declared.verdict.NodeVerdict.TheVariants.{Same, Direct, Apart, Denied}
 use Rattle.arc_nodecut.specs.declared.verdict.NodeVerdict.TheVariants.{Cut, Refused}
-use Rattle.arc_nodecut.specs.NodeWitnesses.{IsRightSame, IsRightDirect, IsRightApart, IsRightCut}
+use Rattle.arc_nodecut.specs.NodeWitnesses.{IsRightSame, IsRightDirect, IsRightApart}
+use Rattle.arc_nodecut.specs.NodeWitnesses.{IsRightRouterCut}
 
 -- the verdict is no denial and no refusal, and is right
 abbrev pub IsShown : Network → Ends → ℕ → Class → NodeVerdict → Type 0
 IsShown net ends k whole Same = IsRightSame net ends whole
 IsShown net ends k whole (Direct link) = IsRightDirect net ends whole link
 IsShown net ends k whole (Apart paths) = IsRightApart net ends k whole paths
-IsShown net ends k whole (Cut routers side) = IsRightCut net ends k whole routers side
+IsShown net ends k whole (Cut routers side) = IsRightRouterCut net ends k whole routers side
 IsShown net ends k whole (Denied class) = ⊥
 IsShown net ends k whole (Refused p link) = ⊥

@@ -1,10 +1,10 @@
 //! Whether the witness of a verdict under failed routers is right, found without a search.
-ghost use Rattle.std.specs.Prelude.{◌≡◌, ◌↔◌, IsTrue};
+ghost use Rattle.std.specs.Prelude.{◌↔◌, IsTrue};
 ghost use Rattle.net_model.specs.Packets.{subject};
 ghost use Rattle.net_model.specs.Forwarding.{HasEnds};
 ghost use Rattle.net_model.specs.Validity.{IsValid};
 ghost use Rattle.witness_check.specs.Cases.{IsTold, ends_of};
-ghost use Rattle.arc_nodecut.specs.NodeWitnesses.{IsRight};
+ghost use Rattle.arc_nodecut.specs.NodeWitnesses.{IsRightNodeVerdict};
 ghost use Rattle.arc_nodecut.specs.Shown.{IsShown};
 
 use crate::apart::is_right_apart;
@@ -21,7 +21,7 @@ use witness_check::Case;
 pub fn accepts_nodes(net: &Network, policy: &Policy, v: &NodeVerdict) -> bool
     requires valid { IsValid net.now }
     requires ends { HasEnds net.now (subject policy.now) }
-    ensures { IsTrue result ↔ IsRight net.now policy.now v.now }
+    ensures { IsTrue result ↔ IsRightNodeVerdict net.now policy.now v.now }
 {
     let PolicyKind::Reach(k) = policy.kind else {
         return false;

@@ -1,5 +1,5 @@
 //! Whether paths share no router but their ends, without a search and without memory.
-ghost use Rattle.std.specs.Prelude.{◌≡◌, ◌↔◌, IsTrue, All, AllPairs};
+ghost use Rattle.std.specs.Prelude.{◌↔◌, IsTrue, All, AllPairs};
 ghost use Rattle.net_model.specs.Validity.{IsValid};
 ghost use Rattle.witness_check.specs.Cases.{IsTold, ends_of};
 ghost use Rattle.witness_check.specs.Trails.{IsTrail};

@@ -1,5 +1,5 @@
 //! The yeses that show no paths, judged without memory.
-ghost use Rattle.std.specs.Prelude.{◌≡◌, ◌↔◌, IsTrue, IfSome, IfNone};
+ghost use Rattle.std.specs.Prelude.{◌↔◌, IsTrue, IfSome, IfNone};
 ghost use Rattle.net_model.specs.Forwarding.{source_router, target_router};
 ghost use Rattle.witness_check.specs.Cases.{IsTold, ends_of};
 ghost use Rattle.arc_nodecut.specs.Hops.{IsHop, IsNoHop};

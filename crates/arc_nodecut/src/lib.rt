@@ -2,7 +2,8 @@
 //! failed routers if its ends share a router or a link, or K + 1 paths lead from source to target,
 //! no two of them through one router; else a cut of at most K routers separates the ends. The graph
 //! has two nodes for each router, so that paths over different links of it are paths through
-//! different routers.
+//! different routers. `accepts_nodes` is for callers of the library: `arcv` makes verdicts, and
+//! reads none again.
 #![tactic(auto)]
 
 mod acceptance;
@@ -20,7 +21,7 @@ mod text;
 mod verdict;
 
 pub use acceptance::accepts_nodes;
-pub use judgement::judge_nodes;
+pub use judgement::{judge_nodes, judge_nodes_of};
 pub use laws::{node_verdicts_are_right, paths_or_router_cut};
 pub use text::nodes_text;
 pub use verdict::NodeVerdict;

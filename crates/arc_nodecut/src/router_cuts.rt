@@ -1,8 +1,7 @@
 //! Whether routers part the ends, without a search and without memory.
-ghost use Rattle.std.specs.Prelude.{◌≡◌, ◌≢◌, ◌↔◌, ◌<◌, ◌≤◌, ◌-◌, ◌+◌, ℕ, Bool, IsTrue, All};
-ghost use Rattle.std.specs.Prelude.{Contains, length, map};
+ghost use Rattle.std.specs.Prelude.{◌↔◌, ◌<◌, ◌-◌, ℕ, IsTrue, All, Contains, map};
 ghost use Rattle.std.specs.List.Sorted.{IsStrictlyIncreasing};
-ghost use Rattle.arc_nodecut.specs.NodeWitnesses.{PartsAt, IsRightCut};
+ghost use Rattle.arc_nodecut.specs.NodeWitnesses.{PartsAt, IsRightRouterCut};
 ghost use Rattle.witness_check.specs.Cases.{IsTold, ends_of};
 ghost use Rattle.arc_nodecut.specs.CutParts.{KeepsOver, KeepsBoth, IsInner, IsOff};
 
@@ -143,7 +142,7 @@ pub(crate) fn is_right_cut(
 ) -> bool
     requires { IsTold case.now }
     ensures { IsTrue result ↔
-        IsRightCut case.now.net.now (ends_of case.now) k case.now.whole routers.now side.now }
+        IsRightRouterCut case.now.net.now (ends_of case.now) k case.now.whole routers.now side.now }
 {
     if case.is_local() {
         return false;

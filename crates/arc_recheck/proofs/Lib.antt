@@ -3,3 +3,4 @@ pub mod Passing
 pub mod Hanging
 pub mod BlocksTaken
 pub mod OneAnswer
+pub mod Anew

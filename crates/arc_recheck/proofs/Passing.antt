@@ -1,36 +1,17 @@
 -- Of a clear class that reaches its target with all links up each packet enters and leaves.
 use Rattle.std.proofs.Common.{◌≡◌, ◌↔◌, ℕ, ◌+◌, inl, inr, Bool, Option, List, [], IsTrue, refl, subst, arith}
-use Rattle.std.specs.Prelude.{slice_get, IsSomeAnd}
-use Rattle.arc_base.specs.declared.place.ListId.{ListId}
-use Rattle.net_model.specs.declared.lists.Packet.{Packet}
-use Rattle.net_model.specs.declared.lists.PacketList.{PacketList}
 use Rattle.net_model.specs.declared.policies.Class.{Class}
 use Rattle.net_model.specs.declared.rows.Network.{Network}
-use Rattle.net_model.specs.Lists.{permits}
 use Rattle.net_model.specs.Routing.{Arc, IsStable}
-use Rattle.net_model.specs.Forwarding.{Ends, AreEnds, Enters, Leaves, ListPermits, Walk, IsStuck, source_router, target_router}
+use Rattle.net_model.specs.Forwarding.{Ends, AreEnds, Enters, Walk, IsStuck, source_router, target_router}
 use Rattle.net_model.specs.Policies.{IsClear, Reaches}
 use Rattle.net_model.specs.Validity.{IsValid}
 use Rattle.net_laws.specs.Breaking.{no_link}
-use Rattle.net_laws.proofs.Decisions.{Decided, both, is_true, if_some, is_some_and}
+use Rattle.net_laws.proofs.Decisions.{leaves_surely}
 use Rattle.net_laws.proofs.Existence.{some_stable_map}
 use Rattle.net_laws.proofs.RightCuts.{none_failed, source_in, stuck_at_source, value_of, walk_to}
 use Rattle.class_graph.specs.Passing.{EachPasses}
 use Rattle.witness_check.specs.Cases as cases
-
--- whether a packet leaves can be decided
-permitted : (net : Network) (list : Option ListId) (p : Packet) → Decided (ListPermits net list p)
-permitted net list p =
-    let P : PacketList → Type 0 = λ l. IsTrue (permits l.entries p) in
-    if_some (λ (id : ListId). IsSomeAnd (slice_get net.packet_lists id.0) P)
-    (λ id. is_some_and P (λ l. is_true (permits l.entries p)) (slice_get net.packet_lists id.0)) list
-
-leaves_surely : (net : Network) (ends : Ends) (p : Packet) → ((¬ Leaves net ends p) → ⊥) → Leaves net ends p
-leaves_surely net ends p h =
-    elim (both (is_true ends.target.up) (permitted net ends.target.list_out p)) [
-      | inl leaves ↦ leaves
-      | inr stays ↦ absurd (h stays)
-    ]
 
 -- what a case tells of its packets
 pub passes_told : (case_net net : Network) (ends : Ends) (class whole : Class) → case_net ≡ net → class ≡ whole → (b : Bool) → (IsTrue b ↔ cases.EachPasses case_net ends class) →

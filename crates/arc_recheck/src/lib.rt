@@ -12,6 +12,6 @@ mod singles;
 mod texts;
 
 pub use held::HeldBlocks;
-pub use rechecking::{Rechecked, recheck, recheck_under};
-pub use singles::{alone, alone_given};
+pub use rechecking::{Rechecked, recheck, recheck_few};
+pub use singles::{alone, alone_given, alone_with};
 pub use texts::recheck_text;

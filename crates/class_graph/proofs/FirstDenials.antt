@@ -1,13 +1,20 @@
 -- The first denial of a list of classes, as a walk through the list finds it.
-use Rattle.std.proofs.Common.{◌≡◌, ℕ, ◌+◌, ◌<◌, ◌≤◌, Bool, true, false, Option, Some, None, List, length, refl, sym, ◌∙◌, subst, inl, inr, arith}
-use Rattle.std.specs.Prelude.{if◌then◌else◌, nat_le, slice_get, MatchOption}
+use Rattle.std.proofs.Common.{◌≡◌, ◌≢◌, ℕ, ◌+◌, ◌<◌, ◌≤◌, Bool, true, false, Option, Some, None, List, length, refl, sym, ◌∙◌, subst, inl, inr, arith}
+use Rattle.std.specs.Prelude.{if◌then◌else◌, nat_le, slice_get, MatchOption, All, Contains}
 use Rattle.std.proofs.lemmas.Bool.{false≢true}
 use Rattle.std.proofs.lemmas.Bool.Decides.{leb_tells}
+use Rattle.std.proofs.lemmas.List.Elements.{All-contains}
 use Rattle.std.proofs.lemmas.Option.{slice_get_within}
 use Rattle.arc_base.specs.declared.place.Link.{Link}
 use Rattle.arc_base.specs.declared.prefix.Prefix.{Prefix}
+use Rattle.net_model.specs.declared.lists.Packet.{Packet}
 use Rattle.net_model.specs.declared.policies.Class.{Class}
 use Rattle.net_model.specs.declared.rows.Network.{Network}
+use Rattle.net_model.specs.Packets.{IsOf, LiesIn, first_packet}
+use Rattle.net_model.specs.Forwarding.{Ends, source_router, target_router}
+use Rattle.net_model.specs.Witnesses.{IsRightRefused}
+use Rattle.net_model.proofs.Packets.{first_is_of}
+use Rattle.net_model.proofs.Readings.{item_at_place}
 use Rattle.class_graph.specs.Denials.{IsDeniedOn, IsDeniedNowhere, IsLeastDenied}
 use Rattle.class_graph.proofs.Passing.{one_more_class}
 use Rattle.class_graph.specs.declared.first_denials.Denial.{Denial}
@@ -70,3 +77,20 @@ all_of_them net to items n end (Some d) is = record {
 pub denial_at_end : (net : Network) (to : Prefix) (items classes : List Class) → items ≡ classes → (n : ℕ) → length items ≤ n → (best : Option Denial) →
     IsFirstDenial net to items n best → IsFirstDenial net to classes (length classes) best
 denial_at_end net to items classes same n end best is = subst (λ (cs : List Class). IsFirstDenial net to cs (length cs) best) same (all_of_them net to items n end best is)
+
+-- the first denial of classes of a whole is a right refusal of it
+pub right_refusal : (net : Network) (ends : Ends) (whole : Class) (classes : List Class) → All (λ (c : Class). LiesIn c whole) classes → source_router ends ≢ target_router ends → (d : Denial) →
+    IsLowestDenial net ends.to classes (length classes) d → (p : Packet) → p ≡ first_packet d.class → IsRightRefused net ends whole p d.link
+right_refusal net ends whole classes parts apart d denial p packet =
+    let one : Contains classes d.class = item_at_place classes denial.is_first.place d.class denial.is_first.at_place in
+    let part : LiesIn d.class whole = All-contains (λ (c : Class). LiesIn c whole) classes d.class parts one in
+    let of_class : IsOf d.class p = subst (IsOf d.class) (sym packet) (first_is_of d.class) in
+    record {
+      apart = apart;
+      packet = (part.0 p.from of_class.0, part.1 p.to of_class.1, part.2 p.service of_class.2);
+      arc = denial.denied.arc;
+      of_link = denial.denied.of_link;
+      is_arc = denial.denied.is_arc;
+      routed = denial.denied.routed;
+      denied = denial.denied.denied p of_class;
+    }

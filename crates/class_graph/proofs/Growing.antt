@@ -186,28 +186,6 @@ grown_by_none net to P link from_a g is none = record {
   );
 }
 
--- both arcs of a link
-pub next_link : (net : Network) (to : Prefix) (P : Arc → Type 0) (link : ℕ) (g : Digraph) →
-    IsGraphBelow net to P (number link false + 1) g → IsGraphBelow net to P (number (link + 1) true) g
-next_link net to P link g is = subst (λ (n : ℕ). IsGraphBelow net to P n g) (omega arith) is
-
-pub second_way : (net : Network) (to : Prefix) (P : Arc → Type 0) (link : ℕ) (g : Digraph) →
-    IsGraphBelow net to P (number link true + 1) g → IsGraphBelow net to P (number link false) g
-second_way net to P link g is = subst (λ (n : ℕ). IsGraphBelow net to P n g) (omega arith) is
-
--- no arcs yet
-pub no_arcs : (net : Network) (to : Prefix) (P : Arc → Type 0) (g : Digraph) → g ≡ record { nodes = length net.routers; arcs = [] } →
-    IsGraphBelow net to P (number 0 true) g
-no_arcs net to P g made = record {
-  nodes = ap (λ (d : Digraph). d.nodes) made;
-  arcs = λ b. (
-    λ has. (
-        let none : Contains [] b = subst (λ (arcs : List shown.Arc). Contains arcs b) (ap (λ (d : Digraph). d.arcs) made) has in
-        absurd (omega (arith, none.1))),
-    λ below. absurd (omega (arith, below.below)),
-  );
-}
-
 number_low : (link n : ℕ) (from_a : Bool) → link < n → number link from_a < number n true
 number_low link n true low = omega arith
 number_low link n false low = omega arith

@@ -9,3 +9,5 @@ pub mod Through
 pub mod Passing
 pub mod Clear
 pub mod FirstDenials
+pub mod FirstBetween
+pub mod LastGraphs

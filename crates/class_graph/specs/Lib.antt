@@ -6,3 +6,5 @@ pub mod Building
 pub mod Denials
 pub mod Passing
 pub mod FirstDenials
+pub mod Barriers
+pub mod LastGraphs

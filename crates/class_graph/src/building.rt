@@ -1,5 +1,5 @@
 //! Building the graph of a class, or of all routed arcs.
-ghost use Rattle.std.specs.Prelude.{◌≡◌, ◌↔◌, IsTrue, IfOk};
+ghost use Rattle.std.specs.Prelude.{IfOk};
 ghost use Rattle.net_model.specs.Validity.{IsValid};
 ghost use Rattle.net_model.specs.Forwarding.{HasEnds, Ends};
 ghost use Rattle.net_model.specs.Tables.{AreRoutedLinks};

@@ -19,7 +19,7 @@ pub struct Denial {
 
 /// The first link that denies some of the classes, with the first of these. It looks at each link
 /// once for each class.
-pub fn first_denial(
+pub(crate) fn first_denial(
     alloc: Global,
     net: &Network,
     pair: &HostPair,

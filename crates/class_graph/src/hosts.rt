@@ -1,18 +1,16 @@
 //! The interfaces at which the packets of a class enter and leave.
-ghost use Rattle.std.specs.Prelude.{◌≡◌, ◌↔◌, IsTrue, length, IfOk, IfSome, IfNone};
+ghost use Rattle.std.specs.Prelude.{◌↔◌, IsTrue, length, IfOk, IfSome, IfNone};
 ghost use Rattle.net_model.specs.declared.lists.Packet.{Packet as AnyPacket};
 ghost use Rattle.net_model.specs.Packets.{IsOf};
 ghost use Rattle.net_model.specs.Forwarding.{Ends, HasEnds, Enters, Leaves};
 ghost use Rattle.net_model.specs.Witnesses.{IsUniformFor};
 ghost use Rattle.class_graph.specs.Classes.{AreAllUniform};
-ghost use Rattle.class_graph.specs.Answers.{Allows};
-ghost use Rattle.class_graph.specs.Hosts.{end_in, end_out, IsOpenTo, Admits, IsHostPair};
-ghost use Rattle.class_graph.specs.Hosts.{IsHostPairOf};
+ghost use Rattle.class_graph.specs.Hosts.{IsOpenTo, Admits, IsHostPair, IsHostPairOf};
 ghost use Rattle.class_graph.specs.Passing.{AllPass, IsFirstKeptOut};
 
 use crate::answers::allows;
 use arc_base::{List, ListId, Memory, Prefix, Router};
-use net_model::{Class, FaceRow, Network, Packet, RoutedLink};
+use net_model::{Class, Network, Packet, RoutedLink};
 use std::alloc::Global;
 
 /// An interface at which packets enter or leave: its router, whether it is up, and the list that
@@ -100,31 +98,17 @@ pub fn host_pair(alloc: Global, net: &Network, class: Class) -> Result<HostPair,
     };
     let routed = net.routed_links(alloc, to)?;
     Ok(HostPair {
-        source: entrance(source),
-        target: exit(target),
+        source: End {
+            router: source.router,
+            up: source.up,
+            list: source.list_in,
+        },
+        target: End {
+            router: target.router,
+            up: target.up,
+            list: target.list_out,
+        },
         to,
         routed,
     })
-}
-
-/// The interface as one at which packets enter.
-fn entrance(face: &FaceRow) -> End
-    ensures { result ≡ end_in face.now }
-{
-    End {
-        router: face.router,
-        up: face.up,
-        list: face.list_in,
-    }
-}
-
-/// The interface as one at which packets leave.
-fn exit(face: &FaceRow) -> End
-    ensures { result ≡ end_out face.now }
-{
-    End {
-        router: face.router,
-        up: face.up,
-        list: face.list_out,
-    }
 }

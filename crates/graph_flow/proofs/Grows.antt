@@ -11,7 +11,7 @@ use Rattle.graph_flow.specs.Paths.{Digraph, IsGraph}
 use Rattle.graph_flow.specs.Sides.{Separates}
 use Rattle.graph_flow.specs.Flows.{Units, leaving, entering, only_at, flagged, links_out, IsFlow, IsGreatest, EndsAt}
 use Rattle.graph_flow.specs.Residual.{residual, sent}
-use Rattle.graph_flow.specs.Marks.{is_seen, depth_of, mark_at, way_to, IsSpread}
+use Rattle.graph_flow.specs.Marks.{is_seen, depth_of, mark_at, way_to, IsMarked, IsSpread}
 use Rattle.graph_flow.proofs.Turns.{OnArcs}
 use Rattle.graph_flow.proofs.Residuals.{LiesOn, residual-lies, augmented, source_kept}
 use Rattle.graph_flow.proofs.Cuts.{Closed, cut-length, least_side, greatest}
@@ -45,36 +45,37 @@ value-leaves arcs s t many units apart flow none =
     omega (arith, flow.balanced s, only-none many t s apart, only-all many s, none)
 
 module _ (g : Digraph) (s t : ℕ) (units : Units) (marks : List Mark) (is : IsGraph g) (ls : s < g.nodes) (lt : t < g.nodes)
-    (flow : IsFlow g.arcs s t (leaving units s) units) (spread : IsSpread (residual units g.arcs) s marks) where
-  sides : IsFalse (is_seen (mark_at marks t)) → Separates s t (flagged (map is_seen marks))
-  sides unseen = record { source = flag-seen marks s ∙ ap is_seen spread.start; target = flag-seen marks t ∙ unseen }
+    (flow : IsFlow g.arcs s t (leaving units s) units) where
+  module _ (spread : IsSpread (residual units g.arcs) s marks) where
+    sides : IsFalse (is_seen (mark_at marks t)) → Separates s t (flagged (map is_seen marks))
+    sides unseen = record { source = flag-seen marks s ∙ ap is_seen spread.marked.start; target = flag-seen marks t ∙ unseen }
 
-  closed : Closed g.arcs units (flagged (map is_seen marks))
-  closed arc m inside = flag-seen marks arc.head ∙ spread.closed arc m (sym (flag-seen marks arc.tail) ∙ inside)
+    closed : Closed g.arcs units (flagged (map is_seen marks))
+    closed arc m inside = flag-seen marks arc.head ∙ spread.closed arc m (sym (flag-seen marks arc.tail) ∙ inside)
 
-  -- where the target is not reached, the reached nodes are the least side
-  pub ends-at : IsFalse (is_seen (mark_at marks t)) → EndsAt g.arcs s t (leaving units s) units (map is_seen marks)
-  ends-at unseen = record {
-    least_side = least_side g s t (leaving units s) (flagged (map is_seen marks)) units is ls lt (sides unseen) flow closed
-        (λ node on. seen-leads (residual units g.arcs) s marks spread node (sym (flag-seen marks node) ∙ on));
-    few = cut-length g s t (leaving units s) (flagged (map is_seen marks)) units is ls lt (sides unseen) flow closed;
-  }
+    -- where the target is not reached, the reached nodes are the least side
+    pub ends-at : IsFalse (is_seen (mark_at marks t)) → EndsAt g.arcs s t (leaving units s) units (map is_seen marks)
+    ends-at unseen = record {
+      least_side = least_side g s t (leaving units s) (flagged (map is_seen marks)) units is ls lt (sides unseen) flow closed
+          (λ node on. seen-leads (residual units g.arcs) s marks spread node (sym (flag-seen marks node) ∙ on));
+      few = cut-length g s t (leaving units s) (flagged (map is_seen marks)) units is ls lt (sides unseen) flow closed;
+    }
 
-  pub no-more : IsFalse (is_seen (mark_at marks t)) → IsGreatest g.arcs s t (leaving units s)
-  no-more unseen =
-      let e : EndsAt g.arcs s t (leaving units s) units (map is_seen marks) = ends-at unseen in
-      greatest g s t (leaving units s) (flagged (map is_seen marks)) (links_out units (flagged (map is_seen marks))) is ls lt (sides unseen) e.least_side.left_over e.few
+    pub no-more : IsFalse (is_seen (mark_at marks t)) → IsGreatest g.arcs s t (leaving units s)
+    no-more unseen =
+        let e : EndsAt g.arcs s t (leaving units s) units (map is_seen marks) = ends-at unseen in
+        greatest g s t (leaving units s) (flagged (map is_seen marks)) (links_out units (flagged (map is_seen marks))) is ls lt (sides unseen) e.least_side.left_over e.few
 
   -- where it is reached, one more unit goes there
-  module _ (apart : s ≢ t) (room : All (λ arc. arc.link.0 < length units) g.arcs) (seen : Seen marks t) where
+  module _ (marked : IsMarked (residual units g.arcs) s marks) (apart : s ≢ t) (room : All (λ arc. arc.link.0 < length units) g.arcs) (seen : Seen marks t) where
     pub one-more : IsFlow g.arcs s t (leaving units s + 1) (sent units (way_to marks t))
     one-more =
-        let r : Reached (residual units g.arcs) s marks t (depth_of (mark_at marks t)) = to-reached (residual units g.arcs) s marks spread t seen in
+        let r : Reached (residual units g.arcs) s marks t (depth_of (mark_at marks t)) = to-reached (residual units g.arcs) s marks marked t seen in
         augmented g units s t (leaving units s) is flow room (way_to marks t) r.leads r.once
 
     pub more-leave : leaving (sent units (way_to marks t)) s ≡ leaving units s + 1
     more-leave =
-        let r : Reached (residual units g.arcs) s marks t (depth_of (mark_at marks t)) = to-reached (residual units g.arcs) s marks spread t seen in
+        let r : Reached (residual units g.arcs) s marks t (depth_of (mark_at marks t)) = to-reached (residual units g.arcs) s marks marked t seen in
         let few : entering (sent units (way_to marks t)) s ≤ entering units s = source_kept g units s t (leaving units s) is flow room (way_to marks t) r.leads r.once in
         value-leaves g.arcs s t (leaving units s + 1) (sent units (way_to marks t)) apart one-more (omega (arith, few, none-enters g.arcs s t units apart flow))
 
@@ -85,8 +86,8 @@ module _ (g : Digraph) (s t : ℕ) (units : Units) (marks : List Mark) (is : IsG
     not-greatest most = let more : leaving units s + 1 ≤ leaving units s = most (sent units (way_to marks t)) (leaving units s + 1) one-more in omega (arith, more)
 
 -- the links of the arcs by which nodes were reached have places
-pub marked-place : (g : Digraph) (s : ℕ) (units : Units) (marks : List Mark) → OnArcs g.arcs units → IsSpread (residual units g.arcs) s marks → All (λ arc. arc.link.0 < length units) g.arcs →
+pub marked-place : (g : Digraph) (s : ℕ) (units : Units) (marks : List Mark) → OnArcs g.arcs units → IsMarked (residual units g.arcs) s marks → All (λ arc. arc.link.0 < length units) g.arcs →
     (node : ℕ) (arc : Arc) (depth : ℕ) → mark_at marks node ≡ After arc depth → arc.link.0 < length units
-marked-place g s units marks on spread room node arc depth e =
-    let lies : LiesOn g.arcs arc = residual-lies g.arcs units arc on (spread.over node arc depth e) in
+marked-place g s units marks on marked room node arc depth e =
+    let lies : LiesOn g.arcs arc = residual-lies g.arcs units arc on (marked.over node arc depth e) in
     subst (λ (k : Link). k.0 < length units) lies.of_link (All-contains (λ a. a.link.0 < length units) g.arcs lies.base room lies.is_base)

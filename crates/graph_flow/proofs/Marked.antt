@@ -12,7 +12,7 @@ use Rattle.graph_flow.specs.declared.search.Mark.TheVariants.{Unseen, Start, Aft
 use Rattle.graph_flow.specs.Paths.{Path, Leads, nodes_of, links_of, IsPath}
 use Rattle.arc_base.specs.Lists.{AreDistinct}
 use Rattle.graph_flow.specs.Residual.{residual}
-use Rattle.graph_flow.specs.Marks.{is_seen, depth_of, mark_at, way_by, way_to, path_by, paths_by, IsAfter, AreSteps, IsSpread}
+use Rattle.graph_flow.specs.Marks.{is_seen, depth_of, mark_at, way_by, way_to, path_by, paths_by, IsAfter, AreSteps, IsMarked, IsSpread}
 use Rattle.graph_flow.proofs.Lists.{AllPairs-nil, AllPairs-cons}
 use Rattle.graph_flow.proofs.Ways.{Path-snoc, stays_inside}
 use Rattle.graph_flow.proofs.Searches.{Seen}
@@ -40,40 +40,40 @@ on-reached arcs s marks node depth on = record { leads = on.leads; once = on.onc
 unseen-false : (mark : Mark) → mark ≡ Unseen → IsTrue (is_seen mark) → ⊥
 unseen-false mark e seen = false≢true (sym (ap is_seen e) ∙ seen)
 
-pub reached : (arcs : List Arc) (s : ℕ) (marks : List Mark) → IsSpread arcs s marks → (depth node : ℕ) → Seen marks node → depth_of (mark_at marks node) ≡ depth → Reached arcs s marks node depth
-reached arcs s marks spread zero node seen d =
+pub reached : (arcs : List Arc) (s : ℕ) (marks : List Mark) → IsMarked arcs s marks → (depth node : ℕ) → Seen marks node → depth_of (mark_at marks node) ≡ depth → Reached arcs s marks node depth
+reached arcs s marks marked zero node seen d =
     elim (mark-cases (mark_at marks node)) [
       | inl e ↦ absurd (unseen-false (mark_at marks node) e seen)
       | inr more ↦ elim more [
         | inl e ↦
-            let same : node ≡ s = spread.one_start node e in
+            let same : node ≡ s = marked.one_start node e in
             record {
               leads = sym same;
               once = AllPairs-cons (λ x y. x ≢ y) s [] (All-nil (λ x. s ≢ x)) (AllPairs-nil (λ x y. x ≢ y));
-              low = All-cons (λ x. depth_of (mark_at marks x) ≤ 0) s [] (let z : depth_of (mark_at marks s) ≡ 0 = ap depth_of spread.start in omega (arith, z)) (All-nil (λ x. depth_of (mark_at marks x) ≤ 0));
+              low = All-cons (λ x. depth_of (mark_at marks x) ≤ 0) s [] (let z : depth_of (mark_at marks s) ≡ 0 = ap depth_of marked.start in omega (arith, z)) (All-nil (λ x. depth_of (mark_at marks x) ≤ 0));
             }
         | inr (arc, steps, e) ↦
-            let after : IsAfter marks node arc steps = spread.steps node arc steps e in
+            let after : IsAfter marks node arc steps = marked.steps node arc steps e in
             let is : depth_of (mark_at marks node) ≡ steps = ap depth_of e in
             absurd (omega (arith, after.step, is, d))
       ]
     ]
-reached arcs s marks spread (suc depth) node seen d =
+reached arcs s marks marked (suc depth) node seen d =
     elim (mark-cases (mark_at marks node)) [
       | inl e ↦ absurd (unseen-false (mark_at marks node) e seen)
       | inr more ↦ elim more [
         | inl e ↦ let is : depth_of (mark_at marks node) ≡ 0 = ap depth_of e in absurd (omega (arith, is, d))
         | inr (arc, steps, e) ↦
-            let after : IsAfter marks node arc steps = spread.steps node arc steps e in
+            let after : IsAfter marks node arc steps = marked.steps node arc steps e in
             let is : depth_of (mark_at marks node) ≡ steps = ap depth_of e in
             let tail_depth : depth_of (mark_at marks arc.tail) ≡ depth = omega (arith, after.step, is, d) in
-            let before : Reached arcs s marks arc.tail depth = reached arcs s marks spread depth arc.tail after.tail tail_depth in
+            let before : Reached arcs s marks arc.tail depth = reached arcs s marks marked depth arc.tail after.tail tail_depth in
             let nodes_are : nodes_of s (way_by marks depth (mark_at marks arc.tail)) ++ arc.head ∷ [] ≡ nodes_of s (way_by marks depth (mark_at marks arc.tail) ++ arc ∷ []) =
             ap (λ (xs : List ℕ). s ∷ xs) (sym (map_push (λ (x : Arc). x.head) (way_by marks depth (mark_at marks arc.tail)) arc)) in
             let head_depth : depth_of (mark_at marks arc.head) ≡ suc depth = ap (λ (n : ℕ). depth_of (mark_at marks n)) after.head ∙ d in
             let last : On arcs s marks node (suc depth) (way_by marks depth (mark_at marks arc.tail) ++ arc ∷ []) = record {
               leads = subst (λ (n : ℕ). Path arcs s (way_by marks depth (mark_at marks arc.tail) ++ arc ∷ []) n) after.head
-                  (Path-snoc arcs s (way_by marks depth (mark_at marks arc.tail)) arc before.leads (spread.over node arc steps e));
+                  (Path-snoc arcs s (way_by marks depth (mark_at marks arc.tail)) arc before.leads (marked.over node arc steps e));
               once = subst (λ (xs : List ℕ). AreDistinct xs) nodes_are
                   (all_pairs_push (λ x y. x ≢ y) (nodes_of s (way_by marks depth (mark_at marks arc.tail))) arc.head before.once (λ k x l same.
                   let low : depth_of (mark_at marks (get_or (nodes_of s (way_by marks depth (mark_at marks arc.tail))) k x)) ≤ depth = before.low k x l in
@@ -89,14 +89,14 @@ reached arcs s marks spread (suc depth) node seen d =
     ]
 
 -- the way to a reached node
-pub to-reached : (arcs : List Arc) (s : ℕ) (marks : List Mark) → IsSpread arcs s marks → (node : ℕ) → Seen marks node → Reached arcs s marks node (depth_of (mark_at marks node))
-to-reached arcs s marks spread node seen = reached arcs s marks spread (depth_of (mark_at marks node)) node seen refl
+pub to-reached : (arcs : List Arc) (s : ℕ) (marks : List Mark) → IsMarked arcs s marks → (node : ℕ) → Seen marks node → Reached arcs s marks node (depth_of (mark_at marks node))
+to-reached arcs s marks marked node seen = reached arcs s marks marked (depth_of (mark_at marks node)) node seen refl
 
 pub seen-leads : (arcs : List Arc) (s : ℕ) (marks : List Mark) → IsSpread arcs s marks → (node : ℕ) → Seen marks node → Leads arcs s node
-seen-leads arcs s marks spread node seen = (way_to marks node, (to-reached arcs s marks spread node seen).leads)
+seen-leads arcs s marks spread node seen = (way_to marks node, (to-reached arcs s marks spread.marked node seen).leads)
 
 pub leads-seen : (arcs : List Arc) (s : ℕ) (marks : List Mark) → IsSpread arcs s marks → (node : ℕ) → Leads arcs s node → Seen marks node
-leads-seen arcs s marks spread node w = stays_inside arcs (λ n. Seen marks n) spread.closed s node w.0 w.1 (ap is_seen spread.start)
+leads-seen arcs s marks spread node w = stays_inside arcs (λ n. Seen marks n) spread.closed s node w.0 w.1 (ap is_seen spread.marked.start)
 
 -- what a caller sees at a node
 pub paths-at : (marks : List Mark) (node : ℕ) → get_or (paths_by marks) node None ≡ path_by marks (mark_at marks node)
@@ -128,7 +128,7 @@ some-seen marks node = ap is_some (paths-at marks node) ∙ some-if (is_seen (ma
 pub is-path : (arcs : List Arc) (s : ℕ) (marks : List Mark) → IsSpread arcs s marks → (node : ℕ) (links : List Link) → get_or (paths_by marks) node None ≡ Some links → IsPath arcs s links node
 is-path arcs s marks spread node links e =
     let parts = some-of (is_seen (mark_at marks node)) (links_of (way_to marks node)) links (sym (paths-at marks node) ∙ e) in
-    let way : Reached arcs s marks node (depth_of (mark_at marks node)) = to-reached arcs s marks spread node parts.0 in
+    let way : Reached arcs s marks node (depth_of (mark_at marks node)) = to-reached arcs s marks spread.marked node parts.0 in
     record { way = way_to marks node; of_links = parts.1; leads = way.leads; once = way.once }
 
 -- where nothing is carried, the residual network is the graph

@@ -344,7 +344,7 @@ pub started : (g : Digraph) → IsGraph g → (s t : ℕ) (marks : List Mark) �
     Walked g.arcs s t (sent none (way_to marks t)) needed (way_to marks t)
 started g is s t marks spread seen none needed nothing not_yet room =
     let way : List Arc = way_to marks t in
-    let r : Reached g.arcs s marks t (depth_of (mark_at marks t)) = to-reached g.arcs s marks spread t seen in
+    let r : Reached g.arcs s marks t (depth_of (mark_at marks t)) = to-reached g.arcs s marks spread.marked t seen in
     let on : OnArcs g.arcs none = record {
       is_arc = λ link b e. absurd (none≢some b (unit_at none link) (nothing link) e);
       of_link = λ link b e. absurd (none≢some b (unit_at none link) (nothing link) e);

@@ -7,7 +7,7 @@ use Rattle.std.proofs.lemmas.List.Sums.{sum_by-cons, sum_by-set, sum_by-le}
 use Rattle.graph_flow.specs.declared.arcs.Arc.{Arc}
 use Rattle.graph_flow.specs.declared.search.Mark.{Mark}
 use Rattle.graph_flow.specs.declared.search.Mark.TheVariants.{Unseen, Start, After}
-use Rattle.graph_flow.specs.Marks.{is_seen, depth_of, mark_at, IsAfter, IsSpread, seen_once, IsSearch, Follows}
+use Rattle.graph_flow.specs.Marks.{is_seen, depth_of, mark_at, IsAfter, IsMarked, IsSpread, seen_once, IsSearch, Follows}
 
 -- the node was reached
 abbrev pub Seen : List Mark → ℕ → Type 0
@@ -225,9 +225,9 @@ seen-or-not Unseen = inr refl
 seen-or-not Start = inl refl
 seen-or-not (After arc depth) = inl refl
 
--- a search that has looked at the arcs of all nodes of its queue is done
-pub done : (arcs : List Arc) (s : ℕ) (marks : List Mark) (queue : List ℕ) (count looked : ℕ) → IsSearch arcs s marks queue count looked → count ≤ looked → IsSpread arcs s marks
-done arcs s marks queue count looked search all = record {
+-- at any time a search knows how it came to the nodes that it has reached
+pub is-marked : (arcs : List Arc) (s : ℕ) (marks : List Mark) (queue : List ℕ) (count looked : ℕ) → IsSearch arcs s marks queue count looked → IsMarked arcs s marks
+is-marked arcs s marks queue count looked search = record {
   start = search.start;
   one_start = search.one_start;
   steps = search.steps;
@@ -236,6 +236,12 @@ done arcs s marks queue count looked search all = record {
     | inl seen ↦ let low : depth_of (mark_at marks node) < count = search.shallow node seen in omega (arith, low, search.counted, count-fits marks)
     | inr none ↦ omega (arith, none)
   ];
+}
+
+-- a search that has looked at the arcs of all nodes of its queue is done
+pub done : (arcs : List Arc) (s : ℕ) (marks : List Mark) (queue : List ℕ) (count looked : ℕ) → IsSearch arcs s marks queue count looked → count ≤ looked → IsSpread arcs s marks
+done arcs s marks queue count looked search all = record {
+  marked = is-marked arcs s marks queue count looked search;
   closed = λ arc m seen. let at = search.queued arc.tail seen in let below : at.0 < count = at.1 in search.looked_at at.0 (omega (arith, below)) arc m (sym at.2);
 }
 

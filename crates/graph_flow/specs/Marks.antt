@@ -57,15 +57,19 @@ AreSteps marks =
     (node : ℕ) (arc : Arc) (depth : ℕ) → mark_at marks node ≡ After arc depth →
     IsAfter marks node arc depth
 
--- the reached nodes are those to which the arcs lead from s, and each was reached over one of the
--- arcs
-pub record IsSpread (arcs : List Arc) (s : ℕ) (marks : List Mark) : Type 0 where
+-- each reached node was reached from s over some of the arcs
+pub record IsMarked (arcs : List Arc) (s : ℕ) (marks : List Mark) : Type 0 where
   pub start : mark_at marks s ≡ Start
   pub one_start : (node : ℕ) → mark_at marks node ≡ Start → node ≡ s
   pub steps : AreSteps marks
   pub over : (node : ℕ) (arc : Arc) (depth : ℕ) →
       mark_at marks node ≡ After arc depth → Contains arcs arc
   pub shallow : (node : ℕ) → depth_of (mark_at marks node) ≤ length marks
+
+-- the reached nodes are those to which the arcs lead from s: each was reached over some of the
+-- arcs, and none of these leads from a reached node to one that is not
+pub record IsSpread (arcs : List Arc) (s : ℕ) (marks : List Mark) : Type 0 where
+  pub marked : IsMarked arcs s marks
   pub closed : (arc : Arc) → Contains arcs arc → IsTrue (is_seen (mark_at marks arc.tail)) →
       IsTrue (is_seen (mark_at marks arc.head))
 

@@ -50,7 +50,7 @@ impl Flow {
     }
 
     /// Sends one more unit from `s` to `t`, or changes no unit where no flow has more. It takes no
-    /// memory.
+    /// memory, and looks no further than `t`.
     pub fn grow(&mut self, g: &Graph, s: u32, t: u32) -> bool
         requires source { s < g.now.nodes }
         requires target { t < g.now.nodes }
@@ -66,7 +66,7 @@ impl Flow {
         ensures room { IsMadeFor g.now self.new }
     {
         prove!(t < g.nodes());
-        self.search.run(g, &self.units, s);
+        self.search.seek(g, &self.units, s, t);
         if !self.search.is_seen(t) {
             return false;
         }

@@ -5,7 +5,8 @@ ghost use Rattle.std.specs.Prelude.{replicate, List, vec_len, ℕ, Contains, Som
 ghost use Rattle.graph_flow.specs.Paths.{IsGraph};
 ghost use Rattle.graph_flow.specs.Flows.{unit_at};
 ghost use Rattle.graph_flow.specs.Residual.{residual};
-ghost use Rattle.graph_flow.specs.Marks.{is_seen, depth_of, mark_at, IsSpread, IsSearch, Follows};
+ghost use Rattle.graph_flow.specs.Marks.{is_seen, depth_of, mark_at, IsMarked, IsSpread, IsSearch};
+ghost use Rattle.graph_flow.specs.Marks.{Follows};
 ghost use Rattle.graph_flow.specs.declared.arcs.Arc.{Arc};
 
 use crate::arcs::Arc;
@@ -66,6 +67,51 @@ impl Search {
     {
         self.begin(from);
         self.close(g, carried, from, 0, 1)
+    }
+
+    /// Looks for a way to a node over arcs that have room for one more unit, and stops once it has
+    /// found one.
+    pub(crate) fn seek(&mut self, g: &Graph, carried: &[Option<Arc>], from: u32, to: u32)
+        requires from { from < g.now.nodes }
+        requires to { to < g.now.nodes }
+        requires marks { vec_len self.old.marks ≡ g.now.nodes }
+        requires queue { vec_len self.old.queue ≡ g.now.nodes }
+        requires units { (link : ℕ) (arc : Arc) → unit_at carried.now link ≡ Some arc →
+            Contains g.now.arcs arc }
+        ensures marked { IsMarked (residual carried.now g.now.arcs) from self.new.marks.items }
+        ensures spread { IsFalse (is_seen (mark_at self.new.marks.items to)) →
+            IsSpread (residual carried.now g.now.arcs) from self.new.marks.items }
+        ensures marks { vec_len self.new.marks ≡ vec_len self.old.marks }
+        ensures queue { vec_len self.new.queue ≡ vec_len self.old.queue }
+    {
+        self.begin(from);
+        self.approach(g, carried, from, to);
+    }
+
+    /// Looks at the nodes of the queue, of which there is one, until a node has been found.
+    fn approach(&mut self, g: &Graph, carried: &[Option<Arc>], from: u32, to: u32)
+        requires to { to < g.now.nodes }
+        requires marks { vec_len self.old.marks ≡ g.now.nodes }
+        requires queue { vec_len self.old.queue ≡ g.now.nodes }
+        requires units { (link : ℕ) (arc : Arc) → unit_at carried.now link ≡ Some arc →
+            Contains g.now.arcs arc }
+        requires search { IsSearch (residual carried.now g.now.arcs) from self.old.marks.items
+            self.old.queue.items 1 0 }
+        ensures marked { IsMarked (residual carried.now g.now.arcs) from self.new.marks.items }
+        ensures spread { IsFalse (is_seen (mark_at self.new.marks.items to)) →
+            IsSpread (residual carried.now g.now.arcs) from self.new.marks.items }
+        ensures marks { vec_len self.new.marks ≡ vec_len self.old.marks }
+        ensures queue { vec_len self.new.queue ≡ vec_len self.old.queue }
+    {
+        let mut count = 1;
+        let mut looked = 0;
+        while looked < count {
+            if self.is_seen(to) {
+                return;
+            }
+            count = self.look(g, carried, from, looked, count);
+            looked += 1;
+        }
     }
 
     /// Takes the unit of an arc away, which opens the arc from a node that is reached to one that

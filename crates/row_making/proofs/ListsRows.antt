@@ -12,7 +12,7 @@ use denote.Ref.{Bor}
 use Rattle.ios_config.specs.declared.settings.Config.{Config}
 use Rattle.ios_config.specs.declared.settings.ListText.{ListText}
 use Rattle.net_rules.specs.Lists.{if_defined}
-use Rattle.row_making.specs.ListTables.{AddsRows}
+use Rattle.row_making.specs.ListTables.{Adds, AddsRows}
 use Rattle.net_rules.specs.Ordered.{AreInOrder, IsPairBefore}
 use Rattle.arc_base.specs.NameForms.{IsNameBefore, texts_at}
 use Rattle.arc_base.proofs.Items.{Contains-head, Contains-tail, Contains-cases, Contains-none, All-from, AllPairs-append, AllPairs-rest, AllPairs-first}
@@ -42,6 +42,20 @@ rows_added IsBound f old now left names keys bound none same was = record {
   names = texts_at keys;
   bound = bound;
   added = sym (append-nil now) ∙ ap (λ l. now ++ filter_map f (texts_at l)) (sym none) ∙ was ∙ ap (λ l. old ++ filter_map f (texts_at l)) same;
+}
+
+-- no name is bound
+pub rows_unbound : {R : Type 0} (IsBound : List ℕ → Type 0) (f : List ℕ → Option R) (old : List R) (start keys : List (Bor (List ℕ))) → keys ≡ [] → Adds IsBound start keys → AddsRows IsBound f old old
+rows_unbound IsBound f old start keys none adds = record {
+  names = [];
+  bound = record {
+    order = λ i j d l m. absurd (omega (arith, m));
+    just = λ name. (
+      λ h. absurd (Contains-none name h),
+      λ is. absurd (Contains-none name (subst (λ (ks : List (Bor (List ℕ))). Contains (texts_at ks) name) none ((adds name).1 (inr is)))),
+    );
+  };
+  added = sym (append-nil old);
 }
 
 -- ---- what a list with some results contains

@@ -16,11 +16,9 @@ use Rattle.ios_words.specs.declared.commands.Command.{Command}
 use Rattle.ios_words.specs.declared.commands.Command.TheVariants as commands
 use Rattle.ios_config.specs.declared.settings.Given.{Given}
 use Rattle.ios_config.specs.declared.settings.ListText.{ListText}
-use Rattle.net_rules.specs.Settings.{last_said}
 use Rattle.net_rules.specs.Neighbors.{says_filter}
 use Rattle.net_rules.specs.Lists.{is_of_kind, has_entries, if_defined}
 use Rattle.row_making.specs.ListTables.{route_binding, list_if}
-use Rattle.net_rules.proofs.Lasts.{last_more}
 use Rattle.arc_base.proofs.Items.{Contains-map, from_map}
 use Rattle.net_rules.proofs.Distinct.{Contains-at, at_Contains}
 
@@ -109,13 +107,6 @@ filter_by peer binding = option_and_then (λ (b : ℕ × List ℕ). if b.0 == pe
 pub filter_is : (peer : ℕ) (command : Command) → filter_by peer (route_binding command) ≡ says_filter peer command
 filter_is peer (commands.NeighborList other list) = refl
 filter_is peer other = refl
-
--- one more line
-pub filter_more : (lines : List (Given Command)) (n : ℕ) (line : Given Command) (peer : ℕ) (before after : Option (List ℕ)) (binding : Option (ℕ × List ℕ)) →
-    n < length lines → line ≡ get_or lines n line → before ≡ last_said (says_filter peer) (take n lines) → binding ≡ route_binding line.value →
-    after ≡ option_or (filter_by peer binding) before → after ≡ last_said (says_filter peer) (take (n + 1) lines)
-filter_more lines n line peer before after binding within is was bound now =
-    now ∙ last_more (says_filter peer) lines n line before (filter_by peer binding) within is was (ap (filter_by peer) bound ∙ filter_is peer line.value)
 
 -- a filter that was put at a neighbour
 pub filter_put : (peer other : ℕ) (list : List ℕ) (before : Option (List ℕ)) → cond (nat_eq other peer) (Some list) before ≡ option_or (filter_by peer (Some (other, list))) before

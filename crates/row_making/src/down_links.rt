@@ -1,5 +1,5 @@
 //! The links that are to be down, by their numbers in the document.
-ghost use Rattle.std.specs.Prelude.{◌≡◌, length, option_copied};
+ghost use Rattle.std.specs.Prelude.{◌≡◌, option_copied};
 ghost use Rattle.net_rules.specs.Linking.{RefusesDownLinks, first_above};
 ghost use Rattle.net_rules.specs.Reasons.{TriedAlone};
 

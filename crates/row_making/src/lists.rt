@@ -6,10 +6,10 @@ ghost use Rattle.net_rules.specs.Lists.{AreListNames, ArePacketLists, AreRouteLi
 ghost use Rattle.net_rules.specs.Lists.{is_packet_kind, is_extended_kind, entry_of, packet_entry};
 ghost use Rattle.net_rules.specs.Lists.{route_entry, packet_entries, route_entries, is_of_kind};
 ghost use Rattle.net_rules.specs.Lists.{list_named, if_defined, packet_row, route_row};
-ghost use Rattle.arc_base.specs.NameForms.{IsNameBefore, texts_at};
-ghost use Rattle.row_making.specs.ListTables.{Adds, list_at, list_if, AddsRows};
 ghost use Rattle.net_rules.specs.Lists.{IsBoundPacketList, IsBoundRouteList, packet_row_at};
 ghost use Rattle.net_rules.specs.Lists.{route_row_at};
+ghost use Rattle.arc_base.specs.NameForms.{IsNameBefore, texts_at};
+ghost use Rattle.row_making.specs.ListTables.{Adds, list_at, list_if, AddsRows};
 
 use crate::bound_lists::{Names, add_bound_packet, add_bound_route};
 use arc_base::limits::ROUTER_LIMIT;
@@ -252,7 +252,8 @@ fn add_packet_row(
     }
 }
 
-/// Adds the rows of the packet lists that the file binds and defines.
+/// Adds the rows of the packet lists that the file binds and defines. Where it binds none no list
+/// is looked at.
 fn add_packet_lists(
     alloc: Global,
     rows: &mut Vec<PacketList>,
@@ -264,6 +265,9 @@ fn add_packet_lists(
 {
     let mut bound = BTreeSet::new(alloc);
     add_bound_packet(&mut bound, config)?;
+    if bound.is_empty() {
+        return Ok(());
+    }
     let lists = by_name(alloc, config, true)?;
     for name in &bound {
         let found = lists.get(name).copied();
@@ -292,7 +296,8 @@ fn add_route_row(
     }
 }
 
-/// Adds the rows of the route lists that the file binds and defines.
+/// Adds the rows of the route lists that the file binds and defines. Where it binds none no list is
+/// looked at.
 fn add_route_lists(
     alloc: Global,
     rows: &mut Vec<RouteList>,
@@ -304,6 +309,9 @@ fn add_route_lists(
 {
     let mut bound = BTreeSet::new(alloc);
     add_bound_route(alloc, &mut bound, config)?;
+    if bound.is_empty() {
+        return Ok(());
+    }
     let lists = by_name(alloc, config, false)?;
     for name in &bound {
         let found = lists.get(name).copied();

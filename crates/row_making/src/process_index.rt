@@ -1,14 +1,12 @@
 //! What the process of a file says, gathered once for all interfaces of the file: no look-up goes
 //! through its lines again.
-ghost use Rattle.std.specs.Prelude.{◌≡◌, ◌↔◌, ◌⊎◌, ℕ, List, [], Some, Any, IfOk, IsTrue};
-ghost use Rattle.std.specs.Prelude.{option_map};
+ghost use Rattle.std.specs.Prelude.{◌≡◌, ◌↔◌, ◌⊎◌, ℕ, List, Some, Any, IfOk, IsTrue, option_map};
 ghost use Rattle.std.specs.Option.{option_copied, option_or};
 ghost use Rattle.arc_base.specs.declared.prefix.Prefix.{Prefix};
 ghost use Rattle.ios_words.specs.declared.commands.Command.TheVariants as commands;
 ghost use Rattle.net_rules.specs.Settings.{last_said, says_passive};
 ghost use Rattle.net_rules.specs.Prefixes.{HasPrefix};
-ghost use Rattle.row_making.specs.Indexes.{told_prefix, covered_prefix, passive_setting};
-ghost use Rattle.row_making.specs.Indexes.{by_face};
+ghost use Rattle.row_making.specs.Indexes.{told_prefix, covered_prefix, passive_setting, by_face};
 ghost use Rattle.row_making.specs.Indexes.{said_of, IsIndex};
 
 use crate::commands::reference;

@@ -1,5 +1,6 @@
 pub mod Ranges
 pub mod Splits
+pub mod MarksInside
 pub mod HalvesLeaves
 pub mod Rising
 pub mod OneList

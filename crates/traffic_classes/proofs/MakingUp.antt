@@ -15,10 +15,11 @@ use Rattle.net_model.specs.declared.rows.Network.{Network}
 use Rattle.net_model.specs.declared.services.Service.{Service}
 use Rattle.net_model.specs.Packets.{LiesIn, ShareNoPacket, packets, subject}
 use Rattle.net_model.specs.Services.{services}
+use Rattle.net_model.specs.Witnesses.{IsUniformFor}
 use Rattle.traffic_classes.specs.Leaves.{IsStrictlyInside, IsLeaf, AreLeaves}
 use Rattle.traffic_classes.specs.ServiceLeaves.{IsServiceLeaf}
 use Rattle.traffic_classes.specs.Classes.{source_marks, destination_marks, service_marks, marks_of, all_triples, AreClasses}
-use Rattle.traffic_classes.specs.Parts.{IsUniformFor, MakeUp}
+use Rattle.traffic_classes.specs.Parts.{MakeUp}
 use Rattle.traffic_classes.specs.Laws.{HasOneListOfClasses, ClassesMakeUp, ClassesAreEqualOrDisjoint}
 use Rattle.arc_base.proofs.Items.{Contains-map, Contains-piece, AllPairs-among, All-from}
 use Rattle.traffic_classes.proofs.Ranges.{nested, same_or_strict}

@@ -17,11 +17,10 @@ use Rattle.net_model.specs.declared.services.Service.{Service}
 use Rattle.net_model.specs.Services.{serves}
 use Rattle.net_model.specs.Lists.{matches, permits}
 use Rattle.net_model.specs.Packets.{IsOf}
-use Rattle.net_model.specs.Witnesses.{IsUniform}
+use Rattle.net_model.specs.Witnesses.{IsUniform, IsUniformFor}
 use Rattle.traffic_classes.specs.Leaves.{IsSplit}
 use Rattle.traffic_classes.specs.ServiceLeaves.{IsCut}
 use Rattle.traffic_classes.specs.Classes.{source_marks, destination_marks, service_marks, marks_of}
-use Rattle.traffic_classes.specs.Parts.{IsUniformFor}
 use Rattle.arc_base.proofs.Items.{Contains-head, Contains-tail, Contains-map, Contains-piece, All-from}
 use Rattle.traffic_classes.proofs.Ranges.{nested}
 use Rattle.traffic_classes.proofs.ServiceCuts.{serves_alike}

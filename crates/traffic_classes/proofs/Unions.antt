@@ -19,12 +19,13 @@ use Rattle.net_model.specs.declared.policies.Policy.{Policy}
 use Rattle.net_model.specs.declared.rows.Network.{Network}
 use Rattle.net_model.specs.Packets.{IsOf, LiesIn, ShareNoPacket, first_packet, subject}
 use Rattle.net_model.specs.Services.{is_service_inside}
+use Rattle.net_model.specs.Witnesses.{IsUniformFor}
 use Rattle.net_model.proofs.Packets.{first_is_of}
 use Rattle.net_model.proofs.ServiceRanges.{first-serves}
 use Rattle.traffic_classes.specs.declared.fault.ClassFault.{ClassFault}
 use Rattle.traffic_classes.specs.declared.fault.ClassFault.TheVariants.{TooMany, Memory}
 use Rattle.traffic_classes.specs.Classes.{AreClasses, CountsMore, told}
-use Rattle.traffic_classes.specs.Parts.{MakeUp, HasPacket, IsUniformFor, IsClassOf}
+use Rattle.traffic_classes.specs.Parts.{MakeUp, HasPacket, IsClassOf}
 use Rattle.traffic_classes.specs.AllClasses.{is_same, with_class, each_once, AreAllClasses, FirstHaveMore, lies_off}
 use Rattle.traffic_classes.specs.Laws.{HaveOneListOfClasses, AllClassesTellApart}
 use Rattle.arc_base.proofs.Items.{Contains-head, Contains-tail, Contains-none, Contains-cases, Contains-filter, from_filter, Contains-piece, from_piece, All-from, AllPairs-append, AllPairs-among, AllPairs-none}

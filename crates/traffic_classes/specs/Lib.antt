@@ -1,4 +1,5 @@
 pub mod Leaves
+pub mod SortedMarks
 pub mod Halves
 pub mod ServiceLeaves
 pub mod ServiceParts

@@ -6,12 +6,8 @@ use Rattle.net_model.specs.declared.policies.Class.{Class}
 use Rattle.net_model.specs.declared.policies.Policy.{Policy}
 use Rattle.net_model.specs.declared.rows.Network.{Network}
 use Rattle.net_model.specs.Packets.{IsOf, LiesIn, ShareNoPacket, packets}
-use Rattle.net_model.specs.Witnesses.{IsUniform}
+use Rattle.net_model.specs.Witnesses.{IsUniformFor}
 use Rattle.traffic_classes.specs.Classes.{AreClasses}
-
--- each packet list of the network is uniform on the class
-abbrev pub IsUniformFor : Network → Class → Type 0
-IsUniformFor net class = All (λ l. IsUniform l.entries class) net.packet_lists
 
 -- one of the classes has the packet
 pub record HasPacket (classes : List Class) (p : Packet) : Type 0 where

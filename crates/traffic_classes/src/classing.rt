@@ -12,8 +12,8 @@ use crate::fault::ClassFault;
 use crate::found::Found;
 use crate::marks::Marks;
 use crate::policy_leaves::Leaves;
-use arc_base::List;
 use arc_base::limits::CLASS_LIMIT;
+use arc_base::{List, Memory};
 use net_model::{Class, Network, Policy};
 use std::alloc::Global;
 
@@ -61,6 +61,19 @@ impl Marks {
     {
         let leaves = Leaves::of(alloc, self, policy)?;
         Ok(leaves.few_triples(alloc)?)
+    }
+
+    /// The traffic classes of a policy under these marks, however many they are: for a policy that
+    /// is known to have few.
+    pub fn split(&self, alloc: Global, policy: &Policy) -> Result<List<Class>, Memory>
+        ensures classes { IfOk result (λ cs. (net : AnyNetwork) (policies : Items AnyPolicy) →
+            AreMarks net policies self.now → AreClasses net policies policy.now cs) }
+        ensures parts { IfOk result (λ cs. (net : AnyNetwork) (policies : Items AnyPolicy) →
+            AreMarks net policies self.now → MakeUp net (subject policy.now) cs) }
+    {
+        let leaves = Leaves::of(alloc, self, policy)?;
+        let classes = List::of(leaves.triples(alloc)?)?;
+        Ok(classes)
     }
 }
 

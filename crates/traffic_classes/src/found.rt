@@ -1,5 +1,5 @@
 //! Gathering the classes of several policies, each once.
-ghost use Rattle.std.specs.Prelude.{◌≡◌, ◌+◌, ◌*◌, ◌<◌, ◌≤◌, [], fold, length, IfOk, OnOk, IfErr};
+ghost use Rattle.std.specs.Prelude.{◌≡◌, ◌+◌, ◌*◌, ◌<◌, ◌≤◌, [], fold, length, OnOk, IfErr};
 ghost use Rattle.std.specs.Prelude.{count_by};
 ghost use Rattle.traffic_classes.specs.Classes.{classes_between, classes_from, all_triples, told};
 ghost use Rattle.traffic_classes.specs.Classes.{CountsMore};

@@ -7,11 +7,13 @@
 mod classing;
 mod fault;
 mod found;
+mod gathering;
 mod halving;
 pub mod laws;
 mod marks;
 mod policy_leaves;
 mod service_leaves;
+mod sorted_marks;
 
 pub use classing::{all_classes, classes};
 pub use fault::ClassFault;

@@ -1,5 +1,5 @@
 //! The leaves of a policy's two prefixes and of its services, and their triples.
-ghost use Rattle.std.specs.Prelude.{◌≡◌, ◌+◌, ◌*◌, ◌^◌, ◌≤◌, ◌++◌, length, IfOk, OnOk, IfErr};
+ghost use Rattle.std.specs.Prelude.{◌≡◌, ◌+◌, ◌*◌, ◌≤◌, ◌++◌, length, IfOk, OnOk, IfErr};
 ghost use Rattle.traffic_classes.specs.Leaves.{AreLeaves};
 ghost use Rattle.traffic_classes.specs.ServiceLeaves.{AreServiceLeaves};
 ghost use Rattle.traffic_classes.specs.Classes.{classes_between, classes_from, all_triples, told};
@@ -9,6 +9,7 @@ use crate::fault::ClassFault;
 use crate::halving::leaves_of;
 use crate::marks::Marks;
 use crate::service_leaves::service_leaves_of;
+use crate::sorted_marks::begin_inside;
 use arc_base::limits::CLASS_LIMIT;
 use arc_base::{List, Memory, Prefix};
 use net_model::{Class, Policy, Service};
@@ -32,8 +33,10 @@ impl Leaves {
         ensures services { IfOk result (λ l.
             AreServiceLeaves marks.now.services.items policy.now.service l.services) }
     {
-        let sources = leaves_of(alloc, policy.from, &marks.sources)?;
-        let destinations = leaves_of(alloc, policy.to, &marks.destinations)?;
+        let from = begin_inside(&marks.by_source, &policy.from);
+        let sources = leaves_of(alloc, policy.from, from)?;
+        let to = begin_inside(&marks.by_destination, &policy.to);
+        let destinations = leaves_of(alloc, policy.to, to)?;
         let services = service_leaves_of(alloc, policy.service, &marks.services)?;
         Ok(Leaves {
             sources,
@@ -52,7 +55,7 @@ impl Leaves {
     }
 
     /// All triples of a source, a destination and a service, for each source in order.
-    fn triples(&self, alloc: Global) -> Result<Vec<Class>, Memory>
+    pub fn triples(&self, alloc: Global) -> Result<Vec<Class>, Memory>
         ensures { IfOk result (λ classes.
             classes.items ≡ all_triples self.now.sources self.now.destinations self.now.services) }
     {

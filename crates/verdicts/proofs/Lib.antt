@@ -6,4 +6,3 @@ pub mod Reached
 pub mod Pushes
 pub mod Cuts
 pub mod Verdicts
-pub mod FewClasses

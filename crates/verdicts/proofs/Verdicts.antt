@@ -1,37 +1,34 @@
 -- The verdicts that the parts of the judgement give.
-use Rattle.std.proofs.Common.{◌≡◌, ◌≢◌, ℕ, ◌≤◌, Option, Some, None, List, [], length, refl, sym, ap, ◌∙◌, subst, inl, inr, arith}
+use Rattle.std.proofs.Common.{◌≡◌, ◌≢◌, ℕ, ◌≤◌, Option, Some, List, [], length, refl, sym, ap, ◌∙◌, subst, inl, inr, arith}
 use Rattle.std.specs.Prelude.{All, AllPairs, Contains, sum_by, IfSome}
 use Rattle.std.proofs.lemmas.List.Elements.{All-contains, All-nil}
-use Rattle.arc_base.specs.declared.prefix.Prefix.{Prefix}
 use Rattle.net_model.specs.declared.lists.Packet.{Packet}
 use Rattle.net_model.specs.declared.policies.Class.{Class}
 use Rattle.net_model.specs.declared.policies.Policy.{Policy}
 use Rattle.net_model.specs.declared.policies.PolicyKind.{PolicyKind}
-use Rattle.net_model.specs.declared.policies.PolicyKind.TheVariants.{Blocked, Through, Reach}
+use Rattle.net_model.specs.declared.policies.PolicyKind.TheVariants.{Blocked, Through}
 use Rattle.net_model.specs.declared.rows.Network.{Network}
 use Rattle.net_model.specs.declared.verdicts.ClassSide.{ClassSide}
 use Rattle.net_model.specs.declared.verdicts.LinkPath.{LinkPath}
 use Rattle.net_model.specs.declared.verdicts.Verdict.{Verdict}
 use Rattle.net_model.specs.declared.verdicts.Verdict.TheVariants.{Closed, Paths, Walk, Denied, Cut, Refused}
-use Rattle.net_model.specs.Packets.{IsOf, LiesIn, ShareNoPacket, packets, subject, first_packet}
+use Rattle.net_model.specs.Packets.{LiesIn, ShareNoPacket, packets, subject, first_packet}
 use Rattle.net_model.specs.Forwarding.{Ends, source_router, target_router}
 use Rattle.net_model.specs.Policies.{IsClear}
 use Rattle.net_model.specs.Witnesses.{IsRightClosed, IsRightWalk, IsRightBlocking, IsRight, IsUniformFor}
-use Rattle.class_graph.specs.Denials.{HasNoDenial}
+use Rattle.class_graph.specs.Barriers.{AreUndenied, IsDenialBetween}
 use Rattle.class_graph.specs.Passing.{EachPasses, AllPass, IsFirstKeptOut}
 use Rattle.class_graph.specs.Hosts.{IsHostPair, IsHostPairOf}
-use Rattle.class_graph.specs.declared.hosts.End.{End}
 use Rattle.class_graph.specs.declared.hosts.HostPair.{HostPair}
-use Rattle.net_model.proofs.Packets.{first_is_of}
 use Rattle.net_model.proofs.Readings.{item_at_place}
 use Rattle.traffic_classes.specs.Classes.{AreClasses}
 use Rattle.traffic_classes.specs.Parts.{MakeUp}
 use Rattle.class_graph.specs.declared.first_denials.Denial.{Denial}
-use Rattle.class_graph.specs.FirstDenials.{IsLowestDenial, IsFirstDenial}
 use Rattle.verdicts.specs.Fixed.{IsLeastClosed, AreLeastSides, IsFixedBlocking, IsFixed}
 use Rattle.verdicts.specs.Judged.{IsBlockingAnswer, IsReachVerdict, IsVerdict}
 use Rattle.verdicts.specs.Reaching.{IsPathsOrCut}
 use Rattle.verdicts.proofs.Lists.{all_of_map, pairs_of_map, sum_of_map, rising_numbers}
+use Rattle.class_graph.proofs.FirstDenials.{right_refusal}
 use Rattle.class_graph.proofs.Clear.{at_class, permits_all, none_passes}
 
 -- the least sides of the classes are right
@@ -96,38 +93,27 @@ through_verdict net ends whole classes parts v is = record {
   fixed = fixed_blocking net ends Through classes v is;
 }
 
-pub reach_verdict : (net : Network) (ends : Ends) (k : ℕ) (whole : Class) (classes : List Class) (v : Verdict) →
-    IsReachVerdict net ends k whole classes v → IsVerdict net ends (Reach k) whole classes v
-reach_verdict net ends k whole classes v is = record { right = is.right; fixed = is.fixed }
-
--- where no link denies any of the classes the whole is clear
-clear_of : (net : Network) (ends : Ends) (whole : Class) (classes : List Class) → MakeUp net whole classes → HasNoDenial net ends.to classes (length classes) → IsClear net ends whole
-clear_of net ends whole classes parts none =
+-- where the classes are not denied the whole is clear
+clear_of : (net : Network) (ends : Ends) (whole : Class) (classes : List Class) → MakeUp net whole classes → AreUndenied net ends classes → IsClear net ends whole
+clear_of net ends whole classes parts (inl together) = inl together
+clear_of net ends whole classes parts (inr none) =
     inr (λ arc is_arc routed p of.
     let has = parts.cover p of in
     permits_all net ends.to classes parts.uniform arc is_arc routed (λ k c low at. none k c low at arc.link) has.class has.one p has.is_of)
 
 -- the first class that is kept out denies the policy
-pub denied_verdict : (net : Network) (ends : Ends) (k : ℕ) (whole : Class) (classes : List Class) → MakeUp net whole classes → IsClear net ends whole → (class : Class) →
-    IsFirstKeptOut net ends classes class → IsReachVerdict net ends k whole classes (Denied class)
-denied_verdict net ends k whole classes parts clear class out =
+pub denied_verdict : (net : Network) (ends : Ends) (k : ℕ) (whole : Class) (classes : List Class) → MakeUp net whole classes → (class : Class) →
+    AreUndenied net ends classes × IsFirstKeptOut net ends classes class → IsReachVerdict net ends k whole classes (Denied class)
+denied_verdict net ends k whole classes parts class (undenied, out) =
     let one : Contains classes class = item_at_place classes out.is_first.place class out.is_first.at_place in
     record {
       right = record {
-        clear = clear;
+        clear = clear_of net ends whole classes parts undenied;
         part = All-contains (λ (c : Class). LiesIn c whole) classes class parts.parts one;
         denied = none_passes net ends class (All-contains (IsUniformFor net) classes class parts.uniform one) out.kept_out;
       };
       fixed = out.is_first;
     }
-
-pub denied_together : (net : Network) (ends : Ends) (k : ℕ) (whole : Class) (classes : List Class) → MakeUp net whole classes → source_router ends ≡ target_router ends → (class : Class) →
-    IsFirstKeptOut net ends classes class → IsReachVerdict net ends k whole classes (Denied class)
-denied_together net ends k whole classes parts together class out = denied_verdict net ends k whole classes parts (inl together) class out
-
-pub denied_apart : (net : Network) (ends : Ends) (k : ℕ) (whole : Class) (classes : List Class) → MakeUp net whole classes → HasNoDenial net ends.to classes (length classes) → (class : Class) →
-    IsFirstKeptOut net ends classes class → IsReachVerdict net ends k whole classes (Denied class)
-denied_apart net ends k whole classes parts none class out = denied_verdict net ends k whole classes parts (clear_of net ends whole classes parts none) class out
 
 -- where each packet of each class enters and leaves each packet of the whole does
 whole_passes : (net : Network) (ends : Ends) (whole : Class) (classes : List Class) → MakeUp net whole classes → AllPass net ends classes (length classes) → EachPasses net ends whole
@@ -154,22 +140,11 @@ no_paths net ends k whole classes parts together all =
     }
 
 -- the first denial is a refusal
-pub refused_verdict : (net : Network) (ends : Ends) (k : ℕ) (whole : Class) (classes : List Class) → MakeUp net whole classes → source_router ends ≢ target_router ends → (d : Denial) →
-    IsLowestDenial net ends.to classes (length classes) d → (p : Packet) → p ≡ first_packet d.class → IsReachVerdict net ends k whole classes (Refused p d.link)
-refused_verdict net ends k whole classes parts apart d denial p packet =
-    let one : Contains classes d.class = item_at_place classes denial.is_first.place d.class denial.is_first.at_place in
-    let part : LiesIn d.class whole = All-contains (λ (c : Class). LiesIn c whole) classes d.class parts.parts one in
-    let of_class : IsOf d.class p = subst (IsOf d.class) (sym packet) (first_is_of d.class) in
+pub refused_verdict : (net : Network) (ends : Ends) (k : ℕ) (whole : Class) (classes : List Class) → MakeUp net whole classes → (d : Denial) → IsDenialBetween net ends classes d →
+    (p : Packet) → p ≡ first_packet d.class → IsReachVerdict net ends k whole classes (Refused p d.link)
+refused_verdict net ends k whole classes parts d (apart, denial) p packet =
     record {
-      right = record {
-        apart = apart;
-        packet = (part.0 p.from of_class.0, part.1 p.to of_class.1, part.2 p.service of_class.2);
-        arc = denial.denied.arc;
-        of_link = denial.denied.of_link;
-        is_arc = denial.denied.is_arc;
-        routed = denial.denied.routed;
-        denied = denial.denied.denied p of_class;
-      };
+      right = right_refusal net ends whole classes parts.parts apart d denial p packet;
       fixed = record {
         lower = λ arc is_arc routed low p of.
             let has = parts.cover p of in
@@ -183,7 +158,7 @@ refused_verdict net ends k whole classes parts apart d denial p packet =
 
 -- paths or a cut, once nothing is refused or denied
 pub settled : (net : Network) (ends : Ends) (k : ℕ) (whole : Class) (classes : List Class) → MakeUp net whole classes → source_router ends ≢ target_router ends →
-    HasNoDenial net ends.to classes (length classes) → AllPass net ends classes (length classes) → (v : Verdict) → IsPathsOrCut net ends k v → IsReachVerdict net ends k whole classes v
+    AreUndenied net ends classes → AllPass net ends classes (length classes) → (v : Verdict) → IsPathsOrCut net ends k v → IsReachVerdict net ends k whole classes v
 settled net ends k whole classes parts apart none all (Paths paths) is =
     let passes : EachPasses net ends whole = whole_passes net ends whole classes parts all in
     record {
@@ -216,24 +191,6 @@ settled net ends k whole classes parts apart none all (Closed sides) is = absurd
 settled net ends k whole classes parts apart none all (Walk class path) is = absurd is
 settled net ends k whole classes parts apart none all (Denied class) is = absurd is
 settled net ends k whole classes parts apart none all (Refused p link) is = absurd is
-
--- the ends are at one router where the pair's are
-pub together_of : (net : Network) (ends : Ends) (pair : HostPair) → IsHostPair net ends pair → pair.source.router.0 ≡ pair.target.router.0 → source_router ends ≡ target_router ends
-together_of net ends pair is same = sym (ap (λ (e : End). e.router.0) is.source) ∙ same ∙ ap (λ (e : End). e.router.0) is.target
-
-pub apart_of : (net : Network) (ends : Ends) (pair : HostPair) → IsHostPair net ends pair → pair.source.router.0 ≢ pair.target.router.0 → source_router ends ≢ target_router ends
-apart_of net ends pair is apart same = apart (ap (λ (e : End). e.router.0) is.source ∙ same ∙ sym (ap (λ (e : End). e.router.0) is.target))
-
-pub no_denial_to : (net : Network) (ends : Ends) (pair : HostPair) → IsHostPair net ends pair → (classes : List Class) (n : ℕ) → HasNoDenial net pair.to classes n → HasNoDenial net ends.to classes n
-no_denial_to net ends pair is classes n none = subst (λ (to : Prefix). HasNoDenial net to classes n) is.to none
-
-pub denial_to : (net : Network) (ends : Ends) (pair : HostPair) → IsHostPair net ends pair → (classes : List Class) (n : ℕ) (found : Option Denial) (d : Denial) → found ≡ Some d →
-    IsFirstDenial net pair.to classes n found → IsLowestDenial net ends.to classes n d
-denial_to net ends pair is classes n found d some denial =
-    subst (λ (to : Prefix). IsLowestDenial net to classes n d) is.to (subst (IsFirstDenial net pair.to classes n) some denial)
-
-pub clear_when : (net : Network) (to : Prefix) (classes : List Class) (n : ℕ) (found : Option Denial) → found ≡ None → IsFirstDenial net to classes n found → HasNoDenial net to classes n
-clear_when net to classes n found none denial = subst (IsFirstDenial net to classes n) none denial
 
 pub blocked_as : (net : Network) (ends : Ends) (kind : PolicyKind) → kind ≡ Blocked → (whole : Class) (classes : List Class) → MakeUp net whole classes → (v : Verdict) →
     IsBlockingAnswer net ends kind classes v → IsVerdict net ends kind whole classes v

@@ -9,18 +9,21 @@ ghost use Rattle.net_model.specs.Witnesses.{IsRight, is_yes};
 ghost use Rattle.verdicts.specs.Fixed.{IsFixed};
 ghost use Rattle.verdicts.specs.Judged.{HasFewClassesEach};
 
-use crate::fault::JudgeFault;
-use crate::judgement::judge_under;
+use crate::judgement::judge_few;
 use arc_base::{List, Memory};
 use net_model::{Network, Policy, Verdict};
+use run_progress::{Listener, Work};
 use std::alloc::Global;
 use traffic_classes::Marks;
 
-/// The verdict on each policy, in order. Each has at most `CLASS_LIMIT` traffic classes.
-pub fn judge_all(
+/// The verdict on each policy, in order, and the listener hears of each. Each has at most
+/// `CLASS_LIMIT` traffic classes. A graph of routed arcs is built only where other arcs are routed
+/// than for the policy before.
+pub fn judge_all<L: Listener>(
     alloc: Global,
     net: &Network,
     policies: &List<Policy>,
+    listener: &mut L,
 ) -> Result<List<Verdict>, Memory>
     requires valid { IsValid net.now }
     requires ends { All (λ policy. HasEnds net.now (subject policy)) policies.now }
@@ -31,12 +34,14 @@ pub fn judge_all(
 {
     let marks = Marks::of(alloc, net, policies)?;
     let mut verdicts = List::make(alloc);
-    for which in 0..policies.len() {
-        match judge_under(alloc, net, policies, &marks, which) {
-            Ok(verdict) => verdicts.push(verdict)?,
-            Err(JudgeFault::TooMany(_)) => unreachable!(),
-            Err(JudgeFault::Memory) => return Err(Memory),
-        }
+    let mut last = None;
+    for policy in policies.slice() {
+        listener.heard(Work::Judging {
+            place: verdicts.len(),
+            count: policies.len(),
+        });
+        let verdict = judge_few(alloc, net, policies, &marks, policy, &mut last)?;
+        verdicts.push(verdict)?;
     }
     Ok(verdicts)
 }

@@ -3,7 +3,6 @@ ghost use Rattle.std.specs.Prelude.{◌≡◌, ◌<◌, ◌↔◌, length, IsTru
 ghost use Rattle.std.specs.Prelude.{slice_index_or};
 ghost use Rattle.net_model.specs.Validity.{IsValid};
 ghost use Rattle.net_model.specs.Forwarding.{Ends};
-ghost use Rattle.net_model.specs.Tables.{AreRoutedLinks};
 ghost use Rattle.net_model.specs.Witnesses.{IsUniformFor};
 ghost use Rattle.class_graph.specs.Classes.{AreAllUniform};
 ghost use Rattle.class_graph.specs.Hosts.{IsHostPair, HasHostPair};

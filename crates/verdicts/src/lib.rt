@@ -13,4 +13,4 @@ mod sides;
 
 pub use all_policies::{are_all_yes, judge_all};
 pub use fault::JudgeFault;
-pub use judgement::{judge, judge_under};
+pub use judgement::{judge, judge_few};

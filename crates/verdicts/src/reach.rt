@@ -1,19 +1,22 @@
 //! Verdicts on reach policies: link-disjoint paths, one more than links may fail, or a smaller cut.
-ghost use Rattle.std.specs.Prelude.{◌≡◌, ◌≢◌, ◌≤◌, ℕ, length, IfOk};
+ghost use Rattle.std.specs.Prelude.{◌≡◌, ◌≢◌, ◌≤◌, List as Items, length, IfOk, IfSome};
 ghost use Rattle.net_model.specs.declared.policies.Class.{Class as AnyClass};
 ghost use Rattle.net_model.specs.Validity.{IsValid};
 ghost use Rattle.net_model.specs.Forwarding.{Ends};
+ghost use Rattle.class_graph.specs.Barriers.{AreUndenied};
 ghost use Rattle.class_graph.specs.Classes.{AreAllUniform};
-ghost use Rattle.class_graph.specs.Denials.{HasNoDenial};
+ghost use Rattle.class_graph.specs.Graphs.{IsGraphOf, IsAnyArc};
 ghost use Rattle.class_graph.specs.Hosts.{IsHostPair, HasHostPair};
+ghost use Rattle.class_graph.specs.LastGraphs.{IsGraphOfTable};
+ghost use Rattle.class_graph.specs.Passing.{AllPass};
 ghost use Rattle.traffic_classes.specs.Parts.{MakeUp};
 ghost use Rattle.verdicts.specs.Judged.{IsReachVerdict};
 ghost use Rattle.verdicts.specs.Reaching.{IsPathsOrCut, paths_of};
 
 use arc_base::limits::FAILURE_LIMIT;
 use arc_base::{Link, List, Memory};
-use class_graph::{HostPair, first_denial, routed_graph};
-use graph_flow::{FlowAnswer, LinkRow2, disjoint};
+use class_graph::{Barrier, HostPair, LastGraph, first_barrier, graph_in, refresh_graph};
+use graph_flow::{FlowAnswer, Graph, LinkRow2, disjoint};
 use net_model::{Class, LinkPath, Network, Verdict};
 use std::alloc::Global;
 
@@ -24,81 +27,72 @@ pub(crate) fn judge_reach(
     pair: &HostPair,
     classes: &List<Class>,
     failures: u32,
+    last: &mut Option<LastGraph>,
 ) -> Result<Verdict, Memory>
     requires valid { IsValid net.now }
     requires pair { HasHostPair net.now pair.now }
     requires uniform { AreAllUniform net.now classes.now }
     requires few { failures ≤ FAILURE_LIMIT }
-    ensures { IfOk result (λ v. (ends : Ends) (whole : AnyClass) →
+    requires last { IfSome last.old (IsGraphOfTable net.now) }
+    ensures verdict { IfOk result (λ v. (ends : Ends) (whole : AnyClass) →
         IsHostPair net.now ends pair.now → MakeUp net.now whole classes.now →
         IsReachVerdict net.now ends failures whole classes.now v) }
+    ensures last { IfSome last.new (IsGraphOfTable net.now) }
+{
+    let found = first_barrier(alloc, net, pair, classes)?;
+    let Some(barrier) = found else {
+        return judge_open(alloc, net, pair, failures, last);
+    };
+    match barrier {
+        Barrier::Link(denial) => Ok(Verdict::Refused(denial.class.first_packet(), denial.link)),
+        Barrier::Ends(class) => Ok(Verdict::Denied(class)),
+    }
+}
+
+/// The verdict where no class is denied or kept out.
+fn judge_open(
+    alloc: Global,
+    net: &Network,
+    pair: &HostPair,
+    failures: u32,
+    last: &mut Option<LastGraph>,
+) -> Result<Verdict, Memory>
+    requires valid { IsValid net.now }
+    requires pair { HasHostPair net.now pair.now }
+    requires few { failures ≤ FAILURE_LIMIT }
+    requires last { IfSome last.old (IsGraphOfTable net.now) }
+    ensures verdict { IfOk result (λ v. (ends : Ends) (whole : AnyClass) (parts : Items AnyClass) →
+        IsHostPair net.now ends pair.now → MakeUp net.now whole parts →
+        AreUndenied net.now ends parts → AllPass net.now ends parts (length parts) →
+        IsReachVerdict net.now ends failures whole parts v) }
+    ensures last { IfSome last.new (IsGraphOfTable net.now) }
 {
     if pair.source.router.0 == pair.target.router.0 {
-        Ok(judge_together(alloc, net, pair, classes))
+        Ok(Verdict::Paths(List::make(alloc)))
     } else {
-        judge_apart(alloc, net, pair, classes, failures)
+        judge_paths(alloc, net, pair, failures, last)
     }
 }
 
-/// The verdict where packets enter and leave at one router.
-fn judge_together(alloc: Global, net: &Network, pair: &HostPair, classes: &List<Class>) -> Verdict
-    requires uniform { AreAllUniform net.now classes.now }
-    requires together { pair.now.source.router.0 ≡ pair.now.target.router.0 }
-    ensures { (ends : Ends) (whole : AnyClass) (k : ℕ) → IsHostPair net.now ends pair.now →
-        MakeUp net.now whole classes.now → IsReachVerdict net.now ends k whole classes.now result }
-{
-    match pair.first_kept_out(net, classes) {
-        Some(class) => Verdict::Denied(class),
-        None => Verdict::Paths(List::make(alloc)),
-    }
-}
-
-/// The verdict where packets enter and leave at two routers.
-fn judge_apart(
+/// Paths or a cut, where packets enter and leave at two routers.
+fn judge_paths(
     alloc: Global,
     net: &Network,
     pair: &HostPair,
-    classes: &List<Class>,
     failures: u32,
+    last: &mut Option<LastGraph>,
 ) -> Result<Verdict, Memory>
     requires valid { IsValid net.now }
     requires pair { HasHostPair net.now pair.now }
-    requires uniform { AreAllUniform net.now classes.now }
     requires few { failures ≤ FAILURE_LIMIT }
     requires apart { pair.now.source.router.0 ≢ pair.now.target.router.0 }
-    ensures { IfOk result (λ v. (ends : Ends) (whole : AnyClass) →
-        IsHostPair net.now ends pair.now → MakeUp net.now whole classes.now →
-        IsReachVerdict net.now ends failures whole classes.now v) }
+    requires last { IfSome last.old (IsGraphOfTable net.now) }
+    ensures verdict { IfOk result (λ v. (ends : Ends) → IsHostPair net.now ends pair.now →
+        IsPathsOrCut net.now ends failures v) }
+    ensures last { IfSome last.new (IsGraphOfTable net.now) }
 {
-    let found = first_denial(alloc, net, pair, classes)?;
-    match found {
-        Some(denial) => Ok(Verdict::Refused(denial.class.first_packet(), denial.link)),
-        None => judge_clear(alloc, net, pair, classes, failures),
-    }
-}
-
-/// The verdict where packets enter and leave at two routers, and no link denies any of the classes.
-fn judge_clear(
-    alloc: Global,
-    net: &Network,
-    pair: &HostPair,
-    classes: &List<Class>,
-    failures: u32,
-) -> Result<Verdict, Memory>
-    requires valid { IsValid net.now }
-    requires pair { HasHostPair net.now pair.now }
-    requires uniform { AreAllUniform net.now classes.now }
-    requires few { failures ≤ FAILURE_LIMIT }
-    requires apart { pair.now.source.router.0 ≢ pair.now.target.router.0 }
-    requires clear { HasNoDenial net.now pair.now.to classes.now (length classes.now) }
-    ensures { IfOk result (λ v. (ends : Ends) (whole : AnyClass) →
-        IsHostPair net.now ends pair.now → MakeUp net.now whole classes.now →
-        IsReachVerdict net.now ends failures whole classes.now v) }
-{
-    match pair.first_kept_out(net, classes) {
-        Some(class) => Ok(Verdict::Denied(class)),
-        None => paths_or_cut(alloc, net, pair, failures),
-    }
+    refresh_graph(alloc, net, pair, last)?;
+    paths_or_cut(alloc, net, pair, failures, graph_in(last))
 }
 
 /// Paths of which no two share a link, one more than links may fail, or the links that leave the
@@ -108,18 +102,19 @@ fn paths_or_cut(
     net: &Network,
     pair: &HostPair,
     failures: u32,
+    graph: &Graph,
 ) -> Result<Verdict, Memory>
     requires valid { IsValid net.now }
     requires pair { HasHostPair net.now pair.now }
     requires few { failures ≤ FAILURE_LIMIT }
     requires apart { pair.now.source.router.0 ≢ pair.now.target.router.0 }
+    requires graph { IsGraphOf net.now pair.now.to IsAnyArc graph.now }
     ensures { IfOk result (λ v. (ends : Ends) → IsHostPair net.now ends pair.now →
         IsPathsOrCut net.now ends failures v) }
 {
-    let graph = routed_graph(alloc, net, pair)?;
     let source = pair.source.router.0;
     let target = pair.target.router.0;
-    let answer = disjoint(alloc, &graph, source, target, failures + 1)?;
+    let answer = disjoint(alloc, graph, source, target, failures + 1)?;
     match answer {
         FlowAnswer::Paths(rows) => {
             let paths = paths_of(alloc, &rows)?;
@@ -145,9 +140,5 @@ fn paths_of(alloc: Global, rows: &List<LinkRow2>) -> Result<List<LinkPath>, Memo
 fn copy_of(alloc: Global, links: &List<Link>) -> Result<List<Link>, Memory>
     ensures { IfOk result (λ copy. copy ≡ links.now) }
 {
-    let mut copy = List::make(alloc);
-    for link in links.slice() {
-        copy.push(*link)?;
-    }
-    Ok(copy)
+    List::of(Vec::from_slice(alloc, links.slice())?)
 }

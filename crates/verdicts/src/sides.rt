@@ -1,5 +1,5 @@
 //! The routers that the packets of a class get to.
-ghost use Rattle.std.specs.Prelude.{◌≡◌, ◌<◌, ◌^◌, length, map, is_some, IfOk};
+ghost use Rattle.std.specs.Prelude.{◌≡◌, ◌<◌, length, map, is_some, IfOk};
 ghost use Rattle.verdicts.specs.Sides.{IsReached};
 
 use arc_base::{List, Memory};

@@ -10,3 +10,4 @@ pub mod Repeats
 pub mod UniformClasses
 pub mod CarryingWalks
 pub mod Rising
+pub mod InOrder

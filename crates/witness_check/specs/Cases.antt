@@ -10,9 +10,9 @@ use Rattle.net_model.specs.Lists.{permits}
 use Rattle.net_model.specs.Packets.{IsOf}
 use Rattle.net_model.specs.Routing.{Arc, IsArc, IsRouted}
 use Rattle.net_model.specs.Tables.{IsToldOf}
-use Rattle.net_model.specs.Forwarding.{Ends, ListPermits, ArcPermits, Enters, Leaves}
+use Rattle.net_model.specs.Forwarding.{Ends, ListPermits, Enters, Leaves}
 use Rattle.witness_check.specs.declared.answers.Asked.{Asked}
-use Rattle.witness_check.specs.declared.arcs.RoutedArc.{RoutedArc}
+use Rattle.witness_check.specs.declared.arcs.ArcRows.{ArcRows}
 use Rattle.witness_check.specs.declared.cases.Case.{Case}
 
 -- the ends of the case
@@ -32,12 +32,8 @@ AsksPermitted net list asked =
 abbrev pub EachPermitted : Network → Option ListId → Class → Type 0
 EachPermitted net list class = (p : Packet) → IsOf class p → ListPermits net list p
 
--- the arc permits each packet of the class
-abbrev pub ArcPermitsEach : Network → Class → Arc → Type 0
-ArcPermitsEach net class arc = (p : Packet) → IsOf class p → ArcPermits net arc p
-
 -- the arc whose rows these are
-abbrev pub arc_of : RoutedArc → Arc
+abbrev pub arc_of : ArcRows → Arc
 arc_of shown = record {
   link = shown.link.0;
   from_a = shown.from_a;
@@ -53,6 +49,10 @@ IsRoutedArc net to arc = IsArc net arc × IsRouted net to arc
 -- it is the arc of this link in this direction
 abbrev pub IsOver : ℕ → Bool → Arc → Type 0
 IsOver link from_a arc = (arc.link ≡ link) × (arc.from_a ≡ from_a)
+
+-- what is asked holds of the arc, if it is routed
+abbrev pub IfRouted : Network → Prefix → (Arc → Type 0) → Arc → Type 0
+IfRouted net to P arc = IsRouted net to arc → P arc
 
 -- what is asked holds of the routed arc of this link in this direction, if there is one
 abbrev pub EachOver : Network → Prefix → ℕ → Bool → (Arc → Type 0) → Type 0

@@ -5,3 +5,4 @@ pub mod Trails
 pub mod Paths
 pub mod Cuts
 pub mod Sides
+pub mod Order

@@ -8,7 +8,8 @@ use Rattle.net_model.specs.declared.policies.PolicyKind.{PolicyKind}
 use Rattle.net_model.specs.declared.rows.Network.{Network}
 use Rattle.net_model.specs.Routing.{Arc, tail_router, head_router}
 use Rattle.net_model.specs.Witnesses.{MayBreak, Path, links_of, routers_of}
-use Rattle.witness_check.specs.Cases.{IsRoutedArc, ArcPermitsEach}
+use Rattle.net_model.specs.Forwarding.{ArcPermitsEach}
+use Rattle.witness_check.specs.Cases.{IsRoutedArc}
 
 -- the arc leads on from the router over the link
 pub record IsStep (net : Network) (to : Prefix) (router link : ℕ) (arc : Arc) : Type 0 where

@@ -1,5 +1,6 @@
 //! Classes as boxes of addresses and services: whether two meet, and whether one splits another.
-ghost use Rattle.std.specs.Prelude.{◌≡◌, ◌↔◌, ◌<◌, ◌+◌, IsTrue};
+ghost use Rattle.std.specs.Prelude.{◌≡◌, ◌↔◌, ◌<◌, ◌≤◌, ◌+◌, ◌^◌, IsTrue};
+ghost use Rattle.arc_base.specs.Addresses.{size};
 ghost use Rattle.net_model.specs.Packets.{ShareNoPacket};
 ghost use Rattle.witness_check.specs.Boxes.{prefixes_meet, classes_meet, entry_class};
 ghost use Rattle.witness_check.specs.Boxes.{splits_services, splits, AreHalves, AreServiceHalves};
@@ -7,6 +8,14 @@ ghost use Rattle.witness_check.specs.Boxes.{MakeUp, service_bits, open_bits};
 
 use arc_base::Prefix;
 use net_model::{Class, PacketEntry, Service};
+
+/// The number of the prefix's addresses.
+pub(crate) fn size(p: Prefix) -> u64
+    ensures size { result ≡ size p }
+    ensures fits { result ≤ 2 ^ 32 }
+{
+    1u64 << (32 - p.len)
+}
 
 /// Whether the two prefixes share an address.
 fn prefixes_meet(p: Prefix, q: Prefix) -> bool

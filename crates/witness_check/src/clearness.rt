@@ -1,14 +1,15 @@
 //! Whether the lists on a link permit each packet of a class.
 ghost use Rattle.std.specs.Prelude.{◌↔◌, IsTrue};
 ghost use Rattle.net_model.specs.Packets.{subject};
-ghost use Rattle.net_model.specs.Forwarding.{Ends, AreEnds, HasEnds};
+ghost use Rattle.net_model.specs.Forwarding.{Ends, AreEnds, HasEnds, ArcPermitsEach};
 ghost use Rattle.net_model.specs.Policies.{IsClear};
+ghost use Rattle.net_model.specs.Routing.{IsArc};
 ghost use Rattle.net_model.specs.Validity.{IsValid};
 ghost use Rattle.witness_check.specs.Cases.{ends_of, IsTold, AsksPermitted, EachPermitted};
-ghost use Rattle.witness_check.specs.Cases.{ArcPermitsEach, EachOver, EachRouted, arc_of};
+ghost use Rattle.witness_check.specs.Cases.{IfRouted, EachOver, EachRouted, arc_of};
 
 use crate::answers::{Asked, none_gets};
-use crate::arcs::RoutedArc;
+use crate::arcs::ArcRows;
 use crate::cases::Case;
 use arc_base::{Link, ListId};
 use net_model::{Class, Network, Policy};
@@ -49,13 +50,23 @@ pub fn permits_each(net: &Network, list: Option<ListId>, class: Class) -> bool
 }
 
 /// Whether the lists at both ends of the arc permit each packet of the class.
-pub fn arc_permits_each(net: &Network, arc: &RoutedArc<'_>, class: Class) -> bool
+pub fn arc_permits_each(net: &Network, arc: &ArcRows<'_>, class: Class) -> bool
     ensures { IsTrue result ↔ ArcPermitsEach net.now class (arc_of arc.now) }
 {
     permits_each(net, arc.tail.list_out, class) && permits_each(net, arc.head.list_in, class)
 }
 
 impl Case<'_> {
+    /// Whether the arc permits each packet of the policy, or is not routed.
+    fn permits_if_routed(&self, arc: &ArcRows<'_>) -> bool
+        requires told { IsTold self.now }
+        requires is_arc { IsArc self.now.net.now (arc_of arc.now) }
+        ensures { IsTrue result ↔ IfRouted self.now.net.now self.now.to
+            (ArcPermitsEach self.now.net.now self.now.whole) (arc_of arc.now) }
+    {
+        arc_permits_each(self.net, arc, self.whole) || !self.is_routed(arc)
+    }
+
     /// Whether the arc of the link in one direction, if it is routed, permits each packet of the
     /// policy.
     fn permits_over(&self, link: Link, from_a: bool) -> bool
@@ -63,8 +74,8 @@ impl Case<'_> {
         ensures { IsTrue result ↔ EachOver self.now.net.now self.now.to link.0 from_a
             (ArcPermitsEach self.now.net.now self.now.whole) }
     {
-        match self.routed_arc(link, from_a) {
-            Some(arc) => arc_permits_each(self.net, &arc, self.whole),
+        match self.arc_over(link, from_a) {
+            Some(arc) => self.permits_if_routed(&arc),
             None => true,
         }
     }

@@ -1,13 +1,14 @@
 //! Whether links are a cut: all links whose routed arcs leave a side.
-ghost use Rattle.std.specs.Prelude.{◌≡◌, ◌↔◌, ◌≤◌, ◌<◌, ℕ, IsTrue, Contains, All, map};
+ghost use Rattle.std.specs.Prelude.{◌↔◌, ◌<◌, IsTrue, All, map};
 ghost use Rattle.std.specs.List.Sorted.{IsStrictlyIncreasing};
-ghost use Rattle.net_model.specs.Routing.{Arc, IsArc, IsRouted};
-ghost use Rattle.net_model.specs.Forwarding.{ArcPermits};
-ghost use Rattle.net_model.specs.Witnesses.{IsOn, IsRightCut, IsRightRefused, IsRightDenied};
+ghost use Rattle.net_model.specs.Routing.{IsArc};
+ghost use Rattle.net_model.specs.Witnesses.{IsOn, LeavesSide, IsRightCut, IsRightRefused};
+ghost use Rattle.net_model.specs.Witnesses.{IsRightDenied};
 ghost use Rattle.witness_check.specs.Cases.{IsTold, ends_of, arc_of};
 ghost use Rattle.witness_check.specs.Cuts.{LeavesOver, LeavesOverIn, CutsOver, CutsAll, IsCut};
 ghost use Rattle.witness_check.specs.Cuts.{PartsEnds, DeniesOverIn, DeniesOver};
 
+use crate::arcs::ArcRows;
 use crate::cases::Case;
 use crate::packets::{is_of, lies_in};
 use crate::paths::contains;
@@ -37,13 +38,23 @@ fn are_rising(links: &[Link]) -> bool
 }
 
 impl Case<'_> {
+    /// Whether the arc is routed and leaves the side.
+    fn is_leaving(&self, side: &List<bool>, arc: &ArcRows<'_>) -> bool
+        requires told { IsTold self.now }
+        requires is_arc { IsArc self.now.net.now (arc_of arc.now) }
+        ensures { IsTrue result ↔
+            LeavesSide self.now.net.now self.now.to side.now (arc_of arc.now) }
+    {
+        is_on(side, arc.tail.router) && !is_on(side, arc.head.router) && self.is_routed(arc)
+    }
+
     /// Whether the routed arc of the link in one direction leaves the side.
     fn leaves_over(&self, side: &List<bool>, link: Link, from_a: bool) -> bool
         requires { IsTold self.now }
         ensures { IsTrue result ↔ LeavesOverIn self.now.net.now self.now.to side.now link.0 from_a }
     {
-        match self.routed_arc(link, from_a) {
-            Some(arc) => is_on(side, arc.tail.router) && !is_on(side, arc.head.router),
+        match self.arc_over(link, from_a) {
+            Some(arc) => self.is_leaving(side, &arc),
             None => false,
         }
     }

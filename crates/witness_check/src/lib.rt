@@ -11,6 +11,7 @@ mod boxes;
 mod cases;
 mod clearness;
 mod cuts;
+mod order;
 mod packets;
 mod paths;
 mod sides;
@@ -19,7 +20,7 @@ mod walks;
 
 pub use acceptance::accepts;
 pub use answers::{Asked, Share, answer, none_gets};
-pub use arcs::RoutedArc;
+pub use arcs::ArcRows;
 pub use boxes::{entry_class, halve_towards, splits};
 pub use cases::Case;
 pub use clearness::{arc_permits_each, clear, permits_each, permitted};

@@ -1,5 +1,5 @@
 //! Whether packets and classes enter and leave.
-ghost use Rattle.std.specs.Prelude.{◌≡◌, ◌↔◌, IsTrue};
+ghost use Rattle.std.specs.Prelude.{◌↔◌, IsTrue};
 ghost use Rattle.net_model.specs.Packets.{IsOf, LiesIn};
 ghost use Rattle.net_model.specs.Forwarding.{Enters, Leaves};
 ghost use Rattle.net_model.specs.declared.lists.Packet.{Packet};

@@ -1,28 +1,22 @@
 //! Whether sides are closed and their classes make up all packets of the policy.
 ghost use Rattle.std.specs.Prelude.{◌≡◌, ◌↔◌, ◌^◌, ◌<◌, ◌≤◌, IsTrue, All, AllPairs, length, sum_by};
-ghost use Rattle.arc_base.specs.Addresses.{size};
 ghost use Rattle.net_model.specs.Packets.{ShareNoPacket, packets};
+ghost use Rattle.net_model.specs.Routing.{IsArc};
 ghost use Rattle.net_model.specs.Witnesses.{IsUniform, IsRightClosed};
 ghost use Rattle.witness_check.specs.Cases.{IsTold, ends_of, arc_of, EachOver, EachRouted};
+ghost use Rattle.witness_check.specs.Cases.{IfRouted};
 ghost use Rattle.witness_check.specs.Sides.{HoldsSource, SparesTarget, Stands, Keeps, KeepsEach};
 
 use crate::answers::answer;
-use crate::arcs::RoutedArc;
-use crate::boxes::share_none;
+use crate::arcs::ArcRows;
+use crate::boxes::{share_none, size};
 use crate::cases::Case;
 use crate::cuts::is_on;
+use crate::order::are_in_order;
 use crate::packets::lies_in;
 use crate::trails::may_break;
-use arc_base::{Link, Prefix};
+use arc_base::Link;
 use net_model::{Class, ClassSide, Network, PacketList, PolicyKind};
-
-/// The number of the prefix's addresses.
-fn size(p: Prefix) -> u64
-    ensures size { result ≡ size p }
-    ensures fits { result ≤ 2 ^ 32 }
-{
-    1u64 << (32 - p.len)
-}
 
 /// The number of the class's packets.
 fn packets(class: Class) -> u128
@@ -53,7 +47,7 @@ fn is_apart(class: Class, others: &[ClassSide]) -> bool
 
 /// Whether no two of the classes share a packet. It compares each pair of them: they may come in
 /// any order, and there is no memory to sort them in.
-fn are_apart(sides: &[ClassSide]) -> bool
+fn are_all_apart(sides: &[ClassSide]) -> bool
     ensures { IsTrue result ↔ AllPairs (λ c d. ShareNoPacket c.class d.class) sides.now }
 {
     for (place, shown) in sides.iter().enumerate() {
@@ -62,6 +56,14 @@ fn are_apart(sides: &[ClassSide]) -> bool
         }
     }
     true
+}
+
+/// Whether no two of the classes share a packet. Where they come in order, as in a report that
+/// `verify` wrote, neighbours show it.
+fn are_apart(sides: &[ClassSide]) -> bool
+    ensures { IsTrue result ↔ AllPairs (λ c d. ShareNoPacket c.class d.class) sides.now }
+{
+    are_in_order(sides) || are_all_apart(sides)
 }
 
 /// Whether the list gives the same answer to all packets of the class.
@@ -121,7 +123,7 @@ impl Case<'_> {
 
     /// Whether the arc does not leave the side, or does not permit the class's packet of first
     /// addresses.
-    fn keeps(&self, arc: &RoutedArc<'_>, shown: &ClassSide) -> bool
+    fn keeps(&self, arc: &ArcRows<'_>, shown: &ClassSide) -> bool
         ensures { IsTrue result ↔ Keeps self.now.net.now (arc_of arc.now) shown.now }
     {
         if !is_on(&shown.side, arc.tail.router) || is_on(&shown.side, arc.head.router) {
@@ -132,10 +134,20 @@ impl Case<'_> {
     }
 
     /// Whether the arc may not break the policy, or keeps to each of the sides.
-    fn keeps_or_spares(&self, kind: PolicyKind, sides: &[ClassSide], arc: &RoutedArc<'_>) -> bool
+    fn keeps_or_spares(&self, kind: PolicyKind, sides: &[ClassSide], arc: &ArcRows<'_>) -> bool
         ensures { IsTrue result ↔ KeepsEach self.now.net.now kind sides.now (arc_of arc.now) }
     {
         !may_break(kind, arc) || self.keeps_each(arc, sides)
+    }
+
+    /// Whether the arc may not break the policy, or keeps to each of the sides, or is not routed.
+    fn keeps_if_routed(&self, kind: PolicyKind, sides: &[ClassSide], arc: &ArcRows<'_>) -> bool
+        requires told { IsTold self.now }
+        requires is_arc { IsArc self.now.net.now (arc_of arc.now) }
+        ensures { IsTrue result ↔ IfRouted self.now.net.now self.now.to
+            (KeepsEach self.now.net.now kind sides.now) (arc_of arc.now) }
+    {
+        self.keeps_or_spares(kind, sides, arc) || !self.is_routed(arc)
     }
 
     /// Whether the arc of the link in one direction, if it is routed and may break the policy,
@@ -145,14 +157,14 @@ impl Case<'_> {
         ensures { IsTrue result ↔ EachOver self.now.net.now self.now.to link.0 from_a
             (KeepsEach self.now.net.now kind sides.now) }
     {
-        match self.routed_arc(link, from_a) {
-            Some(arc) => self.keeps_or_spares(kind, sides, &arc),
+        match self.arc_over(link, from_a) {
+            Some(arc) => self.keeps_if_routed(kind, sides, &arc),
             None => true,
         }
     }
 
     /// Whether the arc keeps to each of the sides.
-    fn keeps_each(&self, arc: &RoutedArc<'_>, sides: &[ClassSide]) -> bool
+    fn keeps_each(&self, arc: &ArcRows<'_>, sides: &[ClassSide]) -> bool
         ensures { IsTrue result ↔ All (Keeps self.now.net.now (arc_of arc.now)) sides.now }
     {
         sides.iter().all(|shown| self.keeps(arc, shown))

@@ -1,13 +1,13 @@
 //! Whether links lead on from router to router.
 ghost use Rattle.std.specs.Prelude.{◌≡◌, ◌↔◌, IsTrue, IfSome, IfNone};
-ghost use Rattle.net_model.specs.Routing.{Arc};
+ghost use Rattle.net_model.specs.Routing.{Arc, IsArc, IsRouted, tail_router};
 ghost use Rattle.net_model.specs.Validity.{IsValid};
 ghost use Rattle.net_model.specs.Witnesses.{IsPath, MayBreak};
 ghost use Rattle.witness_check.specs.Cases.{IsTold, arc_of, ends_of};
 ghost use Rattle.witness_check.specs.Trails.{IsStep, IsTrail, IsTrailOnce, MayCarry, Avoids};
 ghost use Rattle.witness_check.specs.Trails.{AnyArc};
 
-use crate::arcs::RoutedArc;
+use crate::arcs::ArcRows;
 use crate::cases::Case;
 use crate::clearness::arc_permits_each;
 use arc_base::{Link, Router};
@@ -15,7 +15,7 @@ use net_model::{Class, LinkPath, PolicyKind};
 
 /// Whether a walk that breaks the policy may use the arc: any for blocked, one over a link that is
 /// no waypoint for through.
-pub(crate) fn may_break(kind: PolicyKind, arc: &RoutedArc<'_>) -> bool
+pub(crate) fn may_break(kind: PolicyKind, arc: &ArcRows<'_>) -> bool
     ensures { IsTrue result ↔ MayBreak kind (arc_of arc.now) }
 {
     match kind {
@@ -25,17 +25,27 @@ pub(crate) fn may_break(kind: PolicyKind, arc: &RoutedArc<'_>) -> bool
 }
 
 impl<'a> Case<'a> {
+    /// Whether the arc leads on from the router and is routed.
+    fn leads_from(&self, router: Router, arc: &ArcRows<'_>) -> bool
+        requires told { IsTold self.now }
+        requires is_arc { IsArc self.now.net.now (arc_of arc.now) }
+        ensures { IsTrue result ↔ ((tail_router (arc_of arc.now) ≡ router.0) ×
+            IsRouted self.now.net.now self.now.to (arc_of arc.now)) }
+    {
+        arc.tail.router.0 == router.0 && self.is_routed(arc)
+    }
+
     /// The routed arc of the link in one direction, if it leads on from the router.
-    fn step_over(&self, router: Router, link: Link, from_a: bool) -> Option<RoutedArc<'a>>
+    fn step_over(&self, router: Router, link: Link, from_a: bool) -> Option<ArcRows<'a>>
         requires { IsTold self.now }
         ensures found { IfSome result (λ arc.
             IsStep self.now.net.now self.now.to router.0 link.0 (arc_of arc)) }
         ensures none { IfNone result ((arc : Arc) → arc.from_a ≡ from_a →
             ¬ IsStep self.now.net.now self.now.to router.0 link.0 arc) }
     {
-        match self.routed_arc(link, from_a) {
+        match self.arc_over(link, from_a) {
             Some(arc) => {
-                if arc.tail.router.0 == router.0 {
+                if self.leads_from(router, &arc) {
                     Some(arc)
                 } else {
                     None
@@ -47,7 +57,7 @@ impl<'a> Case<'a> {
 
     /// The routed arc that leads on from the router over the link. A link joins two routers, so
     /// there is one at most.
-    pub fn step(&self, router: Router, link: Link) -> Option<RoutedArc<'a>>
+    pub fn step(&self, router: Router, link: Link) -> Option<ArcRows<'a>>
         requires { IsTold self.now }
         ensures found { IfSome result (λ arc.
             IsStep self.now.net.now self.now.to router.0 link.0 (arc_of arc)) }
@@ -88,7 +98,7 @@ impl<'a> Case<'a> {
 
     /// Whether the arc permits each packet of the class, and a walk that breaks the policy may use
     /// it.
-    fn may_carry(&self, kind: PolicyKind, class: Class, arc: &RoutedArc<'_>) -> bool
+    fn may_carry(&self, kind: PolicyKind, class: Class, arc: &ArcRows<'_>) -> bool
         ensures { IsTrue result ↔ MayCarry self.now.net.now kind class (arc_of arc.now) }
     {
         may_break(kind, arc) && arc_permits_each(self.net, arc, class)

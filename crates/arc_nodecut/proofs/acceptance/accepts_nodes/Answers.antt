@@ -1,17 +1,17 @@
 use Rattle.std.proofs.Common.{◌↔◌, IsTrue, sym, subst}
 use Rattle.witness_check.specs.Cases.{ends_of}
 use Rattle.arc_nodecut.specs.declared.verdict.NodeVerdict.{NodeVerdict}
-use Rattle.arc_nodecut.specs.NodeWitnesses.{IsRight}
+use Rattle.arc_nodecut.specs.NodeWitnesses.{IsRightNodeVerdict}
 use Rattle.arc_nodecut.proofs.Accepted.{shown_right, is_other}
 use Rattle.arc_nodecut.proofs.acceptance.accepts_nodes.Goals as goal
 
 pub returns-in-Denied : goal.returns-in-Denied
 returns-in-Denied c =
-    subst (λ (v : NodeVerdict). IsTrue c.is_right_denial.result ↔ IsRight c.args.net.now c.args.policy.now v) (sym c.in-Denied.is) c.is_right_denial.ensures
+    subst (λ (v : NodeVerdict). IsTrue c.is_right_denial.result ↔ IsRightNodeVerdict c.args.net.now c.args.policy.now v) (sym c.in-Denied.is) c.is_right_denial.ensures
 
 pub returns-in-Refused : goal.returns-in-Refused
 returns-in-Refused c =
-    subst (λ (v : NodeVerdict). IsTrue c.is_right_refusal.result ↔ IsRight c.args.net.now c.args.policy.now v) (sym c.in-Refused.is) c.is_right_refusal.ensures
+    subst (λ (v : NodeVerdict). IsTrue c.is_right_refusal.result ↔ IsRightNodeVerdict c.args.net.now c.args.policy.now v) (sym c.in-Refused.is) c.is_right_refusal.ensures
 
 pub returns-in_default-v : goal.returns-in_default-v
 returns-in_default-v c =

@@ -5,14 +5,14 @@ use Rattle.arc_recheck.proofs.needs.needed_links.Goals as goal
 
 pub needed_links-requires-clause-source : goal.needed_links-requires-clause-source
 needed_links-requires-clause-source c =
-    pair_source c.args.net.now c.requires.valid c.requires.pair.0 c.args.pair.now c.requires.pair.1 c.in_ok-graph.graph c.in_ok-graph.ensures.nodes
+    pair_source c.args.net.now c.requires.valid c.requires.pair.0 c.args.pair.now c.requires.pair.1 c.args.graph.now c.requires.graph.nodes
 
 pub needed_links-requires-clause-target : goal.needed_links-requires-clause-target
 needed_links-requires-clause-target c =
-    pair_target c.args.net.now c.requires.valid c.requires.pair.0 c.args.pair.now c.requires.pair.1 c.in_ok-graph.graph c.in_ok-graph.ensures.nodes
+    pair_target c.args.net.now c.requires.valid c.requires.pair.0 c.args.pair.now c.requires.pair.1 c.args.graph.now c.requires.graph.nodes
 
 pub returns : goal.returns
 returns c =
     IfOk-weaker c.needed_links.result _ _
-    (λ found are ends is. answered c.args.net.now ends c.args.pair.now is c.in_ok-graph.graph c.in_ok-graph.ensures found are)
+    (λ found are ends is. answered c.args.net.now ends c.args.pair.now is c.args.graph.now c.requires.graph found are)
     c.needed_links.ensures

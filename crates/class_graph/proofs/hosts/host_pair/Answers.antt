@@ -24,8 +24,8 @@ returns c = record {
   is_pair = record {
     from_here = c.host_face-source.ensures.is_face;
     to_there = c.host_face-target.ensures.is_face;
-    source = c.entrance.ensures;
-    target = c.exit.ensures;
+    source = refl;
+    target = refl;
     to = refl;
     routed = c.in_ok-routed.ensures;
   };

@@ -23,22 +23,22 @@ pub arcs_back-requires-clause-node : goal.arcs_back-requires-clause-node
 arcs_back-requires-clause-node c = omega (arith, c.deref.ensures.len, c.requires.marks, c.requires.target)
 
 pub arcs_back-requires-clause-steps : goal.arcs_back-requires-clause-steps
-arcs_back-requires-clause-steps c = subst (λ (marks : List Mark). AreSteps marks) (sym c.deref.ensures.value) c.requires.spread.steps
+arcs_back-requires-clause-steps c = subst (λ (marks : List Mark). AreSteps marks) (sym c.deref.ensures.value) c.requires.spread.marked.steps
 
 pub arcs_back-requires-clause-shallow : goal.arcs_back-requires-clause-shallow
 arcs_back-requires-clause-shallow c =
-    let low = c.requires.spread.shallow c.args.t in
+    let low = c.requires.spread.marked.shallow c.args.t in
     subst (λ (marks : List Mark). depth_of (mark_at marks c.args.t) < 2 ^ 32) (sym c.deref.ensures.value) (omega (arith, low, c.requires.marks, c.requires.few))
 
 pub send-requires-clause-node : goal.send-requires-clause-node
 send-requires-clause-node c = omega (arith, c.deref-2.ensures.len, c.requires.marks, c.requires.target)
 
 pub send-requires-clause-steps : goal.send-requires-clause-steps
-send-requires-clause-steps c = subst (λ (marks : List Mark). AreSteps marks) (sym c.deref-2.ensures.value) c.requires.spread.steps
+send-requires-clause-steps c = subst (λ (marks : List Mark). AreSteps marks) (sym c.deref-2.ensures.value) c.requires.spread.marked.steps
 
 pub send-requires-clause-links : goal.send-requires-clause-links
 send-requires-clause-links c at arc depth e =
-    let is_arc = c.requires.spread.over at arc depth (ap (λ (marks : List Mark). mark_at marks at) (sym c.deref-2.ensures.value) ∙ e) in
+    let is_arc = c.requires.spread.marked.over at arc depth (ap (λ (marks : List Mark). mark_at marks at) (sym c.deref-2.ensures.value) ∙ e) in
     subst (λ (units : Units). arc.link.0 < length units) (sym c.deref_mut.ensures.value)
     (All-contains (λ (a : Arc). a.link.0 < length c.in_ok-carried.carried.items) c.args.g.now.arcs arc c.in_ok-carried.ensures.room is_arc)
 

@@ -2,11 +2,12 @@ use Rattle.std.proofs.Common.{ap, ◌++◌, ◌∙◌}
 use Rattle.std.specs.Option.{option_copied}
 use Rattle.std.specs.List.{filter_map}
 use Rattle.std.specs.Map.Iter.{deref}
+use Rattle.std.proofs.lemmas.List.{nil_from_length}
 use Rattle.std.proofs.lemmas.Map.Iter.{rest_more, rest_all}
 use Rattle.net_rules.specs.Lists.{IsBoundRouteList, route_list_named, route_row, route_row_at}
 use Rattle.arc_base.specs.NameForms.{texts_at}
 use Rattle.row_making.proofs.ListsNames.{in_byte_order, just_added}
-use Rattle.row_making.proofs.ListsRows.{rows_left, rows_added}
+use Rattle.row_making.proofs.ListsRows.{rows_left, rows_added, rows_unbound}
 use Rattle.row_making.proofs.lists.add_route_lists.Goals as goal
 
 pub loop-name-preserved : goal.loop-name-preserved
@@ -22,3 +23,8 @@ returns c =
     rows_added (IsBoundRouteList c.args.config.now) (route_row_at c.args.router c.args.config.now) c.args.rows.now.items c.loop-name.rows.items c.loop-name.name-iterator c.into_iter-name-iterator.result keys
     (just_added (IsBoundRouteList c.args.config.now) c.new-bound.result.keys keys c.new-bound.ensures.empty c.in_ok-add_bound_route.ensures (in_byte_order keys c.into_iter-name-iterator.ensures.into_iter_gives.4))
     (rest_all deref c.loop-name.name-iterator c.next.new.self c.next.result c.in-None.is c.next.ensures.steps) c.into_iter-name-iterator.ensures.into_iter_gives.0 c.loop-name.invariant
+
+pub returns-then-is_empty : goal.returns-then-is_empty
+returns-then-is_empty c =
+    rows_unbound (IsBoundRouteList c.args.config.now) (route_row_at c.args.router c.args.config.now) c.args.rows.now.items c.new-bound.result.keys c.add_bound_route.new.names.keys
+    (nil_from_length c.add_bound_route.new.names.keys (c.is_empty.ensures.0 c.if-is_empty.true)) c.in_ok-add_bound_route.ensures

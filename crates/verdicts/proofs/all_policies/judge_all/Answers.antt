@@ -1,31 +1,39 @@
-use Rattle.std.proofs.Common.{arith, ◌≡◌, ◌++◌, ◌∷◌, [], ◌+◌, ap, subst, sym, length, length-append, take, List}
-use Rattle.std.specs.List.{AllZip}
-use Rattle.arc_base.proofs.Zips.{at_place, AllZip-next}
-use Rattle.net_model.specs.declared.verdicts.Verdict.{Verdict}
+use Rattle.std.proofs.Common.{◌<◌, [], ◌∷◌, List, length, length-append, get_or, arith, ap, ◌∙◌, sym, subst}
+use Rattle.arc_base.proofs.Zips.{AllZip-more}
+use Rattle.net_model.specs.declared.policies.Policy.{Policy}
+use Rattle.net_model.specs.Packets.{subject}
+use Rattle.net_model.specs.Policies.{HasFewFailures}
+use Rattle.net_model.specs.Forwarding.{HasEnds}
 use Rattle.net_model.specs.Witnesses.{IsRight}
 use Rattle.verdicts.specs.Fixed.{IsFixed}
-use Rattle.verdicts.proofs.FewClasses.{never_many}
 use Rattle.verdicts.proofs.all_policies.judge_all.Goals as goal
 
-pub judge_under-requires-clause-ends : goal.judge_under-requires-clause-ends
-judge_under-requires-clause-ends c = at_place _ _ _ c.requires.ends
+pub judge_few-requires-clause-one : goal.judge_few-requires-clause-one
+judge_few-requires-clause-one g c =
+    let is = c.policy-item.is ∙ ap (λ (l : List Policy). get_or l c.loop-policy.policy-index c.policy-item.result) c.slice-policy-items.ensures.items in
+    (c.loop-policy.policy-index, omega (arith, c.loop-policy-test.true, ap length c.slice-policy-items.ensures.items), sym is)
 
-pub judge_under-requires-clause-failures : goal.judge_under-requires-clause-failures
-judge_under-requires-clause-failures c = at_place _ _ _ c.requires.failures
+pub judge_few-requires-clause-ends : goal.judge_few-requires-clause-ends
+judge_few-requires-clause-ends g c =
+    let is = c.policy-item.is ∙ ap (λ (l : List Policy). get_or l c.loop-policy.policy-index c.policy-item.result) c.slice-policy-items.ensures.items in
+    subst (λ (p : Policy). HasEnds c.args.net.now (subject p)) (sym is)
+    (c.requires.ends c.loop-policy.policy-index c.policy-item.result (omega (arith, c.loop-policy-test.true, ap length c.slice-policy-items.ensures.items)))
 
-pub unreachable-requires : goal.unreachable-requires
-unreachable-requires c =
-    never_many c.args.net.now c.args.policies.now c.loop-which.which c.in-Err-TooMany.field-0 c.in-Err-TooMany.field-0-0 c.requires.classes (omega arith) c.in-Err-TooMany.field-0-is c.in-Err-TooMany.ensures.many
+pub judge_few-requires-clause-failures : goal.judge_few-requires-clause-failures
+judge_few-requires-clause-failures g c =
+    let is = c.policy-item.is ∙ ap (λ (l : List Policy). get_or l c.loop-policy.policy-index c.policy-item.result) c.slice-policy-items.ensures.items in
+    subst (λ (p : Policy). HasFewFailures p.kind) (sym is)
+    (c.requires.failures c.loop-policy.policy-index c.policy-item.result (omega (arith, c.loop-policy-test.true, ap length c.slice-policy-items.ensures.items)))
 
-pub loop-which-preserved : goal.loop-which-preserved
-loop-which-preserved c =
-    let pushed : c.push.new.self ≡ c.loop-which.verdicts ++ c.in-Ok.verdict ∷ [] = c.in_ok-push-in-Ok.ensures.ok in
-    let R = IsRight c.args.net.now in
-    let F = IsFixed c.args.net.now c.args.policies.now in
+pub loop-policy-preserved : goal.loop-policy-preserved
+loop-policy-preserved g c =
+    let low : c.loop-policy.policy-index < length c.args.policies.now = omega (arith, c.loop-policy-test.true, ap length c.slice-policy-items.ensures.items) in
+    let is = c.policy-item.is ∙ ap (λ (l : List Policy). get_or l c.loop-policy.policy-index c.policy-item.result) c.slice-policy-items.ensures.items in
     record {
-      right = subst (λ (vs : List Verdict). AllZip R (take (c.loop-which.which + 1) c.args.policies.now) vs) (sym pushed)
-          (AllZip-next R c.args.policies.now c.loop-which.verdicts c.loop-which.which c.in-Ok.verdict (omega arith) c.loop-which.invariant.right c.in-Ok.ensures.right);
-      fixed = subst (λ (vs : List Verdict). AllZip F (take (c.loop-which.which + 1) c.args.policies.now) vs) (sym pushed)
-          (AllZip-next F c.args.policies.now c.loop-which.verdicts c.loop-which.which c.in-Ok.verdict (omega arith) c.loop-which.invariant.fixed c.in-Ok.ensures.fixed);
-      count = omega (arith, ap length pushed, length-append c.loop-which.verdicts (c.in-Ok.verdict ∷ []), c.loop-which.invariant.count);
+      right = AllZip-more (IsRight c.args.net.now) c.args.policies.now c.loop-policy.policy-index c.policy-item.result c.loop-policy.verdicts c.push.new.self c.in_ok-verdict.verdict
+          low is c.loop-policy.invariant.right c.in_ok-push.ensures.ok c.in_ok-verdict.ensures.right;
+      fixed = AllZip-more (IsFixed c.args.net.now c.args.policies.now) c.args.policies.now c.loop-policy.policy-index c.policy-item.result c.loop-policy.verdicts c.push.new.self c.in_ok-verdict.verdict
+          low is c.loop-policy.invariant.fixed c.in_ok-push.ensures.ok c.in_ok-verdict.ensures.fixed;
+      count = omega (arith, ap length c.in_ok-push.ensures.ok, length-append c.loop-policy.verdicts (c.in_ok-verdict.verdict ∷ []), c.loop-policy.invariant.count);
+      last = c.judge_few.ensures.last;
     }

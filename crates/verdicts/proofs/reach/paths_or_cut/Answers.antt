@@ -14,26 +14,26 @@ use Rattle.verdicts.proofs.reach.paths_or_cut.Goals as goal
 
 pub disjoint-requires-clause-source : goal.disjoint-requires-clause-source
 disjoint-requires-clause-source c =
-    pair_source c.args.net.now c.requires.valid c.requires.pair.0 c.args.pair.now c.requires.pair.1 c.in_ok-graph.graph c.in_ok-graph.ensures.nodes
+    pair_source c.args.net.now c.requires.valid c.requires.pair.0 c.args.pair.now c.requires.pair.1 c.args.graph.now c.requires.graph.nodes
 
 pub disjoint-requires-clause-target : goal.disjoint-requires-clause-target
 disjoint-requires-clause-target c =
-    pair_target c.args.net.now c.requires.valid c.requires.pair.0 c.args.pair.now c.requires.pair.1 c.in_ok-graph.graph c.in_ok-graph.ensures.nodes
+    pair_target c.args.net.now c.requires.valid c.requires.pair.0 c.args.pair.now c.requires.pair.1 c.args.graph.now c.requires.graph.nodes
 
-pub returns-in-Paths : goal.returns-in-Paths
-returns-in-Paths c = λ ends is.
+pub returns-in_ok-paths-in-Paths : goal.returns-in_ok-paths-in-Paths
+returns-in_ok-paths-in-Paths c = λ ends is.
     subst (AreGoodPaths c.args.net.now ends (c.args.failures + 1)) (sym c.in_ok-paths-in-Paths.ensures)
-    (good_paths c.args.net.now ends c.in_ok-graph.graph (subst (λ (to : Prefix). IsGraphOf c.args.net.now to IsAnyArc c.in_ok-graph.graph) is.to c.in_ok-graph.ensures)
+    (good_paths c.args.net.now ends c.args.graph.now (subst (λ (to : Prefix). IsGraphOf c.args.net.now to IsAnyArc c.args.graph.now) is.to c.requires.graph)
     c.args.pair.now.source.router.0 c.args.pair.now.target.router.0 (c.args.failures + 1)
     (ap (λ (e : End). e.router.0) is.source) (ap (λ (e : End). e.router.0) is.target) c.in-Paths.rows
-    (subst (λ (a : FlowAnswer). IfPaths a (AreDisjointPaths c.in_ok-graph.graph.arcs c.args.pair.now.source.router.0 c.args.pair.now.target.router.0 (c.args.failures + 1))) c.in-Paths.is c.in_ok-answer.ensures.paths)
+    (subst (λ (a : FlowAnswer). IfPaths a (AreDisjointPaths c.args.graph.now.arcs c.args.pair.now.source.router.0 c.args.pair.now.target.router.0 (c.args.failures + 1))) c.in-Paths.is c.in_ok-answer.ensures.paths)
     (subst (λ (a : FlowAnswer). IfPaths a AreInOrder) c.in-Paths.is c.in_ok-answer.ensures.order))
 
-pub returns : goal.returns
-returns c = λ ends is.
-    good_cut c.args.net.now ends c.in_ok-graph.graph (subst (λ (to : Prefix). IsGraphOf c.args.net.now to IsAnyArc c.in_ok-graph.graph) is.to c.in_ok-graph.ensures)
+pub returns-in-Cut : goal.returns-in-Cut
+returns-in-Cut c = λ ends is.
+    good_cut c.args.net.now ends c.args.graph.now (subst (λ (to : Prefix). IsGraphOf c.args.net.now to IsAnyArc c.args.graph.now) is.to c.requires.graph)
     c.args.pair.now.source.router.0 c.args.pair.now.target.router.0 c.args.failures
     (ap (λ (e : End). e.router.0) is.source) (ap (λ (e : End). e.router.0) is.target) c.in-Cut.links c.in-Cut.side
-    (subst (λ (a : FlowAnswer). IfCut a (λ links side. IsLeastSide c.in_ok-graph.graph.arcs c.args.pair.now.source.router.0 c.args.pair.now.target.router.0 (flagged side) links)) c.in-Cut.is c.in_ok-answer.ensures.cut)
+    (subst (λ (a : FlowAnswer). IfCut a (λ links side. IsLeastSide c.args.graph.now.arcs c.args.pair.now.source.router.0 c.args.pair.now.target.router.0 (flagged side) links)) c.in-Cut.is c.in_ok-answer.ensures.cut)
     (subst (λ (a : FlowAnswer). IfCut a (λ links side. length links < c.args.failures + 1)) c.in-Cut.is c.in_ok-answer.ensures.fewer)
-    (subst (λ (a : FlowAnswer). IfCut a (λ links side. length side ≡ c.in_ok-graph.graph.nodes)) c.in-Cut.is c.in_ok-answer.ensures.flags)
+    (subst (λ (a : FlowAnswer). IfCut a (λ links side. length side ≡ c.args.graph.now.nodes)) c.in-Cut.is c.in_ok-answer.ensures.flags)

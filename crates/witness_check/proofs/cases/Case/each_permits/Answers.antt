@@ -1,5 +1,5 @@
 use Rattle.std.proofs.Common.{refl, arith}
-use Rattle.witness_check.specs.Cases.{ArcPermitsEach}
+use Rattle.net_model.specs.Forwarding.{ArcPermitsEach}
 use Rattle.witness_check.proofs.RoutedArcs.{each_routed, one_more}
 use Rattle.witness_check.proofs.cases.Case.each_permits.Goals as goal
 

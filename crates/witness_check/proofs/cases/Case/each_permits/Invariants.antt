@@ -1,5 +1,6 @@
 use Rattle.std.proofs.Common.{ℕ, ◌<◌, Bool}
-use Rattle.witness_check.specs.Cases.{ArcPermitsEach, EachOver}
+use Rattle.net_model.specs.Forwarding.{ArcPermitsEach}
+use Rattle.witness_check.specs.Cases.{EachOver}
 use Rattle.witness_check.proofs.cases.Case.each_permits.Given as goal
 
 abbrev pub invariant-loop-place : goal.invariant-loop-place
