@@ -21,6 +21,7 @@ FILES_AND_STREAMS = (
     "A file is looked up in the folder in which the command runs. Answers are printed to standard output, everything "
     "else to standard error."
 )
+QUIET = "Where it is set, arcv shows no line on a terminal while a run takes longer than a second."
 OPTION = re.compile(r'const (\w+): CommandOption = CommandOption \{\s*name: "([^"]*)",\s*value: "([^"]*)",\s*\};')
 FORM = re.compile(
     r'name: "([^"]*)",\s*places: &\[([^]]*)\],\s*needed: &\[([^]]*)\],\s*optional: &\[([^]]*)\],\s*meaning: "([^"]*)"'
@@ -138,6 +139,7 @@ def manual_page() -> str:
     lines.append(".SH EXIT STATUS")
     for status, says in _rows(load(MANUAL), "| status | comes |"):
         lines += [".TP", f".B {_roff(status)}", _roff(says)]
+    lines += [".SH ENVIRONMENT", ".TP", ".B ARCV_QUIET", _roff(QUIET)]
     lines += [".SH TOOLS", _roff("Scripts in bin/ beside the program. Nothing of them is proved. Each has --help.")]
     for tool in tools():
         lines += [".TP", f".B {_roff(tool.form)}", _roff(tool.asks[0].upper() + tool.asks[1:] + ".")]

@@ -12,10 +12,9 @@ use Rattle.edit_list.specs.declared.claims.Claim.TheVariants.{Repaired, NoRepair
 use Rattle.edit_list.specs.declared.edit_kinds.Edit.{Edit}
 use Rattle.edit_list.specs.After.{IsAfter}
 use Rattle.edit_list.specs.EditLists.{AreEdits}
-use Rattle.edit_list.specs.Prices.{chosen_of}
+use Rattle.edit_list.specs.Prices.{chosen_of, price_of_flags}
 use Rattle.arc_repair.specs.Checks.{HasFlags, HasFlagsOf, IsMispriced, IsVerdictDefect, IsDefect}
 use Rattle.arc_repair.specs.Claims.{IsRightYes, IsRightClaim, claim_bound}
-use Rattle.arc_repair.specs.Repairs.{cost}
 
 module _ (net : Network) (doc : Document) (list : List Edit) where
   -- a bound above 512
@@ -27,13 +26,13 @@ module _ (net : Network) (doc : Document) (list : List Edit) where
   flags_of (Repaired price bound flags verdicts) are has = has list are
   flags_of (NoRepair bound) are has = tt
 
-  not_mispriced : (price bound : ℕ) (flags : List Bool) → cost doc list flags ≡ price → price ≤ bound → bound ≤ 512 → IsMispriced doc list price bound flags → ⊥
+  not_mispriced : (price bound : ℕ) (flags : List Bool) → price_of_flags doc list flags ≡ price → price ≤ bound → bound ≤ 512 → IsMispriced doc list price bound flags → ⊥
   not_mispriced price bound flags costs affordable few (inl wrong) = wrong costs
   not_mispriced price bound flags costs affordable few (inr (inl above)) = omega (arith, above, affordable)
   not_mispriced price bound flags costs affordable few (inr (inr above)) = omega (arith, above, few)
 
   -- where the price is right, the verdicts decide
-  pub judged : (price bound : ℕ) (flags : List Bool) (verdicts : List Verdict) (after : Network) → length flags ≡ length list → cost doc list flags ≡ price → price ≤ bound → bound ≤ 512 → IsAfter net (chosen_of list flags) after → (o : Option CertKind) →
+  pub judged : (price bound : ℕ) (flags : List Bool) (verdicts : List Verdict) (after : Network) → length flags ≡ length list → price_of_flags doc list flags ≡ price → price ≤ bound → bound ≤ 512 → IsAfter net (chosen_of list flags) after → (o : Option CertKind) →
       MatchOption o (AllZip (IsRightYes after) doc.policies verdicts) (IsVerdictDefect after doc.policies verdicts) →
       MatchOption o (IsRightClaim net doc list (Repaired price bound flags verdicts)) (IsDefect net doc list (Repaired price bound flags verdicts))
   judged price bound flags verdicts after each costs affordable few is None h = record { one_each = each; costs = costs; affordable = affordable; few = few; after = after; is_after = is; judged = h }

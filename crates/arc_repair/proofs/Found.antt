@@ -11,6 +11,7 @@ use Rattle.net_model.specs.Validity.{IsValid}
 use Rattle.edit_list.specs.declared.edit_kinds.Edit.{Edit}
 use Rattle.edit_list.specs.Determined.{IsCountable, AfterIsThere, AfterIsValid}
 use Rattle.edit_list.specs.EditLists.{AreEdits}
+use Rattle.edit_list.specs.Prices.{price_of_flags}
 use Rattle.policy_encode.specs.Formulas.{IsRepairFormula}
 use Rattle.policy_encode.specs.Laws as encoded
 use Rattle.price_descent.specs.declared.found.Found.{Found}
@@ -20,18 +21,18 @@ use Rattle.price_descent.specs.Prices.{HasModel, ArePriced}
 use Rattle.proof_log.specs.declared.steps.Step.{Step}
 use Rattle.proof_log.specs.declared.steps.Step.TheVariants.{Add, Drop, Bound}
 use Rattle.arc_repair.specs.Answers.{IsKnownBound}
-use Rattle.arc_repair.specs.Repairs.{cost, Mends}
+use Rattle.arc_repair.specs.Repairs.{Mends}
 use Rattle.arc_repair.specs.Search.{flagged_cost, IsSearched}
 use Rattle.arc_repair.proofs.Priced.{are_priced, model_mends, mends_model}
 
-pub flagged : (doc : Document) (list : List Edit) (flags : List Bool) → length flags ≡ length list → flagged_cost doc list flags ≡ cost doc list flags
-flagged doc list flags each = ap (λ b. if b then cost doc list flags else 0) (eq-eqb (length flags) (length list) each)
+pub flagged : (doc : Document) (list : List Edit) (flags : List Bool) → length flags ≡ length list → flagged_cost doc list flags ≡ price_of_flags doc list flags
+flagged doc list flags each = ap (λ b. if b then price_of_flags doc list flags else 0) (eq-eqb (length flags) (length list) each)
 
 module _ (models : encoded.ModelsAreRepairs) (one : encoded.OneModelServes) (there : AfterIsThere) (is_valid : AfterIsValid) (net : Network) (doc : Document) (list : List Edit) (most : ℕ) (formula : Formula) (tops : List Lit)
     (valid : IsValid net) (countable : IsCountable net) (edits : AreEdits net doc list) (is : IsRepairFormula net doc list most formula tops) where
   pub flags_priced : ArePriced (flagged_cost doc list) formula tops (length list) most
   flags_priced =
-      let priced : ArePriced (cost doc list) formula tops (length list) most = are_priced models one there is_valid net doc list most formula tops valid countable edits is in
+      let priced : ArePriced (price_of_flags doc list) formula tops (length list) most = are_priced models one there is_valid net doc list most formula tops valid countable edits is in
       record {
         told = λ flags bound each within has. subst (λ (n : ℕ). n ≤ bound) (sym (flagged doc list flags each)) (priced.told flags bound each within has);
         one_model = λ flags bound each within has.
@@ -42,7 +43,7 @@ module _ (models : encoded.ModelsAreRepairs) (one : encoded.OneModelServes) (the
   mends : (flags : List Bool) → length flags ≡ length list → HasModel formula tops flags most → Mends net doc list flags
   mends flags each has = (model_mends models one there is_valid net doc list most formula tops valid countable edits is flags most each (omega arith) has).mends
 
-  has_model : (flags : List Bool) → Mends net doc list flags → cost doc list flags ≤ most → HasModel formula tops flags most
+  has_model : (flags : List Bool) → Mends net doc list flags → price_of_flags doc list flags ≤ most → HasModel formula tops flags most
   has_model flags m affordable = mends_model models one there is_valid net doc list most formula tops valid countable edits is flags most m affordable (omega arith)
 
   known : (s : Step) → descent.IsKnownBound (flagged_cost doc list) formula tops (length list) most s → IsKnownBound net doc list most s
@@ -56,8 +57,8 @@ module _ (models : encoded.ModelsAreRepairs) (one : encoded.OneModelServes) (the
   })
 
   -- flags that cost at most as much as allowed are no cheaper, and others are dearer
-  least : (price : ℕ) → price ≤ most → ((flags : List Bool) → length flags ≡ length list → HasModel formula tops flags most → price ≤ flagged_cost doc list flags) → (flags : List Bool) → Mends net doc list flags → price ≤ cost doc list flags
-  least price within cheapest flags m = elim (cases_lt most (cost doc list flags)) [
+  least : (price : ℕ) → price ≤ most → ((flags : List Bool) → length flags ≡ length list → HasModel formula tops flags most → price ≤ flagged_cost doc list flags) → (flags : List Bool) → Mends net doc list flags → price ≤ price_of_flags doc list flags
+  least price within cheapest flags m = elim (cases_lt most (price_of_flags doc list flags)) [
     | inl dear ↦ omega (arith, dear, within)
     | inr cheap ↦ subst (λ (n : ℕ). price ≤ n) (flagged doc list flags m.one_each) (cheapest flags m.one_each (has_model flags m cheap))
   ]
@@ -76,7 +77,7 @@ module _ (models : encoded.ModelsAreRepairs) (one : encoded.OneModelServes) (the
   }
   searched limit few (Nothing log) f = record {
     same_bound = refl;
-    is_true = λ flags m. elim (cases_lt most (cost doc list flags)) [
+    is_true = λ flags m. elim (cases_lt most (price_of_flags doc list flags)) [
       | inl dear ↦ dear
       | inr cheap ↦ absurd (f.none flags m.one_each (has_model flags m cheap))
     ];

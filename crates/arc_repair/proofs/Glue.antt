@@ -8,10 +8,11 @@ use Rattle.edit_list.specs.declared.edit_kinds.EditFault.{EditFault}
 use Rattle.edit_list.specs.declared.edit_kinds.EditFault.TheVariants.{Memory}
 use Rattle.edit_list.specs.Determined.{EditListsAreOne}
 use Rattle.edit_list.specs.EditLists.{AreEdits, DocumentHasFewClasses}
+use Rattle.edit_list.specs.Prices.{none_of}
 use Rattle.policy_encode.specs.Formulas as encoded
 use Rattle.arc_repair.specs.declared.answer.Answer.{Answer}
 use Rattle.arc_repair.specs.Answers.{IsUntouched, IsRepairFault}
-use Rattle.arc_repair.specs.Repairs.{Mends, none_of}
+use Rattle.arc_repair.specs.Repairs.{Mends}
 
 -- what holds of one list of the edits holds of each
 pub of_each : EditListsAreOne → (net : Network) (doc : Document) (list : List Edit) → IsValid net → AreEdits net doc list → (P : List Edit → Type 0) → P list → (other : List Edit) → AreEdits net doc other → P other

@@ -9,11 +9,11 @@ use Rattle.edit_list.specs.declared.edit_kinds.Edit.{Edit}
 use Rattle.edit_list.specs.After.{IsAfter}
 use Rattle.edit_list.specs.Determined.{IsCountable, AfterIsThere, AfterIsValid}
 use Rattle.edit_list.specs.EditLists.{AreEdits}
-use Rattle.edit_list.specs.Prices.{chosen_of}
+use Rattle.edit_list.specs.Prices.{chosen_of, price_of_flags}
 use Rattle.policy_encode.specs.Formulas.{IsRepairFormula}
 use Rattle.policy_encode.specs.Laws as encoded
 use Rattle.price_descent.specs.Prices.{HasModel, ArePriced}
-use Rattle.arc_repair.specs.Repairs.{cost, Mends}
+use Rattle.arc_repair.specs.Repairs.{Mends}
 use Rattle.arc_repair.proofs.Bounds.{to_encoded, to_priced}
 
 module _ (models : encoded.ModelsAreRepairs) (one : encoded.OneModelServes) (there : AfterIsThere) (is_valid : AfterIsValid) (net : Network) (doc : Document) (list : List Edit) (most : ℕ) (formula : Formula) (tops : List Lit)
@@ -24,7 +24,7 @@ module _ (models : encoded.ModelsAreRepairs) (one : encoded.OneModelServes) (the
   -- what a model of the formula under a bound shows of the edits that it begins with
   pub record IsBought (flags : List Bool) (bound : ℕ) : Type 0 where
     pub mends : Mends net doc list flags
-    pub affordable : cost doc list flags ≤ bound
+    pub affordable : price_of_flags doc list flags ≤ bound
 
   pub model_mends : (flags : List Bool) (bound : ℕ) → length flags ≡ length list → bound ≤ most → HasModel formula tops flags bound → IsBought flags bound
   model_mends flags bound each within has =
@@ -33,12 +33,12 @@ module _ (models : encoded.ModelsAreRepairs) (one : encoded.OneModelServes) (the
       (record { assignment = has.assignment; begins = has.begins; satisfies = has.satisfies; keeps = to_encoded has.assignment tops bound has.keeps }) in
       record { mends = record { one_each = each; after = some.0; is_after = some.1.is_after; meets = repair.met }; affordable = repair.affordable }
 
-  pub mends_model : (flags : List Bool) (bound : ℕ) → Mends net doc list flags → cost doc list flags ≤ bound → bound ≤ most → HasModel formula tops flags bound
+  pub mends_model : (flags : List Bool) (bound : ℕ) → Mends net doc list flags → price_of_flags doc list flags ≤ bound → bound ≤ most → HasModel formula tops flags bound
   mends_model flags bound mends affordable within =
       let has = (models net doc list most formula tops flags mends.after bound is (edited flags mends.one_each mends.after mends.is_after) within).1 (record { met = mends.meets; affordable = affordable }) in
       record { assignment = has.assignment; begins = has.begins; satisfies = has.satisfies; keeps = to_priced has.assignment tops bound has.keeps }
 
-  pub are_priced : ArePriced (cost doc list) formula tops (length list) most
+  pub are_priced : ArePriced (price_of_flags doc list) formula tops (length list) most
   are_priced = record {
     told = λ flags bound each within has. (model_mends flags bound each within has).affordable;
     one_model = λ flags bound each within has.

@@ -13,7 +13,7 @@ use Rattle.edit_list.specs.declared.claims.Claim.TheVariants.{Repaired}
 use Rattle.edit_list.specs.declared.edit_kinds.Edit.{Edit}
 use Rattle.edit_list.specs.After.{IsAfter}
 use Rattle.edit_list.specs.Determined.{IsCountable}
-use Rattle.edit_list.specs.Prices.{chosen_of}
+use Rattle.edit_list.specs.Prices.{chosen_of, price_of_flags, none_of}
 use Rattle.edit_space.proofs.OneAfter.{after_is_one}
 use Rattle.edit_space.proofs.SomeNames.{after_is_valid}
 use Rattle.policy_encode.specs.Formulas.{IsRepairFormula}
@@ -21,13 +21,13 @@ use Rattle.price_descent.specs.declared.found.Offer.{Offer}
 use Rattle.proof_log.specs.declared.steps.Step.{Step}
 use Rattle.arc_repair.specs.Answers.{IsDone}
 use Rattle.arc_repair.specs.Claims.{IsRightRepair, is_above_zero}
-use Rattle.arc_repair.specs.Repairs.{cost, Mends, none_of}
+use Rattle.arc_repair.specs.Repairs.{Mends}
 use Rattle.arc_repair.specs.Search.{AreYesAfter, IsCheapestFound}
 use Rattle.arc_repair.proofs.Truth.{yeses_meet}
 use Rattle.arc_repair.proofs.Untouched.{none_for_each, none_costs, shows_free}
 
 module _ (net : Network) (doc : Document) (list : List Edit) where
-  right_repair : (price bound : ℕ) (flags : List Bool) (verdicts : List Verdict) → length flags ≡ length list → cost doc list flags ≡ price → price ≤ bound → bound ≤ 512 → AreYesAfter net doc list flags verdicts → IsRightRepair net doc list price bound flags verdicts
+  right_repair : (price bound : ℕ) (flags : List Bool) (verdicts : List Verdict) → length flags ≡ length list → price_of_flags doc list flags ≡ price → price ≤ bound → bound ≤ 512 → AreYesAfter net doc list flags verdicts → IsRightRepair net doc list price bound flags verdicts
   right_repair price bound flags verdicts each costs affordable few judgement = record { one_each = each; costs = costs; affordable = affordable; few = few; after = judgement.after; is_after = judgement.is_after; judged = judgement.judged }
 
   above_zero : (n : ℕ) → IsTrue (is_above_zero n) → 1 ≤ n
@@ -65,7 +65,7 @@ module _ (net : Network) (doc : Document) (list : List Edit) where
         IsDone net doc list bound (Repaired 0 bound flags verdicts) []
     untouched_done bound flags verdicts formula tops few none judgement is =
         let each : length flags ≡ length list = ap length none ∙ none_for_each list in
-        let right : IsRightRepair net doc list 0 bound flags verdicts = right_repair 0 bound flags verdicts each (ap (cost doc list) none ∙ none_costs doc list) (omega arith) few judgement in
+        let right : IsRightRepair net doc list 0 bound flags verdicts = right_repair 0 bound flags verdicts each (ap (price_of_flags doc list) none ∙ none_costs doc list) (omega arith) few judgement in
         record {
           same_bound = refl;
           is_true = record { right = right; mends = yes_mends flags verdicts each judgement; least = λ others mends. omega arith };

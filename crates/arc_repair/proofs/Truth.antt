@@ -18,7 +18,7 @@ use Rattle.edit_list.specs.declared.claims.Claim.TheVariants.{Repaired, NoRepair
 use Rattle.edit_list.specs.declared.edit_kinds.Edit.{Edit}
 use Rattle.edit_list.specs.Determined.{IsCountable, AfterIsThere, AfterIsValid}
 use Rattle.edit_list.specs.EditLists.{AreEdits}
-use Rattle.edit_list.specs.Prices.{chosen_of}
+use Rattle.edit_list.specs.Prices.{chosen_of, price_of_flags}
 use Rattle.policy_encode.specs.Formulas.{IsRepairFormula}
 use Rattle.policy_encode.specs.Laws as encoded
 use Rattle.price_descent.specs.Laws.{LogsShowPrices, PricesAreAbove}
@@ -26,7 +26,7 @@ use Rattle.price_descent.specs.Prices.{HasModel}
 use Rattle.proof_check.specs.Knowledge.{start}
 use Rattle.proof_check.specs.Logs.{IsAccepted, IsRefuting}
 use Rattle.proof_log.specs.declared.steps.Step.{Step}
-use Rattle.arc_repair.specs.Repairs.{cost, Mends, IsLeast}
+use Rattle.arc_repair.specs.Repairs.{Mends, IsLeast}
 use Rattle.arc_repair.specs.Claims.{IsRightYes, IsRightRepair, Shows, IsTrueClaim, IsCertificate}
 use Rattle.arc_repair.specs.Laws.{CertificatesAreTrue}
 use Rattle.arc_repair.proofs.Priced.{are_priced, mends_model}
@@ -56,17 +56,17 @@ module _ (models : encoded.ModelsAreRepairs) (one : encoded.OneModelServes) (fit
       | inr each ↦ omega (arith, each)
     ]
 
-    above : (least : ℕ) (steps : List Step) → IsAccepted (start formula (Some least) tops) steps → IsRefuting steps → PricesAreAbove (cost doc list) formula tops (length list) most least
+    above : (least : ℕ) (steps : List Step) → IsAccepted (start formula (Some least) tops) steps → IsRefuting steps → PricesAreAbove (price_of_flags doc list) formula tops (length list) most least
     above least steps accepted refuting =
-        shows (cost doc list) formula tops (length list) most least steps (are_priced models one there is_valid net doc list most formula tops valid countable edits is) few_tops accepted refuting
+        shows (price_of_flags doc list) formula tops (length list) most least steps (are_priced models one there is_valid net doc list most formula tops valid countable edits is) few_tops accepted refuting
 
-    has_model : (flags : List Bool) → Mends net doc list flags → cost doc list flags ≤ most → HasModel formula tops flags most
+    has_model : (flags : List Bool) → Mends net doc list flags → price_of_flags doc list flags ≤ most → HasModel formula tops flags most
     has_model flags mends affordable = mends_model models one there is_valid net doc list most formula tops valid countable edits is flags most mends affordable (omega arith)
 
     -- with such a log whatever mends the network costs more than the least bound
-    pub costs_more : (least : ℕ) (steps : List Step) → least ≤ most → IsAccepted (start formula (Some least) tops) steps → IsRefuting steps → (flags : List Bool) → Mends net doc list flags → least < cost doc list flags
+    pub costs_more : (least : ℕ) (steps : List Step) → least ≤ most → IsAccepted (start formula (Some least) tops) steps → IsRefuting steps → (flags : List Bool) → Mends net doc list flags → least < price_of_flags doc list flags
     costs_more least steps within accepted refuting flags mends =
-        elim (cases_lt most (cost doc list flags)) [
+        elim (cases_lt most (price_of_flags doc list flags)) [
           | inl dear ↦ omega (arith, dear, within)
           | inr cheap ↦ (above least steps accepted refuting).above flags most mends.one_each (omega arith) (has_model flags mends cheap)
         ]

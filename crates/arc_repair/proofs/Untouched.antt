@@ -15,11 +15,11 @@ use Rattle.edit_list.specs.After.{IsAfter}
 use Rattle.edit_list.specs.Ordered.{IsInOrder}
 use Rattle.network_edit_laws.proofs.NoEdits.{none_change}
 use Rattle.network_edit_laws.specs.Laws.{NoEditsChangeNothing}
-use Rattle.edit_list.specs.Prices.{chosen_of, price_of}
+use Rattle.edit_list.specs.Prices.{chosen_of, price_of, price_of_flags, none_of}
 use Rattle.policy_encode.specs.Formulas.{IsRepairFormula}
 use Rattle.arc_repair.specs.Claims.{Shows}
 use Rattle.arc_repair.specs.Laws.{MetNetworksNeedNoEdits}
-use Rattle.arc_repair.specs.Repairs.{cost, Mends, none_of}
+use Rattle.arc_repair.specs.Repairs.{Mends}
 
 pub none_chosen : (list : List Edit) → chosen_of list (none_of list) ≡ []
 none_chosen [] = refl
@@ -28,7 +28,7 @@ none_chosen (e ∷ es) = none_chosen es
 pub none_for_each : (list : List Edit) → length (none_of list) ≡ length list
 none_for_each list = length-map list (λ e. false)
 
-pub none_costs : (doc : Document) (list : List Edit) → cost doc list (none_of list) ≡ 0
+pub none_costs : (doc : Document) (list : List Edit) → price_of_flags doc list (none_of list) ≡ 0
 none_costs doc list = ap (price_of doc.weights) (none_chosen list)
 
 -- an empty log shows a repair that costs nothing

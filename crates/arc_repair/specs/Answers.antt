@@ -13,12 +13,13 @@ use Rattle.edit_list.specs.declared.claims.Claim.TheVariants.{Repaired, NoRepair
 use Rattle.edit_list.specs.declared.edit_kinds.Edit.{Edit}
 use Rattle.edit_list.specs.declared.edit_kinds.EditFault.{EditFault}
 use Rattle.edit_list.specs.EditLists.{AreEdits, DocumentHasFewClasses, NamesLimit}
+use Rattle.edit_list.specs.Prices.{price_of_flags, none_of}
 use Rattle.policy_encode.specs.Formulas.{IsRepairFormula, IsWithin, IsFaultOf}
 use Rattle.proof_log.specs.declared.steps.Step.{Step}
 use Rattle.proof_log.specs.declared.steps.Step.TheVariants.{Add, Drop, Bound}
 use Rattle.arc_repair.specs.declared.answer.Answer.{Answer}
 use Rattle.arc_repair.specs.declared.answer.Answer.TheVariants.{Done, Budget}
-use Rattle.arc_repair.specs.Repairs.{cost, Mends, none_of}
+use Rattle.arc_repair.specs.Repairs.{Mends}
 use Rattle.arc_repair.specs.Claims.{claim_bound, IsTrueClaim, IsCertificate}
 
 -- the claim is true and of the bound that was asked for, and with the log it is a certificate
@@ -33,7 +34,7 @@ pub record IsPriceOfRepair (net : Network) (doc : Document) (list : List Edit)
     (price : ℕ) : Type 0 where
   pub flags : List Bool
   pub mends : Mends net doc list flags
-  pub costs : cost doc list flags ≡ price
+  pub costs : price_of_flags doc list flags ≡ price
 
 -- a bound of the log is the one that was asked for, or one less than the price of edits after which
 -- the network meets the document

@@ -15,14 +15,13 @@ use Rattle.edit_list.specs.declared.claims.Claim.TheVariants.{Repaired, NoRepair
 use Rattle.edit_list.specs.declared.edit_kinds.Edit.{Edit}
 use Rattle.edit_list.specs.After.{IsAfter}
 use Rattle.edit_list.specs.EditLists.{AreEdits, DocumentHasFewClasses}
-use Rattle.edit_list.specs.Prices.{chosen_of}
+use Rattle.edit_list.specs.Prices.{chosen_of, price_of_flags}
 use Rattle.policy_encode.specs.Formulas.{IsRepairFormula, IsWithin}
 use Rattle.proof_check.specs.Knowledge.{Knowledge, start}
 use Rattle.proof_check.specs.View.{known}
 use Rattle.arc_repair.specs.declared.check.Check.{Check}
 use Rattle.arc_repair.specs.declared.check.Made.{Made}
 use Rattle.arc_repair.specs.declared.check.Made.TheVariants.{Good, Bad}
-use Rattle.arc_repair.specs.Repairs.{cost}
 use Rattle.arc_repair.specs.Claims.{IsRightYes, IsRightClaim, claim_bound, least_bound}
 use Rattle.arc_repair.specs.Claims.{needs_refutation}
 
@@ -40,7 +39,7 @@ HasFlagsOf list (NoRepair bound) = Unit {0}
 -- the price is not that of the edits, or passes the bound, or the bound passes PRICE_LIMIT
 abbrev pub IsMispriced : Document → List Edit → ℕ → ℕ → List Bool → Type 0
 IsMispriced doc list price bound flags =
-    (cost doc list flags ≢ price) ⊎ (bound < price) ⊎ (PRICE_LIMIT < bound)
+    (price_of_flags doc list flags ≢ price) ⊎ (bound < price) ⊎ (PRICE_LIMIT < bound)
 
 -- the first thing that is wrong with the verdicts on these policies: one is missing or too many,
 -- one is no yes, or one is not right

@@ -15,13 +15,13 @@ use Rattle.edit_list.specs.declared.claims.Claim.{Claim}
 use Rattle.edit_list.specs.declared.claims.Claim.TheVariants.{Repaired, NoRepair}
 use Rattle.edit_list.specs.declared.edit_kinds.Edit.{Edit}
 use Rattle.edit_list.specs.After.{IsAfter}
-use Rattle.edit_list.specs.Prices.{chosen_of}
+use Rattle.edit_list.specs.Prices.{chosen_of, price_of_flags}
 use Rattle.policy_encode.specs.Formulas.{IsRepairFormula}
 use Rattle.price_descent.specs.Outcomes.{least_below}
 use Rattle.proof_check.specs.Knowledge.{start}
 use Rattle.proof_check.specs.Logs.{IsAccepted, IsRefuting}
 use Rattle.proof_log.specs.declared.steps.Step.{Step}
-use Rattle.arc_repair.specs.Repairs.{cost, Mends, IsLeast}
+use Rattle.arc_repair.specs.Repairs.{Mends, IsLeast}
 
 -- the verdict is a yes, and right
 pub record IsRightYes (net : Network) (policy : Policy) (v : Verdict) : Type 0 where
@@ -34,7 +34,7 @@ pub record IsRightYes (net : Network) (policy : Policy) (v : Verdict) : Type 0 w
 pub record IsRightRepair (net : Network) (doc : Document) (list : List Edit) (price bound : ℕ)
     (flags : List Bool) (verdicts : List Verdict) : Type 0 where
   pub one_each : length flags ≡ length list
-  pub costs : cost doc list flags ≡ price
+  pub costs : price_of_flags doc list flags ≡ price
   pub affordable : price ≤ bound
   pub few : bound ≤ PRICE_LIMIT
   pub after : Network
@@ -60,7 +60,7 @@ abbrev pub IsTrueClaim : Network → Document → List Edit → Claim → Type 0
 IsTrueClaim net doc list (Repaired price bound flags verdicts) =
     IsCheapestRepair net doc list price bound flags verdicts
 IsTrueClaim net doc list (NoRepair bound) =
-    (flags : List Bool) → Mends net doc list flags → bound < cost doc list flags
+    (flags : List Bool) → Mends net doc list flags → bound < price_of_flags doc list flags
 
 -- the bound of the claim
 abbrev pub claim_bound : Claim → ℕ

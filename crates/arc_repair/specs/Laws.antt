@@ -9,11 +9,12 @@ use Rattle.edit_list.specs.declared.edit_kinds.Edit.{Edit}
 use Rattle.edit_list.specs.Determined.{IsCountable}
 use Rattle.edit_list.specs.EditLists.{AreEdits}
 use Rattle.edit_list.specs.Ordered.{IsKeyBefore}
+use Rattle.edit_list.specs.Prices.{none_of}
 use Rattle.arc_base.specs.NameForms.{IsNameBefore}
 use Rattle.proof_check.specs.Logs.{after_all, IsAccepted}
 use Rattle.proof_log.specs.declared.steps.Step.{Step}
 use Rattle.arc_repair.specs.declared.check.Check.{Check}
-use Rattle.arc_repair.specs.Repairs.{Mends, none_of}
+use Rattle.arc_repair.specs.Repairs.{Mends}
 use Rattle.arc_repair.specs.Claims.{IsTrueClaim, IsCertificate}
 use Rattle.arc_repair.specs.Checks.{knowledge, IsBegun}
 

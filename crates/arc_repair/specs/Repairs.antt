@@ -1,15 +1,11 @@
 -- Which edits mend a network: after them it meets the document.
-use Rattle.std.specs.Prelude.{◌≡◌, ℕ, ◌≤◌, Bool, false, List, length, map}
+use Rattle.std.specs.Prelude.{◌≡◌, ℕ, ◌≤◌, Bool, List, length}
 use Rattle.net_model.specs.declared.policies.Document.{Document}
 use Rattle.net_model.specs.declared.rows.Network.{Network}
 use Rattle.net_model.specs.Policies.{MeetsDocument}
 use Rattle.edit_list.specs.declared.edit_kinds.Edit.{Edit}
 use Rattle.edit_list.specs.After.{IsAfter}
-use Rattle.edit_list.specs.Prices.{chosen_of, price_of}
-
--- what the edits that the flags choose cost together
-abbrev pub cost : Document → List Edit → List Bool → ℕ
-cost doc list flags = price_of doc.weights (chosen_of list flags)
+use Rattle.edit_list.specs.Prices.{chosen_of, price_of_flags}
 
 -- the flags mend the network: there is one for each edit, and the network after the edits that they
 -- choose meets the document
@@ -23,8 +19,4 @@ pub record Mends (net : Network) (doc : Document) (list : List Edit)
 -- no edits that mend the network cost less
 abbrev pub IsLeast : Network → Document → List Edit → ℕ → Type 0
 IsLeast net doc list price =
-    (flags : List Bool) → Mends net doc list flags → price ≤ cost doc list flags
-
--- the flags that choose none of the edits
-abbrev pub none_of : List Edit → List Bool
-none_of list = map (λ edit. false) list
+    (flags : List Bool) → Mends net doc list flags → price ≤ price_of_flags doc list flags

@@ -9,7 +9,7 @@ use Rattle.net_model.specs.declared.verdicts.Verdict.{Verdict}
 use Rattle.edit_list.specs.declared.edit_kinds.Edit.{Edit}
 use Rattle.edit_list.specs.declared.claims.Claim.TheVariants.{NoRepair}
 use Rattle.edit_list.specs.After.{IsAfter}
-use Rattle.edit_list.specs.Prices.{chosen_of}
+use Rattle.edit_list.specs.Prices.{chosen_of, price_of_flags}
 use Rattle.policy_encode.specs.Formulas.{IsRepairFormula}
 use Rattle.price_descent.specs.declared.found.Found.{Found}
 use Rattle.price_descent.specs.declared.found.Found.TheVariants.{Cheapest, Nothing, Budget}
@@ -20,11 +20,12 @@ use Rattle.proof_check.specs.Logs.{IsAccepted, IsRefuting}
 use Rattle.proof_log.specs.declared.steps.Step.{Step}
 use Rattle.arc_repair.specs.Answers.{IsDone, IsOutOfBudget}
 use Rattle.arc_repair.specs.Claims.{IsRightYes}
-use Rattle.arc_repair.specs.Repairs.{cost, Mends, IsLeast}
+use Rattle.arc_repair.specs.Repairs.{Mends, IsLeast}
 
 -- the cost of the edits that the flags choose, where there is one for each
 abbrev pub flagged_cost : Document → List Edit → List Bool → ℕ
-flagged_cost doc list flags = if length flags == length list then cost doc list flags else 0
+flagged_cost doc list flags =
+    if length flags == length list then price_of_flags doc list flags else 0
 
 -- the verdicts are right yeses, one on each policy in order, in the network after the edits that
 -- the flags choose
@@ -38,7 +39,7 @@ pub record AreYesAfter (net : Network) (doc : Document) (list : List Edit) (flag
 pub record IsCheapestFound (net : Network) (doc : Document) (list : List Edit) (bound : ℕ)
     (offer : Offer) (steps : List Step) : Type 0 where
   pub mends : Mends net doc list offer.values
-  pub costs : cost doc list offer.values ≡ offer.price
+  pub costs : price_of_flags doc list offer.values ≡ offer.price
   pub affordable : offer.price ≤ bound
   pub least : IsLeast net doc list offer.price
   pub formula : Formula

@@ -1,5 +1,5 @@
 //! What is wrong with a claim, as far as it can be seen without a log.
-ghost use Rattle.std.specs.Prelude.{◌≡◌, ◌≤◌, length, All, IfOk, IfSome, IsNone, MatchOption};
+ghost use Rattle.std.specs.Prelude.{◌≡◌, ◌≤◌, length, All, IfOk, MatchOption};
 ghost use Rattle.std.specs.List.{AllZip};
 ghost use Rattle.net_model.specs.Forwarding.{HasEnds};
 ghost use Rattle.net_model.specs.Packets.{subject};

@@ -18,14 +18,16 @@ use edit_list::Edit;
 use edit_space::after;
 use net_laws::verdicts_are_right;
 use net_model::{Document, Network, Policy, Verdict};
+use run_progress::Listener;
 use std::alloc::Global;
 use verdicts::{are_all_yes, judge_all};
 
 /// The verdicts on the policies, if each is a yes.
-fn yeses(
+fn yeses<L: Listener>(
     alloc: Global,
     net: &Network,
     policies: &List<Policy>,
+    listener: &mut L,
 ) -> Result<Option<List<Verdict>>, Memory>
     requires valid { IsValid net.now }
     requires ends { All (λ policy. HasEnds net.now (subject policy)) policies.now }
@@ -37,7 +39,7 @@ fn yeses(
     ensures none { IfOk result (λ verdicts. IsNone verdicts → ¬ All (Meets net.now) policies.now) }
 {
     verdicts_are_right();
-    let verdicts = judge_all(alloc, net, policies)?;
+    let verdicts = judge_all(alloc, net, policies, listener)?;
     if are_all_yes(verdicts.slice()) {
         Ok(Some(verdicts))
     } else {
@@ -46,12 +48,13 @@ fn yeses(
 }
 
 /// The verdicts on the policies in the network after the chosen edits, if each is a yes.
-pub(crate) fn yeses_after(
+pub(crate) fn yeses_after<L: Listener>(
     alloc: Global,
     net: &Network,
     doc: &Document,
     list: &List<Edit>,
     chosen: &[bool],
+    listener: &mut L,
 ) -> Result<Option<List<Verdict>>, Memory>
     requires valid { IsValid net.now }
     requires countable { IsCountable net.now }
@@ -67,6 +70,6 @@ pub(crate) fn yeses_after(
         ¬ Mends net.now doc.now list.now chosen.now) }
 {
     let after = after(alloc, net, list, chosen)?;
-    let verdicts = yeses(alloc, &after, &doc.policies)?;
+    let verdicts = yeses(alloc, &after, &doc.policies, listener)?;
     Ok(verdicts)
 }

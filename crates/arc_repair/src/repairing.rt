@@ -9,13 +9,14 @@ ghost use Rattle.edit_list.specs.declared.edit_kinds.Edit.{Edit as AnyEdit};
 ghost use Rattle.edit_list.specs.Determined.{IsCountable};
 ghost use Rattle.edit_list.specs.EditLists.{AreEdits, DocumentHasFewClasses};
 ghost use Rattle.edit_list.specs.Ordered.{IsInOrder};
+ghost use Rattle.edit_list.specs.Prices.{none_of};
 ghost use Rattle.price_descent.specs.Outcomes.{found_steps};
 ghost use Rattle.proof_log.specs.Texts.{HasLine};
 ghost use Rattle.net_model.specs.Policies.{HasFewFailures, MeetsDocument};
 ghost use Rattle.arc_repair.specs.declared.answer.Answer.TheVariants.{Done};
 ghost use Rattle.arc_repair.specs.Answers.{AnswersFew, IsAnswer, answer_steps, IsUntouched};
 ghost use Rattle.arc_repair.specs.Answers.{KeepsLimits, IsRepairFault};
-ghost use Rattle.arc_repair.specs.Repairs.{Mends, none_of};
+ghost use Rattle.arc_repair.specs.Repairs.{Mends};
 ghost use Rattle.arc_repair.specs.Search.{IsSearched};
 
 use crate::answer::Answer;
@@ -24,19 +25,13 @@ use crate::searching::cheapest;
 use arc_base::limits::{CONFLICT_LIMIT, EDIT_LIMIT, POLICY_LIMIT, PRICE_LIMIT};
 use arc_base::{List, Memory};
 use edit_list::laws::edit_lists_are_one;
-use edit_list::{Claim, Edit, EditFault, edits};
+use edit_list::{Claim, Edit, EditFault, edits, unchosen};
 use net_model::{Document, Network, Verdict};
 use policy_encode::encode;
 use price_descent::Found;
 use proof_log::Log;
+use run_progress::{Listener, Nobody};
 use std::alloc::Global;
-
-/// A flag for each of the edits, which chooses none.
-fn unchosen(alloc: Global, edits: &[Edit]) -> Result<Vec<bool>, Memory>
-    ensures { IfOk result (λ flags. flags.items ≡ none_of edits.now) }
-{
-    Ok(edits.iter().map(|_| false).collect(alloc)?)
-}
 
 /// The flags that choose none of the edits.
 fn no_flags(alloc: Global, list: &List<Edit>) -> Result<List<bool>, Memory>
@@ -65,7 +60,7 @@ fn untouched(alloc: Global, bound: u32, chosen: List<bool>, verdicts: List<Verdi
 
 /// The answer that comes of a search, with the verdicts in the network after the edits that were
 /// found.
-fn answer_of(
+fn answer_of<L: Listener>(
     alloc: Global,
     net: &Network,
     doc: &Document,
@@ -73,6 +68,7 @@ fn answer_of(
     bound: u32,
     limit: u64,
     found: Found,
+    listener: &mut L,
 ) -> Result<Answer, Memory>
     requires valid { IsValid net.now }
     requires countable { IsCountable net.now }
@@ -92,7 +88,7 @@ fn answer_of(
         Found::Cheapest(offer, log) => {
             let chosen = offer.values;
             let price = offer.price as u32;
-            match yeses_after(alloc, net, doc, list, chosen.slice())? {
+            match yeses_after(alloc, net, doc, list, chosen.slice(), listener)? {
                 Some(verdicts) => Ok(Answer::Done(
                     Claim::Repaired {
                         price,
@@ -142,19 +138,20 @@ pub fn repair(
 {
     edit_lists_are_one();
     let list = edits(alloc, net, doc)?;
-    let answer = repair_of(alloc, net, doc, &list, bound, limit)?;
+    let answer = repair_of(alloc, net, doc, &list, bound, limit, &mut Nobody)?;
     Ok(answer)
 }
 
 /// The answer that `repair` gives, where these are the edits of the network for the document, and
 /// they and the classes are within their limits.
-pub fn repair_of(
+pub fn repair_of<L: Listener>(
     alloc: Global,
     net: &Network,
     doc: &Document,
     list: &List<Edit>,
     bound: u32,
     limit: u64,
+    listener: &mut L,
 ) -> Result<Answer, EditFault>
     requires valid { IsValid net.now }
     requires countable { IsCountable net.now }
@@ -179,10 +176,10 @@ pub fn repair_of(
 {
     let encoded = encode(alloc, net, doc, list, bound)?;
     let none = no_flags(alloc, list)?;
-    if let Some(verdicts) = yeses_after(alloc, net, doc, list, none.slice())? {
+    if let Some(verdicts) = yeses_after(alloc, net, doc, list, none.slice(), listener)? {
         return Ok(untouched(alloc, bound, none, verdicts));
     }
-    let found = cheapest(alloc, net, doc, list, &encoded, bound, limit)?;
-    let answer = answer_of(alloc, net, doc, list, bound, limit, found)?;
+    let found = cheapest(alloc, net, doc, list, &encoded, bound, limit, listener)?;
+    let answer = answer_of(alloc, net, doc, list, bound, limit, found, listener)?;
     Ok(answer)
 }

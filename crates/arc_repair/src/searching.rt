@@ -1,5 +1,5 @@
 //! The search for the cheapest repair.
-ghost use Rattle.std.specs.Prelude.{◌≡◌, ◌≤◌, length, All, IfOk};
+ghost use Rattle.std.specs.Prelude.{◌≤◌, All, IfOk};
 ghost use Rattle.clean_logs.specs.CleanLogs.{additions};
 ghost use Rattle.net_model.specs.Validity.{IsValid};
 ghost use Rattle.edit_list.specs.Determined.{IsCountable};
@@ -18,10 +18,11 @@ use net_model::{Document, Network};
 use policy_encode::Encoded;
 use policy_encode::laws::{formulas_are_searchable, models_are_repairs, one_model_serves};
 use price_descent::{Found, descend};
+use run_progress::Listener;
 use std::alloc::Global;
 
 /// The cheapest edits that mend the network, by a descent over the prices of the formula's models.
-pub(crate) fn cheapest(
+pub(crate) fn cheapest<L: Listener>(
     alloc: Global,
     net: &Network,
     doc: &Document,
@@ -29,6 +30,7 @@ pub(crate) fn cheapest(
     encoded: &Encoded,
     bound: u32,
     limit: u64,
+    listener: &mut L,
 ) -> Result<Found, Memory>
     requires valid { IsValid net.now }
     requires countable { IsCountable net.now }
@@ -55,6 +57,7 @@ pub(crate) fn cheapest(
         list.len(),
         bound,
         limit,
+        listener,
     )?;
     Ok(found)
 }

@@ -1,6 +1,6 @@
 //! Files that are read once more for a message.
-ghost use Rattle.std.specs.Prelude.{◌≤◌, length, IfSome};
 ghost use Rattle.net_doc.specs.Documents.{IsWellFormed};
+ghost use Rattle.std.specs.Prelude.{◌≤◌, length, IfSome};
 
 use arc_base::Name;
 use arc_base::limits::ROUTER_FILE_LIMIT;
@@ -8,6 +8,9 @@ use arc_outside::{DiskStore, read_all};
 use net_model::Document;
 use run_inputs::read_document;
 use std::{fs, str};
+
+/// The files of the system.
+pub type Disk = DiskStore<HostRuntime>;
 
 /// Whether a file can be read again at once, as a pipe cannot: there a second reading would wait
 /// for ever.
@@ -22,11 +25,7 @@ pub fn is_plain(rt: &HostRuntime, name: &[u8]) -> bool {
 }
 
 /// The text of a file, where it can be read once more.
-pub fn text_again(
-    rt: &HostRuntime,
-    name: &Name,
-    store: &mut DiskStore<HostRuntime>,
-) -> Option<Vec<u8>>
+pub fn text_again(rt: &HostRuntime, name: &Name, store: &mut Disk) -> Option<Vec<u8>>
     ensures { IfSome result (λ text. length text.items ≤ ROUTER_FILE_LIMIT) }
 {
     if !is_plain(rt, name.bytes()) {
@@ -36,11 +35,7 @@ pub fn text_again(
 }
 
 /// A document, where it can be read again at once.
-pub fn document_alone(
-    rt: &HostRuntime,
-    name: &Name,
-    store: &mut DiskStore<HostRuntime>,
-) -> Option<Document>
+pub fn document_alone(rt: &HostRuntime, name: &Name, store: &mut Disk) -> Option<Document>
     ensures { IfSome result IsWellFormed }
 {
     if !is_plain(rt, name.bytes()) {
@@ -50,11 +45,7 @@ pub fn document_alone(
 }
 
 /// A document, where it and its router files can be read again at once.
-pub fn document_again(
-    rt: &HostRuntime,
-    name: &Name,
-    store: &mut DiskStore<HostRuntime>,
-) -> Option<Document>
+pub fn document_again(rt: &HostRuntime, name: &Name, store: &mut Disk) -> Option<Document>
     ensures { IfSome result IsWellFormed }
 {
     let doc = document_alone(rt, name, store)?;

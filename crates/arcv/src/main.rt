@@ -1,15 +1,18 @@
 //! The command `arcv`: `run_telling` over the files of the system and its standard output, with the
 //! words that follow the program's name. The exit status is the run's. Details of a run go to
-//! standard error; they change neither output nor status.
+//! standard error, and on a terminal a line while it takes long; they change neither output nor
+//! status.
 #![tactic(auto)]
 
 mod again;
 mod messages;
 mod notes;
+mod progress;
 mod refusals;
 mod rejections;
 
 use crate::messages::explain;
+use crate::progress::ProgressLine;
 use arc_base::{List, Memory, Name};
 use arc_outside::{DiskStore, StdSink};
 use arc_run::run_telling;
@@ -41,7 +44,9 @@ fn main(rt: HostRuntime) -> ExitCode {
     };
     let mut store = DiskStore::make(rt, alloc);
     let mut out = StdSink::make(rt);
-    let ended = run_telling(alloc, words.slice(), &mut store, &mut out);
+    let mut line = ProgressLine::make(&rt);
+    let ended = run_telling(alloc, words.slice(), &mut store, &mut out, &mut line);
+    let _erased = line.erase();
     let _said = explain(&rt, words.slice(), &ended, &mut store);
     ExitCode::from(ended.status.code)
 }

@@ -1,9 +1,10 @@
 //! What is said on the standard error of a run.
 
+use crate::again::Disk;
 use crate::notes::explain_answer;
 use crate::refusals::explain_refusal;
 use arc_base::Name;
-use arc_outside::{DiskStore, Operation};
+use arc_outside::Operation;
 use arc_run::{Ended, Outcome};
 use command_words::{command_forms, form_named};
 use run_messages::{
@@ -80,7 +81,7 @@ fn explain_words(rt: &HostRuntime, words: &[Name]) -> io::Result<()> {
 }
 
 /// A file could not be read or written: which one, and what the system said.
-fn explain_failure(rt: &HostRuntime, store: &DiskStore<HostRuntime>) -> io::Result<()> {
+fn explain_failure(rt: &HostRuntime, store: &Disk) -> io::Result<()> {
     let Some(failure) = store.failure() else {
         return say(rt, &[b"arcv: a file could not be read or written"]);
     };
@@ -107,7 +108,7 @@ pub fn explain(
     rt: &HostRuntime,
     words: &[Name],
     ended: &Ended,
-    store: &mut DiskStore<HostRuntime>,
+    store: &mut Disk,
 ) -> io::Result<()> {
     match (ended.status.code, &ended.outcome) {
         (0 | 1, Some(Outcome::Done(done))) => explain_answer(rt, words, done, store),

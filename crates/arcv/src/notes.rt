@@ -1,12 +1,12 @@
 //! What is said on the standard error of a run that ended with an answer: whether a yes of it holds
 //! for any forwarding, and which policy a certificate is rejected at.
 
-use crate::again::{document_again, is_plain};
+use crate::again::{Disk, document_again, is_plain};
 use crate::messages::say;
 use crate::rejections::explain_rejection;
 use arc_base::Name;
 use arc_base::limits::{EDIT_FILE_LIMIT, PROOF_LIMIT};
-use arc_outside::{DiskStore, Pieces};
+use arc_outside::Pieces;
 use arc_run::Done;
 use command_words::{Command, read_words};
 use forwarding_notes::{edits_close, holds_for_any};
@@ -20,11 +20,7 @@ const CLOSES: &[u8] = b"arcv: after these edits OSPF no longer runs everywhere, 
     blocked or through then holds for its routes, and no longer for any forwarding";
 
 /// A report has a yes of a blocked or through policy.
-fn explain_yes(
-    rt: &HostRuntime,
-    document: &Name,
-    store: &mut DiskStore<HostRuntime>,
-) -> io::Result<()> {
+fn explain_yes(rt: &HostRuntime, document: &Name, store: &mut Disk) -> io::Result<()> {
     let Some(doc) = document_again(rt, document, store) else {
         return Ok(());
     };
@@ -35,11 +31,7 @@ fn explain_yes(
 }
 
 /// The edits of a certificate of a repair, a line each; nothing where it is no such certificate.
-fn edit_lines(
-    rt: &HostRuntime,
-    certificate: &Name,
-    store: &mut DiskStore<HostRuntime>,
-) -> io::Result<Vec<u8>> {
+fn edit_lines(rt: &HostRuntime, certificate: &Name, store: &mut Disk) -> io::Result<Vec<u8>> {
     let mut pieces = Pieces::make(rt.alloc(), PROOF_LIMIT);
     let mut text = Vec::new(rt.alloc());
     for number in 0..u64::MAX {
@@ -62,11 +54,7 @@ fn edit_lines(
 }
 
 /// Whether a certificate is a report with a yes of a blocked or through policy.
-fn is_barred_report(
-    rt: &HostRuntime,
-    certificate: &Name,
-    store: &mut DiskStore<HostRuntime>,
-) -> bool {
+fn is_barred_report(rt: &HostRuntime, certificate: &Name, store: &mut Disk) -> bool {
     if !is_plain(rt, certificate.bytes()) {
         return false;
     }
@@ -90,7 +78,7 @@ fn explain_edits(
     rt: &HostRuntime,
     document: &Name,
     certificate: &Name,
-    store: &mut DiskStore<HostRuntime>,
+    store: &mut Disk,
 ) -> io::Result<()> {
     if !is_plain(rt, certificate.bytes()) {
         return Ok(());
@@ -116,7 +104,7 @@ pub fn explain_answer(
     rt: &HostRuntime,
     words: &[Name],
     done: &Done,
-    store: &mut DiskStore<HostRuntime>,
+    store: &mut Disk,
 ) -> io::Result<()> {
     let text = done.text.bytes();
     match read_words(rt.alloc(), words) {

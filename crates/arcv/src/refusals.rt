@@ -1,22 +1,19 @@
 //! What is said on the standard error of a run that was refused.
 ghost use Rattle.std.specs.Prelude.{◌≤◌, length};
 
-use crate::again::{document_again, document_alone, text_again};
+use crate::again::{Disk, document_again, document_alone, text_again};
 use crate::messages::say;
 use arc_base::limits::ROUTER_FILE_LIMIT;
-use arc_base::{Kind, LimitKind, Memory, Name};
-use arc_outside::DiskStore;
+use arc_base::{Kind, LimitKind, Name};
 use arc_run::{FileRefusal, Reason};
-use command_words::{Command, read_words};
-use file_copies::copy_names;
+use command_words::read_words;
 use net_model::Document;
 use run_files::Limits;
 use run_inputs::read_files;
 use run_messages::{
-    Subject, Subnets, WrongWord, clash, document_fault, document_item, edits_of_new_lists,
-    front_of, line_at, missing_face, subject_of, wrong_word,
+    Subject, Subnets, WrongWord, clash, document_fault, document_item, document_of,
+    edits_of_new_lists, front_of, line_at, missing_face, subject_of, wrong_word,
 };
-use std::alloc::Global;
 use std::io;
 
 /// The line that a refusal names, and the word that is wrong in it.
@@ -43,18 +40,12 @@ fn explain_line(rt: &HostRuntime, refusal: &FileRefusal, text: &[u8]) -> io::Res
     }
 }
 
-/// The first of the words that names a document which can be read again.
-fn document_among(
-    rt: &HostRuntime,
-    words: &[Name],
-    store: &mut DiskStore<HostRuntime>,
-) -> Option<Document> {
-    for word in words {
-        if let Some(doc) = document_alone(rt, word, store) {
-            return Some(doc);
-        }
-    }
-    None
+/// The document that the command of these words reads, if it can be read again.
+fn document_of_words(rt: &HostRuntime, words: &[Name], store: &mut Disk) -> Option<Document> {
+    let Ok(Some(command)) = read_words(rt.alloc(), words) else {
+        return None;
+    };
+    document_alone(rt, document_of(&command)?, store)
 }
 
 /// The subnets of the router files of a document up to the refused one.
@@ -62,7 +53,7 @@ fn subnets_again(
     rt: &HostRuntime,
     doc: &Document,
     refused: &Name,
-    store: &mut DiskStore<HostRuntime>,
+    store: &mut Disk,
 ) -> Option<Subnets> {
     let mut subnets = Subnets::none(rt.alloc());
     for name in doc.routers.slice() {
@@ -80,9 +71,9 @@ fn explain_overlap(
     rt: &HostRuntime,
     words: &[Name],
     refusal: &FileRefusal,
-    store: &mut DiskStore<HostRuntime>,
+    store: &mut Disk,
 ) -> io::Result<()> {
-    let Some(doc) = document_among(rt, words, store) else {
+    let Some(doc) = document_of_words(rt, words, store) else {
         return Ok(());
     };
     let Some(subnets) = subnets_again(rt, &doc, &refusal.name, store) else {
@@ -100,7 +91,7 @@ fn missing_end(
     doc: &Document,
     router: &Name,
     face: &Name,
-    store: &mut DiskStore<HostRuntime>,
+    store: &mut Disk,
 ) -> Option<String> {
     for name in doc.routers.slice() {
         let text = text_again(rt, name, store)?;
@@ -112,11 +103,7 @@ fn missing_end(
 }
 
 /// The interfaces of the link that are not in the files of their routers.
-fn explain_ends(
-    rt: &HostRuntime,
-    refusal: &FileRefusal,
-    store: &mut DiskStore<HostRuntime>,
-) -> io::Result<()> {
+fn explain_ends(rt: &HostRuntime, refusal: &FileRefusal, store: &mut Disk) -> io::Result<()> {
     let Some(doc) = document_alone(rt, &refusal.name, store) else {
         return Ok(());
     };
@@ -135,30 +122,12 @@ fn explain_ends(
     Ok(())
 }
 
-/// The names of the files that a command over these router files may write.
-fn outputs(alloc: Global, command: &Command, routers: &[Name]) -> Result<Vec<Name>, Memory> {
-    let (suffix, proof) = match command {
-        Command::Repair(words) => (Some(&words.suffix), Some(&words.proof)),
-        Command::Apply(words) => (Some(&words.suffix), None),
-        Command::Solve(words) => (None, Some(&words.proof)),
-        _ => (None, None),
-    };
-    let mut names = match suffix {
-        Some(suffix) => copy_names(alloc, suffix, routers)?,
-        None => Vec::new(alloc),
-    };
-    if let Some(proof) = proof {
-        names.push(Name::make(alloc, proof.bytes())?)?;
-    }
-    Ok(names)
-}
-
 /// The file that would have been written over.
 fn explain_output(
     rt: &HostRuntime,
     words: &[Name],
     document: &Name,
-    store: &mut DiskStore<HostRuntime>,
+    store: &mut Disk,
 ) -> io::Result<()> {
     let Ok(Some(command)) = read_words(rt.alloc(), words) else {
         return Ok(());
@@ -168,21 +137,14 @@ fn explain_output(
         Some(doc) => doc.routers.slice(),
         None => &[],
     };
-    let Ok(names) = outputs(rt.alloc(), &command, routers) else {
-        return Ok(());
-    };
-    match clash(rt.alloc(), &command, routers, &names) {
+    match clash(rt.alloc(), &command, routers) {
         Some(said) => say(rt, &[b"arcv: ", said.as_slice()]),
         None => Ok(()),
     }
 }
 
 /// What most of the edits are.
-fn explain_edits(
-    rt: &HostRuntime,
-    document: &Name,
-    store: &mut DiskStore<HostRuntime>,
-) -> io::Result<()> {
+fn explain_edits(rt: &HostRuntime, document: &Name, store: &mut Disk) -> io::Result<()> {
     let Some(doc) = document_again(rt, document, store) else {
         return Ok(());
     };
@@ -200,7 +162,7 @@ fn explain_whole(
     rt: &HostRuntime,
     words: &[Name],
     refusal: &FileRefusal,
-    store: &mut DiskStore<HostRuntime>,
+    store: &mut Disk,
 ) -> io::Result<()> {
     match refusal.reason {
         Reason::Kind(Kind::OutputName) => explain_output(rt, words, &refusal.name, store),
@@ -237,7 +199,7 @@ fn explain_part(
     rt: &HostRuntime,
     subject: Subject,
     refusal: &FileRefusal,
-    store: &mut DiskStore<HostRuntime>,
+    store: &mut Disk,
 ) -> io::Result<()> {
     let Some(text) = text_again(rt, &refusal.name, store) else {
         return Ok(());
@@ -260,7 +222,7 @@ pub fn explain_refusal(
     rt: &HostRuntime,
     words: &[Name],
     refusal: &FileRefusal,
-    store: &mut DiskStore<HostRuntime>,
+    store: &mut Disk,
 ) -> io::Result<()> {
     let is_of_words = words.iter().any(|word| word.is(refusal.name.bytes()));
     match subject_of(refusal, is_of_words) {

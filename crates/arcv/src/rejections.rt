@@ -1,10 +1,10 @@
 //! What is said on the standard error of a run that rejected a certificate.
 
-use crate::again::{document_alone, is_plain};
+use crate::again::{Disk, document_alone, is_plain};
 use crate::messages::say;
 use arc_base::Name;
 use arc_base::limits::PROOF_LIMIT;
-use arc_outside::{DiskStore, Pieces};
+use arc_outside::Pieces;
 use run_messages::{Blocks, Rejected, policy_words, rejection_of};
 use std::io;
 
@@ -13,7 +13,7 @@ fn rejected_policy(
     rt: &HostRuntime,
     certificate: &Name,
     rejected: Rejected<'_>,
-    store: &mut DiskStore<HostRuntime>,
+    store: &mut Disk,
 ) -> Option<u32> {
     let mut blocks = Blocks::none();
     let mut pieces = Pieces::make(rt.alloc(), PROOF_LIMIT);
@@ -37,7 +37,7 @@ pub fn explain_rejection(
     document: &Name,
     certificate: &Name,
     text: &[u8],
-    store: &mut DiskStore<HostRuntime>,
+    store: &mut Disk,
 ) -> io::Result<()> {
     let Some(rejected) = rejection_of(text) else {
         return Ok(());

@@ -2,12 +2,11 @@
 //! end of the trail on, up to the first unique implication point; then literals that the others
 //! imply are left out. The cost is that of the clauses that are resolved.
 ghost use Rattle.std.specs.Prelude.{◌≡◌, ◌+◌, ◌*◌, ◌<◌, ◌≤◌, ◌^◌, ◌||◌, ◌==◌, if◌then◌else◌, ◌∷◌};
-ghost use Rattle.std.specs.Prelude.{◌++◌, [], length, reverse, All, IsTrue, IsSomeAnd, IfOk};
-ghost use Rattle.std.specs.Prelude.{IfSome, OnOk, Some, option_to_list, false};
+ghost use Rattle.std.specs.Prelude.{◌++◌, [], length, reverse, All, IsSomeAnd, IfOk, IfSome, OnOk};
+ghost use Rattle.std.specs.Prelude.{Some, option_to_list, false};
 ghost use Rattle.cnf_types.specs.Literals.{negated};
 ghost use Rattle.cnf_types.specs.declared.literal.Lit.{Lit};
-ghost use Rattle.proof_check.specs.Propagation.{same};
-ghost use Rattle.sat_core.specs.Trails.{is_on, clause_at, id_at, IsOf, IsFalsified};
+ghost use Rattle.sat_core.specs.Trails.{is_on, clause_at, IsOf, IsFalsified};
 ghost use Rattle.sat_core.specs.States.{IsSound};
 ghost use Rattle.sat_search.specs.Passes.{open_in, is_marked, resolving_reason, IsCleared};
 ghost use Rattle.sat_search.specs.Passes.{IsJoined, IsPass, HasRoom, hint_at};
@@ -91,7 +90,13 @@ impl Lesson {
     }
 
     /// Marks a literal, where it is false.
-    fn meet(&mut self, marks: &mut Marks, core: &Core, lit: Lit) -> Result<(), Memory>
+    fn meet(
+        &mut self,
+        marks: &mut Marks,
+        spares: &mut Spares,
+        core: &Core,
+        lit: Lit,
+    ) -> Result<(), Memory>
         requires sound { IsSound core.now }
         requires room { HasRoom core.now marks.old }
         requires range { IsOf core.now.vars lit }
@@ -110,6 +115,7 @@ impl Lesson {
         }
         marks.mark(lit);
         let level = core.level_of(lit.var());
+        spares.meet_level(level);
         if level == core.level() {
             self.current += 1;
         }
@@ -120,7 +126,13 @@ impl Lesson {
     }
 
     /// Marks the literals of a clause that are false, and takes its id as a hint.
-    fn join(&mut self, marks: &mut Marks, core: &Core, held: Held) -> Result<(), Memory>
+    fn join(
+        &mut self,
+        marks: &mut Marks,
+        spares: &mut Spares,
+        core: &Core,
+        held: Held,
+    ) -> Result<(), Memory>
         requires held { held.0 < length core.now.clauses }
         requires sound { IsSound core.now }
         requires room { HasRoom core.now marks.old }
@@ -140,7 +152,7 @@ impl Lesson {
         self.hints.push(hint(core, held))?;
         let lits = core.clause(held);
         for lit in lits {
-            self.meet(marks, core, *lit)?;
+            self.meet(marks, spares, core, *lit)?;
         }
         Ok(())
     }
@@ -193,7 +205,7 @@ impl Lesson {
         let reason = self.resolving_reason(entry, core.level(), spared);
         self.leave(marks, core.level(), entry);
         match reason {
-            Some(held) => self.join(marks, core, held),
+            Some(held) => self.join(marks, spares, core, held),
             None => {
                 self.lits.push(negation)?;
                 Ok(())
@@ -230,8 +242,8 @@ impl Lesson {
             met: Vec::new(alloc),
             current: 0,
         };
-        lesson.join(marks, core, conflict)?;
         spares.begin();
+        lesson.join(marks, spares, core, conflict)?;
         for place in (0..entries).rev() {
             lesson.visit(marks, spares, core, place)?;
         }

@@ -23,6 +23,7 @@ use arc_base::Memory;
 use arc_base::limits::CONFLICT_LIMIT;
 use cnf_types::Lit;
 use proof_log::Log;
+use run_progress::{Listener, Nobody, Work};
 use sat_core::Core;
 use std::alloc::Global;
 
@@ -85,18 +86,20 @@ pub fn search(alloc: Global, core: &mut Core, log: &mut Log, limit: u64) -> Resu
         → IsClean f least tops log.old.steps
         → IfOk result (λ found. found ≡ Found.Budget → IsSpent f least tops limit log.new.steps) }
 {
-    search_first(alloc, core, &[], log, limit)
+    search_first(alloc, core, &[], log, limit, &mut Nobody)
 }
 
 /// Looks for a model as `search` does, with other decisions: it begins by making the first of the
 /// literals `first` false that is not true at level 0, where it is unset. Once lemmas show that it
-/// is true, it goes on with the next one; so no lemma rests on these decisions.
-pub fn search_first(
+/// is true, it goes on with the next one; so no lemma rests on these decisions. The listener hears
+/// of each hundredth conflict.
+pub fn search_first<L: Listener>(
     alloc: Global,
     core: &mut Core,
     first: &[Lit],
     log: &mut Log,
     limit: u64,
+    listener: &mut L,
 ) -> Result<Found, Memory>
     requires first { All (IsOf core.old.vars) first.now }
     requires level { core.old.level ≡ 0 }
@@ -150,19 +153,27 @@ pub fn search_first(
         → IsClean f least tops log.old.steps
         → IfOk result (λ found. found ≡ Found.Budget → IsSpent f least tops limit log.new.steps) }
 {
-    let found = run(alloc, core, first, log, limit);
+    let found = run(alloc, core, first, log, limit, listener);
     core.back_to(0);
     found
 }
 
+/// Tells the listener of each hundredth conflict.
+fn report<L: Listener>(listener: &mut L, conflicts: u64) {
+    if conflicts % 100 == 0 {
+        listener.heard(Work::Searching { conflicts });
+    }
+}
+
 /// Propagates and decides until there is a conflict, learns from it, drops lemmas where it is time,
 /// and begins again.
-fn run(
+fn run<L: Listener>(
     alloc: Global,
     core: &mut Core,
     first: &[Lit],
     log: &mut Log,
     limit: u64,
+    listener: &mut L,
 ) -> Result<Found, Memory>
     requires first { All (IsOf core.old.vars) first.now }
     requires level { core.old.level ≡ 0 }
@@ -186,5 +197,6 @@ fn run(
         }
         learner.drop_lemmas(core, log)?;
         added += 1;
+        report(listener, added);
     }
 }

@@ -26,6 +26,8 @@ pub(crate) struct Spares {
     /// reasons are still to be looked at.
     supposed: Vec<u64>,
     waiting: Vec<u64>,
+    /// For each level the number of the last conflict whose lemma met a literal of it.
+    levels: Vec<u64>,
     conflict: u64,
 }
 
@@ -40,6 +42,7 @@ impl Spares {
             parents: vec![in alloc; 0; vars as usize + 1]?,
             supposed: Vec::new(alloc),
             waiting: Vec::new(alloc),
+            levels: vec![in alloc; 0; vars as usize + 1]?,
             conflict: 0,
         })
     }
@@ -47,6 +50,19 @@ impl Spares {
     /// Begins with another conflict, of which nothing is known.
     pub fn begin(&mut self) {
         self.conflict = self.conflict.saturating_add(1);
+    }
+
+    /// Notes that the lemma met a literal of a level.
+    pub fn meet_level(&mut self, level: u32) {
+        if (level as usize) < self.levels.len() {
+            self.levels[level as usize] = self.conflict;
+        }
+    }
+
+    /// Whether the lemma met a literal of a level. Of another level it implies none, since the
+    /// reasons of such a literal lead back to the decision of its level.
+    fn has_level(&self, level: u32) -> bool {
+        self.levels.get(level as usize).copied().unwrap_or(0) == self.conflict
     }
 
     fn is_implied(&self, var: u64) -> bool {
@@ -107,8 +123,11 @@ impl Spares {
         }
         for lit in core.clause(held) {
             let other = lit.var();
-            let is_left = other != var && !marks.has(*lit) && level_of_false(core, *lit) > 0;
-            if is_left && !self.accept(other, var) {
+            if other == var || marks.has(*lit) {
+                continue;
+            }
+            let level = level_of_false(core, *lit);
+            if level > 0 && !(self.has_level(level) && self.accept(other, var)) {
                 return false;
             }
         }

@@ -1,12 +1,9 @@
 //! The values that a trail gives all variables.
-ghost use Rattle.std.specs.Prelude.{◌≡◌, ◌≤◌, ◌<◌, ◌-◌, ℕ, length, IsTrue, IfOk, slice_index_or};
-ghost use Rattle.std.specs.Prelude.{false, true};
-ghost use Rattle.cnf_types.specs.Literals.{literal};
+ghost use Rattle.std.specs.Prelude.{◌≡◌, ◌≤◌, ◌<◌, ◌-◌, ℕ, IsTrue, IfOk, false, true};
 ghost use Rattle.sat_core.specs.Trails.{is_on, IsOf};
 ghost use Rattle.sat_core.specs.Rest.{IsAtRest};
 ghost use Rattle.sat_core.specs.States.{IsSound};
 ghost use Rattle.sat_search.specs.Orders.{is_set};
-ghost use Rattle.cnf_types.specs.Formulas.{value_at};
 ghost use Rattle.sat_search.specs.Searches.{IsModelOf};
 
 use arc_base::{List, Memory};

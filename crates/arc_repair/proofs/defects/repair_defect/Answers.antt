@@ -6,11 +6,10 @@ use Rattle.net_model.specs.declared.verdicts.Verdict.{Verdict}
 use Rattle.net_model.specs.Forwarding.{HasEnds}
 use Rattle.net_model.specs.Packets.{subject}
 use Rattle.edit_list.specs.After.{IsAfter}
-use Rattle.edit_list.specs.Prices.{chosen_of}
+use Rattle.edit_list.specs.Prices.{chosen_of, price_of_flags}
 use Rattle.network_edit_laws.proofs.SameHosts.{ends_stay}
 use Rattle.arc_repair.specs.Checks.{IsVerdictDefect}
 use Rattle.arc_repair.specs.Claims.{IsRightYes}
-use Rattle.arc_repair.specs.Repairs.{cost}
 use Rattle.arc_repair.proofs.ClaimDefects.{judged}
 use Rattle.arc_repair.proofs.defects.repair_defect.Goals as goal
 
@@ -19,8 +18,8 @@ returns-then-claimed-bound c = inl (inr (inl c.if-claimed-bound.true), refl)
 
 pub returns-then-cost-from : goal.returns-then-cost-from
 returns-then-cost-from c =
-    let wrong : cost c.args.doc.now c.args.list.now c.args.chosen.now ≡ c.args.claimed → ⊥ = λ same.
-    let told : c.price-cost.result ≡ cost c.args.doc.now c.args.list.now c.args.chosen.now = c.price-cost.ensures ∙ ap (cost c.args.doc.now c.args.list.now) c.slice.ensures.items in
+    let wrong : price_of_flags c.args.doc.now c.args.list.now c.args.chosen.now ≡ c.args.claimed → ⊥ = λ same.
+    let told : c.price-cost.result ≡ price_of_flags c.args.doc.now c.args.list.now c.args.chosen.now = c.price-cost.ensures ∙ ap (price_of_flags c.args.doc.now c.args.list.now) c.slice.ensures.items in
     c.if-cost-from.true (told ∙ same ∙ sym c.from.ensures) in
     inl (inl wrong, refl)
 
@@ -31,8 +30,8 @@ verdict_defect-requires-clause-ends c =
 
 pub returns : goal.returns
 returns c =
-    let told : cost c.args.doc.now c.args.list.now c.args.chosen.now ≡ c.args.claimed =
-    sym (ap (cost c.args.doc.now c.args.list.now) c.slice.ensures.items) ∙ sym c.price-cost.ensures ∙ c.if-cost-from.false ∙ c.from.ensures in
+    let told : price_of_flags c.args.doc.now c.args.list.now c.args.chosen.now ≡ c.args.claimed =
+    sym (ap (price_of_flags c.args.doc.now c.args.list.now) c.slice.ensures.items) ∙ sym c.price-cost.ensures ∙ c.if-cost-from.false ∙ c.from.ensures in
     let is : IsAfter c.args.net.now (chosen_of c.args.list.now c.args.chosen.now) c.in_ok-after.after =
     subst (λ (flags : List Bool). IsAfter c.args.net.now (chosen_of c.args.list.now flags) c.in_ok-after.after) c.slice-2.ensures.items c.in_ok-after.ensures.after in
     let first : MatchOption c.verdict_defect.result (AllZip (IsRightYes c.in_ok-after.after) c.slice-3.result.now c.args.verdicts.now) (IsVerdictDefect c.in_ok-after.after c.slice-3.result.now c.args.verdicts.now) =

@@ -8,16 +8,16 @@ use Rattle.arc_repair.proofs.Repaired.{meets_there, if_some_along}
 use Rattle.arc_repair.proofs.judging.yeses_after.Goals as goal
 
 pub yeses-requires-clause-ends : goal.yeses-requires-clause-ends
-yeses-requires-clause-ends c = λ k d l. ends_stay _ _ _ c.in_ok-after.ensures.after _ (c.requires.ends k d l)
+yeses-requires-clause-ends g c = λ k d l. ends_stay _ _ _ c.in_ok-after.ensures.after _ (c.requires.ends k d l)
 
 pub yeses-requires-clause-classes : goal.yeses-requires-clause-classes
-yeses-requires-clause-classes c = few_after classes_stay c.args.net.now c.in_ok-after.after c.args.doc.now c.args.list.now c.args.chosen.now c.requires.edits c.in_ok-after.ensures.after c.requires.classes
+yeses-requires-clause-classes g c = few_after classes_stay c.args.net.now c.in_ok-after.after c.args.doc.now c.args.list.now c.args.chosen.now c.requires.edits c.in_ok-after.ensures.after c.requires.classes
 
 pub returns-clause-some : goal.returns-clause-some
-returns-clause-some c =
+returns-clause-some g c =
     if_some_along (AllZip (IsRightYes c.in_ok-after.after) c.args.doc.now.policies) (AreYesAfter c.args.net.now c.args.doc.now c.args.list.now c.args.chosen.now) c.in_ok-verdicts.verdicts
     (λ vs zip. record { after = c.in_ok-after.after; is_after = c.in_ok-after.ensures.after; judged = zip }) c.in_ok-verdicts.ensures.some
 
 pub returns-clause-none : goal.returns-clause-none
-returns-clause-none c = λ none mends.
+returns-clause-none g c = λ none mends.
     c.in_ok-verdicts.ensures.none none (meets_there c.args.net.now c.args.doc.now c.args.list.now c.args.chosen.now c.in_ok-after.after c.requires.valid c.requires.countable c.in_ok-after.ensures.after mends)

@@ -1,5 +1,5 @@
 use Rattle.std.proofs.Common.{◌∙◌, ap}
-use Rattle.arc_repair.specs.Repairs.{none_of}
+use Rattle.edit_list.specs.Prices.{none_of}
 use Rattle.arc_repair.proofs.repairing.no_flags.Goals as goal
 
 pub returns : goal.returns

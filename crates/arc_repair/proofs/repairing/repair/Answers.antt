@@ -3,8 +3,9 @@ use Rattle.std.proofs.lemmas.Result.{err_from_is_err_and}
 use Rattle.net_model.specs.Policies.{MeetsDocument}
 use Rattle.edit_list.specs.declared.edit_kinds.Edit.{Edit}
 use Rattle.edit_list.specs.Ordered.{IsInOrder}
+use Rattle.edit_list.specs.Prices.{none_of}
 use Rattle.arc_repair.specs.Answers.{IsAnswer, IsRepairFault, IsUntouched, KeepsLimits}
-use Rattle.arc_repair.specs.Repairs.{Mends, none_of}
+use Rattle.arc_repair.specs.Repairs.{Mends}
 use Rattle.arc_repair.proofs.Glue.{of_each}
 use Rattle.arc_repair.proofs.repairing.repair.Goals as goal
 

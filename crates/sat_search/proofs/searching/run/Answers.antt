@@ -7,7 +7,7 @@ use Rattle.sat_search.proofs.Unset.{fresh_waits, waits_dropped}
 use Rattle.sat_search.proofs.searching.run.Goals as goal
 
 pub loop-conflict-init : goal.loop-conflict-init
-loop-conflict-init c =
+loop-conflict-init g c =
     let order = c.in_ok-learner.learner.order in
     record {
       follows = follows_start c.args.core.now c.args.log.now.steps;
@@ -18,14 +18,14 @@ loop-conflict-init c =
     }
 
 pub learn-requires-clause-ids : goal.learn-requires-clause-ids
-learn-requires-clause-ids c =
+learn-requires-clause-ids g c =
     let s = c.args.core.now in
     let follows = c.loop-conflict.invariant.follows in
     let count = log_additions s c.args.log.now.steps c.loop-conflict.log.steps follows.log in
     omega (arith, count, follows.last, c.dive.ensures.kept.last_id, c.loop-conflict.invariant.added, c.loop-conflict.invariant.most, c.if-added-limit.false, c.requires.numbers)
 
 pub learn-requires-clause-short : goal.learn-requires-clause-short
-learn-requires-clause-short c =
+learn-requires-clause-short g c =
     let s = c.args.core.now in
     let follows = c.loop-conflict.invariant.follows in
     let count = log_additions s c.args.log.now.steps c.loop-conflict.log.steps follows.log in
@@ -33,7 +33,7 @@ learn-requires-clause-short c =
     omega (arith, count, size, c.loop-conflict.invariant.added, c.loop-conflict.invariant.most, c.requires.short, c.requires.few)
 
 pub returns-then-branch : goal.returns-then-branch
-returns-then-branch c =
+returns-then-branch g c =
     let follows = c.loop-conflict.invariant.follows in
     let kept = c.dive.ensures.kept in
     let taught = c.in_ok-learn.ensures.teaches in
@@ -45,10 +45,10 @@ returns-then-branch c =
     }
 
 pub drop_lemmas-requires-clause-different : goal.drop_lemmas-requires-clause-different
-drop_lemmas-requires-clause-different c = taught_different c.dive.new.core c.learn.new.core c.loop-conflict.log.steps c.learn.new.log.steps c.in_ok-learn.field-0 c.dive.ensures.sound.different c.in_ok-learn.ensures.teaches
+drop_lemmas-requires-clause-different g c = taught_different c.dive.new.core c.learn.new.core c.loop-conflict.log.steps c.learn.new.log.steps c.in_ok-learn.field-0 c.dive.ensures.sound.different c.in_ok-learn.ensures.teaches
 
 pub drop_lemmas-requires-clause-short : goal.drop_lemmas-requires-clause-short
-drop_lemmas-requires-clause-short c =
+drop_lemmas-requires-clause-short g c =
     let s = c.args.core.now in
     let follows = c.loop-conflict.invariant.follows in
     let kept = c.dive.ensures.kept in
@@ -60,7 +60,7 @@ drop_lemmas-requires-clause-short c =
     omega (arith, more, count, size, c.loop-conflict.invariant.added, c.loop-conflict.invariant.most, c.requires.short, c.requires.few)
 
 pub returns-in_err-drop_lemmas : goal.returns-in_err-drop_lemmas
-returns-in_err-drop_lemmas c =
+returns-in_err-drop_lemmas g c =
     let s = c.args.core.now in
     let follows = c.loop-conflict.invariant.follows in
     let kept = c.dive.ensures.kept in
@@ -75,7 +75,7 @@ returns-in_err-drop_lemmas c =
     }
 
 pub loop-conflict-preserved : goal.loop-conflict-preserved
-loop-conflict-preserved c =
+loop-conflict-preserved g c =
     let s = c.args.core.now in
     let follows = c.loop-conflict.invariant.follows in
     let kept = c.dive.ensures.kept in

@@ -6,7 +6,7 @@ use Rattle.sat_search.specs.Orders.{HoldsUnset}
 use Rattle.sat_search.proofs.searching.run.Given as goal
 
 abbrev pub invariant-loop-conflict : goal.invariant-loop-conflict
-invariant-loop-conflict l = record {
+invariant-loop-conflict g l = record {
   follows : GoesOn l.fn.core l.fn.log.steps l.core l.log.steps;
   ready : IsReady l.core.vars l.log.steps l.learner;
   waiting : HoldsUnset l.core.vars l.core.trail l.learner.order;
@@ -15,4 +15,4 @@ invariant-loop-conflict l = record {
 }
 
 abbrev pub decreases-loop-conflict : goal.decreases-loop-conflict
-decreases-loop-conflict l = l.limit - l.added
+decreases-loop-conflict g l = l.limit - l.added

@@ -9,7 +9,7 @@ use Rattle.sat_search.proofs.Outcomes.{log_ids, log_old, log_accepted, log_hints
 use Rattle.sat_search.proofs.searching.search_first.Goals as goal
 
 pub returns-clause-ids : goal.returns-clause-ids
-returns-clause-ids c =
+returns-clause-ids g c =
     let s = c.args.core.now in
     let old = c.args.log.now.steps in
     let new = c.run-found.new.log.steps in
@@ -18,7 +18,7 @@ returns-clause-ids c =
     log_ids s old new ran.log
 
 pub returns-clause-dropped : goal.returns-clause-dropped
-returns-clause-dropped c =
+returns-clause-dropped g c =
     let s = c.args.core.now in
     let old = c.args.log.now.steps in
     let new = c.run-found.new.log.steps in
@@ -27,7 +27,7 @@ returns-clause-dropped c =
     log_old s old new ran.log
 
 pub returns-clause-in_time : goal.returns-clause-in_time
-returns-clause-in_time c =
+returns-clause-in_time g c =
     let s = c.args.core.now in
     let old = c.args.log.now.steps in
     let new = c.run-found.new.log.steps in
@@ -36,7 +36,7 @@ returns-clause-in_time c =
     ran.log.in_time
 
 pub returns-clause-halves : goal.returns-clause-halves
-returns-clause-halves c =
+returns-clause-halves g c =
     let s = c.args.core.now in
     let old = c.args.log.now.steps in
     let new = c.run-found.new.log.steps in
@@ -45,7 +45,7 @@ returns-clause-halves c =
     ran.log.halves
 
 pub returns-clause-few_drops : goal.returns-clause-few_drops
-returns-clause-few_drops c =
+returns-clause-few_drops g c =
     let s = c.args.core.now in
     let old = c.args.log.now.steps in
     let new = c.run-found.new.log.steps in
@@ -54,7 +54,7 @@ returns-clause-few_drops c =
     ran.log.few
 
 pub returns-clause-accepted : goal.returns-clause-accepted
-returns-clause-accepted c =
+returns-clause-accepted g c =
     let s = c.args.core.now in
     let old = c.args.log.now.steps in
     let new = c.run-found.new.log.steps in
@@ -63,7 +63,7 @@ returns-clause-accepted c =
     log_accepted s old new ran.log
 
 pub returns-clause-hints : goal.returns-clause-hints
-returns-clause-hints c =
+returns-clause-hints g c =
     let s = c.args.core.now in
     let old = c.args.log.now.steps in
     let new = c.run-found.new.log.steps in
@@ -72,7 +72,7 @@ returns-clause-hints c =
     log_hints s old new ran.log
 
 pub returns-clause-lines : goal.returns-clause-lines
-returns-clause-lines c =
+returns-clause-lines g c =
     let s = c.args.core.now in
     let old = c.args.log.now.steps in
     let new = c.run-found.new.log.steps in
@@ -81,7 +81,7 @@ returns-clause-lines c =
     log_lines s old new ran.log c.args.limit ran.most c.requires.numbers
 
 pub returns-clause-refuted : goal.returns-clause-refuted
-returns-clause-refuted c =
+returns-clause-refuted g c =
     let s = c.args.core.now in
     let old = c.args.log.now.steps in
     let new = c.run-found.new.log.steps in
@@ -90,7 +90,7 @@ returns-clause-refuted c =
     refuted_exactly s old c.args.limit now new c.run-found.result ran
 
 pub returns-clause-refuting : goal.returns-clause-refuting
-returns-clause-refuting c =
+returns-clause-refuting g c =
     let s = c.args.core.now in
     let old = c.args.log.now.steps in
     let new = c.run-found.new.log.steps in
@@ -99,7 +99,7 @@ returns-clause-refuting c =
     refuting_then s old c.args.limit now new c.run-found.result ran
 
 pub returns-clause-model : goal.returns-clause-model
-returns-clause-model c =
+returns-clause-model g c =
     let s = c.args.core.now in
     let old = c.args.log.now.steps in
     let new = c.run-found.new.log.steps in
@@ -108,7 +108,7 @@ returns-clause-model c =
     is_model_then s old c.args.limit now new c.run-found.result ran
 
 pub returns-clause-clauses : goal.returns-clause-clauses
-returns-clause-clauses c =
+returns-clause-clauses g c =
     let s = c.args.core.now in
     let old = c.args.log.now.steps in
     let new = c.run-found.new.log.steps in
@@ -117,7 +117,7 @@ returns-clause-clauses c =
     model_then (λ n steps. (id : ℕ) → clause_in n.clauses id ≡ live_after (clause_in s.clauses) (appended old steps) id) s old c.args.limit now new c.run-found.result (λ follows. follows.clauses) ran
 
 pub returns-clause-others : goal.returns-clause-others
-returns-clause-others c =
+returns-clause-others g c =
     let s = c.args.core.now in
     let old = c.args.log.now.steps in
     let new = c.run-found.new.log.steps in
@@ -126,7 +126,7 @@ returns-clause-others c =
     model_then (λ n steps. KeepsOthers (added_by [] old) s.clauses n.clauses) s old c.args.limit now new c.run-found.result (follows_others s old now new) ran
 
 pub returns-clause-knows : goal.returns-clause-knows
-returns-clause-knows c =
+returns-clause-knows g c =
     let s = c.args.core.now in
     let old = c.args.log.now.steps in
     let new = c.run-found.new.log.steps in
@@ -135,7 +135,7 @@ returns-clause-knows c =
     model_then (λ n steps. (k : Knowledge) → Knows k s → Knows (after_all k (appended old steps)) n) s old c.args.limit now new c.run-found.result (follows_knows s old now new) ran
 
 pub returns-clause-last_id : goal.returns-clause-last_id
-returns-clause-last_id c =
+returns-clause-last_id g c =
     let s = c.args.core.now in
     let old = c.args.log.now.steps in
     let new = c.run-found.new.log.steps in
@@ -144,11 +144,11 @@ returns-clause-last_id c =
     model_then (λ n steps. n.last_id ≡ s.last_id + additions (appended old steps)) s old c.args.limit now new c.run-found.result (λ follows. follows.last) ran
 
 pub returns-clause-level : goal.returns-clause-level
-returns-clause-level c =
+returns-clause-level g c =
     ap (λ (x : State). x.level) c.back_to.ensures
 
 pub returns-clause-vars : goal.returns-clause-vars
-returns-clause-vars c =
+returns-clause-vars g c =
     let s = c.args.core.now in
     let old = c.args.log.now.steps in
     let new = c.run-found.new.log.steps in
@@ -157,7 +157,7 @@ returns-clause-vars c =
     model_then (λ n steps. n.vars ≡ s.vars) s old c.args.limit now new c.run-found.result (λ follows. follows.vars) ran
 
 pub returns-clause-clean : goal.returns-clause-clean
-returns-clause-clean c =
+returns-clause-clean g c =
     let s = c.args.core.now in
     let old = c.args.log.now.steps in
     let new = c.run-found.new.log.steps in
@@ -166,7 +166,7 @@ returns-clause-clean c =
     λ f least tops knows clean. model_then (λ n steps. IsClean f least tops steps) s old c.args.limit now new c.run-found.result (λ follows. follows_clean s old now new follows f least tops knows clean) ran
 
 pub returns-clause-spent : goal.returns-clause-spent
-returns-clause-spent c =
+returns-clause-spent g c =
     let s = c.args.core.now in
     let old = c.args.log.now.steps in
     let new = c.run-found.new.log.steps in

@@ -1,0 +1,128 @@
+//! The line on a terminal that says what a run is doing that takes longer than a second. It is
+//! written over, and is erased before the run writes or prints anything.
+
+use run_progress::{Listener, Work};
+use std::env::VarError;
+use std::io::{IsTerminal, Write};
+use std::time::{Duration, Instant};
+use std::{env, io};
+
+/// How long a run takes before its first line, in milliseconds.
+const FIRST_LINE_AFTER: u64 = 1_000;
+
+/// How long a line is left as it is, in milliseconds.
+const NEXT_LINE_AFTER: u64 = 100;
+
+/// The line of a run: when it was last written, and before the first time when the run began; the
+/// price of the best solution so far.
+#[derive(Drop)]
+pub struct ProgressLine<'a> {
+    rt: &'a HostRuntime,
+    since: Option<Instant>,
+    is_shown: bool,
+    best: Option<u64>,
+}
+
+/// Whether standard error is a terminal, and `ARCV_QUIET` is not set.
+fn is_wanted(rt: &HostRuntime) -> bool {
+    rt.stderr().is_terminal() && matches!(env::var(rt, "ARCV_QUIET"), Err(VarError::NotPresent))
+}
+
+impl<'a> ProgressLine<'a> {
+    /// The line of a run that begins now. It is never written where it is not wanted.
+    pub fn make(rt: &'a HostRuntime) -> ProgressLine<'a> {
+        let since = if is_wanted(rt) {
+            Instant::now(rt).ok()
+        } else {
+            None
+        };
+        ProgressLine {
+            rt,
+            since,
+            is_shown: false,
+            best: None,
+        }
+    }
+
+    /// Whether it is time to write the line.
+    fn is_due(&self) -> bool {
+        let Some(since) = self.since else {
+            return false;
+        };
+        let pause = if self.is_shown {
+            NEXT_LINE_AFTER
+        } else {
+            FIRST_LINE_AFTER
+        };
+        match since.elapsed(self.rt) {
+            Ok(time) => time >= Duration::from_millis(pause),
+            Err(_) => false,
+        }
+    }
+
+    /// What the line says of a search.
+    fn search_text(&self, conflicts: u64) -> io::Result<String> {
+        let alloc = self.rt.alloc();
+        let text = match self.best {
+            Some(price) => {
+                format!(in alloc; "searching: {conflicts} conflicts, best price so far {price}")?
+            }
+            None => format!(in alloc; "searching: {conflicts} conflicts")?,
+        };
+        Ok(text)
+    }
+
+    /// What the line says of the work.
+    fn text(&self, work: Work) -> io::Result<String> {
+        let alloc = self.rt.alloc();
+        let text = match work {
+            Work::Reading => String::from_str(alloc, "reading")?,
+            Work::Judging { place, count } => {
+                let number = place.saturating_add(1);
+                format!(in alloc; "judging policy {number} of {count}")?
+            }
+            Work::Searching { conflicts } => self.search_text(conflicts)?,
+            Work::Found { price } => format!(in alloc; "searching: best price so far {price}")?,
+            Work::Ending => String::from_str(alloc, "writing")?,
+        };
+        Ok(text)
+    }
+
+    /// Writes the line over the one before.
+    fn show(&mut self, work: Work) -> io::Result<()> {
+        let text = self.text(work)?;
+        self.is_shown = true;
+        let mut err = self.rt.stderr();
+        err.write_all(b"\rarcv: ")?;
+        err.write_all(text.as_bytes())?;
+        err.write_all(b"\x1b[K")?;
+        self.since = Some(Instant::now(self.rt)?);
+        Ok(())
+    }
+
+    /// Erases the line, and writes none from then on.
+    pub fn erase(&mut self) -> io::Result<()> {
+        self.since = None;
+        if self.is_shown {
+            self.is_shown = false;
+            let mut err = self.rt.stderr();
+            err.write_all(b"\r\x1b[K")?;
+        }
+        Ok(())
+    }
+}
+
+impl<'a> Listener for ProgressLine<'a> {
+    fn heard(&mut self, work: Work) {
+        match work {
+            Work::Ending => {
+                let _erased = self.erase();
+            }
+            Work::Found { price } => self.best = Some(price),
+            _ => {}
+        }
+        if self.is_due() {
+            let _shown = self.show(work);
+        }
+    }
+}
