@@ -17,7 +17,7 @@ use Rattle.run_files.specs.declared.outcome.FileRefusal.{FileRefusal}
 use Rattle.run_files.specs.Refusals.{bytes_at, read_refusal, refusal_of}
 use Rattle.run_inputs.specs.Inputs.{HoldsDocument, HoldsInput}
 use Rattle.run_inputs.proofs.Determined.{determined, no_value, one_value}
-use Rattle.apply_commands.specs.Applies.{edit_file_limit, edit_texts, has_clash, CanBeApplied, HasNetwork, HasWrongLine, IsApplyRefusal, IsReady, IsReadyRefusal, PassesLimit, RefusesCounts, RefusesEditFile, RefusesLine, RefusesNames, RefusesSources}
+use Rattle.apply_commands.specs.Applies.{edit_file_limit, edit_texts, has_copy_clash, CanBeApplied, IsReadyWithNetwork, HasWrongLine, IsApplyRefusal, IsReady, IsReadyRefusal, PassesLimit, RefusesEditCounts, RefusesEditFile, RefusesLine, RefusesNames, RefusesRouterFiles}
 use Rattle.apply_commands.proofs.FirstLines.{first_lines, one_wrong_line}
 
 -- a network passes no limit where it has few edits
@@ -28,11 +28,11 @@ module _ (words : ApplyWords) (files : Files) where
   docs : (doc other : Document) → HoldsDocument words.document files doc → HoldsDocument words.document files other → doc ≡ other
   docs doc other h k = (determined Editing [] words.document files).one_document doc other h k
 
-  clash_or_free : (doc other : Document) → HoldsDocument words.document files doc → HoldsDocument words.document files other → has_clash words doc ≡ false → has_clash words other ≡ true → ⊥
-  clash_or_free doc other h k free clash = false≢true (sym free ∙ ap (has_clash words) (docs doc other h k) ∙ clash)
+  clash_or_free : (doc other : Document) → HoldsDocument words.document files doc → HoldsDocument words.document files other → has_copy_clash words doc ≡ false → has_copy_clash words other ≡ true → ⊥
+  clash_or_free doc other h k free clash = false≢true (sym free ∙ ap (has_copy_clash words) (docs doc other h k) ∙ clash)
 
   -- what holds of the document and the network, whichever they are
-  moved : (doc : Document) (net : Network) → HasNetwork words files doc net → (Q : Document → Network → Type 0) (other : Document) (last : Network) → HasNetwork words files other last → Q other last → Q doc net
+  moved : (doc : Document) (net : Network) → IsReadyWithNetwork words files doc net → (Q : Document → Network → Type 0) (other : Document) (last : Network) → IsReadyWithNetwork words files other last → Q other last → Q doc net
   moved doc net has Q other last h q =
       let same : doc ≡ other = docs doc other has.ready.document_is h.ready.document_is in
       let P : Document → Type 0 = λ d. HoldsInput Editing [] words.document files d net in
@@ -62,13 +62,13 @@ module _ (words : ApplyWords) (files : Files) where
   -- ---- once they have a network
 
   abbrev Counted : FileRefusal → Type 0
-  Counted r = RefusesCounts words files r ⊎ RefusesLine words files r
+  Counted r = RefusesEditCounts words files r ⊎ RefusesLine words files r
 
-  networked : (r : FileRefusal) → Counted r → (doc : Document) × (net : Network) × HasNetwork words files doc net
+  networked : (r : FileRefusal) → Counted r → (doc : Document) × (net : Network) × IsReadyWithNetwork words files doc net
   networked r (inl u) = (u.doc, u.net, u.has)
   networked r (inr u) = (u.doc, u.net, u.has)
 
-  made_ready : (r : FileRefusal) → RefusesSources words files r ⊎ Counted r → (doc : Document) × IsReady words files doc
+  made_ready : (r : FileRefusal) → RefusesRouterFiles words files r ⊎ Counted r → (doc : Document) × IsReady words files doc
   made_ready r (inl u) = (u.doc, u.ready)
   made_ready r (inr u) = let it = networked r u in (it.0, it.2.ready)
 

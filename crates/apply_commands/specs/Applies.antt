@@ -32,8 +32,8 @@ abbrev pub edit_file_limit : ℕ
 edit_file_limit = EDIT_FILE_LIMIT
 
 -- whether a copy of a router file has the name of a file that is read, or of another copy
-abbrev pub has_clash : ApplyWords → Document → Bool
-has_clash words doc =
+abbrev pub has_copy_clash : ApplyWords → Document → Bool
+has_copy_clash words doc =
     clashes (words.document ∷ doc.routers) (copy_names words.suffix doc.routers)
     || list_any (λ name. bytes_eq name words.edits) (copy_names words.suffix doc.routers)
 
@@ -48,31 +48,31 @@ named_edits words files net list = chosen_of list (chosen_by net list (edit_text
 -- the document is held, the names of the copies are free, and the edit file is held
 pub record IsReady (words : ApplyWords) (files : Files) (doc : Document) : Type 0 where
   pub document_is : HoldsDocument words.document files doc
-  pub free : has_clash words doc ≡ false
+  pub free : has_copy_clash words doc ≡ false
   pub edits_held : read_refusal edit_file_limit files words.edits ≡ None
 
 -- the document is held, and the name of a copy is not free
 pub record RefusesNames (words : ApplyWords) (files : Files) (r : FileRefusal) : Type 0 where
   pub doc : Document
   pub document_is : HoldsDocument words.document files doc
-  pub clash : has_clash words doc ≡ true
+  pub clash : has_copy_clash words doc ≡ true
   pub told : r ≡ refusal_of words.document 0 OutputName
 
 -- the names are free, and the edit file is missing or too long
 pub record RefusesEditFile (words : ApplyWords) (files : Files) (r : FileRefusal) : Type 0 where
   pub doc : Document
   pub document_is : HoldsDocument words.document files doc
-  pub free : has_clash words doc ≡ false
+  pub free : has_copy_clash words doc ≡ false
   pub refused : read_refusal edit_file_limit files words.edits ≡ Some r
 
 -- the edit file is held, and the router files or their network are refused
-pub record RefusesSources (words : ApplyWords) (files : Files) (r : FileRefusal) : Type 0 where
+pub record RefusesRouterFiles (words : ApplyWords) (files : Files) (r : FileRefusal) : Type 0 where
   pub doc : Document
   pub ready : IsReady words files doc
   pub refused : IsFilesRefusal Editing [] words.document files r
 
 -- they have a network
-pub record HasNetwork (words : ApplyWords) (files : Files) (doc : Document)
+pub record IsReadyWithNetwork (words : ApplyWords) (files : Files) (doc : Document)
     (net : Network) : Type 0 where
   pub ready : IsReady words files doc
   pub input : HoldsInput Editing [] words.document files doc net
@@ -102,10 +102,10 @@ pub record HasWrongLine (words : ApplyWords) (net : Network) (doc : Document) (t
   pub told : r ≡ refusal_of words.edits number EditLine
 
 -- they have a network, and its classes or its edits are too many
-pub record RefusesCounts (words : ApplyWords) (files : Files) (r : FileRefusal) : Type 0 where
+pub record RefusesEditCounts (words : ApplyWords) (files : Files) (r : FileRefusal) : Type 0 where
   pub doc : Document
   pub net : Network
-  pub has : HasNetwork words files doc net
+  pub has : IsReadyWithNetwork words files doc net
   pub valid : IsValid net
   pub passes : PassesLimit words net doc r
 
@@ -113,7 +113,7 @@ pub record RefusesCounts (words : ApplyWords) (files : Files) (r : FileRefusal) 
 pub record RefusesLine (words : ApplyWords) (files : Files) (r : FileRefusal) : Type 0 where
   pub doc : Document
   pub net : Network
-  pub has : HasNetwork words files doc net
+  pub has : IsReadyWithNetwork words files doc net
   pub valid : IsValid net
   pub line : HasWrongLine words net doc (bytes_at files words.edits) r
 
@@ -129,7 +129,8 @@ IsReadyRefusal words files r =
 abbrev pub IsApplyRefusal : ApplyWords → Files → FileRefusal → Type 0
 IsApplyRefusal words files r =
     IsReadyRefusal words files r ⊎
-    (RefusesSources words files r ⊎ (RefusesCounts words files r ⊎ RefusesLine words files r))
+    (RefusesRouterFiles words files r ⊎
+    (RefusesEditCounts words files r ⊎ RefusesLine words files r))
 
 -- an answer of the command: status 0, with copies of files written and their names printed
 pub record WritesCopies (words : ApplyWords) (done : Done) : Type 0 where
@@ -143,7 +144,7 @@ pub record WritesCopies (words : ApplyWords) (done : Done) : Type 0 where
 pub record IsApplied (words : ApplyWords) (files : Files) (done : Done) : Type 0 where
   pub doc : Document
   pub built : Built
-  pub has : HasNetwork words files doc built.net
+  pub has : IsReadyWithNetwork words files doc built.net
   pub editable : IsEditable doc built (contents files doc)
   pub list : List Edit
   pub edits : AreFewEdits built.net doc list
@@ -158,7 +159,7 @@ pub record IsApplied (words : ApplyWords) (files : Files) (done : Done) : Type 0
 pub record CanBeApplied (words : ApplyWords) (files : Files) : Type 0 where
   pub doc : Document
   pub net : Network
-  pub has : HasNetwork words files doc net
+  pub has : IsReadyWithNetwork words files doc net
   pub list : List Edit
   pub edits : AreFewEdits net doc list
   pub lines : AreEditLines net list (edit_texts words files)
@@ -169,7 +170,7 @@ pub record CanBeApplied (words : ApplyWords) (files : Files) : Type 0 where
 pub record IsLeftApplied (words : ApplyWords) (before after : Files) : Type 0 where
   pub doc : Document
   pub built : Built
-  pub has : HasNetwork words before doc built.net
+  pub has : IsReadyWithNetwork words before doc built.net
   pub editable : IsEditable doc built (contents before doc)
   pub list : List Edit
   pub edits : AreFewEdits built.net doc list

@@ -1,16 +1,15 @@
 //! The command `apply DOC EDITS --out SUFFIX`.
-ghost use Rattle.std.specs.Prelude.{◌≡◌, ◌≤◌, [], length, All, IfOk, IfSome};
-ghost use Rattle.net_doc.specs.Documents.{IsWellFormed};
-ghost use Rattle.net_model.specs.Forwarding.{HasEnds};
-ghost use Rattle.net_model.specs.Packets.{subject};
-ghost use Rattle.net_model.specs.Validity.{IsValid};
-ghost use Rattle.net_build.specs.Networks.{IsBuiltWithin};
+ghost use Rattle.apply_commands.specs.Applies.{has_copy_clash, IsApplied, IsApplyRefusal};
+ghost use Rattle.apply_commands.specs.Applies.{WritesCopies};
+ghost use Rattle.apply_commands.specs.Steps.{Chooses, IsWritten, ReadsReady};
 ghost use Rattle.edit_list.specs.EditLists.{AreEdits};
 ghost use Rattle.edit_list.specs.Prices.{chosen_of};
+ghost use Rattle.net_build.specs.Networks.{IsBuiltWithin};
+ghost use Rattle.net_doc.specs.Documents.{IsWellFormed};
 ghost use Rattle.run_files.specs.Answers.{Answers, OnlyReads};
 ghost use Rattle.run_files.specs.Limits.{least_limit};
-ghost use Rattle.apply_commands.specs.Applies.{has_clash, IsApplied, IsApplyRefusal, WritesCopies};
-ghost use Rattle.apply_commands.specs.Steps.{Chooses, IsWritten, ReadsReady};
+ghost use Rattle.run_inputs.specs.Inputs.{AreFit};
+ghost use Rattle.std.specs.Prelude.{◌≡◌, ◌≤◌, [], length, All, IfOk, IfSome};
 
 use arc_base::limits::{
     EDIT_FILE_LIMIT, EDIT_LIMIT, EDITED_ENTRY_LIMIT, EDITED_FILE_LIMIT, POLICY_LIMIT,
@@ -42,7 +41,7 @@ struct Chosen {
 
 /// Whether a copy has the name of a file that is read, or of another copy.
 fn has_clash(alloc: Global, words: &ApplyWords, doc: &Document) -> Result<bool, Memory>
-    ensures { IfOk result (λ clash. clash ≡ has_clash words.now doc.now) }
+    ensures { IfOk result (λ clash. clash ≡ has_copy_clash words.now doc.now) }
 {
     let routers = doc.routers.slice();
     let names = copy_names(alloc, &words.suffix, routers)?;
@@ -74,9 +73,8 @@ fn choose(
     doc: &Document,
     text: &[u8],
 ) -> Result<Chosen, Stop>
-    requires valid { IsValid net.now }
+    requires fit { AreFit doc.now net.now }
     requires policies { length doc.now.policies ≤ POLICY_LIMIT }
-    requires ends { All (λ policy. HasEnds net.now (subject policy)) doc.now.policies }
     requires few { length text.now ≤ EDIT_FILE_LIMIT }
     ensures chooses { Chooses words.now net.now doc.now text.now result }
     ensures flags { IfOk result (λ chosen. length chosen.flags ≡ length chosen.list) }

@@ -1,11 +1,11 @@
 //! Laws over the definitions alone: each is the contract of a function that does nothing.
-ghost use Rattle.std.specs.Prelude.{◌≡◌};
+ghost use Rattle.apply_commands.specs.Applies.{IsApplied, IsApplyRefusal, TellsApply};
 ghost use Rattle.arc_outside.specs.Files.{Files};
 ghost use Rattle.command_words.specs.declared.commands.ApplyWords.{ApplyWords};
+ghost use Rattle.run_files.specs.Answers.{IsTold};
 ghost use Rattle.run_files.specs.declared.outcome.Done.{Done};
 ghost use Rattle.run_files.specs.declared.outcome.FileRefusal.{FileRefusal};
-ghost use Rattle.run_files.specs.Answers.{IsTold};
-ghost use Rattle.apply_commands.specs.Applies.{IsApplied, IsApplyRefusal, TellsApply};
+ghost use Rattle.std.specs.Prelude.{◌≡◌};
 
 /// What the status of `apply` says.
 pub fn apply_is_told()

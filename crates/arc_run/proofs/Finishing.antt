@@ -5,8 +5,8 @@ use Rattle.arc_outside.specs.Files.{Files, WhereTold}
 use Rattle.command_words.specs.declared.commands.Command.{Command}
 use Rattle.arc_run.specs.declared.outcome.Outcome.{Outcome}
 use Rattle.arc_run.specs.declared.outcome.Outcome.TheVariants as outcomes
-use Rattle.arc_run.specs.Outcomes.{IsDefined, HasOutcomeCause, text_of, writes_of, status_of}
-use Rattle.arc_run.specs.Runs.{Runs, Leaves, StopsBefore, StopsInText, PartWritten, FailsWithin, WereWritten, WasPut}
+use Rattle.arc_run.specs.Outcomes.{IsDefined, HasOutcomeCause, outcome_text, writes_of, status_of}
+use Rattle.arc_run.specs.Runs.{Runs, LeavesOutcome, StopsBefore, StopsInText, PartWritten, FailsWithin, WereWritten, WasPut}
 
 -- nothing was written
 unwritten : (command : Option Command) (held held' : Option Files) → held' ≡ held → WhereTold (PartWritten command) held held'
@@ -34,7 +34,7 @@ later_cause (outcomes.Refused r) later longer cause = record { missing = λ is. 
 later_cause (outcomes.Done d) later longer cause = tt
 
 module _ {absent long : Type 0} (command : Option Command) (outcome : Outcome) (held now held' : Option Files) (put put' : Option (List ℕ)) (defined : IsDefined command held outcome) (cause : HasOutcomeCause absent long outcome) (same : now ≡ held) where
-  leaves : (text : List ℕ) → WereWritten (writes_of outcome) now held' → WasPut text put put' → Leaves command absent long held held' put put' outcome text
+  leaves : (text : List ℕ) → WereWritten (writes_of outcome) now held' → WasPut text put put' → LeavesOutcome command absent long held held' put put' outcome text
   leaves text written was_put = record {
     defined = defined;
     cause = cause;
@@ -42,8 +42,8 @@ module _ {absent long : Type 0} (command : Option Command) (outcome : Outcome) (
     sink = was_put;
   }
 
-  in_text : WereWritten (writes_of outcome) now held' → (count : ℕ) × WasPut (take count (text_of outcome)) put put' → StopsInText command absent long held held' put put'
-  in_text written was_put = record { outcome = outcome; count = was_put.0; leaves = leaves (take was_put.0 (text_of outcome)) written was_put.1 }
+  in_text : WereWritten (writes_of outcome) now held' → (count : ℕ) × WasPut (take count (outcome_text outcome)) put put' → StopsInText command absent long held held' put put'
+  in_text written was_put = record { outcome = outcome; count = was_put.0; leaves = leaves (take was_put.0 (outcome_text outcome)) written was_put.1 }
 
 module _ (command : Option Command) (outcome : Outcome) (held now held' : Option Files) (put put' : Option (List ℕ)) (defined : IsDefined command held outcome) (same : now ≡ held) where
   before : WhereTold (FailsWithin (writes_of outcome)) now held' → put' ≡ put → StopsBefore command held held' put put'
@@ -54,21 +54,21 @@ module _ (command : Option Command) (outcome : Outcome) (held now held' : Option
 
 -- what is left of an outcome that came to its end
 pub left : {then absent short long : Type 0} (command : Option Command) (outcome : Outcome) (held now held' : Option Files) (put put' : Option (List ℕ)) → IsDefined command held outcome → (then → absent) → (short → long) → HasOutcomeCause then short outcome → now ≡ held →
-    WereWritten (writes_of outcome) now held' → WasPut (text_of outcome) put put' → Leaves command absent long held held' put put' outcome (text_of outcome)
+    WereWritten (writes_of outcome) now held' → WasPut (outcome_text outcome) put put' → LeavesOutcome command absent long held held' put put' outcome (outcome_text outcome)
 left command outcome held now held' put put' defined later longer cause same written was_put =
-    leaves command outcome held now held' put put' defined (later_cause outcome later longer cause) same (text_of outcome) written was_put
+    leaves command outcome held now held' put put' defined (later_cause outcome later longer cause) same (outcome_text outcome) written was_put
 
 -- what the ending does, as a run over the store and the sink as they were
 pub finished : {then absent short long failed broken : Type 0} (command : Option Command) (outcome : Outcome) (held now held' : Option Files) (put put' : Option (List ℕ)) (code : ℕ) → IsDefined command held outcome → (then → absent) → (short → long) → HasOutcomeCause then short outcome → now ≡ held →
-    (code < 6 → (code ≡ status_of outcome) × WereWritten (writes_of outcome) now held' × WasPut (text_of outcome) put put') →
+    (code < 6 → (code ≡ status_of outcome) × WereWritten (writes_of outcome) now held' × WasPut (outcome_text outcome) put put') →
     (code ≡ 6 → failed × (0 < length (writes_of outcome)) × WhereTold (FailsWithin (writes_of outcome)) now held' × (put' ≡ put)) →
-    (code ≡ 7 → broken × WereWritten (writes_of outcome) now held' × ((count : ℕ) × WasPut (take count (text_of outcome)) put put')) →
-    (code ≡ 8 → (WhereTold (FailsWithin (writes_of outcome)) now held' × (put' ≡ put)) ⊎ (WereWritten (writes_of outcome) now held' × ((count : ℕ) × WasPut (take count (text_of outcome)) put put'))) →
+    (code ≡ 7 → broken × WereWritten (writes_of outcome) now held' × ((count : ℕ) × WasPut (take count (outcome_text outcome)) put put')) →
+    (code ≡ 8 → (WhereTold (FailsWithin (writes_of outcome)) now held' × (put' ≡ put)) ⊎ (WereWritten (writes_of outcome) now held' × ((count : ℕ) × WasPut (take count (outcome_text outcome)) put put'))) →
     code ≤ 8 → Runs command absent long failed broken held held' put put' code
 finished command outcome held now held' put put' code defined later longer cause same ended store_failed sink_failed memory known =
     let cause_now = later_cause outcome later longer cause in
     record {
-      ended = λ h. let e = ended h in record { outcome = outcome; status_is = e.0; leaves = leaves command outcome held now held' put put' defined cause_now same (text_of outcome) e.1 e.2 };
+      ended = λ h. let e = ended h in record { outcome = outcome; status_is = e.0; leaves = leaves command outcome held now held' put put' defined cause_now same (outcome_text outcome) e.1 e.2 };
       store_failed = λ h. let e = store_failed h in (e.0, command_writes command held outcome defined e.1, before command outcome held now held' put put' defined same e.2 e.3);
       sink_failed = λ h. let e = sink_failed h in (e.0, in_text command outcome held now held' put put' defined cause_now same e.1 e.2);
       memory = λ h. elim (memory h) [

@@ -20,11 +20,11 @@ use Rattle.verify_commands.proofs.Verified.{verify_told}
 use Rattle.arc_run.specs.declared.outcome.Outcome.{Outcome}
 use Rattle.arc_run.specs.declared.outcome.Outcome.TheVariants as outcomes
 use Rattle.arc_run.specs.Headline.{Tells}
-use Rattle.arc_run.specs.Outcomes.{IsAnswer, IsDefined, IsRefusal, status_of, writes_of}
+use Rattle.arc_run.specs.Outcomes.{IsCommandAnswer, IsDefined, IsRefusal, status_of, writes_of}
 use Rattle.arc_run.specs.Runs.{Runs}
 
 -- each command tells by its status
-command_told : (command : Command) → IsTold (IsRefusal command) (IsAnswer command) (Tells command)
+command_told : (command : Command) → IsTold (IsRefusal command) (IsCommandAnswer command) (Tells command)
 command_told (Verify document) = verify_told document
 command_told (Trace words) = trace_told words
 command_told (Repair words) = repair_told words

@@ -41,18 +41,18 @@ IsRefusal (Prefers words) = IsPrefersRefusal words
 IsRefusal (Recheck words) = IsRecheckRefusal words
 
 -- what a command may answer where it is not refused
-abbrev pub IsAnswer : Command → Files → Done → Type 0
-IsAnswer (Verify document) = IsVerified document
-IsAnswer (Trace words) = IsTraced words
-IsAnswer (Repair words) = IsRepaired words
-IsAnswer (Check document certificate) = IsAnyChecked document certificate
-IsAnswer (Apply words) = IsApplied words
-IsAnswer (Solve words) = IsSolved words
-IsAnswer (Lrat cnf proof) = IsJudged cnf proof
-IsAnswer (Generate words) = λ files. IsSummary words
-IsAnswer (Nodes words) = IsNodesAnswer words
-IsAnswer (Prefers words) = IsPrefersAnswer words
-IsAnswer (Recheck words) = IsRecheckAnswer words
+abbrev pub IsCommandAnswer : Command → Files → Done → Type 0
+IsCommandAnswer (Verify document) = IsVerified document
+IsCommandAnswer (Trace words) = IsTraced words
+IsCommandAnswer (Repair words) = IsRepaired words
+IsCommandAnswer (Check document certificate) = IsAnyChecked document certificate
+IsCommandAnswer (Apply words) = IsApplied words
+IsCommandAnswer (Solve words) = IsSolved words
+IsCommandAnswer (Lrat cnf proof) = IsJudged cnf proof
+IsCommandAnswer (Generate words) = λ files. IsSummary words
+IsCommandAnswer (Nodes words) = IsNodesAnswer words
+IsCommandAnswer (Prefers words) = IsPrefersAnswer words
+IsCommandAnswer (Recheck words) = IsRecheckAnswer words
 
 -- what an answer of a command is, whatever the store holds: which statuses it has, and which files
 -- it writes
@@ -70,10 +70,10 @@ IsOwn (Prefers words) = IsJudging
 IsOwn (Recheck words) = IsJudging
 
 -- the text of an outcome
-abbrev pub text_of : Outcome → List ℕ
-text_of outcomes.Usage = usage
-text_of (outcomes.Refused r) = refusal_line r
-text_of (outcomes.Done d) = d.text
+abbrev pub outcome_text : Outcome → List ℕ
+outcome_text outcomes.Usage = usage
+outcome_text (outcomes.Refused r) = refusal_line r
+outcome_text (outcomes.Done d) = d.text
 
 -- the files that it writes, in order
 abbrev pub writes_of : Outcome → List (List ℕ × List ℕ)
@@ -98,7 +98,7 @@ IsDefined (Some command) held outcomes.Usage = ⊥
 IsDefined (Some command) held (outcomes.Refused r) =
     IfSome held (λ files. IsRefusal command files r)
 IsDefined (Some command) held (outcomes.Done d) =
-    IsOwn command d × IfSome held (λ files. IsAnswer command files d)
+    IsOwn command d × IfSome held (λ files. IsCommandAnswer command files d)
 
 -- A missing file is refused only if the count of absences rose, and one that is too long only if
 -- reads returned that many bytes.

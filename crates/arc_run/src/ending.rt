@@ -1,10 +1,10 @@
 //! The common ending of all commands: the files are written, and then the text is printed.
-ghost use Rattle.std.specs.Prelude.{◌≡◌, ◌⊎◌, ◌<◌, ◌≤◌, ◌+◌, ◌++◌, take, drop, option_map, length};
-ghost use Rattle.std.specs.Prelude.{IfOk, IfErr, OnOk, OnErr, IsErrOf, ℕ};
 ghost use Rattle.arc_outside.specs.Causes.{HasCause, Rose, RoseWhere};
 ghost use Rattle.arc_outside.specs.Files.{WhereTold};
-ghost use Rattle.arc_run.specs.Outcomes.{text_of, writes_of, status_of};
+ghost use Rattle.arc_run.specs.Outcomes.{outcome_text, writes_of, status_of};
 ghost use Rattle.arc_run.specs.Runs.{WasPut, WereWritten, FailsWithin};
+ghost use Rattle.std.specs.Prelude.{◌≡◌, ◌⊎◌, ◌<◌, ◌≤◌, ◌+◌, ◌++◌, take, drop, option_map, length};
+ghost use Rattle.std.specs.Prelude.{IfOk, OnOk, OnErr, IsErrOf, ℕ};
 
 use crate::outcome::{Outcome, Status};
 use crate::usage::usage_line;
@@ -50,9 +50,9 @@ fn put_all<K: Sink>(out: &mut K, text: &[u8]) -> Result<(), Fault>
 /// Prints the text of an outcome.
 fn put_text<K: Sink>(alloc: Global, out: &mut K, outcome: &Outcome) -> Result<(), Fault>
     ensures put { OnOk result
-        (WasPut (text_of outcome.now) (K.written out.old) (K.written out.new)) }
+        (WasPut (outcome_text outcome.now) (K.written out.old) (K.written out.new)) }
     ensures stopped { OnErr result ((count : ℕ) ×
-        WasPut (take count (text_of outcome.now)) (K.written out.old) (K.written out.new)) }
+        WasPut (take count (outcome_text outcome.now)) (K.written out.old) (K.written out.new)) }
     ensures cause { HasCause Fault.Failed (K.faults out.old) (K.faults out.new) result }
     ensures never_missing { IsErrOf result Fault.Missing → ⊥ }
 {
@@ -101,20 +101,20 @@ pub fn finish<S: Store, K: Sink>(
 
     ensures ended { result.code < 6 → (result.code ≡ status_of outcome.now)
         × WereWritten (writes_of outcome.now) (S.held store.old) (S.held store.new)
-        × WasPut (text_of outcome.now) (K.written out.old) (K.written out.new) }
+        × WasPut (outcome_text outcome.now) (K.written out.old) (K.written out.new) }
     ensures store_failed { result.code ≡ 6 → Rose (S.faults store.old) (S.faults store.new)
         × (0 < length (writes_of outcome.now))
         × WhereTold (FailsWithin (writes_of outcome.now)) (S.held store.old) (S.held store.new)
         × (K.written out.new ≡ K.written out.old) }
     ensures sink_failed { result.code ≡ 7 → Rose (K.faults out.old) (K.faults out.new)
         × WereWritten (writes_of outcome.now) (S.held store.old) (S.held store.new)
-        × ((count : ℕ) × WasPut (take count (text_of outcome.now)) (K.written out.old)
+        × ((count : ℕ) × WasPut (take count (outcome_text outcome.now)) (K.written out.old)
         (K.written out.new)) }
     ensures memory { result.code ≡ 8 →
         (WhereTold (FailsWithin (writes_of outcome.now)) (S.held store.old) (S.held store.new) ×
         (K.written out.new ≡ K.written out.old))
         ⊎ (WereWritten (writes_of outcome.now) (S.held store.old) (S.held store.new)
-        × ((count : ℕ) × WasPut (take count (text_of outcome.now)) (K.written out.old)
+        × ((count : ℕ) × WasPut (take count (outcome_text outcome.now)) (K.written out.old)
         (K.written out.new))) }
     ensures code { result.code ≤ 8 }
     ensures absences { S.absences store.old ≤ S.absences store.new }

@@ -1,9 +1,9 @@
 //! A run where nothing outside fails.
 ghost use Rattle.arc_outside.specs.Causes.{Rose};
 ghost use Rattle.arc_outside.specs.Reads.{TookMore};
+ghost use Rattle.arc_run.specs.Runs.{Runs};
 ghost use Rattle.command_words.specs.Commands.{command_of};
 ghost use Rattle.run_files.specs.Limits.{least_limit};
-ghost use Rattle.arc_run.specs.Runs.{Runs};
 
 use crate::outcome::Status;
 use crate::top::run;

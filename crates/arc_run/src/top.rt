@@ -1,15 +1,16 @@
 //! The top call.
-ghost use Rattle.std.specs.Prelude.{◌≡◌, ◌⊎◌, ◌<◌, ◌≤◌, Some, None, IfSome, IsSomeAnd, IfOk};
-ghost use Rattle.std.specs.Prelude.{IsErrOf};
 ghost use Rattle.arc_outside.specs.Causes.{Rose, RoseWhere};
 ghost use Rattle.arc_outside.specs.Reads.{TookMore, TookOn};
+ghost use Rattle.arc_run.specs.Headline.{Tells};
+ghost use Rattle.arc_run.specs.Outcomes.{HasOutcomeCause, IsCommandAnswer, IsDefined, IsOwn};
+ghost use Rattle.arc_run.specs.Outcomes.{IsRefusal};
+ghost use Rattle.arc_run.specs.Outcomes.{status_of, outcome_text};
+ghost use Rattle.arc_run.specs.Runs.{LeavesOutcome, Runs};
 ghost use Rattle.command_words.specs.Commands.{command_of, HasLimit};
 ghost use Rattle.run_files.specs.Answers.{Answers, OnlyReads};
 ghost use Rattle.run_files.specs.Limits.{least_limit};
-ghost use Rattle.arc_run.specs.Headline.{Tells};
-ghost use Rattle.arc_run.specs.Outcomes.{HasOutcomeCause, IsAnswer, IsDefined, IsOwn, IsRefusal};
-ghost use Rattle.arc_run.specs.Outcomes.{status_of, text_of};
-ghost use Rattle.arc_run.specs.Runs.{Leaves, Runs};
+ghost use Rattle.std.specs.Prelude.{◌≡◌, ◌⊎◌, ◌<◌, ◌≤◌, Some, None, IfSome, IsSomeAnd, IfOk};
+ghost use Rattle.std.specs.Prelude.{IsErrOf};
 
 use crate::ending::finish;
 use crate::outcome::{Ended, Outcome, Status};
@@ -23,6 +24,7 @@ use generate_commands::generate;
 use reach_commands::{nodes, prefers, recheck};
 use repair_commands::repair;
 use run_files::{Done, Stop};
+use run_progress::{Listener, Nobody, Work};
 use std::alloc::Global;
 use verify_commands::{trace, verify};
 
@@ -34,30 +36,40 @@ enum Halt {
 }
 
 /// Runs the function of the command.
-fn answer<S: Store>(alloc: Global, command: &Command, store: &mut S) -> Result<Done, Stop>
+fn answer<S: Store, L: Listener>(
+    alloc: Global,
+    command: &Command,
+    store: &mut S,
+    listener: &mut L,
+) -> Result<Done, Stop>
     requires { HasLimit command.now }
-    ensures answer { Answers (IsOwn command.now) (IsRefusal command.now) (IsAnswer command.now)
-        (S.held store.old) result }
+    ensures answer { Answers (IsOwn command.now) (IsRefusal command.now)
+        (IsCommandAnswer command.now) (S.held store.old) result }
     ensures reads { OnlyReads least_limit S.held S.faults S.absences S.taken
         store.old store.new result }
 {
     match command {
-        Command::Verify(document) => verify(alloc, document, store),
+        Command::Verify(document) => verify(alloc, document, store, listener),
         Command::Trace(words) => trace(alloc, words, store),
-        Command::Repair(words) => repair(alloc, words, store),
+        Command::Repair(words) => repair(alloc, words, store, listener),
         Command::Check(document, certificate) => check(alloc, document, certificate, store),
         Command::Apply(words) => apply(alloc, words, store),
-        Command::Solve(words) => solve(alloc, words, store),
+        Command::Solve(words) => solve(alloc, words, store, listener),
         Command::Lrat(cnf, proof) => lrat(alloc, cnf, proof, store),
-        Command::Generate(words) => generate(alloc, words),
+        Command::Generate(words) => generate(alloc, words, listener),
         Command::Nodes(words) => nodes(alloc, words, store),
         Command::Prefers(words) => prefers(alloc, words, store),
-        Command::Recheck(words) => recheck(alloc, words, store),
+        Command::Recheck(words) => recheck(alloc, words, store, listener),
     }
 }
 
 /// Finds the outcome that the words and the files define. It writes nothing.
-fn perform<S: Store>(alloc: Global, words: &[Name], store: &mut S) -> Result<Outcome, Halt>
+fn perform<S: Store, L: Listener>(
+    alloc: Global,
+    words: &[Name],
+    store: &mut S,
+    listener: &mut L,
+) -> Result<Outcome, Halt>
     ensures defined { IfOk result (λ outcome.
         IsDefined (command_of words.now) (S.held store.old) outcome) }
     ensures small { IfOk result (λ outcome. status_of outcome ≤ 5) }
@@ -76,7 +88,7 @@ fn perform<S: Store>(alloc: Global, words: &[Name], store: &mut S) -> Result<Out
         Ok(None) => return Ok(Outcome::Usage),
         Err(_) => return Err(Halt::Memory),
     };
-    match answer(alloc, &command, store) {
+    match answer(alloc, &command, store, listener) {
         Ok(done) => Ok(Outcome::Done(done)),
         Err(Stop::Refused(refusal)) => Ok(Outcome::Refused(refusal)),
         Err(Stop::Memory) => Err(Halt::Memory),
@@ -85,11 +97,12 @@ fn perform<S: Store>(alloc: Global, words: &[Name], store: &mut S) -> Result<Out
 }
 
 /// Finds the outcome, ends with it, and returns it.
-fn run_defined<S: Store, K: Sink>(
+fn run_defined<S: Store, K: Sink, L: Listener>(
     alloc: Global,
     words: &[Name],
     store: &mut S,
     out: &mut K,
+    listener: &mut L,
 ) -> Ended
     ensures runs { Runs (command_of words.now) (Rose (S.absences store.old) (S.absences store.new))
         (TookMore least_limit (S.taken store.old) (S.taken store.new))
@@ -101,18 +114,21 @@ fn run_defined<S: Store, K: Sink>(
     ensures sink_fault { RoseWhere (result.status.code ≡ 7) (K.faults out.old) (K.faults out.new) }
     ensures outcome { result.status.code < 6 → IsSomeAnd result.outcome (λ outcome.
         (result.status.code ≡ status_of outcome) ×
-        Leaves (command_of words.now) (Rose (S.absences store.old) (S.absences store.new))
+        LeavesOutcome (command_of words.now) (Rose (S.absences store.old) (S.absences store.new))
         (TookMore least_limit (S.taken store.old) (S.taken store.new))
         (S.held store.old) (S.held store.new) (K.written out.old) (K.written out.new)
-        outcome (text_of outcome)) }
+        outcome (outcome_text outcome)) }
     ensures defined { IfSome result.outcome
         (IsDefined (command_of words.now) (S.held store.old)) }
 {
-    match perform(alloc, words, store) {
-        Ok(outcome) => Ended {
-            status: finish(alloc, &outcome, store, out),
-            outcome: Some(outcome),
-        },
+    match perform(alloc, words, store, listener) {
+        Ok(outcome) => {
+            listener.heard(Work::Ending);
+            Ended {
+                status: finish(alloc, &outcome, store, out),
+                outcome: Some(outcome),
+            }
+        }
         Err(Halt::Memory) => Ended {
             status: Status { code: 8 },
             outcome: None,
@@ -125,12 +141,14 @@ fn run_defined<S: Store, K: Sink>(
 }
 
 /// Does what the words say over the store and the sink, and returns the exit status and the
-/// outcome. All text is printed at the end, after all files are read and written.
-pub fn run_telling<S: Store, K: Sink>(
+/// outcome. All text is printed at the end, after all files are read and written. The listener
+/// hears what is being done, and of the ending before the first file is written.
+pub fn run_telling<S: Store, K: Sink, L: Listener>(
     alloc: Global,
     words: &[Name],
     store: &mut S,
     out: &mut K,
+    listener: &mut L,
 ) -> Ended
     ensures runs { Runs (command_of words.now) (Rose (S.absences store.old) (S.absences store.new))
         (TookMore least_limit (S.taken store.old) (S.taken store.new))
@@ -155,16 +173,16 @@ pub fn run_telling<S: Store, K: Sink>(
     // files were written, and its text was printed. After 5 it is the refusal of the printed line.
     ensures outcome { result.status.code < 6 → IsSomeAnd result.outcome (λ outcome.
         (result.status.code ≡ status_of outcome) ×
-        Leaves (command_of words.now) (Rose (S.absences store.old) (S.absences store.new))
+        LeavesOutcome (command_of words.now) (Rose (S.absences store.old) (S.absences store.new))
         (TookMore least_limit (S.taken store.old) (S.taken store.new))
         (S.held store.old) (S.held store.new) (K.written out.old) (K.written out.new)
-        outcome (text_of outcome)) }
+        outcome (outcome_text outcome)) }
 
     // Any outcome is one that the words and the files define, also if writing or printing failed.
     ensures defined { IfSome result.outcome
         (IsDefined (command_of words.now) (S.held store.old)) }
 {
-    run_defined(alloc, words, store, out)
+    run_defined(alloc, words, store, out, listener)
 }
 
 /// Does what the words say over the store and the sink, and answers the exit status. All text is
@@ -193,5 +211,5 @@ pub fn run<S: Store, K: Sink>(alloc: Global, words: &[Name], store: &mut S, out:
         → IfSome (S.held store.old) (λ before.
         IsSomeAnd (S.held store.new) (Tells command result.code before)) }
 {
-    run_telling(alloc, words, store, out).status
+    run_telling(alloc, words, store, out, &mut Nobody).status
 }

@@ -1,7 +1,7 @@
 //! The line that is printed where the words match no command.
-ghost use Rattle.std.specs.Prelude.{◌≡◌, IfOk, map, string_bytes};
-ghost use Rattle.command_words.specs.Commands.{form_of_row};
 ghost use Rattle.arc_run.specs.Words.{joined_names, usage};
+ghost use Rattle.command_words.specs.Commands.{form_of_row};
+ghost use Rattle.std.specs.Prelude.{◌≡◌, IfOk, map, string_bytes};
 
 use command_words::{CommandForm, command_forms};
 use std::alloc::{AllocError, Global};

@@ -1,8 +1,8 @@
 //! Files that are written.
-ghost use Rattle.std.specs.Prelude.{◌≡◌, ◌<◌, ◌≤◌, length, IsErrOf, OnOk, OnErr};
 ghost use Rattle.arc_outside.specs.Causes.{HasCause};
 ghost use Rattle.arc_outside.specs.Files.{WhereTold};
 ghost use Rattle.arc_run.specs.Runs.{WereWritten, FailsWithin};
+ghost use Rattle.std.specs.Prelude.{◌≡◌, ◌<◌, ◌≤◌, length, IsErrOf, OnOk, OnErr};
 
 use arc_base::Name;
 use arc_outside::{Fault, Store};

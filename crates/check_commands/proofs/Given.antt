@@ -35,7 +35,7 @@ use Rattle.run_inputs.specs.Inputs.{AreFit, HoldsDocument, ReadsSources}
 use Rattle.run_inputs.proofs.EditFaults.{limit_refused}
 use Rattle.check_commands.specs.ReportChecks.{judgement_of}
 use Rattle.check_commands.specs.Readings.{JudgesRepair, RefusesFor}
-use Rattle.check_commands.specs.RepairChecks.{IsJudged, IsRepairJudged, IsTextFault, IsTextRefusal}
+use Rattle.check_commands.specs.RepairChecks.{IsJudgedRepair, IsRepairJudged, IsTextFault, IsTextRefusal}
 
 -- ---- the judgement over the network
 
@@ -56,11 +56,11 @@ module _ (document certificate : List ℕ) (net : Network) (doc : Document) wher
       IfSome held (λ files. JudgesRepair document net doc certificate files (Err stop))
   counts_stopped None fault stop names stops_for = tt
   counts_stopped (Some files) fault stop names stops_for =
-      limit_refused (NamesLimit net doc) (λ r. (read_refusal proof_limit files certificate ≡ Some r) ⊎ RefusesFor (IsTextFault net doc (bytes_at files certificate)) document r) (IsJudged net doc (bytes_at files certificate))
+      limit_refused (NamesLimit net doc) (λ r. (read_refusal proof_limit files certificate ≡ Some r) ⊎ RefusesFor (IsTextFault net doc (bytes_at files certificate)) document r) (IsJudgedRepair net doc (bytes_at files certificate))
       document (λ what count passed. inr (what, count, inl passed, refl)) fault stop stops_for names
 
   module _ (list : List Edit) (is : IsInstance net doc list) (countable : IsCountable net) (addresses : HasAddresses net) (exactly : CertificatesAreAccepted) (are_true : CertifiedClaimsAreTrue) where
-    judged_text : (text : List ℕ) (outcome : Outcome) → Judges net doc list text outcome → IsJudged net doc text outcome
+    judged_text : (text : List ℕ) (outcome : Outcome) → Judges net doc list text outcome → IsJudgedRepair net doc text outcome
     judged_text text outcome told = record {
       list = list;
       edits = is.edits;
@@ -89,7 +89,7 @@ module _ (document certificate : List ℕ) (net : Network) (doc : Document) wher
       judged_lines held result told =
           text_judged LeadsTo Refuses proof_limit certificate
           (λ (files : Files) (r : FileRefusal). (read_refusal proof_limit files certificate ≡ Some r) ⊎ RefusesFor (IsTextFault net doc (bytes_at files certificate)) document r)
-          (λ (files : Files) (o : Outcome). IsJudged net doc (bytes_at files certificate) o)
+          (λ (files : Files) (o : Outcome). IsJudgedRepair net doc (bytes_at files certificate) o)
           (λ files r late. inl late)
           (λ files r refuses. inr (refused_text (bytes_at files certificate) r (refuses (bytes_at files certificate) (come (bytes_at files certificate)))))
           (λ files o leads. judged_text (bytes_at files certificate) o (leads (bytes_at files certificate) (come (bytes_at files certificate))))

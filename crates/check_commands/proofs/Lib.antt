@@ -3,7 +3,6 @@ pub mod HeadRead
 pub mod Judged
 pub mod ReportTold
 pub mod OneReport
-pub mod WithinLimits
 pub mod Told
 pub mod OneFault
 pub mod OneCheck

@@ -19,7 +19,7 @@ use Rattle.run_inputs.proofs.Determined.{determined, document_none, held_none, n
 use Rattle.check_commands.specs.ReportChecks.{IsCheckRefusal, judgement_of}
 use Rattle.check_commands.proofs.OneReport.{checked_once, checked_or_refused, refused_once}
 use Rattle.run_files.proofs.OneAnswer.{same_done}
-use Rattle.check_commands.specs.RepairChecks.{HoldsRepair, IsAnyChecked, IsAnyRefusal, IsJudged, IsRepairJudged, IsTextFault, IsTextRefusal}
+use Rattle.check_commands.specs.RepairChecks.{HoldsRepair, IsAnyChecked, IsAnyRefusal, IsJudgedRepair, IsRepairJudged, IsTextFault, IsTextRefusal}
 use Rattle.check_commands.proofs.OneFault.{fault_once}
 use Rattle.check_commands.proofs.Told.{as_report, judgeable, judged_or_refused, moved}
 
@@ -29,7 +29,7 @@ module _ (document certificate : List ℕ) (files : Files) where
   repair_once : HasOneOutcome → (done other : Done) → IsRepairJudged document (bytes_at files certificate) files done → IsRepairJudged document (bytes_at files certificate) files other → done ≡ other
   repair_once one done other t s =
       let text : List ℕ = bytes_at files certificate in
-      let there : IsJudged t.net t.doc text s.outcome = moved document certificate files t.doc t.net t.input (λ d n. IsJudged n d text s.outcome) s.doc s.net s.input s.judged in
+      let there : IsJudgedRepair t.net t.doc text s.outcome = moved document certificate files t.doc t.net t.input (λ d n. IsJudgedRepair n d text s.outcome) s.doc s.net s.input s.judged in
       let lists : t.judged.list ≡ there.list = edit_lists_are_one t.net t.doc t.judged.list there.list t.valid t.judged.edits there.edits in
       let P : List Edit → Type 0 = λ l. IsRepairOutcome t.net t.doc l text t.outcome in
       let same : t.outcome ≡ s.outcome = one t.net t.doc there.list text t.outcome s.outcome t.valid t.judged.countable (subst P lists t.judged.outcome_is) there.outcome_is in

@@ -15,11 +15,11 @@ use Rattle.run_files.specs.declared.outcome.Stop.TheVariants as stops
 use Rattle.run_files.specs.declared.limits.Limits.TheVariants.{Judging}
 use Rattle.run_files.specs.Answers.{Gives, IsJudging, IsTold}
 use Rattle.run_inputs.specs.Counts.{CountsClasses, PoliciesHaveFewClasses}
-use Rattle.run_inputs.specs.Inputs.{HoldsDocument, HoldsInput, IsFit, ReadsFiles}
+use Rattle.run_inputs.specs.Inputs.{HoldsDocument, HoldsInput, IsFit, ReadsRouterFiles}
 use Rattle.run_files.specs.Judgements.{judgement_status, judgement_text}
 use Rattle.run_files.specs.Limits.{proof_limit}
 use Rattle.run_inputs.proofs.Determined.{determined, judged_once}
-use Rattle.check_commands.specs.ReportChecks.{IsAccepted, IsChecked, IsCheckRefusal, IsRejected, IsUnchecked, RefusesInput, TellsReportCheck, judgement_of}
+use Rattle.check_commands.specs.ReportChecks.{IsAcceptedReport, IsChecked, IsCheckRefusal, IsRejected, IsUnchecked, RefusesInput, TellsReportCheck, judgement_of}
 use Rattle.check_commands.specs.Readings.{JudgesReport}
 use Rattle.run_inputs.proofs.AllTrue.{all_true}
 use Rattle.run_files.specs.Refusals.{bytes_at, read_refusal}
@@ -32,11 +32,11 @@ IsGiven document certificate doc held result =
 
 -- the router files gave this
 abbrev pub ReadInput : List ℕ → Document → Option Files → Input → Type 0
-ReadInput document doc held input = IfSome held (λ files. HoldsDocument document files doc → ReadsFiles Judging [] document files (Ok input))
+ReadInput document doc held input = IfSome held (λ files. HoldsDocument document files doc → ReadsRouterFiles Judging [] document files (Ok input))
 
 -- the router files are refused
 pub files_stopped : (held : Option Files) (document certificate : List ℕ) (doc : Document) (stop : Stop)
-    → IfSome held (λ files. HoldsDocument document files doc → ReadsFiles Judging [] document files (Err stop)) → IsGiven document certificate doc held (Err stop)
+    → IfSome held (λ files. HoldsDocument document files doc → ReadsRouterFiles Judging [] document files (Err stop)) → IsGiven document certificate doc held (Err stop)
 files_stopped None document certificate doc stop told = tt
 files_stopped (Some files) document certificate doc (stops.Refused r) told = λ is fits. inl (told is)
 files_stopped (Some files) document certificate doc stops.Memory told = λ is fits. tt
@@ -95,7 +95,7 @@ judged held later same document certificate doc input judgement done told fit cl
 
 -- of accepted, rejected and refused only one is said
 module _ (document certificate : List ℕ) (files : Files) where
-  accepted_or_rejected : IsAccepted document certificate files → IsRejected document certificate files → ⊥
+  accepted_or_rejected : IsAcceptedReport document certificate files → IsRejected document certificate files → ⊥
   accepted_or_rejected yes' no' =
       let known = determined Judging [] document files in
       let docs : yes'.doc ≡ no'.doc = known.one_document yes'.doc no'.doc yes'.input.files_are.document_is no'.input.files_are.document_is in
@@ -119,7 +119,7 @@ module _ (document certificate : List ℕ) (files : Files) where
   told_done d done Accepted is =
       let zero' : d.status ≡ 0 = done.status ∙ ap (λ (o : Judgement). judgement_status (judgement_of o)) is in
       let report = done.accepted.0 is in
-      let says : IsAccepted document certificate files = record { doc = done.doc; net = done.net; input = done.input; held = done.held; classes = done.classes; report = report; are_true = all_true done.net done.valid done.doc.policies report.verdicts report.right } in
+      let says : IsAcceptedReport document certificate files = record { doc = done.doc; net = done.net; input = done.input; held = done.held; classes = done.classes; report = report; are_true = all_true done.net done.valid done.doc.policies report.verdicts report.right } in
       record {
         accepted_exactly = (λ e. says, λ s. zero');
         rejected_exactly = (λ e. absurd (omega (arith, zero', e)), λ no'. absurd (accepted_or_rejected says no'));

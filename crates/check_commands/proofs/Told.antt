@@ -25,7 +25,7 @@ use Rattle.run_inputs.specs.Inputs.{HoldsInput}
 use Rattle.run_inputs.proofs.Determined.{determined}
 use Rattle.check_commands.specs.ReportChecks.{IsCheckRefusal, TellsReportCheck, judgement_of}
 use Rattle.check_commands.proofs.ReportTold.{check_told}
-use Rattle.check_commands.proofs.WithinLimits.{within_or_passed}
+use Rattle.policy_encode.proofs.OneFault.{within_or_passed}
 use Rattle.check_commands.specs.RepairChecks.{HoldsRepair, IsAnyChecked, IsAnyRefusal, IsRepairJudged, IsTextFault}
 use Rattle.check_commands.specs.Tells.{IsJudgeable, IsRepairAccepted, IsRepairRejected, TellsCheck}
 

@@ -17,7 +17,7 @@ use Rattle.run_files.specs.declared.outcome.Stop.{Stop}
 use Rattle.run_files.specs.Answers.{Gives}
 use Rattle.run_files.specs.Limits.{proof_limit}
 use Rattle.run_files.specs.Refusals.{bytes_at, read_refusal, refusal_of}
-use Rattle.check_commands.specs.RepairChecks.{begins_repair, IsJudged, IsTextFault}
+use Rattle.check_commands.specs.RepairChecks.{begins_repair, IsJudgedRepair, IsTextFault}
 
 -- whether a file that is not refused begins as the certificate of a repair, or its refusal
 abbrev pub ReadsHead : ℕ → Files → List ℕ → Result Bool Stop → Type 0
@@ -47,4 +47,4 @@ abbrev pub JudgesRepair : List ℕ → Network → Document → List ℕ → Fil
 JudgesRepair document net doc certificate files result =
     Gives (λ r. (read_refusal proof_limit files certificate ≡ Some r) ⊎
     RefusesFor (IsTextFault net doc (bytes_at files certificate)) document r)
-    (IsJudged net doc (bytes_at files certificate)) result
+    (IsJudgedRepair net doc (bytes_at files certificate)) result

@@ -58,7 +58,8 @@ abbrev pub IsTextFault : Network → Document → List ℕ → EditFault → Typ
 IsTextFault net doc text fault = NamesLimit net doc fault ⊎ PassesCounted net doc text fault
 
 -- the network of the document and its files passes a limit
-pub record RefusesCounts (document text : List ℕ) (files : Files) (r : FileRefusal) : Type 0 where
+pub record RefusesTextCounts (document text : List ℕ) (files : Files)
+    (r : FileRefusal) : Type 0 where
   pub doc : Document
   pub net : Network
   pub input : HoldsInput Editing [] document files doc net
@@ -71,7 +72,7 @@ pub record RefusesCounts (document text : List ℕ) (files : Files) (r : FileRef
 -- the router files or their network are refused, within the limits of a repair; or a count
 abbrev pub IsTextRefusal : List ℕ → List ℕ → Files → FileRefusal → Type 0
 IsTextRefusal document text files r =
-    IsFilesRefusal Editing [] document files r ⊎ RefusesCounts document text files r
+    IsFilesRefusal Editing [] document files r ⊎ RefusesTextCounts document text files r
 
 -- what is refused behind the certificate's file
 abbrev pub RefusesJudging : List ℕ → List ℕ → Files → FileRefusal → Type 0
@@ -82,7 +83,7 @@ RefusesJudging document certificate files r =
 -- The judgement of the text over the network, whose interfaces, sessions and names can be counted:
 -- that it is accepted, or the first line that is rejected. It is accepted exactly where it is the
 -- certificate of a claim, and each such claim is true.
-pub record IsJudged (net : Network) (doc : Document) (text : List ℕ)
+pub record IsJudgedRepair (net : Network) (doc : Document) (text : List ℕ)
     (outcome : Outcome) : Type 0 where
   pub list : List Edit
   pub edits : AreEdits net doc list
@@ -103,7 +104,7 @@ pub record IsRepairJudged (document text : List ℕ) (files : Files) (done : Don
   pub input : HoldsInput Editing [] document files doc net
   pub valid : IsValid net
   pub outcome : Outcome
-  pub judged : IsJudged net doc text outcome
+  pub judged : IsJudgedRepair net doc text outcome
   pub text_is : done.text ≡ judgement_text (judgement_of outcome)
   pub writes : done.writes ≡ []
   pub status : done.status ≡ judgement_status (judgement_of outcome)

@@ -75,7 +75,7 @@ pub record IsChecked (document certificate : List ℕ) (files : Files) (done : D
 -- the document and its files have a network and not too many classes, and the certificate is held,
 -- not too long, and a report whose verdicts are right, one for each policy in order; so each of
 -- them is true
-pub record IsAccepted (document certificate : List ℕ) (files : Files) : Type 0 where
+pub record IsAcceptedReport (document certificate : List ℕ) (files : Files) : Type 0 where
   pub doc : Document
   pub net : Network
   pub input : HoldsInput Judging [] document files doc net
@@ -103,7 +103,7 @@ pub record IsUnchecked (document certificate : List ℕ) (files : Files) : Type 
 -- The status says which of the three it is: 0 for accepted, 1 for rejected, and 5 for refused.
 pub record TellsReportCheck (document certificate : List ℕ) (status : ℕ)
     (files : Files) : Type 0 where
-  pub accepted_exactly : (status ≡ 0) ↔ IsAccepted document certificate files
+  pub accepted_exactly : (status ≡ 0) ↔ IsAcceptedReport document certificate files
   pub rejected_exactly : (status ≡ 1) ↔ IsRejected document certificate files
   pub refused_exactly : (status ≡ 5) ↔ IsUnchecked document certificate files
   pub nothing_else : (status ≡ 0) ⊎ ((status ≡ 1) ⊎ (status ≡ 5))

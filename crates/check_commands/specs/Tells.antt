@@ -13,7 +13,7 @@ use Rattle.run_files.specs.declared.limits.Limits.TheVariants.{Editing}
 use Rattle.run_files.specs.declared.outcome.FileRefusal.{FileRefusal}
 use Rattle.run_files.specs.Refusals.{bytes_at}
 use Rattle.run_inputs.specs.Inputs.{HoldsInput}
-use Rattle.check_commands.specs.ReportChecks.{IsAccepted, IsRejected}
+use Rattle.check_commands.specs.ReportChecks.{IsAcceptedReport, IsRejected}
 use Rattle.check_commands.specs.RepairChecks.{HoldsRepair, IsAnyRefusal}
 
 -- The certificate is held and begins as that of a repair; the document and its files have a network
@@ -51,7 +51,7 @@ pub record IsRepairRejected (document certificate : List ℕ) (files : Files) : 
 abbrev pub IsAnyAccepted : List ℕ → List ℕ → Files → Type 0
 IsAnyAccepted document certificate files =
     IsRepairAccepted document certificate files ⊎
-    ((¬ HoldsRepair certificate files) × IsAccepted document certificate files)
+    ((¬ HoldsRepair certificate files) × IsAcceptedReport document certificate files)
 
 -- it begins as the certificate of a repair and is none; or it is another text, and no such report
 abbrev pub IsAnyRejected : List ℕ → List ℕ → Files → Type 0

@@ -1,12 +1,12 @@
 //! The command `check DOC CERT`.
-ghost use Rattle.std.specs.Prelude.{◌≡◌, None, IfOk, IfSome};
+ghost use Rattle.check_commands.specs.RepairChecks.{IsAnyChecked, IsAnyRefusal, IsRepairJudged};
+ghost use Rattle.check_commands.specs.RepairChecks.{IsTextRefusal};
 ghost use Rattle.net_doc.specs.Documents.{IsWellFormed};
 ghost use Rattle.run_files.specs.Answers.{Answers, Gives, IsJudging, OnlyReads};
 ghost use Rattle.run_files.specs.Limits.{least_limit, proof_limit};
 ghost use Rattle.run_files.specs.Refusals.{bytes_at, read_refusal};
 ghost use Rattle.run_inputs.specs.Inputs.{HoldsDocument};
-ghost use Rattle.check_commands.specs.RepairChecks.{IsAnyChecked, IsAnyRefusal, IsRepairJudged};
-ghost use Rattle.check_commands.specs.RepairChecks.{IsTextRefusal};
+ghost use Rattle.std.specs.Prelude.{◌≡◌, None, IfOk, IfSome};
 
 use crate::first_reading::begins_repair;
 use crate::repair_lines::judge_repair;

@@ -1,8 +1,8 @@
 //! The first reading of a certificate: how long it is, and how it begins.
-ghost use Rattle.std.specs.Prelude.{◌≡◌, ◌∷◌, ◌+◌, ◌≤◌, [], IfSome, OnOk};
-ghost use Rattle.run_files.specs.Answers.{OnlyReads};
 ghost use Rattle.check_commands.specs.Readings.{ReadsHead};
 ghost use Rattle.check_commands.specs.RepairChecks.{begins_repair};
+ghost use Rattle.run_files.specs.Answers.{OnlyReads};
+ghost use Rattle.std.specs.Prelude.{◌≡◌, ◌∷◌, ◌+◌, ◌≤◌, [], IfSome, OnOk};
 
 use arc_base::Name;
 use arc_outside::{Pieces, Store};

@@ -1,12 +1,12 @@
 //! Laws over the definitions alone: each is the contract of a function that does nothing.
-ghost use Rattle.std.specs.Prelude.{◌≡◌, ℕ, List};
 ghost use Rattle.arc_outside.specs.Files.{Files};
-ghost use Rattle.run_files.specs.declared.outcome.Done.{Done};
-ghost use Rattle.run_files.specs.declared.outcome.FileRefusal.{FileRefusal};
-ghost use Rattle.run_files.specs.Answers.{IsTold};
 ghost use Rattle.check_commands.specs.RepairChecks.{IsAnyChecked, IsAnyRefusal};
 ghost use Rattle.check_commands.specs.ReportChecks.{IsChecked, IsCheckRefusal, TellsReportCheck};
 ghost use Rattle.check_commands.specs.Tells.{TellsCheck};
+ghost use Rattle.run_files.specs.Answers.{IsTold};
+ghost use Rattle.run_files.specs.declared.outcome.Done.{Done};
+ghost use Rattle.run_files.specs.declared.outcome.FileRefusal.{FileRefusal};
+ghost use Rattle.std.specs.Prelude.{◌≡◌, ℕ, List};
 
 use repair_check::laws::outcome_is_unique;
 

@@ -1,9 +1,9 @@
 //! The second reading of a repair's certificate: its lines are judged one by one.
-ghost use Rattle.std.specs.Prelude.{◌≤◌, length, IfSome};
+ghost use Rattle.check_commands.specs.Readings.{JudgesRepair};
 ghost use Rattle.run_files.specs.Answers.{OnlyReads};
 ghost use Rattle.run_files.specs.Limits.{least_limit};
 ghost use Rattle.run_inputs.specs.Inputs.{AreFit};
-ghost use Rattle.check_commands.specs.Readings.{JudgesRepair};
+ghost use Rattle.std.specs.Prelude.{◌≤◌, length, IfSome};
 
 use arc_base::limits::{POLICY_LIMIT, PROOF_LIMIT};
 use arc_base::{List, Name};
@@ -30,11 +30,11 @@ struct RepairLines<'a> {
 }
 
 impl<'a> LineJudge for RepairLines<'a> {
-    ghost use Rattle.std.specs.Prelude.{◌-◌, ◌^◌, ℕ, List as Items};
+    ghost use Rattle.check_commands.specs.Readings.{RefusesFor};
     ghost use Rattle.repair_check.specs.Certifies.{IsCountFault, text_answers};
     ghost use Rattle.repair_check.specs.Instances.{IsInstance};
     ghost use Rattle.repair_check.specs.LineByLine.{CanGoOn, HasComeTo, Judges};
-    ghost use Rattle.check_commands.specs.Readings.{RefusesFor};
+    ghost use Rattle.std.specs.Prelude.{◌-◌, ◌^◌, ℕ, List as Items};
 
     type Outcome = Outcome;
 

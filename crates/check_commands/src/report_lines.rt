@@ -1,6 +1,6 @@
 //! The second reading of a report: its lines are judged one by one.
-ghost use Rattle.std.specs.Prelude.{◌≡◌, ◌<◌, ◌≤◌, ◌^◌, length, All, None, IfOk};
-ghost use Rattle.std.specs.Prelude.{IfSome};
+ghost use Rattle.check_commands.specs.Readings.{JudgesReport};
+ghost use Rattle.check_commands.specs.ReportChecks.{judgement_of, IsChecked, RefusesInput};
 ghost use Rattle.net_doc.specs.Documents.{IsWellFormed};
 ghost use Rattle.net_model.specs.Forwarding.{HasEnds};
 ghost use Rattle.net_model.specs.Packets.{subject};
@@ -9,8 +9,7 @@ ghost use Rattle.run_files.specs.Answers.{Gives, IsJudging, OnlyReads};
 ghost use Rattle.run_files.specs.Limits.{least_limit, proof_limit};
 ghost use Rattle.run_files.specs.Refusals.{read_refusal};
 ghost use Rattle.run_inputs.specs.Inputs.{HoldsDocument};
-ghost use Rattle.check_commands.specs.ReportChecks.{judgement_of, IsChecked, RefusesInput};
-ghost use Rattle.check_commands.specs.Readings.{JudgesReport};
+ghost use Rattle.std.specs.Prelude.{◌≡◌, ◌<◌, ◌≤◌, ◌^◌, length, All, None, IfOk, IfSome};
 
 use arc_base::limits::PROOF_LIMIT;
 use arc_base::{Memory, Name};
@@ -42,11 +41,11 @@ struct ReportLines<'a> {
 }
 
 impl<'a> LineJudge for ReportLines<'a> {
-    ghost use Rattle.std.specs.Prelude.{◌-◌, ◌^◌, ℕ, All, List};
     ghost use Rattle.net_model.specs.Forwarding.{HasEnds};
     ghost use Rattle.net_model.specs.Packets.{subject};
     ghost use Rattle.net_model.specs.Validity.{IsValid};
     ghost use Rattle.report_check.specs.LineByLine.{HasComeTo, IsJudgedTo};
+    ghost use Rattle.std.specs.Prelude.{◌-◌, ◌^◌, ℕ, All, List};
 
     type Outcome = Outcome;
 

@@ -12,7 +12,7 @@ use Rattle.sat_search.specs.declared.found.Found.{Found}
 use Rattle.sat_search.specs.declared.found.Found.TheVariants.{Model, Refuted, Budget}
 use Rattle.sat_search.specs.Searches.{IfModel, IsModelOf, KeepsOthers}
 use Rattle.sat_search.specs.Cores.{core_of}
-use Rattle.cnf_commands.specs.Solves.{IsFound}
+use Rattle.cnf_commands.specs.Solves.{IsSearchResult}
 use Rattle.cnf_commands.proofs.Searching.{stays_satisfied, unsatisfiable}
 
 -- the steps are those that were appended to an empty log
@@ -21,7 +21,7 @@ all_appended P old new more empty is h = subst P (sym (is ∙ ap (λ steps. step
 
 pub is_found : (f : Formula) (limit : ℕ) (log : Log) (found : Found) (old new : State) (steps : List Step) → old ≡ core_of f → steps ≡ []
     → IfModel found (IsModelOf new) → IfModel found (λ values. KeepsOthers (added_by [] steps) old.clauses new.clauses) → IfModel found (λ values. new.vars ≡ old.vars)
-    → (found ≡ Refuted → IsRefuting log.steps) → (found ≡ Budget → IsSpent f None [] limit log.steps) → IfModel found (λ values. IsClean f None [] log.steps) → IsAccepted (start f None []) log.steps → IsFound f limit log found
+    → (found ≡ Refuted → IsRefuting log.steps) → (found ≡ Budget → IsSpent f None [] limit log.steps) → IfModel found (λ values. IsClean f None [] log.steps) → IsAccepted (start f None []) log.steps → IsSearchResult f limit log found
 is_found f limit log (Model values) old new steps core empty model others vars refuting spent clean accepted = (
   record {
     one_each = model.size ∙ (vars ∙ ap (λ (s : State). s.vars) core);

@@ -30,7 +30,7 @@ use Rattle.run_files.specs.Limits.{proof_limit}
 use Rattle.run_files.specs.Refusals.{bytes_at, read_refusal, refusal_of, refusal_within}
 use Rattle.run_files.proofs.OneAnswer.{refused_none}
 use Rattle.std.specs.Option.{option_or}
-use Rattle.cnf_commands.specs.Solves.{found_status, name_refusal, solve_refusal, IsFound, IsSolved, IsSolveRefusal}
+use Rattle.cnf_commands.specs.Solves.{found_status, name_refusal, solve_refusal, IsSearchResult, IsSolved, IsSolveRefusal}
 use Rattle.cnf_commands.proofs.FormulaVariables.{formula_is_good}
 
 -- ---- refusals
@@ -122,8 +122,8 @@ module _ (words : SolveWords) (files : Files) (d : Done) (done : IsSolved words 
       let proof = ap (refusal_within proof_limit words.proof) proof_written ∙ short_enough words.proof (log_text done.log) done.short in
       ap (λ (o : Option FileRefusal). option_or o (read_refusal proof_limit after words.proof)) formula ∙ proof
 
-  found_is : (found : Found) → done.found ≡ found → IsFound done.formula words.conflicts done.log found
-  found_is found is = subst (IsFound done.formula words.conflicts done.log) is done.is_found
+  found_is : (found : Found) → done.found ≡ found → IsSearchResult done.formula words.conflicts done.log found
+  found_is found is = subst (IsSearchResult done.formula words.conflicts done.log) is done.is_found
 
   refuted : done.found ≡ Refuted → IsRefuted words.formula words.proof (with_files d.writes files)
   unfolding after

@@ -75,12 +75,12 @@ pub record IsModel (formula : Formula) (values : List Bool) : Type 0 where
 -- What was found is so: the values are a model, and the log is clean, so that each clause that it
 -- adds is new and none is empty; or the log adds the empty clause, and no assignment satisfies the
 -- formula; or the log is spent at the limit, so that it is clean and adds just as many clauses.
-abbrev pub IsFound : Formula → ℕ → Log → Found → Type 0
-IsFound formula limit log (Model values) =
+abbrev pub IsSearchResult : Formula → ℕ → Log → Found → Type 0
+IsSearchResult formula limit log (Model values) =
     IsModel formula values × IsClean formula None [] log.steps
-IsFound formula limit log Refuted =
+IsSearchResult formula limit log Refuted =
     IsRefuting log.steps × ((assignment : ℕ → Bool) → Satisfies assignment formula → ⊥)
-IsFound formula limit log Budget = IsSpent formula None [] limit log.steps
+IsSearchResult formula limit log Budget = IsSpent formula None [] limit log.steps
 
 -- the log is accepted for the formula, and each of its steps has a line
 pub record IsLogFor (formula : Formula) (log : Log) : Type 0 where
@@ -97,7 +97,7 @@ pub record IsSolved (words : SolveWords) (files : Files) (done : Done) : Type 0 
   pub log : Log
   pub log_is : IsLogFor formula log
   pub few : additions log.steps ≤ words.conflicts
-  pub is_found : IsFound formula words.conflicts log found
+  pub is_found : IsSearchResult formula words.conflicts log found
   pub text : done.text ≡ found_text found
   pub writes : done.writes ≡ (words.proof, log_text log) ∷ []
   pub short : length (log_text log) ≤ proof_limit

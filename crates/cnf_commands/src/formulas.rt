@@ -1,9 +1,9 @@
 //! The formula that a command begins with.
-ghost use Rattle.std.specs.Prelude.{◌≡◌, ◌⊎◌, ◌≤◌, ◌<◌, ◌^◌, length, IfOk, IfSome, IsSomeAnd};
 ghost use Rattle.clean_logs.specs.Laws.{HasItsVariables};
 ghost use Rattle.cnf_commands.specs.Formulas.{faulty, ReadsFormula, MakesChecker};
 ghost use Rattle.run_files.specs.Answers.{OnlyReads};
 ghost use Rattle.run_files.specs.Limits.{least_limit};
+ghost use Rattle.std.specs.Prelude.{◌≡◌, ◌⊎◌, ◌≤◌, ◌<◌, IfOk, IfSome, IsSomeAnd};
 
 use arc_base::limits::{FORMULA_FILE_LIMIT, VARIABLE_LIMIT};
 use arc_base::{Kind, List, Memory, Name};

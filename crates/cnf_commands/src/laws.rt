@@ -1,10 +1,10 @@
 //! Laws over the definitions alone: each is the contract of a function that does nothing.
-ghost use Rattle.std.specs.Prelude.{ℕ, List};
-ghost use Rattle.command_words.specs.declared.commands.SolveWords.{SolveWords};
-ghost use Rattle.run_files.specs.Answers.{IsTold};
 ghost use Rattle.cnf_commands.specs.Lrats.{IsJudged, IsLratRefusal, TellsRefutation};
 ghost use Rattle.cnf_commands.specs.Solves.{IsSolved, IsSolveRefusal, SolvedIsRefuted};
 ghost use Rattle.cnf_commands.specs.Solves.{TellsSolution};
+ghost use Rattle.command_words.specs.declared.commands.SolveWords.{SolveWords};
+ghost use Rattle.run_files.specs.Answers.{IsTold};
+ghost use Rattle.std.specs.Prelude.{ℕ, List};
 
 /// What the status of `lrat` says.
 pub fn lrat_is_told()

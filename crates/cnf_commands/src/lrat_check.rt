@@ -1,8 +1,8 @@
 //! The command `lrat CNF PROOF`.
-ghost use Rattle.std.specs.Prelude.{◌≡◌};
 ghost use Rattle.cnf_commands.specs.Lrats.{judgement_of, rejection_kind, IsJudged, IsLratRefusal};
 ghost use Rattle.run_files.specs.Answers.{Answers, IsJudging, OnlyReads};
 ghost use Rattle.run_files.specs.Limits.{least_limit};
+ghost use Rattle.std.specs.Prelude.{◌≡◌};
 
 use crate::formulas::read_checker;
 use crate::proof_lines::judge_proof;

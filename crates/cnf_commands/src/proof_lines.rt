@@ -1,9 +1,9 @@
 //! The judgement of a proof whose lines are read one by one.
-ghost use Rattle.std.specs.Prelude.{◌≡◌, ◌^◌, ◌<◌, [], IfSome};
+ghost use Rattle.cnf_commands.specs.ProofLines.{JudgesProof};
 ghost use Rattle.proof_check.specs.Outcomes.{log_outcome};
 ghost use Rattle.proof_check.specs.View.{known};
 ghost use Rattle.run_files.specs.Answers.{OnlyReads};
-ghost use Rattle.cnf_commands.specs.ProofLines.{JudgesProof};
+ghost use Rattle.std.specs.Prelude.{◌≡◌, ◌^◌, ◌<◌, [], IfSome};
 
 use arc_base::{Memory, Name};
 use arc_outside::Store;
@@ -31,9 +31,9 @@ struct ProofJudge {
 }
 
 impl LineJudge for ProofJudge {
-    ghost use Rattle.std.specs.Prelude.{◌≡◌, ◌-◌, ◌^◌};
     ghost use Rattle.proof_check.specs.Outcomes.{log_outcome};
     ghost use Rattle.proof_check.specs.View.{known};
+    ghost use Rattle.std.specs.Prelude.{◌≡◌, ◌-◌, ◌^◌};
 
     type Outcome = Outcome;
 

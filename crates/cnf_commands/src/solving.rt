@@ -1,14 +1,13 @@
 //! The command `solve CNF --proof NAME`.
-ghost use Rattle.std.specs.Prelude.{◌≡◌, ◌++◌, ◌∷◌, ◌<◌, ◌≤◌, ◌^◌, [], length, IfOk, OnOk};
-ghost use Rattle.std.specs.Prelude.{string_bytes};
 ghost use Rattle.clean_logs.specs.CleanLogs.{additions};
 ghost use Rattle.clean_logs.specs.Laws.{HasItsVariables};
+ghost use Rattle.cnf_commands.specs.Solves.{found_status, found_text, value_text, values_text};
+ghost use Rattle.cnf_commands.specs.Solves.{IsSearchResult, IsLogFor, IsSolved, IsSolveRefusal};
+ghost use Rattle.cnf_commands.specs.Solves.{WritesProof};
 ghost use Rattle.proof_log.specs.Texts.{log_text};
 ghost use Rattle.run_files.specs.Answers.{Answers, OnlyReads};
 ghost use Rattle.run_files.specs.Limits.{least_limit, proof_limit};
-ghost use Rattle.cnf_commands.specs.Solves.{found_status, found_text, value_text, values_text};
-ghost use Rattle.cnf_commands.specs.Solves.{IsFound, IsLogFor, IsSolved, IsSolveRefusal};
-ghost use Rattle.cnf_commands.specs.Solves.{WritesProof};
+ghost use Rattle.std.specs.Prelude.{◌≡◌, ◌++◌, ◌∷◌, ◌<◌, ◌≤◌, [], length, IfOk, OnOk, string_bytes};
 
 use crate::formulas::read_formula;
 use arc_base::limits::{CONFLICT_LIMIT, PROOF_LIMIT, VARIABLE_LIMIT};
@@ -18,17 +17,23 @@ use cnf_types::Formula;
 use command_words::SolveWords;
 use proof_log::{Log, text};
 use run_files::{Done, Stop, refused};
-use sat_search::{Found, core_of, search};
+use run_progress::Listener;
+use sat_search::{Found, core_of, search_first};
 use std::alloc::Global;
 use std::fmt::Write;
 
 /// What a search over the formula finds, and the log of its clauses.
-fn search_formula(alloc: Global, formula: &Formula, limit: u64) -> Result<(Found, Log), Memory>
+fn search_formula<L: Listener>(
+    alloc: Global,
+    formula: &Formula,
+    limit: u64,
+    listener: &mut L,
+) -> Result<(Found, Log), Memory>
     requires variables { HasItsVariables formula.now }
     requires few { formula.now.vars ≤ VARIABLE_LIMIT }
     requires least { 1 ≤ limit }
     requires most { limit ≤ CONFLICT_LIMIT }
-    ensures found { IfOk result (λ r. IsFound formula.now limit r.1 r.0) }
+    ensures found { IfOk result (λ r. IsSearchResult formula.now limit r.1 r.0) }
     ensures log { IfOk result (λ r. IsLogFor formula.now r.1) }
     ensures few { IfOk result (λ r. additions r.1.steps ≤ limit) }
 {
@@ -36,7 +41,7 @@ fn search_formula(alloc: Global, formula: &Formula, limit: u64) -> Result<(Found
     let mut log = Log {
         steps: List::make(alloc),
     };
-    let found = search(alloc, &mut core, &mut log, limit)?;
+    let found = search_first(alloc, &mut core, &[], &mut log, limit, listener)?;
     Ok((found, log))
 }
 
@@ -126,7 +131,12 @@ fn answer(alloc: Global, proof: &Name, found: &Found, log: &Log) -> Result<Done,
 }
 
 /// Searches for an assignment that satisfies the formula, and writes the log of the search.
-pub fn solve<S: Store>(alloc: Global, words: &SolveWords, store: &mut S) -> Result<Done, Stop>
+pub fn solve<S: Store, L: Listener>(
+    alloc: Global,
+    words: &SolveWords,
+    store: &mut S,
+    listener: &mut L,
+) -> Result<Done, Stop>
     requires least { 1 ≤ words.now.conflicts }
     requires most { words.now.conflicts ≤ CONFLICT_LIMIT }
     ensures answer { Answers (WritesProof words.now) (IsSolveRefusal words.now) (IsSolved words.now)
@@ -138,7 +148,7 @@ pub fn solve<S: Store>(alloc: Global, words: &SolveWords, store: &mut S) -> Resu
     if words.proof.is(words.formula.bytes()) {
         return Err(refused(alloc, &words.formula, 0, Kind::OutputName));
     }
-    let (found, log) = search_formula(alloc, &formula, words.conflicts)?;
+    let (found, log) = search_formula(alloc, &formula, words.conflicts, listener)?;
     let done = answer(alloc, &words.proof, &found, &log)?;
     Ok(done)
 }

@@ -41,9 +41,6 @@ top = (built app).top
 abbrev pub commands : List Shape
 commands = map form_shape forms
 
-built_is : built app ≡ record { top = top; subs = commands }
-built_is = refl
-
 abbrev pub names : Names
 names = map form_label forms
 

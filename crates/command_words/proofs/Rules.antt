@@ -6,7 +6,7 @@ use Rattle.clap.specs.Walk.{Row, Rule, Text, arg_by_id, arg_by_index, arg_by_lon
 use Rattle.clap.specs.Simple.{new_rule}
 use Rattle.clap.specs.Takes.{is_given}
 use Rattle.clap.specs.Kinds.{Kinds, or_else}
-use Rattle.clap.specs.Faults.{defaults_fault, use_fault, repeat_fault}
+use Rattle.clap.specs.Faults.{defaults_fault, use_fault}
 use Rattle.clap.specs.declared.builder.action.ArgAction.TheVariants.{Set}
 use Rattle.clap.specs.declared.builder.value_parser.ValueParser.TheVariants as vp
 use Rattle.clap.specs.declared.builder.value_parser.Reading.TheVariants as reading
@@ -91,9 +91,6 @@ Judged None kinds rows = kinds ≡ [] → ⊥
 Judged (Some wanted) kinds rows = (kinds ≡ []) × (rows ≡ wanted)
 
 module _ (name : Option Text) (place : Option ℕ) (required : Bool) (id value : Text) where
-  use_is : (rows : List Row) → use_fault false (one_text name place required id) (value ∷ []) rows ≡ or_else (repeat_fault false id rows) []
-  use_is rows = refl
-
   used_is : (rows : List Row) → has_row id rows ≡ false → used (one_text name place required id) (value ∷ []) rows ≡ rows ++ row_of id value ∷ []
   used_is rows h =
       let bare : without id rows ≡ rows = at_row_absent id (λ r. []) [] rows h ∙ append-nil rows in

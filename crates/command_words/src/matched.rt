@@ -1,6 +1,6 @@
 //! The readers of the commands, one for each row of the table, over what `clap` found.
-ghost use Rattle.std.specs.Prelude.{◌≡◌, ◌≤◌, ◌<◌, ◌^◌, IfOk, IfErr, MatchOption, MatchResult};
-ghost use Rattle.std.specs.Prelude.{None, Some, codes, option_and_then};
+ghost use Rattle.std.specs.Prelude.{◌≡◌, ◌≤◌, ◌<◌, ◌^◌, IfOk, MatchOption, MatchResult, None, Some};
+ghost use Rattle.std.specs.Prelude.{codes, option_and_then};
 ghost use Rattle.std.specs.Result.{result_ok};
 ghost use Rattle.arc_base.specs.PrefixText.{prefix_of};
 ghost use Rattle.clap.specs.Words.{first_of, found_of, rows_of};

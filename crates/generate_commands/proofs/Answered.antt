@@ -37,7 +37,7 @@ use Rattle.net_gen.specs.declared.generating.Generated.{Generated}
 use Rattle.repair_commands.specs.Repairs.{IsAnswered}
 use Rattle.run_inputs.specs.Counts.{StopsFor}
 use Rattle.run_inputs.proofs.EditFaults.{limit_refused}
-use Rattle.generate_commands.specs.Generates.{IsGenerateRefusal, IsMade, IsSummary, TellsAnswer, WritesOne, certificate_of, default_bound, default_conflicts, document_name, status_of}
+use Rattle.generate_commands.specs.Generates.{IsGenerateRefusal, IsMadeNetwork, IsSummary, TellsAnswer, WritesOne, certificate_of, default_bound, default_conflicts, document_name, status_of}
 use Rattle.generate_commands.specs.Summaries.{answer_lines, flags_set, made_line, repair_line, tally_line}
 use Rattle.generate_commands.specs.Tallies.{IsTally, tally_of}
 use Rattle.generate_commands.proofs.Tallied.{tallied}
@@ -121,7 +121,7 @@ few_each net doc few policy one classes are =
 
 module _ (ends : (net : Network) → IsValid net → HasOnePairOfEnds net) (are_true : (net : Network) → IsValid net → RightVerdictsAreTrue net)
     (decide : (net : Network) → IsValid net → RightVerdictsDecide net) (stays : AfterIsValid) where
-  pub summed : (words : GenerateWords) (made : Generated) (built : Built) (list : List Edit) (answer : Answer) (verdicts : List Verdict) (done : Done) → IsMade words made built
+  pub summed : (words : GenerateWords) (made : Generated) (built : Built) (list : List Edit) (answer : Answer) (verdicts : List Verdict) (done : Done) → IsMadeNetwork words made built
       → IsEditable made.doc built made.files → IsAnswered default_bound default_conflicts built.net made.doc list answer → AllZip (IsRight built.net) made.doc.policies verdicts
       → done.writes ≡ (words.proof, certificate_of built.net made.doc list answer) ∷ [] → length (certificate_of built.net made.doc list answer) ≤ proof_limit
       → done.text ≡ (made_line words.number ++ (tally_line (codes "verdicts") (tally_of verdicts) ++ answer_lines answer)) ++ wrote_lines done.writes
@@ -146,7 +146,7 @@ module _ (ends : (net : Network) → IsValid net → HasOnePairOfEnds net) (are_
 
 -- ---- a count is refused
 
-pub counts_stopped : (words : GenerateWords) (made : Generated) (built : Built) (fault : EditFault) (stop : Stop) → IsMade words made built → IsValid built.net
+pub counts_stopped : (words : GenerateWords) (made : Generated) (built : Built) (fault : EditFault) (stop : Stop) → IsMadeNetwork words made built → IsValid built.net
     → IsRepairFault built.net made.doc default_bound fault → StopsFor document_name fault stop → Gives (IsGenerateRefusal words) (IsSummary words) (Err stop)
 counts_stopped words made built fault stop is_made valid is_fault is =
     limit_refused (IsRepairFault built.net made.doc default_bound) (IsGenerateRefusal words) (IsSummary words) document_name

@@ -28,14 +28,14 @@ use Rattle.repair_commands.specs.Outcomes.{HasRepair, HasNoRepair, IsRepairable,
 use Rattle.repair_commands.specs.Repairs.{IsAnswered}
 use Rattle.repair_commands.proofs.Counted.{kept_or_passed, one_fault}
 use Rattle.repair_commands.proofs.Outcomes.{can_be, has_repair, not_both, shows_cheapest, shows_none, shows_spent, tells_cheapest, tells_none, tells_refused, tells_spent}
-use Rattle.generate_commands.specs.Generates.{IsGenerateRefusal, IsMade, IsSummary, certificate_of, default_bound, default_conflicts, document_name, status_of}
-use Rattle.generate_commands.specs.Tells.{CanBeRepaired, CannotBeRepaired, HasCheapest, HasNone, GeneratesSpentCertificate, IsGenerateRefused, TellsGenerate}
+use Rattle.generate_commands.specs.Generates.{IsGenerateRefusal, IsMadeNetwork, IsSummary, certificate_of, default_bound, default_conflicts, document_name, status_of}
+use Rattle.generate_commands.specs.Tells.{CanBeRepaired, CannotBeRepaired, GeneratesCheapest, GeneratesNone, GeneratesSpentCertificate, IsGenerateRefused, TellsGenerate}
 use Rattle.generate_commands.proofs.OneMade.{one_made}
 
 module _ (words : GenerateWords) where
   -- ---- one document and network, and no refusal beside a repairable one
-  module _ (made : Generated) (built : Built) (is : IsMade words made built) where
-    moved : (Q : Document → Network → Type 0) (other : Generated) (last : Built) → IsMade words other last → Q other.doc last.net → Q made.doc built.net
+  module _ (made : Generated) (built : Built) (is : IsMadeNetwork words made built) where
+    moved : (Q : Document → Network → Type 0) (other : Generated) (last : Built) → IsMadeNetwork words other last → Q other.doc last.net → Q made.doc built.net
     moved Q other last h q =
         let same : made ≡ other = one_made words.number made other is.generated h.generated in
         let P : Generated → Type 0 = λ g. IsBuiltWithin [] 2048 g.doc g.files built in
@@ -93,7 +93,7 @@ module _ (words : GenerateWords) where
         let new = patches_are_there [] 2048 done.made.doc done.built done.made.files (chosen_of done.list flags) done.is_made.is_built in
         let shown = shows_cheapest default_bound default_conflicts done.made.doc done.built done.made.files done.list done.editable price flags verdicts log new.0 (now words.proof) answered new.1 written in
         let has = has_repair default_bound default_conflicts done.made.doc done.built done.made.files done.list done.editable price flags verdicts log answered in
-        let found : HasCheapest words files now = record { made = done.made; built = done.built; is_made = done.is_made; repair = shown; kept = kept } in
+        let found : GeneratesCheapest words files now = record { made = done.made; built = done.built; is_made = done.is_made; repair = shown; kept = kept } in
         let can : CannotBeRepaired words → ⊥ = λ cannot.
         not_both default_bound done.built.net done.made.doc done.editable.fit.valid has
         (moved done.made done.built done.is_made (λ e n. HasNoRepair default_bound n e) cannot.made cannot.built cannot.is_made cannot.none) in
@@ -102,7 +102,7 @@ module _ (words : GenerateWords) where
     told_none : (log : Log) → Gave (Claimed (NoRepair default_bound) log) → TellsGenerate words d.status files now
     told_none log (answered, written, two) =
         let shown = shows_none default_bound default_conflicts done.made.doc done.built done.made.files done.list done.editable log (now words.proof) answered written in
-        let none : HasNone words files now = record { made = done.made; built = done.built; is_made = done.is_made; shown = shown; kept = kept } in
+        let none : GeneratesNone words files now = record { made = done.made; built = done.built; is_made = done.is_made; shown = shown; kept = kept } in
         let cannot : CanBeRepaired words → ⊥ = λ can.
         not_both default_bound done.built.net done.made.doc done.editable.fit.valid
         (moved done.made done.built done.is_made (λ e n. HasRepair default_bound n e) can.made can.built can.is_made can.repair) shown.none in

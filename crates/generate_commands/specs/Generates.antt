@@ -29,7 +29,7 @@ use Rattle.run_files.specs.Limits.{proof_limit}
 use Rattle.run_files.specs.Refusals.{refusal_of}
 use Rattle.repair_commands.specs.Repairs.{IsAnswered}
 use Rattle.generate_commands.specs.declared.tallies.Tally.{Tally}
-use Rattle.generate_commands.specs.Summaries.{budget_line, made_line, none_line, repair_line}
+use Rattle.generate_commands.specs.Summaries.{given_up_line, made_line, none_line, repair_line}
 use Rattle.generate_commands.specs.Summaries.{tally_line}
 use Rattle.generate_commands.specs.Tallies.{IsTally}
 
@@ -46,7 +46,7 @@ abbrev pub document_name : List ℕ
 document_name = codes "net.json"
 
 -- the document and the router files of a network of this many routers, and what is built of them
-pub record IsMade (words : GenerateWords) (made : Generated) (built : Built) : Type 0 where
+pub record IsMadeNetwork (words : GenerateWords) (made : Generated) (built : Built) : Type 0 where
   pub generated : IsGenerated words.number made
   pub is_built : IsBuiltWithin [] EDITED_ENTRY_LIMIT made.doc made.files built
 
@@ -77,7 +77,7 @@ abbrev pub TellsAnswer : Network → Document → List Edit → Answer → List 
 TellsAnswer net doc list (Claimed (Repaired price bound flags verdicts) log) lines =
     TellsAfter net doc list price flags lines
 TellsAnswer net doc list (Claimed (NoRepair bound) log) lines = lines ≡ none_line
-TellsAnswer net doc list (Budget log) lines = lines ≡ budget_line
+TellsAnswer net doc list (Budget log) lines = lines ≡ given_up_line
 
 -- The answer: what was made; how many of its policies its network meets, breaks and has unclear;
 -- and what its repair came to, which is one of the answers that `repair` gives where its words name
@@ -85,7 +85,7 @@ TellsAnswer net doc list (Budget log) lines = lines ≡ budget_line
 pub record IsSummary (words : GenerateWords) (done : Done) : Type 0 where
   pub made : Generated
   pub built : Built
-  pub is_made : IsMade words made built
+  pub is_made : IsMadeNetwork words made built
   pub editable : IsEditable made.doc built made.files
   pub list : List Edit
   pub answer : Answer
@@ -112,7 +112,7 @@ pub record WritesOne (words : GenerateWords) (done : Done) : Type 0 where
 pub record IsGenerateRefusal (words : GenerateWords) (r : FileRefusal) : Type 0 where
   pub made : Generated
   pub built : Built
-  pub is_made : IsMade words made built
+  pub is_made : IsMadeNetwork words made built
   pub valid : IsValid built.net
   pub what : LimitKind
   pub count : ℕ

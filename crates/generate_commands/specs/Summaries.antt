@@ -30,8 +30,8 @@ abbrev pub none_line : List ℕ
 none_line = codes "repair none\n"
 
 -- that the search was given up
-abbrev pub budget_line : List ℕ
-budget_line = codes "repair budget\n"
+abbrev pub given_up_line : List ℕ
+given_up_line = codes "repair budget\n"
 
 -- how many of the flags are set
 abbrev pub flags_set : List Bool → ℕ
@@ -42,4 +42,4 @@ abbrev pub answer_lines : Answer → List ℕ
 answer_lines (Claimed (Repaired price bound flags verdicts) log) =
     repair_line price (flags_set flags) ++ tally_line (codes "after") (tally_of verdicts)
 answer_lines (Claimed (NoRepair bound) log) = none_line
-answer_lines (Budget log) = budget_line
+answer_lines (Budget log) = given_up_line

@@ -7,23 +7,23 @@ use Rattle.command_words.specs.declared.commands.GenerateWords.{GenerateWords}
 use Rattle.run_files.specs.declared.outcome.FileRefusal.{FileRefusal}
 use Rattle.repair_commands.specs.Outcomes.{HasRepair, HasNoRepair, KeepsOthers, ShowsCheapest}
 use Rattle.repair_commands.specs.Outcomes.{ShowsNone, ShowsSpent, TellsOutcome}
-use Rattle.generate_commands.specs.Generates.{IsGenerateRefusal, IsMade, default_bound}
+use Rattle.generate_commands.specs.Generates.{IsGenerateRefusal, IsMadeNetwork, default_bound}
 use Rattle.generate_commands.specs.Generates.{default_conflicts}
 
 -- the cheapest repair of what was made was found; its certificate was written, and nothing else
-pub record HasCheapest (words : GenerateWords) (before after : Files) : Type 0 where
+pub record GeneratesCheapest (words : GenerateWords) (before after : Files) : Type 0 where
   pub made : Generated
   pub built : Built
-  pub is_made : IsMade words made built
+  pub is_made : IsMadeNetwork words made built
   pub repair : ShowsCheapest default_bound default_conflicts made.doc built made.files
       (after words.proof)
   pub kept : KeepsOthers words.proof before after
 
 -- there is no repair of it within the bound; the certificate of this was written, and nothing else
-pub record HasNone (words : GenerateWords) (before after : Files) : Type 0 where
+pub record GeneratesNone (words : GenerateWords) (before after : Files) : Type 0 where
   pub made : Generated
   pub built : Built
-  pub is_made : IsMade words made built
+  pub is_made : IsMadeNetwork words made built
   pub shown : ShowsNone default_bound default_conflicts built.net made.doc (after words.proof)
   pub kept : KeepsOthers words.proof before after
 
@@ -31,7 +31,7 @@ pub record HasNone (words : GenerateWords) (before after : Files) : Type 0 where
 pub record GeneratesSpentCertificate (words : GenerateWords) (before after : Files) : Type 0 where
   pub made : Generated
   pub built : Built
-  pub is_made : IsMade words made built
+  pub is_made : IsMadeNetwork words made built
   pub shown : ShowsSpent default_bound default_conflicts built.net made.doc (after words.proof)
   pub kept : KeepsOthers words.proof before after
 
@@ -39,14 +39,14 @@ pub record GeneratesSpentCertificate (words : GenerateWords) (before after : Fil
 pub record CanBeRepaired (words : GenerateWords) : Type 0 where
   pub made : Generated
   pub built : Built
-  pub is_made : IsMade words made built
+  pub is_made : IsMadeNetwork words made built
   pub repair : HasRepair default_bound built.net made.doc
 
 -- it has none
 pub record CannotBeRepaired (words : GenerateWords) : Type 0 where
   pub made : Generated
   pub built : Built
-  pub is_made : IsMade words made built
+  pub is_made : IsMadeNetwork words made built
   pub none : HasNoRepair default_bound built.net made.doc
 
 -- what is made is too large to be repaired
@@ -57,6 +57,6 @@ pub record IsGenerateRefused (words : GenerateWords) : Type 0 where
 -- what the status says of the files before and after
 abbrev pub TellsGenerate : GenerateWords → ℕ → Files → Files → Type 0
 TellsGenerate words status before after =
-    TellsOutcome (HasCheapest words before after) (HasNone words before after)
+    TellsOutcome (GeneratesCheapest words before after) (GeneratesNone words before after)
     (GeneratesSpentCertificate words before after) (IsGenerateRefused words)
     (CanBeRepaired words) (CannotBeRepaired words) status before after

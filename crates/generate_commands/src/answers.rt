@@ -1,12 +1,11 @@
 //! What the command prints and writes.
-ghost use Rattle.std.specs.Prelude.{◌≡◌, ◌∷◌, [], ◌++◌, ◌≤◌, length, IfOk, codes};
 ghost use Rattle.file_copies.specs.Outputs.{wrote_lines};
-ghost use Rattle.repair_commands.specs.Steps.{IsWholeAnswer};
-ghost use Rattle.run_files.specs.Limits.{proof_limit};
-ghost use Rattle.generate_commands.specs.Generates.{certificate_of, default_bound};
-ghost use Rattle.generate_commands.specs.Generates.{default_conflicts, status_of};
+ghost use Rattle.generate_commands.specs.Generates.{certificate_of, status_of};
 ghost use Rattle.generate_commands.specs.Summaries.{answer_lines, made_line, tally_line};
 ghost use Rattle.generate_commands.specs.Tallies.{tally_of};
+ghost use Rattle.repair_commands.specs.Steps.{IsWholeAnswer};
+ghost use Rattle.run_files.specs.Limits.{proof_limit};
+ghost use Rattle.std.specs.Prelude.{◌≡◌, ◌∷◌, [], ◌++◌, ◌≤◌, length, IfOk, codes};
 
 use crate::lines::{push_answer, push_made, push_tally};
 use crate::tallies::{Tally, counted};

@@ -1,13 +1,12 @@
 //! The command `generate N --proof NAME`.
-ghost use Rattle.std.specs.Prelude.{◌≡◌, ◌≤◌, ◌<◌, ◌^◌, [], length, All, IfOk, IfErr};
+ghost use Rattle.generate_commands.specs.Generates.{IsGenerateRefusal, IsSummary};
+ghost use Rattle.generate_commands.specs.Steps.{IsSomeGenerated};
 ghost use Rattle.net_build.specs.Networks.{IsBuiltWithin};
 ghost use Rattle.run_files.specs.Answers.{Gives, HasStopCause};
 ghost use Rattle.run_inputs.specs.Inputs.{AreFit};
-ghost use Rattle.generate_commands.specs.Generates.{IsGenerateRefusal, IsSummary};
-ghost use Rattle.generate_commands.specs.Steps.{IsSomeGenerated};
+ghost use Rattle.std.specs.Prelude.{◌≡◌, ◌≤◌, ◌<◌, ◌^◌, [], length, All, IfOk, IfErr};
 
 use crate::answers::answer_done;
-use crate::tallies::judge_all;
 use arc_base::limits::{
     DEFAULT_CONFLICTS, DEFAULT_PRICE, EDITED_ENTRY_LIMIT, FEWEST_GENERATED, LINK_LIMIT,
     MOST_GENERATED, POLICY_LIMIT, ROUTER_LIMIT,
@@ -23,7 +22,9 @@ use net_laws::verdicts_are_right;
 use repair_commands::find_repair;
 use run_files::{Done, Limits, Stop};
 use run_inputs::fault_stop;
+use run_progress::Listener;
 use std::alloc::Global;
+use verdicts::judge_all;
 
 /// What a refusal calls the document, which is no file.
 const DOCUMENT: &[u8] = b"net.json";
@@ -51,7 +52,11 @@ fn build(alloc: Global, made: &Generated) -> Result<Built, Memory>
 /// Makes the network of this many routers, judges its policies, and repairs it with the highest
 /// price and the most conflicts that `repair` uses where none are named. It reads nothing, and
 /// writes only the certificate. The time is that of the search.
-pub fn generate(alloc: Global, words: &GenerateWords) -> Result<Done, Stop>
+pub fn generate<L: Listener>(
+    alloc: Global,
+    words: &GenerateWords,
+    listener: &mut L,
+) -> Result<Done, Stop>
     requires some { FEWEST_GENERATED ≤ words.now.number }
     requires few { words.now.number ≤ MOST_GENERATED }
     ensures answer { Gives (IsGenerateRefusal words.now) (IsSummary words.now) result }
@@ -63,11 +68,18 @@ pub fn generate(alloc: Global, words: &GenerateWords) -> Result<Done, Stop>
     let built = build(alloc, &made)?;
     let (net, doc) = (&built.net, &made.doc);
     let document = Name::make(alloc, DOCUMENT)?;
-    let (list, answer) = match find_repair(alloc, net, doc, DEFAULT_PRICE, DEFAULT_CONFLICTS) {
+    let (list, answer) = match find_repair(
+        alloc,
+        net,
+        doc,
+        DEFAULT_PRICE,
+        DEFAULT_CONFLICTS,
+        listener,
+    ) {
         Ok(found) => found,
         Err(fault) => return Err(fault_stop(alloc, &document, fault)),
     };
-    let verdicts = judge_all(alloc, net, doc)?;
+    let verdicts = judge_all(alloc, net, &doc.policies, listener)?;
     let done = answer_done(alloc, words, net, doc, &verdicts, &list, &answer)?;
     Ok(done)
 }

@@ -1,11 +1,11 @@
 //! Laws over the definitions alone: each is the contract of a function that does nothing.
-ghost use Rattle.std.specs.Prelude.{◌≡◌};
 ghost use Rattle.command_words.specs.declared.commands.GenerateWords.{GenerateWords};
+ghost use Rattle.generate_commands.specs.Generates.{IsGenerateRefusal, IsSummary};
+ghost use Rattle.generate_commands.specs.Tells.{TellsGenerate};
 ghost use Rattle.run_files.specs.Answers.{IsTold};
 ghost use Rattle.run_files.specs.declared.outcome.Done.{Done};
 ghost use Rattle.run_files.specs.declared.outcome.FileRefusal.{FileRefusal};
-ghost use Rattle.generate_commands.specs.Generates.{IsGenerateRefusal, IsSummary};
-ghost use Rattle.generate_commands.specs.Tells.{TellsGenerate};
+ghost use Rattle.std.specs.Prelude.{◌≡◌};
 
 /// What the status of `generate` says.
 pub fn generate_is_told()

@@ -1,9 +1,9 @@
 //! The lines that the command prints.
-ghost use Rattle.std.specs.Prelude.{◌≡◌, ◌∷◌, [], ◌++◌, ◌≤◌, OnOk, codes, decimal};
-ghost use Rattle.policy_report.specs.Lines.{after_spaces, line};
 ghost use Rattle.generate_commands.specs.Summaries.{answer_lines, flags_set, made_line};
 ghost use Rattle.generate_commands.specs.Summaries.{repair_line, tally_line};
 ghost use Rattle.generate_commands.specs.Tallies.{tally_of};
+ghost use Rattle.policy_report.specs.Lines.{after_spaces, line};
+ghost use Rattle.std.specs.Prelude.{◌≡◌, ◌∷◌, [], ◌++◌, ◌≤◌, OnOk, codes, decimal};
 
 use crate::tallies::{Tally, counted};
 use arc_base::Memory;

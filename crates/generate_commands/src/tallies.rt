@@ -1,16 +1,8 @@
 //! How many policies of a document a network meets.
-ghost use Rattle.std.specs.Prelude.{◌≡◌, ◌+◌, ◌<◌, ◌^◌, length, IfOk};
-ghost use Rattle.std.specs.List.{AllZip};
-ghost use Rattle.net_model.specs.Witnesses.{IsRight};
-ghost use Rattle.edit_list.specs.EditLists.{DocumentHasFewClasses};
-ghost use Rattle.run_inputs.specs.Inputs.{AreFit};
 ghost use Rattle.generate_commands.specs.Tallies.{one_more, tally_of};
+ghost use Rattle.std.specs.Prelude.{◌≡◌, ◌+◌, ◌<◌, ◌^◌};
 
-use arc_base::{List, Memory};
-use net_model::{Document, Network, Verdict};
-use std::alloc::Global;
-use traffic_classes::Marks;
-use verdicts::{JudgeFault, judge_under};
+use net_model::Verdict;
 
 /// How many policies a network meets, how many it breaks, and how many are not clear in it.
 #[derive(Clone, Copy, Debug, PartialEq, Eq)]
@@ -51,22 +43,4 @@ pub fn counted(verdicts: &[Verdict]) -> Tally
         tally = tally.with(verdict);
     }
     tally
-}
-
-/// The verdict on each policy of the document, in order.
-pub fn judge_all(alloc: Global, net: &Network, doc: &Document) -> Result<List<Verdict>, Memory>
-    requires fit { AreFit doc.now net.now }
-    requires classes { DocumentHasFewClasses net.now doc.now }
-    ensures { IfOk result (AllZip (IsRight net.now) doc.now.policies) }
-{
-    let marks = Marks::of(alloc, net, &doc.policies)?;
-    let mut verdicts = List::make(alloc);
-    for which in 0..doc.policies.len() {
-        match judge_under(alloc, net, &doc.policies, &marks, which) {
-            Ok(verdict) => verdicts.push(verdict)?,
-            Err(JudgeFault::TooMany(_)) => unreachable!(),
-            Err(JudgeFault::Memory) => return Err(Memory),
-        }
-    }
-    Ok(verdicts)
 }

@@ -22,7 +22,7 @@ use Rattle.condition_formula.specs.declared.condition.Condition.{Condition}
 use Rattle.condition_formula.specs.declared.condition.Condition.TheVariants.{Always, Never, If, Unless}
 use Rattle.condition_formula.specs.declared.condition.ArcLists.{ArcLists}
 use Rattle.condition_formula.specs.declared.network.ConditionArc.{ConditionArc}
-use Rattle.condition_formula.specs.Conditions.{holds, lists_of, is_routed, IsClear}
+use Rattle.condition_formula.specs.Conditions.{holds, lists_of, is_routed, IsClearArc}
 use Rattle.condition_formula.specs.Laws.{chosen_in}
 use Rattle.edit_list.specs.declared.edit_kinds.Edit.{Edit}
 use Rattle.edit_list.specs.After.{IsFaceAfter}
@@ -221,7 +221,7 @@ module _ (net : Network) (doc : Document) (list : List Edit) (flags : List Bool)
         ap (arc_lists net list (tail_row a b from_a) (head_end row from_a) (head_row a b from_a)) (get_or_from_slice_get classes k class class at)
 
     permits_as : (from_a : Bool) (k : ℕ) (lists : ArcLists) → lists_of (ca_of from_a) k ≡ lists → {P Q : Type 0} → (P ↔ IsTrue (holds (chosen_in flags) lists.outbound)) → (Q ↔ IsTrue (holds (chosen_in flags) lists.inbound)) →
-        (P × Q) ↔ IsClear (chosen_in flags) k (ca_of from_a)
+        (P × Q) ↔ IsClearArc (chosen_in flags) k (ca_of from_a)
     permits_as from_a k lists e out ins =
         let O : ArcLists → Type 0 = λ l. IsTrue (holds (chosen_in flags) l.outbound) in
         let I : ArcLists → Type 0 = λ l. IsTrue (holds (chosen_in flags) l.inbound) in (

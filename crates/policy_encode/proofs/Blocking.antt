@@ -25,7 +25,7 @@ use Rattle.net_model.specs.Witnesses.{MayBreak, Path, links_of, routers_of, IsRi
 use Rattle.net_laws.proofs.RightWalks.{right_walks_unblock, right_walks_bypass}
 use Rattle.condition_formula.specs.declared.network.Question.{Question}
 use Rattle.condition_formula.specs.declared.network.Demand.{Demand}
-use Rattle.condition_formula.specs.Conditions.{is_open, is_counted, counted, bare, open_arcs, Comes, IsKeptOff, IsClear}
+use Rattle.condition_formula.specs.Conditions.{is_open, is_counted, counted, bare, open_arcs, Comes, IsKeptOff, IsClearArc}
 use Rattle.condition_formula.proofs.Parts.{any_from}
 use Rattle.policy_encode.specs.Questions.{demand_of}
 use Rattle.policy_encode.specs.Mirrors.{HasMirror, IsMirrored, Mirrors}
@@ -75,7 +75,7 @@ module _ (net : Network) (ends : Ends) (classes : List Class) (chosen : ℕ → 
       Contains (open_arcs chosen q k) (bare is.ca)
   in_open k class at p of_p arc is may permits =
       let counts : is_counted q.demand is.ca ≡ true = subst (λ (d : Demand). is_counted d is.ca ≡ true) (sym demand) (breaks_counts kind is.ca arc is.is_mirror.waypoint may) in
-      let clear : IsClear chosen k is.ca = (is.is_mirror.permits k class at p of_p).0 permits in
+      let clear : IsClearArc chosen k is.ca = (is.is_mirror.permits k class at p of_p).0 permits in
       Contains-map bare (filter (is_open chosen k) (counted q)) is.ca
       (Contains-filter (is_open chosen k) (counted q) is.ca (Contains-filter (is_counted q.demand) q.arcs is.ca is.one counts) (open_from chosen k is.ca is.routed clear))
 

@@ -1,20 +1,12 @@
 -- The index of edits finds an edit's place, and what else the code needs of its lists.
-use Rattle.std.proofs.Common.{◌≡◌, ◌≢◌, ℕ, ◌+◌, ◌-◌, ◌^◌, ◌<◌, ◌≤◌, Bool, true, false, cond, not, inl, inr, Option, Some, None, List, [], ◌∷◌, ◌++◌, length, get_or, take, map, refl, sym, ◌∙◌, ap, subst, arith}
+use Rattle.std.proofs.Common.{◌≡◌, ◌≢◌, ℕ, ◌+◌, ◌<◌, ◌≤◌, Bool, true, false, cond, not, inl, inr, Option, Some, None, List, [], ◌∷◌, ◌++◌, length, get_or, take, map, refl, sym, ◌∙◌, ap, subst, arith}
 use Rattle.std.specs.Prelude.{AllPairs, Contains, nat_lt, if◌then◌else◌}
 use Rattle.std.specs.List.{list_any, position, position_or_len}
-use Rattle.std.proofs.Math.Nat.{min-le_left}
 use Rattle.std.proofs.lemmas.Bool.{false≢true, cases_Bool}
 use Rattle.std.proofs.lemmas.List.{length-map, map_more, length-take-le, get_or-take, get_or_default}
 use Rattle.arc_base.proofs.Items.{from_map}
-use Rattle.net_model.specs.declared.policies.Document.{Document}
-use Rattle.net_model.specs.declared.policies.Policy.{Policy}
-use Rattle.net_model.specs.declared.rows.Network.{Network}
-use Rattle.traffic_classes.specs.Classes.{HasClasses}
-use Rattle.traffic_classes.proofs.EachPolicy.{no_more}
-use Rattle.traffic_classes.proofs.Unions.{have_one_list}
 use Rattle.condition_formula.proofs.Parts.{any_to}
 use Rattle.edit_list.specs.declared.edit_kinds.Edit.{Edit}
-use Rattle.edit_list.specs.EditLists.{DocumentHasFewClasses}
 use Rattle.policy_encode.specs.Turning.{Key, key_of, same_key, is_same, place_of}
 use Rattle.policy_encode.proofs.Same.{is_same_true}
 
@@ -53,12 +45,3 @@ index_more list apart i e within is now next k is_key was grown =
     ] in
     grown ∙ by_test (list_any (same_key k) now) now (now ++ k ∷ []) fresh ∙ ap (λ ks. ks ++ k ∷ []) was ∙ ap (λ (l : Key). map key_of (take i list) ++ l ∷ []) is_key ∙
     ap (λ (x : Edit). map key_of (take i list) ++ key_of x ∷ []) is ∙ sym (map_more key_of list i e within ∙ ap (λ (x : Edit). map key_of (take i list) ++ key_of x ∷ []) refl)
-
--- no policy has too many classes where the document has few
-pub few_enough : (net : Network) (doc : Document) (p : Policy) (count : ℕ) → Contains doc.policies p → DocumentHasFewClasses net doc → HasClasses net doc.policies p count → 4096 < count → ⊥
-few_enough net doc p count one few has many =
-    let all = (have_one_list net doc.policies doc.policies).0 in
-    let less = no_more net doc.policies p has.classes all.0 one has.are all.1 in
-    let most = few all.0 all.1 in
-    let told : count ≤ length has.classes = subst (λ (n : ℕ). n ≤ length has.classes) has.counted (min-le_left (length has.classes) (2 ^ 64 - 1)) in
-    omega (arith, less, most, many, told)

@@ -24,8 +24,8 @@ use Rattle.condition_formula.specs.Prices.{share, price}
 use Rattle.condition_formula.proofs.Joined as joined
 use Rattle.condition_formula.proofs.Within as within
 use Rattle.edit_list.specs.declared.edit_kinds.Edit.{Edit}
-use Rattle.edit_list.specs.Prices.{chosen_of, weight}
-use Rattle.policy_encode.specs.Laws.{IsEdited, price_of_flags, QuestionsMirrorNetworks, QuestionsArePolicies, ModelsAreRepairs, OneModelServes, IsSearchable, FormulasAreSearchable}
+use Rattle.edit_list.specs.Prices.{chosen_of, weight, price_of_flags}
+use Rattle.policy_encode.specs.Laws.{IsEdited, QuestionsMirrorNetworks, QuestionsArePolicies, ModelsAreRepairs, OneModelServes, IsSearchable, FormulasAreSearchable}
 use Rattle.policy_encode.specs.Questions.{IsQuestion, AreConditions}
 use Rattle.policy_encode.proofs.Built.{is_sound, question_is_policy, question_mirrors}
 

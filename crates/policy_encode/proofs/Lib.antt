@@ -14,3 +14,4 @@ pub mod Joined
 pub mod One
 pub mod Finding
 pub mod Making
+pub mod OneFault

@@ -14,10 +14,10 @@ use Rattle.net_model.specs.declared.policies.PolicyKind.TheVariants as kinds
 use Rattle.net_model.specs.Routing.{Arc}
 use Rattle.net_model.specs.Witnesses.{MayBreak}
 use Rattle.condition_formula.specs.declared.network.ConditionArc.{ConditionArc}
-use Rattle.condition_formula.specs.Conditions.{holds, lists_of, is_routed, is_open, is_counted, bare, IsClear}
+use Rattle.condition_formula.specs.Conditions.{holds, lists_of, is_routed, is_open, is_counted, bare, IsClearArc}
 use Rattle.policy_encode.specs.Questions.{demand_of}
 
-pub open_from : (chosen : ℕ → Bool) (k : ℕ) (ca : ConditionArc) → IsTrue (is_routed chosen ca) → IsClear chosen k ca → is_open chosen k ca ≡ true
+pub open_from : (chosen : ℕ → Bool) (k : ℕ) (ca : ConditionArc) → IsTrue (is_routed chosen ca) → IsClearArc chosen k ca → is_open chosen k ca ≡ true
 open_from chosen k ca routed clear =
     let out = (lists_of ca k).outbound in
     let ins = (lists_of ca k).inbound in
@@ -27,7 +27,7 @@ open_from chosen k ca routed clear =
 
 pub record IsOpenTo (chosen : ℕ → Bool) (k : ℕ) (ca : ConditionArc) : Type 0 where
   pub routed : IsTrue (is_routed chosen ca)
-  pub clear : IsClear chosen k ca
+  pub clear : IsClearArc chosen k ca
 
 pub open_to : (chosen : ℕ → Bool) (k : ℕ) (ca : ConditionArc) → is_open chosen k ca ≡ true → IsOpenTo chosen k ca
 open_to chosen k ca open_is =

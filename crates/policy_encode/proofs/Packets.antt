@@ -17,10 +17,10 @@ use Rattle.net_model.specs.Lists.{permits}
 use Rattle.net_model.specs.Packets.{IsOf, ShareNoPacket, first_packet}
 use Rattle.net_model.specs.Forwarding.{ListPermits}
 use Rattle.net_model.specs.Validity.{IsPlace, IsValidFace}
-use Rattle.net_model.specs.Witnesses.{IsUniform}
+use Rattle.net_model.specs.Witnesses.{IsUniform, IsUniformFor}
 use Rattle.net_model.proofs.Packets.{first_is_of}
 use Rattle.net_model.proofs.Readings.{item_at_place}
-use Rattle.traffic_classes.specs.Parts.{IsUniformFor, TellApart}
+use Rattle.traffic_classes.specs.Parts.{TellApart}
 use Rattle.traffic_classes.proofs.Sameness.{is_same-Decides}
 use Rattle.traffic_classes.proofs.Unions.{tell_apart}
 use Rattle.traffic_classes.specs.AllClasses.{is_same}

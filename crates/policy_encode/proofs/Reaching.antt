@@ -34,7 +34,7 @@ use Rattle.net_laws.proofs.RightCuts.{right_cuts_break_reach, right_denials_brea
 use Rattle.net_laws.proofs.RightWalks.{part_of}
 use Rattle.condition_formula.specs.declared.network.ConditionArc.{ConditionArc}
 use Rattle.condition_formula.specs.declared.network.Question.{Question}
-use Rattle.condition_formula.specs.Conditions.{holds, ends_of, is_routed, bare, routed_arcs, AreReached, Passes, IsClear}
+use Rattle.condition_formula.specs.Conditions.{holds, ends_of, is_routed, bare, routed_arcs, AreReached, PassesEnds, IsClearArc}
 use Rattle.policy_encode.specs.Mirrors.{HasMirror, IsMirrored, Mirrors}
 use Rattle.policy_encode.proofs.Mirrors.{part_is_graph}
 use Rattle.policy_encode.proofs.Blocking.{IsIn}
@@ -104,7 +104,7 @@ module _ (net : Network) (valid : IsValid net) (ends : Ends) (whole : Class) (ar
       | inr apart ↦ inr (λ arc is_arc routed p of_p.
           let is : IsIn classes p = cover p of_p in
           let shows : IsMirrored net classes chosen q arc = m.from_arc arc is_arc routed in
-          let clear : IsClear chosen is.place shows.ca = r.clear (λ e. apart (sym m.source ∙ e ∙ m.target)) is.place (low_of p is) shows.ca shows.one shows.routed in
+          let clear : IsClearArc chosen is.place shows.ca = r.clear (λ e. apart (sym m.source ∙ e ∙ m.target)) is.place (low_of p is) shows.ca shows.one shows.routed in
           (shows.is_mirror.permits is.place is.class is.at p is.is_of).1 clear)
     ]
 
@@ -133,7 +133,7 @@ module _ (net : Network) (valid : IsValid net) (ends : Ends) (whole : Class) (ar
       denied : (class : Class) → LiesIn class whole → ((p : Packet) → IsOf class p → Enters net ends p → ¬ Leaves net ends p) → ⊥
       denied class part none = right_denials_break_reach net valid ends k whole class are_ends (record { clear = met.0; part = part; denied = none }) met.1
 
-      passes : (j : ℕ) → j < length q.classes → Passes chosen q j
+      passes : (j : ℕ) → j < length q.classes → PassesEnds chosen q j
       passes j low =
           let r = reads j low in
           record {
@@ -141,7 +141,7 @@ module _ (net : Network) (valid : IsValid net) (ends : Ends) (whole : Class) (ar
             leave = is_on (holds chosen (ends_of q j).leave) (λ off. denied r.0 (parts j r.0 r.1) (λ p of_p enters leaves. false≢true (sym off ∙ (m.leave j r.0 r.1 p of_p).0 leaves)));
           }
 
-      clear_of : q.source ≢ q.target → (j : ℕ) → j < length q.classes → (ca : ConditionArc) → Contains q.arcs ca → IsTrue (is_routed chosen ca) → IsClear chosen j ca
+      clear_of : q.source ≢ q.target → (j : ℕ) → j < length q.classes → (ca : ConditionArc) → Contains q.arcs ca → IsTrue (is_routed chosen ca) → IsClearArc chosen j ca
       clear_of apart j low ca one routed =
           let r = reads j low in
           let h : HasMirror net ends classes chosen ca = m.to_arc ca one routed in

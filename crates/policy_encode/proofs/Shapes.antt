@@ -28,7 +28,7 @@ use Rattle.condition_formula.specs.declared.condition.Condition.TheVariants.{Alw
 use Rattle.condition_formula.specs.declared.condition.ArcLists.{ArcLists}
 use Rattle.condition_formula.specs.declared.condition.ClassEnds.{ClassEnds}
 use Rattle.condition_formula.specs.declared.network.ConditionArc.{ConditionArc}
-use Rattle.condition_formula.specs.Conditions.{IsOf, HasEdits, bare}
+use Rattle.condition_formula.specs.Conditions.{IsOfEdits, HasEdits, bare}
 use Rattle.edit_list.specs.declared.edit_kinds.Edit.{Edit}
 use Rattle.edit_list.specs.declared.edit_kinds.Edit.TheVariants as edits
 use Rattle.arc_base.specs.Numbered.{placed}
@@ -41,36 +41,36 @@ use Rattle.policy_encode.proofs.Chosen.{some_place}
 
 -- conditions
 
-at_of : (edits : ℕ) (answer : Bool) (o : Option ℕ) → ((k : ℕ) → o ≡ Some k → k < edits) → IsOf edits (condition_at answer o)
+at_of : (edits : ℕ) (answer : Bool) (o : Option ℕ) → ((k : ℕ) → o ≡ Some k → k < edits) → IsOfEdits edits (condition_at answer o)
 at_of edits true None h = tt
 at_of edits false None h = tt
 at_of edits true (Some k) h = h k refl
 at_of edits false (Some k) h = h k refl
 
-turned_of : (list : List Edit) (e : Edit) (answer : Bool) → IsOf (length list) (turned list e answer)
+turned_of : (list : List Edit) (e : Edit) (answer : Bool) → IsOfEdits (length list) (turned list e answer)
 turned_of list e answer = at_of (length list) answer (place_of list e) (λ k found. (some_place list e k found).0)
 
 module _ (net : Network) (list : List Edit) where
-  filter_of : (to : Prefix) (face : Face) (o : Option ListId) → IsOf (length list) (filter_condition net list to face o)
+  filter_of : (to : Prefix) (face : Face) (o : Option ListId) → IsOfEdits (length list) (filter_condition net list to face o)
   filter_of to face None = turned_of list (edits.RouteNew face to) true
   filter_of to face (Some id) = turned_of list (edits.RouteList id to) (route_answer net id to)
 
-  route_of : (to : Prefix) (face : Face) (o : Option SessionRow) → IsOf (length list) (route_condition net list to face o)
+  route_of : (to : Prefix) (face : Face) (o : Option SessionRow) → IsOfEdits (length list) (route_condition net list to face o)
   route_of to face None = tt
   route_of to face (Some s) = filter_of to face s.filter
 
-  list_of : (class : Class) (id : ListId) → IsOf (length list) (list_condition net list class id)
+  list_of : (class : Class) (id : ListId) → IsOfEdits (length list) (list_condition net list class id)
   list_of class id = turned_of list (edits.PacketList id class) (packet_answer net id class)
 
-  inbound_of : (class : Class) (face : Face) (o : Option ListId) → IsOf (length list) (inbound_condition net list class face o)
+  inbound_of : (class : Class) (face : Face) (o : Option ListId) → IsOfEdits (length list) (inbound_condition net list class face o)
   inbound_of class face None = turned_of list (edits.PacketNew face class) true
   inbound_of class face (Some id) = list_of class id
 
-  outbound_of : (class : Class) (o : Option ListId) → IsOf (length list) (outbound_condition net list class o)
+  outbound_of : (class : Class) (o : Option ListId) → IsOfEdits (length list) (outbound_condition net list class o)
   outbound_of class None = tt
   outbound_of class (Some id) = list_of class id
 
-  if_of : (b : Bool) (c : Condition) → IsOf (length list) c → IsOf (length list) (if b then c else Never)
+  if_of : (b : Bool) (c : Condition) → IsOfEdits (length list) c → IsOfEdits (length list) (if b then c else Never)
   if_of true c h = h
   if_of false c h = tt
 
@@ -84,9 +84,9 @@ module _ (net : Network) (list : List Edit) where
 
   pub ends_of_edits : (source : Face) (source_row target : FaceRow) (classes : List Class) (k : ℕ) →
       let ends : ClassEnds = slice_index_or (map (class_ends net list source source_row target) classes) k (record { enter = Always; leave = Always }) in
-      IsOf (length list) ends.enter × IsOf (length list) ends.leave
+      IsOfEdits (length list) ends.enter × IsOfEdits (length list) ends.leave
   ends_of_edits source source_row target classes k =
-      mapped_of (λ (e : ClassEnds). IsOf (length list) e.enter × IsOf (length list) e.leave) (class_ends net list source source_row target) classes k (record { enter = Always; leave = Always })
+      mapped_of (λ (e : ClassEnds). IsOfEdits (length list) e.enter × IsOfEdits (length list) e.leave) (class_ends net list source source_row target) classes k (record { enter = Always; leave = Always })
       (λ class. (if_of source_row.up (inbound_condition net list class source source_row.list_in) (inbound_of class source source_row.list_in), if_of target.up (outbound_condition net list class target.list_out) (outbound_of class target.list_out)))
       (tt, tt)
 
@@ -97,12 +97,12 @@ module _ (net : Network) (list : List Edit) where
         let x : Condition = session_condition net list from.row.a from.a in
         let y : Condition = session_condition net list from.row.b from.b in
         let z : Condition = route_condition net list to (tail_end from.row from.from_a) (session_at net (tail_end from.row from.from_a)) in
-        let of_x : IsOf (length list) x = turned_of list (edits.Session from.row.a) (is_open (session_at net from.row.a) from.a) in
-        let of_y : IsOf (length list) y = turned_of list (edits.Session from.row.b) (is_open (session_at net from.row.b) from.b) in
-        let of_z : IsOf (length list) z = route_of to (tail_end from.row from.from_a) (session_at net (tail_end from.row from.from_a)) in
+        let of_x : IsOfEdits (length list) x = turned_of list (edits.Session from.row.a) (is_open (session_at net from.row.a) from.a) in
+        let of_y : IsOfEdits (length list) y = turned_of list (edits.Session from.row.b) (is_open (session_at net from.row.b) from.b) in
+        let of_z : IsOfEdits (length list) z = route_of to (tail_end from.row from.from_a) (session_at net (tail_end from.row from.from_a)) in
         subst (HasEdits (length list)) from.is (record {
-          routing = All-cons (IsOf (length list)) x (y ∷ z ∷ []) of_x (All-cons (IsOf (length list)) y (z ∷ []) of_y (All-cons (IsOf (length list)) z [] of_z (All-nil (IsOf (length list)))));
-          lists = λ k. mapped_of (λ (l : ArcLists). IsOf (length list) l.outbound × IsOf (length list) l.inbound)
+          routing = All-cons (IsOfEdits (length list)) x (y ∷ z ∷ []) of_x (All-cons (IsOfEdits (length list)) y (z ∷ []) of_y (All-cons (IsOfEdits (length list)) z [] of_z (All-nil (IsOfEdits (length list)))));
+          lists = λ k. mapped_of (λ (l : ArcLists). IsOfEdits (length list) l.outbound × IsOfEdits (length list) l.inbound)
               (arc_lists net list (tail_row from.a from.b from.from_a) (head_end from.row from.from_a) (head_row from.a from.b from.from_a)) classes k (record { outbound = Always; inbound = Always })
               (λ class. (outbound_of class (tail_row from.a from.b from.from_a).list_out, inbound_of class (head_end from.row from.from_a) (head_row from.a from.b from.from_a).list_in)) (tt, tt);
         })

@@ -18,7 +18,7 @@ use Rattle.condition_formula.specs.Laws.{BeginsWith, KeepsBound, IsVariableOf, c
 use Rattle.edit_list.specs.declared.edit_kinds.Edit.{Edit}
 use Rattle.edit_list.specs.After.{IsAfter}
 use Rattle.edit_list.specs.EditLists.{AreEdits}
-use Rattle.edit_list.specs.Prices.{chosen_of, price_of}
+use Rattle.edit_list.specs.Prices.{chosen_of, price_of_flags}
 use Rattle.traffic_classes.specs.Classes.{AreClasses}
 use Rattle.policy_encode.specs.Mirrors.{Mirrors}
 use Rattle.policy_encode.specs.Questions.{IsQuestion}
@@ -48,10 +48,6 @@ pub record HasOneModel (formula : Formula) (tops : List Lit) (flags : List Bool)
   pub begins : BeginsWith assignment flags
   pub satisfies : Satisfies assignment formula
   pub keeps : (bound : ℕ) → price ≤ bound → bound ≤ most → KeepsBound assignment tops bound
-
--- the price of the edits that the flags choose
-abbrev pub price_of_flags : Document → List Edit → List Bool → ℕ
-price_of_flags doc list flags = price_of doc.weights (chosen_of list flags)
 
 -- the flags mend the network at no more than this price: the network after them meets the document
 pub record IsRepair (doc : Document) (list : List Edit) (flags : List Bool) (after : Network)

@@ -11,7 +11,7 @@ use Rattle.net_model.specs.Forwarding.{Ends, ArcPermits, Enters, Leaves, source_
 use Rattle.net_model.specs.Forwarding.{target_router}
 use Rattle.condition_formula.specs.declared.network.ConditionArc.{ConditionArc}
 use Rattle.condition_formula.specs.declared.network.Question.{Question}
-use Rattle.condition_formula.specs.Conditions.{holds, ends_of, is_routed, bare, IsClear}
+use Rattle.condition_formula.specs.Conditions.{holds, ends_of, is_routed, bare, IsClearArc}
 
 -- the arc of conditions mirrors the network's: it is over its link and between its routers, and its
 -- list conditions hold where its lists permit
@@ -22,7 +22,7 @@ pub record IsMirror (net : Network) (classes : List Class) (chosen : ℕ → Boo
   pub head : ca.head ≡ head_router arc
   pub waypoint : ca.waypoint ≡ arc.row.waypoint
   pub permits : (k : ℕ) (class : Class) → slice_get classes k ≡ Some class →
-      (p : Packet) → IsOf class p → ArcPermits net arc p ↔ IsClear chosen k ca
+      (p : Packet) → IsOf class p → ArcPermits net arc p ↔ IsClearArc chosen k ca
 
 -- the arc of conditions mirrors a routed arc
 pub record HasMirror (net : Network) (ends : Ends) (classes : List Class) (chosen : ℕ → Bool)

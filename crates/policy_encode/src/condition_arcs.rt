@@ -8,11 +8,10 @@ ghost use Rattle.policy_encode.specs.Questions.{is_able, is_never, routing_of, a
 ghost use Rattle.policy_encode.specs.Questions.{able_arcs, link_arcs, arcs_to};
 ghost use Rattle.policy_encode.specs.Finding.{IsIndexOf};
 
-use crate::adding::push;
 use crate::answers::{arc_lists, route_condition, session_condition};
 use crate::edit_index::EditIndex;
 use arc_base::{Face, Link, List, Memory, Prefix};
-use condition_formula::{ArcLists, Condition, ConditionArc};
+use condition_formula::{ArcLists, Condition, ConditionArc, push};
 use net_model::{Class, FaceRow, LinkRow, Network};
 use std::alloc::Global;
 

@@ -14,12 +14,11 @@ ghost use Rattle.policy_encode.specs.Formulas.{IsRepairFormula, IsWithin, IsFaul
 ghost use Rattle.net_model.specs.Policies.{HasFewFailures};
 ghost use Rattle.policy_encode.specs.Questions.{IsQuestion, AreConditions};
 
-use crate::adding::push;
 use crate::edit_index::EditIndex;
 use crate::questions::question;
 use arc_base::limits::{EDIT_LIMIT, POLICY_LIMIT, PRICE_LIMIT, VARIABLE_LIMIT};
 use arc_base::{List, Memory};
-use condition_formula::{ConditionNet, EncodeFault, Encoded, Question};
+use condition_formula::{ConditionNet, EncodeFault, Encoded, Question, push};
 use edit_list::{Edit, EditFault, weight};
 use net_model::{Document, Network};
 use std::alloc::Global;
@@ -47,7 +46,6 @@ fn questions(
     requires marks { AreMarks net.now doc.now.policies marks.now }
     requires ends { All (λ policy. HasEnds net.now (subject policy)) doc.now.policies }
     requires failures { All (λ policy. HasFewFailures policy.kind) doc.now.policies }
-    requires few { DocumentHasFewClasses net.now doc.now }
     requires index { length index.now.keys.keys < 2 ^ 32 }
     ensures { IfOk result (λ qs. (list : Items AnyEdit) → IsIndexOf list index.now →
         AllZip (IsQuestion net.now doc.now.policies list) doc.now.policies qs) }
@@ -72,7 +70,6 @@ fn conditions(
     requires valid { IsValid net.now }
     requires ends { All (λ policy. HasEnds net.now (subject policy)) doc.now.policies }
     requires failures { All (λ policy. HasFewFailures policy.kind) doc.now.policies }
-    requires classes { DocumentHasFewClasses net.now doc.now }
     requires edits { AreEdits net.now doc.now edits.now }
     ensures { IfOk result (AreConditions net.now doc.now edits.now) }
 {

@@ -4,7 +4,6 @@
 //! `condition_formula`.
 #![tactic(auto)]
 
-mod adding;
 mod answers;
 mod condition_arcs;
 mod edit_index;

@@ -1,26 +1,22 @@
 //! The questions of policies.
-ghost use Rattle.std.specs.Prelude.{◌≡◌, ◌<◌, ◌≤◌, ◌^◌, map, List, length, All, Contains};
-ghost use Rattle.std.specs.Prelude.{IfOk, IfErr, IfSome};
-ghost use Rattle.std.specs.List.{AllZip};
+ghost use Rattle.std.specs.Prelude.{◌≡◌, ◌<◌, ◌^◌, map, List, length, IfOk};
 ghost use Rattle.edit_list.specs.declared.edit_kinds.Edit.{Edit as AnyEdit};
-ghost use Rattle.edit_list.specs.EditLists.{DocumentHasFewClasses};
 ghost use Rattle.net_model.specs.Forwarding.{HasHost, HasEnds, IsHostOf};
 ghost use Rattle.net_model.specs.Packets.{subject};
-ghost use Rattle.traffic_classes.specs.Classes.{AreClasses, AreMarks};
+ghost use Rattle.traffic_classes.specs.Classes.{AreMarks};
 ghost use Rattle.policy_encode.specs.Answers.{class_ends};
 ghost use Rattle.net_model.specs.Policies.{HasFewFailures};
 ghost use Rattle.policy_encode.specs.Questions.{demand_of, IsQuestion};
 ghost use Rattle.policy_encode.specs.Finding.{IsIndexOf};
 
-use crate::adding::push;
 use crate::answers::class_ends;
 use crate::condition_arcs::ArcContext;
 use crate::edit_index::EditIndex;
 use arc_base::{Face, List, Memory, Prefix};
-use condition_formula::{ClassEnds, Demand, Question};
+use condition_formula::{ClassEnds, Demand, Question, push};
 use net_model::{Class, Document, FaceRow, Network, Policy, PolicyKind};
 use std::alloc::Global;
-use traffic_classes::{ClassFault, Marks};
+use traffic_classes::Marks;
 
 /// What the policy demands: for reach one path more than links may fail.
 fn demand_of(kind: PolicyKind) -> Demand
@@ -69,26 +65,6 @@ fn all_ends(
     Ok(ends)
 }
 
-/// The classes of a policy, which are few, under the marks of the network with all policies.
-fn few_classes(
-    alloc: Global,
-    net: &Network,
-    doc: &Document,
-    marks: &Marks,
-    policy: &Policy,
-) -> Result<List<Class>, Memory>
-    requires marks { AreMarks net.now doc.now.policies marks.now }
-    requires one { Contains doc.now.policies policy.now }
-    requires few { DocumentHasFewClasses net.now doc.now }
-    ensures { IfOk result (AreClasses net.now doc.now.policies policy.now) }
-{
-    match marks.classes(alloc, policy) {
-        Ok(parts) => Ok(parts),
-        Err(ClassFault::TooMany(_)) => unreachable!(),
-        Err(ClassFault::Memory) => Err(Memory),
-    }
-}
-
 /// The question of a policy, under the marks of the network with all policies.
 pub(crate) fn question(
     alloc: Global,
@@ -99,10 +75,8 @@ pub(crate) fn question(
     policy: &Policy,
 ) -> Result<Question, Memory>
     requires marks { AreMarks net.now doc.now.policies marks.now }
-    requires one { Contains doc.now.policies policy.now }
     requires ends { HasEnds net.now (subject policy.now) }
     requires failures { HasFewFailures policy.now.kind }
-    requires few { DocumentHasFewClasses net.now doc.now }
     requires index { length index.now.keys.keys < 2 ^ 32 }
     ensures { IfOk result (λ q. (list : List AnyEdit) → IsIndexOf list index.now →
         IsQuestion net.now doc.now.policies list policy.now q) }
@@ -118,7 +92,7 @@ pub(crate) fn question(
     let Some(to) = target_row.host else {
         unreachable!()
     };
-    let classes = few_classes(alloc, net, doc, marks, policy)?;
+    let classes = marks.split(alloc, policy)?;
     let context = ArcContext {
         net,
         index,

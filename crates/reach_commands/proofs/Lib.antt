@@ -10,4 +10,3 @@ pub mod RecheckAnswered
 pub mod AddedPolicy
 pub mod AddedStops
 pub mod RecheckedEach
-pub mod FewClasses

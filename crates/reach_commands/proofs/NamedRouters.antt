@@ -11,7 +11,7 @@ use Rattle.net_model.specs.Validity.{IsValid}
 use Rattle.run_files.specs.declared.outcome.Stop.{Stop}
 use Rattle.run_files.specs.declared.outcome.Stop.TheVariants as stops
 use Rattle.run_files.specs.Refusals.{refusal_of}
-use Rattle.reach_commands.specs.PreferRuns.{IsNamed, IsUnknown, AreNamed, IsFirstUnknown, FindsRouters}
+use Rattle.reach_commands.specs.PreferRuns.{IsNamed, NamesNoRouter, AreNamed, IsFirstUnknown, FindsRouters}
 
 -- the row of a router that has a name
 row_of : (o : Option RouterRow) (name : List ℕ) → MatchOption o ⊥ (λ row. row.name ≡ name) → (row : RouterRow) × (o ≡ Some row) × (row.name ≡ name)
@@ -77,7 +77,7 @@ one_unknown net names place other first second =
     ]
 
 -- a name that none of all routers has is unknown
-pub unknown_if : (net : Network) (name : List ℕ) (n : ℕ) → length net.routers ≤ n → ((k : ℕ) → k < n → ¬ IsNamed net name (record { 0 = k })) → IsUnknown net name
+pub unknown_if : (net : Network) (name : List ℕ) (n : ℕ) → length net.routers ≤ n → ((k : ℕ) → k < n → ¬ IsNamed net name (record { 0 = k })) → NamesNoRouter net name
 unknown_if net name n all none router named =
     elim (cases_lt router.0 n) [
       | inl below ↦ none router.0 below named
@@ -104,7 +104,7 @@ some_at (x ∷ xs) zero within = (x, refl)
 some_at (x ∷ xs) (suc k) within = some_at xs k (omega (arith, within))
 
 -- the refusal of a name that no router has
-pub unknown_refused : (document : List ℕ) (net : Network) (names : List (List ℕ)) (place : ℕ) (stop : Stop) → place < length names → IfSome (slice_get names place) (IsUnknown net) →
+pub unknown_refused : (document : List ℕ) (net : Network) (names : List (List ℕ)) (place : ℕ) (stop : Stop) → place < length names → IfSome (slice_get names place) (NamesNoRouter net) →
     ((k : ℕ) (name : List ℕ) → k < place → slice_get names k ≡ Some name → (r : Router) × IsNamed net name r) →
     (stop ≡ stops.Memory) ⊎ (stop ≡ stops.Refused (refusal_of document (place + 1) UnknownRouter)) → FindsRouters document net names (Err stop)
 unknown_refused document net names place stop within unknown before (inl memory) = subst (λ (s : Stop). FindsRouters document net names (Err s)) (sym memory) tt
@@ -113,7 +113,7 @@ unknown_refused document net names place stop within unknown before (inr is) =
     let first : IsFirstUnknown net names place = record {
       name = here.0;
       at_place = here.1;
-      unknown = subst (λ (o : Option (List ℕ)). IfSome o (IsUnknown net)) here.1 unknown;
+      unknown = subst (λ (o : Option (List ℕ)). IfSome o (NamesNoRouter net)) here.1 unknown;
       before = before;
     } in
     subst (λ (s : Stop). FindsRouters document net names (Err s)) (sym is) (place, first, refl)

@@ -7,7 +7,7 @@ use Rattle.net_model.specs.declared.policies.Policy.{Policy}
 use Rattle.net_model.specs.declared.rows.Network.{Network}
 use Rattle.net_model.specs.Validity.{IsValid}
 use Rattle.arc_nodecut.specs.declared.verdict.NodeVerdict.{NodeVerdict}
-use Rattle.arc_nodecut.specs.NodeWitnesses.{IsRight}
+use Rattle.arc_nodecut.specs.NodeWitnesses.{IsRightNodeVerdict}
 use Rattle.arc_nodecut.specs.Given.{IsGiven}
 use Rattle.arc_nodecut.specs.NodeText.{nodes_text}
 use Rattle.command_words.specs.declared.commands.NodesWords.{NodesWords}
@@ -23,7 +23,7 @@ abbrev Read : Option Files → NodesWords → Document → Network → Type 0
 Read held words doc net = IfSome held (λ files. HoldsInput Judging [] words.document files doc net)
 
 pub answered : (held : Option Files) (words : NodesWords) (doc : Document) (net : Network) (judged : List Policy) (verdict : NodeVerdict) (done : Done) → Read held words doc net → IsValid net →
-    AddsPolicy words.document net doc.policies (nodes_policy words) (Ok judged) → PoliciesHaveFewClasses net judged → IsRight net (nodes_policy words) verdict →
+    AddsPolicy words.document net doc.policies (nodes_policy words) (Ok judged) → PoliciesHaveFewClasses net judged → IsRightNodeVerdict net (nodes_policy words) verdict →
     IsGiven net judged (nodes_policy words) verdict → done.text ≡ nodes_text net words.failures verdict → done.writes ≡ [] → done.status ≡ nodes_status verdict → done.status ≤ 1 →
     Answers IsJudging (IsNodesRefusal words) (IsNodesAnswer words) held (Ok done)
 answered None words doc net judged verdict done told valid adds classes right given text writes status few = (record { status = few; writes = writes }, tt)

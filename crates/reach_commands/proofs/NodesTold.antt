@@ -16,7 +16,7 @@ use Rattle.run_files.specs.declared.outcome.FileRefusal.{FileRefusal}
 use Rattle.run_files.specs.Answers.{IsTold}
 use Rattle.run_inputs.specs.Counts.{PoliciesHaveFewClasses}
 use Rattle.run_inputs.specs.Inputs.{HoldsInput}
-use Rattle.reach_commands.specs.Added.{judged, RefusesClassesWith}
+use Rattle.reach_commands.specs.Added.{policies_with, RefusesClassesWith}
 use Rattle.reach_commands.specs.Nodes.{nodes_policy, IsNodesRefusal, IsNodesAnswer, NodesSayYes, NodesSayNo, TellsNodes}
 use Rattle.reach_commands.proofs.OneInput.{one_input}
 use Rattle.reach_commands.proofs.OneRefusal.{Early, early_none, early_once, classes_none, classes_once}
@@ -45,7 +45,7 @@ module _ (words : NodesWords) (files : Files) where
   ]
 
   pub held_or_refused : (doc : Document) (net : Network) → HoldsInput Judging [] words.document files doc net → HasEndpoints net words.from words.to →
-      PoliciesHaveFewClasses net (judged doc (nodes_policy words)) → (r : FileRefusal) → IsNodesRefusal words files r → ⊥
+      PoliciesHaveFewClasses net (policies_with doc (nodes_policy words)) → (r : FileRefusal) → IsNodesRefusal words files r → ⊥
   held_or_refused doc net input ends classes r refused = elim (stage r refused) [
     | inl early ↦ early_none words.document (nodes_policy words) files doc net input ends r early
     | inr many ↦ classes_none words.document (nodes_policy words) files doc net input classes r many

@@ -15,7 +15,7 @@ use Rattle.run_inputs.specs.Determined.{IsDetermined}
 use Rattle.run_inputs.specs.Inputs.{HoldsInput, IsInputRefusal}
 use Rattle.run_inputs.proofs.ClassCounts.{few_or_many, one_count}
 use Rattle.run_inputs.proofs.Determined.{determined}
-use Rattle.reach_commands.specs.Added.{judged, RefusesEnds, RefusesClassesWith}
+use Rattle.reach_commands.specs.Added.{policies_with, RefusesEnds, RefusesClassesWith}
 use Rattle.reach_commands.proofs.OneInput.{one_input}
 
 module _ (document : List ℕ) (policy : Policy) (files : Files) where
@@ -37,12 +37,12 @@ module _ (document : List ℕ) (policy : Policy) (files : Files) where
   early_once r s (inr u) (inr v) = u.told ∙ sym v.told
 
   -- and one that counts the classes
-  pub classes_none : (doc : Document) (net : Network) → HoldsInput Judging [] document files doc net → PoliciesHaveFewClasses net (judged doc policy) → (r : FileRefusal) → RefusesClassesWith document policy files r → ⊥
+  pub classes_none : (doc : Document) (net : Network) → HoldsInput Judging [] document files doc net → PoliciesHaveFewClasses net (policies_with doc policy) → (r : FileRefusal) → RefusesClassesWith document policy files r → ⊥
   classes_none doc net input few r u =
-      few_or_many u.net (judged u.doc policy) u.count (one_input document files doc u.doc net u.net input u.input (λ d n. PoliciesHaveFewClasses n (judged d policy)) few) u.many
+      few_or_many u.net (policies_with u.doc policy) u.count (one_input document files doc u.doc net u.net input u.input (λ d n. PoliciesHaveFewClasses n (policies_with d policy)) few) u.many
 
   pub classes_once : (r s : FileRefusal) → RefusesClassesWith document policy files r → RefusesClassesWith document policy files s → r ≡ s
   classes_once r s u v =
       let count : u.count ≡ v.count =
-      one_count v.net (judged v.doc policy) u.count v.count (one_input document files u.doc v.doc u.net v.net u.input v.input (λ d n. HasManyClasses n (judged d policy) u.count) u.many) v.many in
+      one_count v.net (policies_with v.doc policy) u.count v.count (one_input document files u.doc v.doc u.net v.net u.input v.input (λ d n. HasManyClasses n (policies_with d policy) u.count) u.many) v.many in
       u.told ∙ ap (λ (n : ℕ). refusal_of document 0 (Limit Classes n)) count ∙ sym v.told

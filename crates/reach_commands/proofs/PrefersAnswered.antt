@@ -63,7 +63,7 @@ answered (Some files) words doc net judged wanted answer done told valid adds na
   },
 )
 
--- want of memory after a call that only reads
+-- out of memory after a call that only reads
 pub out_of_memory : {S : Type 0} (held : S → Option Files) (faults absences taken : S → ℕ) (before after : S) → held after ≡ held before → faults after ≡ faults before →
     absences before ≤ absences after → TookOn (taken before) (taken after) → OnlyReads {S = S} {X = Done} least_limit held faults absences taken before after (Err stops.Memory)
 out_of_memory held faults absences taken before after same stands absences_rise taken_rise =

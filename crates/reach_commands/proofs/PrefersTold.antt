@@ -20,7 +20,7 @@ use Rattle.run_files.specs.Answers.{IsTold}
 use Rattle.run_files.specs.Refusals.{refusal_of}
 use Rattle.run_inputs.specs.Counts.{PoliciesHaveFewClasses}
 use Rattle.run_inputs.specs.Inputs.{HoldsInput}
-use Rattle.reach_commands.specs.Added.{judged}
+use Rattle.reach_commands.specs.Added.{policies_with}
 use Rattle.reach_commands.specs.PreferRuns.{prefers_policy, prefers_status, AreNamed, IsFirstUnknown, RefusesRouter, RefusesPreferClasses, IsPrefersRefusal, IsPrefersAnswer, PrefersSaysYes, PrefersSaysNo, TellsPrefers}
 use Rattle.reach_commands.proofs.OneInput.{one_input}
 use Rattle.reach_commands.proofs.OneRefusal.{Early, early_none, early_once, classes_none, classes_once}
@@ -68,7 +68,7 @@ module _ (words : PrefersWords) (files : Files) where
   refused_once r s u v = once r s (stage r u) (stage s v)
 
   pub held_or_refused : (doc : Document) (net : Network) (wanted : List Router) → HoldsInput Judging [] words.document files doc net → HasEndpoints net words.from words.to → AreNamed net words.routers wanted →
-      PoliciesHaveFewClasses net (judged doc (prefers_policy words)) → (r : FileRefusal) → IsPrefersRefusal words files r → ⊥
+      PoliciesHaveFewClasses net (policies_with doc (prefers_policy words)) → (r : FileRefusal) → IsPrefersRefusal words files r → ⊥
   held_or_refused doc net wanted input ends named classes r refused = elim (stage r refused) [
     | inl early ↦ early_or doc net input ends r early
     | inr later ↦ elim later [

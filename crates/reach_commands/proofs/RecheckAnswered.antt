@@ -21,14 +21,14 @@ use Rattle.run_files.specs.Refusals.{read_refusal}
 use Rattle.run_files.proofs.OneAnswer.{refused_none}
 use Rattle.run_inputs.specs.declared.inputs.Input.{Input}
 use Rattle.run_inputs.specs.Counts.{CountsClasses, PoliciesHaveFewClasses}
-use Rattle.run_inputs.specs.Inputs.{HoldsDocument, IsFit, ReadsDocumentAt, ReadsFiles}
+use Rattle.run_inputs.specs.Inputs.{HoldsDocument, IsFit, ReadsDocumentAt, ReadsRouterFiles}
 use Rattle.reach_commands.specs.RecheckRuns.{AreRechecked, rechecked_status, IsRecheckAnswer, IsRecheckRefusal}
 use Rattle.reach_commands.specs.ReportLines.{ReadsHeld}
 
 -- a document that is refused for its classes
 classes_stopped_here : (held : Option Files) (words : RecheckWords) (doc : Document) (input : Input) (stop : Stop) →
     IfSome held (λ files. ReadsDocumentAt words.document files (Ok doc)) → IfSome held (λ files. IsWithinLimit proof_limit files words.report (Ok tt)) →
-    IfSome held (λ files. HoldsDocument words.document files doc → ReadsFiles Judging [] words.document files (Ok input)) →
+    IfSome held (λ files. HoldsDocument words.document files doc → ReadsRouterFiles Judging [] words.document files (Ok input)) →
     CountsClasses words.document input.net input.doc.policies (Err stop) → Answers IsJudging (IsRecheckRefusal words) (IsRecheckAnswer words) held (Err stop)
 classes_stopped_here None words doc input (stops.Refused r) told read input_is counts = tt
 classes_stopped_here (Some files) words doc input (stops.Refused r) told read input_is counts =
@@ -41,11 +41,11 @@ classes_stopped_here held words doc input stops.Failed told read input_is counts
 
 pub classes_stopped : (held one two : Option Files) → one ≡ held → two ≡ one → (words : RecheckWords) (doc : Document) (input : Input) (stop : Stop) →
     IfSome held (λ files. ReadsDocumentAt words.document files (Ok doc)) → IfSome one (λ files. IsWithinLimit proof_limit files words.report (Ok tt)) →
-    IfSome two (λ files. HoldsDocument words.document files doc → ReadsFiles Judging [] words.document files (Ok input)) →
+    IfSome two (λ files. HoldsDocument words.document files doc → ReadsRouterFiles Judging [] words.document files (Ok input)) →
     CountsClasses words.document input.net input.doc.policies (Err stop) → Answers IsJudging (IsRecheckRefusal words) (IsRecheckAnswer words) held (Err stop)
 classes_stopped held one two first second words doc input stop told read input_is =
     let P : Option Files → Type 0 = λ o. IfSome o (λ files. IsWithinLimit proof_limit files words.report (Ok tt)) in
-    let Q : Option Files → Type 0 = λ o. IfSome o (λ files. HoldsDocument words.document files doc → ReadsFiles Judging [] words.document files (Ok input)) in
+    let Q : Option Files → Type 0 = λ o. IfSome o (λ files. HoldsDocument words.document files doc → ReadsRouterFiles Judging [] words.document files (Ok input)) in
     classes_stopped_here held words doc input stop told (subst P first read) (subst Q (second ∙ first) input_is)
 
 -- the second reading is stopped; a file that was within its limit is not refused then
@@ -67,7 +67,7 @@ reading_stopped held one two three first second third words input stop read late
 answered_here : (held : Option Files) (words : RecheckWords) (doc : Document) (input : Input) (blocks : List Verdict) (rechecked : List Rechecked)
     (alone : List (Option (List Link))) (done : Done) →
     IfSome held (λ files. ReadsDocumentAt words.document files (Ok doc)) → IfSome held (λ files. IsWithinLimit proof_limit files words.report (Ok tt)) →
-    IfSome held (λ files. HoldsDocument words.document files doc → ReadsFiles Judging [] words.document files (Ok input)) → IsFit input → PoliciesHaveFewClasses input.net input.doc.policies →
+    IfSome held (λ files. HoldsDocument words.document files doc → ReadsRouterFiles Judging [] words.document files (Ok input)) → IsFit input → PoliciesHaveFewClasses input.net input.doc.policies →
     IfSome held (λ files. ReadsHeld proof_limit input.net input.doc words.report files (Ok blocks)) → AreRechecked input.net input.doc.policies blocks rechecked → AllZip (IsAloneAnswer input.net) input.doc.policies alone →
     done.text ≡ recheck_text input.net input.doc.policies rechecked alone → done.writes ≡ [] → done.status ≡ rechecked_status rechecked → done.status ≤ 1 →
     Answers IsJudging (IsRecheckRefusal words) (IsRecheckAnswer words) held (Ok done)
@@ -95,12 +95,12 @@ answered_here (Some files) words doc input blocks rechecked alone done told read
 pub answered : (held one two three : Option Files) → one ≡ held → two ≡ one → three ≡ two → (words : RecheckWords) (doc : Document) (input : Input) (blocks : List Verdict)
     (rechecked : List Rechecked) (alone : List (Option (List Link))) (done : Done) →
     IfSome held (λ files. ReadsDocumentAt words.document files (Ok doc)) → IfSome one (λ files. IsWithinLimit proof_limit files words.report (Ok tt)) →
-    IfSome two (λ files. HoldsDocument words.document files doc → ReadsFiles Judging [] words.document files (Ok input)) → IsFit input → PoliciesHaveFewClasses input.net input.doc.policies →
+    IfSome two (λ files. HoldsDocument words.document files doc → ReadsRouterFiles Judging [] words.document files (Ok input)) → IsFit input → PoliciesHaveFewClasses input.net input.doc.policies →
     IfSome three (λ files. ReadsHeld proof_limit input.net input.doc words.report files (Ok blocks)) → AreRechecked input.net input.doc.policies blocks rechecked → AllZip (IsAloneAnswer input.net) input.doc.policies alone →
     done.text ≡ recheck_text input.net input.doc.policies rechecked alone → done.writes ≡ [] → done.status ≡ rechecked_status rechecked → done.status ≤ 1 →
     Answers IsJudging (IsRecheckRefusal words) (IsRecheckAnswer words) held (Ok done)
 answered held one two three first second third words doc input blocks rechecked alone done told read input_is fit classes are_held =
     let P : Option Files → Type 0 = λ o. IfSome o (λ files. IsWithinLimit proof_limit files words.report (Ok tt)) in
-    let Q : Option Files → Type 0 = λ o. IfSome o (λ files. HoldsDocument words.document files doc → ReadsFiles Judging [] words.document files (Ok input)) in
+    let Q : Option Files → Type 0 = λ o. IfSome o (λ files. HoldsDocument words.document files doc → ReadsRouterFiles Judging [] words.document files (Ok input)) in
     let R : Option Files → Type 0 = λ o. IfSome o (λ files. ReadsHeld proof_limit input.net input.doc words.report files (Ok blocks)) in
     answered_here held words doc input blocks rechecked alone done told (subst P first read) (subst Q (second ∙ first) input_is) fit classes (subst R (third ∙ second ∙ first) are_held)

@@ -10,11 +10,7 @@ use Rattle.net_model.specs.declared.verdicts.Verdict.{Verdict}
 use Rattle.net_model.specs.Witnesses.{IsRight}
 use Rattle.arc_base.proofs.Zips.{AllZip-right}
 use Rattle.arc_recheck.specs.declared.rechecking.Rechecked.{Rechecked}
-use Rattle.arc_recheck.specs.Rechecks.{IsRechecked, HasClassesAnew}
-use Rattle.traffic_classes.specs.Classes.{HasClasses}
-use Rattle.verdicts.specs.declared.fault.JudgeFault.{JudgeFault}
-use Rattle.verdicts.specs.declared.fault.JudgeFault.TheVariants.{TooMany, Memory}
-use Rattle.verdicts.specs.Judged.{CountsMore}
+use Rattle.arc_recheck.specs.Rechecks.{IsRechecked}
 use Rattle.reach_commands.specs.RecheckRuns.{AreRechecked, IsRightOn}
 use Rattle.reach_commands.proofs.AddedPolicy.{read_before, read_last}
 
@@ -59,13 +55,6 @@ all_rechecked net policies held n rechecked whole below = record {
   count = below.count ∙ whole;
   each = λ k policy at. below.each k policy (omega (arith, whole, slice_get_within policies k policy at)) at;
 }
-
--- a count of classes of a verdict that is given anew is one of the policy's
-pub classes_anew : (net : Network) (policies : List Policy) (o : Option Policy) (old : Option Verdict) (fault : JudgeFault) →
-    CountsMore (λ n. IfSome o (λ p. HasClassesAnew net policies p old n)) fault → CountsMore (λ n. IfSome o (λ p. HasClasses net policies p n)) fault
-classes_anew net policies None old (TooMany count) more = (tt, more.1)
-classes_anew net policies (Some p) old (TooMany count) more = (more.0.classes, more.1)
-classes_anew net policies o old Memory more = tt
 
 -- rechecked verdicts are right, place by place
 all_right : (net : Network) (policies : List Policy) (rs : List Rechecked) → length rs ≡ length policies →

@@ -1,13 +1,15 @@
--- A command that judges one more policy beside those of the document: it goes from the one prefix
--- of the words to the other, and is the last of their list.
-use Rattle.std.specs.Prelude.{◌≡◌, ◌<◌, ◌-◌, ℕ, List, [], ◌∷◌, ◌++◌, length, slice_get, Some}
-use Rattle.std.specs.Prelude.{Result, Ok, Err}
+-- A command that judges one more policy besides those of the document: it goes from the one prefix
+-- of the words to the other, and comes after them.
+use Rattle.std.specs.Prelude.{◌≡◌, ℕ, List, [], ◌∷◌, ◌++◌, Result, Ok, Err}
+use Rattle.arc_base.specs.declared.prefix.Prefix.{Prefix}
 use Rattle.arc_base.specs.declared.refusal.Kind.TheVariants.{Endpoint, Limit}
 use Rattle.arc_base.specs.declared.refusal.LimitKind.TheVariants.{Classes}
 use Rattle.arc_outside.specs.Files.{Files}
 use Rattle.net_model.specs.declared.policies.Document.{Document}
 use Rattle.net_model.specs.declared.policies.Policy.{Policy}
+use Rattle.net_model.specs.declared.policies.PolicyKind.TheVariants.{Reach}
 use Rattle.net_model.specs.declared.rows.Network.{Network}
+use Rattle.net_model.specs.Services.{whole_service}
 use Rattle.net_rules.specs.Addressing.{HasEndpoints}
 use Rattle.run_files.specs.declared.limits.Limits.TheVariants.{Judging}
 use Rattle.run_files.specs.declared.outcome.FileRefusal.{FileRefusal}
@@ -17,9 +19,14 @@ use Rattle.run_inputs.specs.Counts.{HasManyClasses}
 use Rattle.run_inputs.specs.Inputs.{HoldsInput}
 use Rattle.run_files.specs.Refusals.{refusal_of}
 
+-- reach of all services, under at most this many failures
+abbrev pub reach_policy : Prefix → Prefix → ℕ → Policy
+reach_policy from to failures =
+    record { kind = Reach failures; from = from; to = to; service = whole_service }
+
 -- the policies of the document, and this one at their end
-abbrev pub judged : Document → Policy → List Policy
-judged doc policy = doc.policies ++ policy ∷ []
+abbrev pub policies_with : Document → Policy → List Policy
+policies_with doc policy = doc.policies ++ policy ∷ []
 
 -- the document and its files have a network, and the policy's prefixes do not lie in two different
 -- host networks of it
@@ -39,7 +46,7 @@ pub record RefusesClassesWith (document : List ℕ) (policy : Policy) (files : F
   pub input : HoldsInput Judging [] document files doc net
   pub ends : HasEndpoints net policy.from policy.to
   pub count : ℕ
-  pub many : HasManyClasses net (judged doc policy) count
+  pub many : HasManyClasses net (policies_with doc policy) count
   pub told : r ≡ refusal_of document 0 (Limit Classes count)
 
 -- the policies with this one at their end, or the refusal of its prefixes
@@ -50,8 +57,3 @@ AddsPolicy document net policies policy (Err (stops.Refused r)) =
     (¬ HasEndpoints net policy.from policy.to) × (r ≡ refusal_of document 0 Endpoint)
 AddsPolicy document net policies policy (Err stops.Memory) = Unit {0}
 AddsPolicy document net policies policy (Err stops.Failed) = ⊥
-
--- the policy is the last of these
-pub record IsLast (policies : List Policy) (policy : Policy) : Type 0 where
-  pub some : 0 < length policies
-  pub last : slice_get policies (length policies - 1) ≡ Some policy

@@ -3,14 +3,12 @@ use Rattle.std.specs.Prelude.{◌≡◌, ◌↔◌, ◌⊎◌, ℕ, [], if◌the
 use Rattle.arc_outside.specs.Files.{Files}
 use Rattle.net_model.specs.declared.policies.Document.{Document}
 use Rattle.net_model.specs.declared.policies.Policy.{Policy}
-use Rattle.net_model.specs.declared.policies.PolicyKind.TheVariants.{Reach}
 use Rattle.net_model.specs.declared.rows.Network.{Network}
-use Rattle.net_model.specs.Services.{whole_service}
 use Rattle.net_model.specs.Validity.{IsValid}
 use Rattle.net_rules.specs.Addressing.{HasEndpoints}
 use Rattle.arc_nodecut.specs.declared.verdict.NodeVerdict.{NodeVerdict}
 use Rattle.arc_nodecut.specs.RouterFailures.{MeetsPast}
-use Rattle.arc_nodecut.specs.NodeWitnesses.{IsRight, is_yes}
+use Rattle.arc_nodecut.specs.NodeWitnesses.{IsRightNodeVerdict, is_yes}
 use Rattle.arc_nodecut.specs.Given.{IsGiven}
 use Rattle.arc_nodecut.specs.NodeText.{nodes_text}
 use Rattle.command_words.specs.declared.commands.NodesWords.{NodesWords}
@@ -19,16 +17,11 @@ use Rattle.run_files.specs.declared.outcome.Done.{Done}
 use Rattle.run_files.specs.declared.outcome.FileRefusal.{FileRefusal}
 use Rattle.run_inputs.specs.Counts.{PoliciesHaveFewClasses}
 use Rattle.run_inputs.specs.Inputs.{HoldsInput, IsInputRefusal}
-use Rattle.reach_commands.specs.Added.{judged, RefusesEnds, RefusesClassesWith}
+use Rattle.reach_commands.specs.Added.{policies_with, reach_policy, RefusesEnds, RefusesClassesWith}
 
--- the policy that the words make, of all services: reach under at most this many failed routers
+-- the policy that the words make: reach under at most this many failed routers
 abbrev pub nodes_policy : NodesWords → Policy
-nodes_policy words = record {
-  kind = Reach words.failures;
-  from = words.from;
-  to = words.to;
-  service = whole_service;
-}
+nodes_policy words = reach_policy words.from words.to words.failures
 
 -- The first refusal: of the input; that the prefixes do not lie in two different host networks; or
 -- that there are too many classes.
@@ -49,10 +42,10 @@ pub record IsNodesAnswer (words : NodesWords) (files : Files) (done : Done) : Ty
   pub input : HoldsInput Judging [] words.document files doc net
   pub valid : IsValid net
   pub ends : HasEndpoints net words.from words.to
-  pub classes : PoliciesHaveFewClasses net (judged doc (nodes_policy words))
+  pub classes : PoliciesHaveFewClasses net (policies_with doc (nodes_policy words))
   pub verdict : NodeVerdict
-  pub right : IsRight net (nodes_policy words) verdict
-  pub given : IsGiven net (judged doc (nodes_policy words)) (nodes_policy words) verdict
+  pub right : IsRightNodeVerdict net (nodes_policy words) verdict
+  pub given : IsGiven net (policies_with doc (nodes_policy words)) (nodes_policy words) verdict
   pub text : done.text ≡ nodes_text net words.failures verdict
   pub writes : done.writes ≡ []
   pub status : done.status ≡ nodes_status verdict
@@ -64,7 +57,7 @@ pub record NodesSayYes (words : NodesWords) (files : Files) : Type 0 where
   pub net : Network
   pub input : HoldsInput Judging [] words.document files doc net
   pub ends : HasEndpoints net words.from words.to
-  pub classes : PoliciesHaveFewClasses net (judged doc (nodes_policy words))
+  pub classes : PoliciesHaveFewClasses net (policies_with doc (nodes_policy words))
   pub meets : MeetsPast net (nodes_policy words)
 
 -- it has such a network, which does not: some packet is stuck once some K routers fail, or the
@@ -74,7 +67,7 @@ pub record NodesSayNo (words : NodesWords) (files : Files) : Type 0 where
   pub net : Network
   pub input : HoldsInput Judging [] words.document files doc net
   pub ends : HasEndpoints net words.from words.to
-  pub classes : PoliciesHaveFewClasses net (judged doc (nodes_policy words))
+  pub classes : PoliciesHaveFewClasses net (policies_with doc (nodes_policy words))
   pub meets_not : ¬ MeetsPast net (nodes_policy words)
 
 -- it has none, and there is a first reason for it

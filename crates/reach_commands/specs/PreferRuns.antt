@@ -7,9 +7,7 @@ use Rattle.arc_base.specs.declared.refusal.Kind.TheVariants.{UnknownRouter}
 use Rattle.arc_outside.specs.Files.{Files}
 use Rattle.net_model.specs.declared.policies.Document.{Document}
 use Rattle.net_model.specs.declared.policies.Policy.{Policy}
-use Rattle.net_model.specs.declared.policies.PolicyKind.TheVariants.{Reach}
 use Rattle.net_model.specs.declared.rows.Network.{Network}
-use Rattle.net_model.specs.Services.{whole_service}
 use Rattle.net_model.specs.Validity.{IsValid}
 use Rattle.net_rules.specs.Addressing.{HasEndpoints}
 use Rattle.arc_prefer.specs.declared.answers.Preferred.{Preferred}
@@ -27,26 +25,25 @@ use Rattle.run_files.specs.declared.outcome.Stop.TheVariants as stops
 use Rattle.run_inputs.specs.Counts.{PoliciesHaveFewClasses}
 use Rattle.run_inputs.specs.Inputs.{HoldsInput, IsInputRefusal}
 use Rattle.run_files.specs.Refusals.{refusal_of}
-use Rattle.reach_commands.specs.Added.{judged, RefusesEnds, RefusesClassesWith}
+use Rattle.reach_commands.specs.Added.{policies_with, reach_policy, RefusesEnds, RefusesClassesWith}
 
 -- the policy that the words make, of which only the prefixes count
 abbrev pub prefers_policy : PrefersWords → Policy
-prefers_policy words =
-    record { kind = Reach 0; from = words.from; to = words.to; service = whole_service }
+prefers_policy words = reach_policy words.from words.to 0
 
 -- the router of the network has this name
 abbrev pub IsNamed : Network → List ℕ → Router → Type 0
 IsNamed net name router = MatchOption (slice_get net.routers router.0) ⊥ (λ row. row.name ≡ name)
 
 -- no router of the network has this name
-abbrev pub IsUnknown : Network → List ℕ → Type 0
-IsUnknown net name = (router : Router) → ¬ IsNamed net name router
+abbrev pub NamesNoRouter : Network → List ℕ → Type 0
+NamesNoRouter net name = (router : Router) → ¬ IsNamed net name router
 
 -- the name at this place is the first that no router of the network has
 pub record IsFirstUnknown (net : Network) (names : List (List ℕ)) (place : ℕ) : Type 0 where
   pub name : List ℕ
   pub at_place : slice_get names place ≡ Some name
-  pub unknown : IsUnknown net name
+  pub unknown : NamesNoRouter net name
   pub before : (k : ℕ) (other : List ℕ) → k < place → slice_get names k ≡ Some other →
       (router : Router) × IsNamed net other router
 
@@ -93,11 +90,11 @@ pub record IsPrefersAnswer (words : PrefersWords) (files : Files) (done : Done) 
   pub ends : HasEndpoints net words.from words.to
   pub wanted : List Router
   pub named : AreNamed net words.routers wanted
-  pub classes : PoliciesHaveFewClasses net (judged doc (prefers_policy words))
+  pub classes : PoliciesHaveFewClasses net (policies_with doc (prefers_policy words))
   pub answer : Preferred
   pub right : IsRightPreferred net (prefers_policy words) wanted answer
   pub first : IfSome answer.fault
-      (IsOfFirstClass net (judged doc (prefers_policy words)) (prefers_policy words) wanted)
+      (IsOfFirstClass net (policies_with doc (prefers_policy words)) (prefers_policy words) wanted)
   pub text : done.text ≡ prefers_text net answer
   pub writes : done.writes ≡ []
   pub status : done.status ≡ prefers_status answer.fault
@@ -111,7 +108,7 @@ pub record PrefersSaysYes (words : PrefersWords) (files : Files) : Type 0 where
   pub ends : HasEndpoints net words.from words.to
   pub wanted : List Router
   pub named : AreNamed net words.routers wanted
-  pub classes : PoliciesHaveFewClasses net (judged doc (prefers_policy words))
+  pub classes : PoliciesHaveFewClasses net (policies_with doc (prefers_policy words))
   pub prefers : Prefers net (prefers_policy words) wanted
 
 -- it has such a network, which does not prefer the list
@@ -122,7 +119,7 @@ pub record PrefersSaysNo (words : PrefersWords) (files : Files) : Type 0 where
   pub ends : HasEndpoints net words.from words.to
   pub wanted : List Router
   pub named : AreNamed net words.routers wanted
-  pub classes : PoliciesHaveFewClasses net (judged doc (prefers_policy words))
+  pub classes : PoliciesHaveFewClasses net (policies_with doc (prefers_policy words))
   pub prefers_not : ¬ Prefers net (prefers_policy words) wanted
 
 -- it has none, and there is a first reason for it

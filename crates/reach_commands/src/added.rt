@@ -1,15 +1,27 @@
-//! One more policy beside those of the document.
-ghost use Rattle.std.specs.Prelude.{◌≡◌, IfOk};
-ghost use Rattle.net_model.specs.Packets.{subject};
+//! One more policy besides those of the document: reach from the one prefix to the other.
 ghost use Rattle.net_model.specs.Forwarding.{HasEnds};
+ghost use Rattle.net_model.specs.Packets.{subject};
 ghost use Rattle.net_model.specs.Validity.{IsValid};
-ghost use Rattle.reach_commands.specs.Added.{AddsPolicy};
+ghost use Rattle.reach_commands.specs.Added.{reach_policy, AddsPolicy};
+ghost use Rattle.std.specs.Prelude.{◌≡◌, IfOk};
 
-use arc_base::{Kind, List, Name};
+use arc_base::{Kind, List, Name, Prefix};
 use net_checks::has_endpoints;
-use net_model::{Network, Policy};
+use net_model::{Network, Policy, PolicyKind, Service};
 use run_files::{Stop, refused};
 use std::alloc::Global;
+
+/// Reach of all services, under at most this many failures.
+pub(crate) fn reach_policy(from: Prefix, to: Prefix, failures: u32) -> Policy
+    ensures { result ≡ reach_policy from to failures }
+{
+    Policy {
+        kind: PolicyKind::Reach(failures),
+        from,
+        to,
+        service: Service::whole(),
+    }
+}
 
 /// The policies with one more at their end. The document is refused where that does not go from one
 /// host network to another.

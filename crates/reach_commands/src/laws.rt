@@ -1,15 +1,15 @@
 //! Laws over the definitions alone: each is the contract of a function that does nothing.
-ghost use Rattle.std.specs.Prelude.{◌≡◌};
 ghost use Rattle.arc_outside.specs.Files.{Files};
 ghost use Rattle.command_words.specs.declared.commands.NodesWords.{NodesWords};
 ghost use Rattle.command_words.specs.declared.commands.PrefersWords.{PrefersWords};
 ghost use Rattle.command_words.specs.declared.commands.RecheckWords.{RecheckWords};
-ghost use Rattle.run_files.specs.declared.outcome.Done.{Done};
-ghost use Rattle.run_files.specs.declared.outcome.FileRefusal.{FileRefusal};
-ghost use Rattle.run_files.specs.Answers.{IsTold};
 ghost use Rattle.reach_commands.specs.Nodes.{IsNodesAnswer, IsNodesRefusal, TellsNodes};
 ghost use Rattle.reach_commands.specs.PreferRuns.{IsPrefersAnswer, IsPrefersRefusal, TellsPrefers};
 ghost use Rattle.reach_commands.specs.RecheckRuns.{IsRecheckAnswer, IsRecheckRefusal, TellsRecheck};
+ghost use Rattle.run_files.specs.Answers.{IsTold};
+ghost use Rattle.run_files.specs.declared.outcome.Done.{Done};
+ghost use Rattle.run_files.specs.declared.outcome.FileRefusal.{FileRefusal};
+ghost use Rattle.std.specs.Prelude.{◌≡◌};
 
 /// What the status of `nodes` says.
 pub fn nodes_are_told()

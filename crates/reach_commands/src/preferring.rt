@@ -1,43 +1,30 @@
 //! The command `prefers DOC FROM TO ROUTERS`.
-ghost use Rattle.std.specs.Prelude.{◌≡◌, ◌≤◌, IfOk, IfSome};
-ghost use Rattle.net_model.specs.Packets.{subject};
-ghost use Rattle.net_model.specs.Forwarding.{HasEnds};
-ghost use Rattle.net_model.specs.Validity.{IsValid};
 ghost use Rattle.arc_prefer.specs.Answers.{IsRightPreferred};
 ghost use Rattle.arc_prefer.specs.Firsts.{IsOfFirstClass};
-ghost use Rattle.run_inputs.specs.Counts.{PoliciesHaveFewClasses};
+ghost use Rattle.net_model.specs.Forwarding.{HasEnds};
+ghost use Rattle.net_model.specs.Packets.{subject};
+ghost use Rattle.net_model.specs.Validity.{IsValid};
+ghost use Rattle.reach_commands.specs.PreferRuns.{prefers_status, IsPrefersAnswer};
+ghost use Rattle.reach_commands.specs.PreferRuns.{IsPrefersRefusal};
 ghost use Rattle.run_files.specs.Answers.{Answers, IsJudging, OnlyReads};
 ghost use Rattle.run_files.specs.Limits.{least_limit};
-ghost use Rattle.reach_commands.specs.Added.{IsLast};
-ghost use Rattle.reach_commands.specs.PreferRuns.{prefers_policy, prefers_status, IsPrefersRefusal};
-ghost use Rattle.reach_commands.specs.PreferRuns.{IsPrefersAnswer};
+ghost use Rattle.run_inputs.specs.Counts.{PoliciesHaveFewClasses};
+ghost use Rattle.std.specs.Prelude.{◌≡◌, ◌≤◌, Contains, IfOk, IfSome};
 
-use crate::added::with_policy;
+use crate::added::{reach_policy, with_policy};
 use crate::routers::routers_named;
 use arc_base::{List, Memory, Name, Router};
 use arc_outside::Store;
-use arc_prefer::{Preferred, prefers_text};
+use arc_prefer::{Preferred, prefers_of, prefers_text};
 use command_words::PrefersWords;
-use net_model::{Network, Policy, PolicyKind, Service};
+use net_model::{Network, Policy};
 use run_files::{Done, Limits, Stop};
 use run_inputs::{Input, count_classes, read_input};
 use std::alloc::Global;
-use traffic_classes::ClassFault;
+use traffic_classes::Marks;
 
-/// The policy that the words make, of which only the prefixes count.
-fn policy_of(words: &PrefersWords) -> Policy
-    ensures { result ≡ prefers_policy words.now }
-{
-    Policy {
-        kind: PolicyKind::Reach(0),
-        from: words.from,
-        to: words.to,
-        service: Service::whole(),
-    }
-}
-
-/// The answer for the policy, which is the last. All classes are few, and no policy has more than
-/// all of them.
+/// The answer for the policy, which is one of these. They are within `CLASS_LIMIT`, so none
+/// exceeds it.
 fn answer_last(
     alloc: Global,
     net: &Network,
@@ -46,19 +33,16 @@ fn answer_last(
     wanted: &List<Router>,
 ) -> Result<Preferred, Memory>
     requires valid { IsValid net.now }
-    requires last { IsLast policies.now policy }
+    requires one { Contains policies.now policy }
     requires ends { HasEnds net.now (subject policy) }
     requires few { PoliciesHaveFewClasses net.now policies.now }
     ensures right { IfOk result (IsRightPreferred net.now policy wanted.now) }
     ensures first { IfOk result (λ a.
         IfSome a.fault (IsOfFirstClass net.now policies.now policy wanted.now)) }
 {
-    let last = policies.len() - 1;
-    match arc_prefer::prefers(alloc, net, policies, last, wanted) {
-        Ok(answer) => Ok(answer),
-        Err(ClassFault::TooMany(_)) => unreachable!(),
-        Err(ClassFault::Memory) => Err(Memory),
-    }
+    let marks = Marks::of(alloc, net, policies)?;
+    let parts = marks.split(alloc, &policy)?;
+    prefers_of(alloc, net, policies, &policy, &parts, wanted)
 }
 
 /// The status of the answer.
@@ -81,7 +65,7 @@ pub fn prefers<S: Store>(alloc: Global, words: &PrefersWords, store: &mut S) -> 
     ensures reads { OnlyReads least_limit S.held S.faults S.absences S.taken
         store.old store.new result }
 {
-    let policy = policy_of(words);
+    let policy = reach_policy(words.from, words.to, 0);
     let input = read_input(alloc, &words.document, &[], Limits::Judging, store)?;
     let Input { doc, net } = input;
     let judged = with_policy(alloc, &words.document, &net, doc.policies, policy)?;

@@ -1,7 +1,7 @@
 //! The second reading of an old report: its blocks are taken line by line.
-ghost use Rattle.std.specs.Prelude.{IfSome};
-ghost use Rattle.run_files.specs.Answers.{OnlyReads};
 ghost use Rattle.reach_commands.specs.ReportLines.{ReadsHeld};
+ghost use Rattle.run_files.specs.Answers.{OnlyReads};
+ghost use Rattle.std.specs.Prelude.{IfSome};
 
 use arc_base::{List, Memory, Name};
 use arc_outside::Store;
@@ -20,9 +20,9 @@ struct HeldLines<'a> {
 }
 
 impl<'a> LineJudge for HeldLines<'a> {
-    ghost use Rattle.std.specs.Prelude.{◌≡◌, ◌^◌, ℕ, List as Items};
     ghost use Rattle.arc_recheck.specs.HeldLines.{HasComeTo};
     ghost use Rattle.reach_commands.specs.RecheckRuns.{held_of};
+    ghost use Rattle.std.specs.Prelude.{◌≡◌, ◌^◌, ℕ, List as Items};
 
     type Outcome = List<Verdict>;
 

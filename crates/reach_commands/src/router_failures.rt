@@ -1,44 +1,30 @@
 //! The command `nodes DOC FROM TO K`.
-ghost use Rattle.std.specs.Prelude.{◌≡◌, ◌≤◌, IfOk};
-ghost use Rattle.net_model.specs.Packets.{subject};
-ghost use Rattle.net_model.specs.Forwarding.{HasEnds};
-ghost use Rattle.net_model.specs.Validity.{IsValid};
-ghost use Rattle.arc_nodecut.specs.NodeWitnesses.{IsRight};
 ghost use Rattle.arc_nodecut.specs.Given.{IsGiven};
 ghost use Rattle.arc_nodecut.specs.Judged.{IsFewReach};
-ghost use Rattle.run_inputs.specs.Counts.{PoliciesHaveFewClasses};
+ghost use Rattle.arc_nodecut.specs.NodeWitnesses.{IsRightNodeVerdict};
+ghost use Rattle.net_model.specs.Forwarding.{HasEnds};
+ghost use Rattle.net_model.specs.Packets.{subject};
+ghost use Rattle.net_model.specs.Validity.{IsValid};
+ghost use Rattle.reach_commands.specs.Nodes.{nodes_status, IsNodesRefusal, IsNodesAnswer};
 ghost use Rattle.run_files.specs.Answers.{Answers, IsJudging, OnlyReads};
 ghost use Rattle.run_files.specs.Limits.{least_limit};
-ghost use Rattle.reach_commands.specs.Added.{IsLast};
-ghost use Rattle.reach_commands.specs.Nodes.{nodes_policy, nodes_status, IsNodesRefusal};
-ghost use Rattle.reach_commands.specs.Nodes.{IsNodesAnswer};
+ghost use Rattle.run_inputs.specs.Counts.{PoliciesHaveFewClasses};
+ghost use Rattle.std.specs.Prelude.{◌≡◌, ◌≤◌, Contains, IfOk};
 
-use crate::added::with_policy;
+use crate::added::{reach_policy, with_policy};
 use arc_base::limits::FAILURE_LIMIT;
 use arc_base::{List, Memory, Name};
-use arc_nodecut::{NodeVerdict, judge_nodes, nodes_text};
+use arc_nodecut::{NodeVerdict, judge_nodes_of, nodes_text};
 use arc_outside::Store;
 use command_words::NodesWords;
-use net_model::{Network, Policy, PolicyKind, Service};
+use net_model::{Network, Policy};
 use run_files::{Done, Limits, Stop};
 use run_inputs::{Input, count_classes, read_input};
 use std::alloc::Global;
-use traffic_classes::ClassFault;
+use traffic_classes::Marks;
 
-/// The policy that the words make.
-fn policy_of(words: &NodesWords) -> Policy
-    ensures { result ≡ nodes_policy words.now }
-{
-    Policy {
-        kind: PolicyKind::Reach(words.failures),
-        from: words.from,
-        to: words.to,
-        service: Service::whole(),
-    }
-}
-
-/// The verdict on the policy, which is the last. All classes are few, and no policy has more than
-/// all of them.
+/// The verdict on the policy, which is one of these. They are within `CLASS_LIMIT`, so none
+/// exceeds it.
 fn judge_last(
     alloc: Global,
     net: &Network,
@@ -46,19 +32,16 @@ fn judge_last(
     policy: Policy,
 ) -> Result<NodeVerdict, Memory>
     requires valid { IsValid net.now }
-    requires last { IsLast policies.now policy }
+    requires one { Contains policies.now policy }
     requires ends { HasEnds net.now (subject policy) }
     requires reach { IsFewReach policy.kind }
     requires few { PoliciesHaveFewClasses net.now policies.now }
-    ensures right { IfOk result (IsRight net.now policy) }
+    ensures right { IfOk result (IsRightNodeVerdict net.now policy) }
     ensures given { IfOk result (IsGiven net.now policies.now policy) }
 {
-    let last = policies.len() - 1;
-    match judge_nodes(alloc, net, policies, last) {
-        Ok(verdict) => Ok(verdict),
-        Err(ClassFault::TooMany(_)) => unreachable!(),
-        Err(ClassFault::Memory) => Err(Memory),
-    }
+    let marks = Marks::of(alloc, net, policies)?;
+    let parts = marks.split(alloc, &policy)?;
+    judge_nodes_of(alloc, net, policies, &policy, &parts)
 }
 
 /// The status of the verdict.
@@ -81,7 +64,7 @@ pub fn nodes<S: Store>(alloc: Global, words: &NodesWords, store: &mut S) -> Resu
     ensures reads { OnlyReads least_limit S.held S.faults S.absences S.taken
         store.old store.new result }
 {
-    let policy = policy_of(words);
+    let policy = reach_policy(words.from, words.to, words.failures);
     let input = read_input(alloc, &words.document, &[], Limits::Judging, store)?;
     let Input { doc, net } = input;
     let judged = with_policy(alloc, &words.document, &net, doc.policies, policy)?;

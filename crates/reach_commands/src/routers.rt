@@ -1,6 +1,6 @@
 //! Routers by their names.
-ghost use Rattle.std.specs.Prelude.{◌≡◌, ◌↔◌, ◌<◌, length, slice_get, IsTrue, IfSome, IfNone};
-ghost use Rattle.reach_commands.specs.PreferRuns.{IsNamed, IsUnknown, FindsRouters};
+ghost use Rattle.reach_commands.specs.PreferRuns.{IsNamed, NamesNoRouter, FindsRouters};
+ghost use Rattle.std.specs.Prelude.{◌↔◌, ◌<◌, length, slice_get, IsTrue, IfSome, IfNone};
 
 use arc_base::{Kind, List, Name, Router};
 use net_model::Network;
@@ -10,7 +10,7 @@ use std::alloc::Global;
 /// The router of this name, if there is one.
 fn router_named(net: &Network, name: &[u8]) -> Option<Router>
     ensures some { IfSome result (IsNamed net.now name.now) }
-    ensures none { IfNone result (IsUnknown net.now name.now) }
+    ensures none { IfNone result (NamesNoRouter net.now name.now) }
 {
     for place in 0..net.routers.len() {
         if is_named(net, name, place) {
@@ -55,7 +55,7 @@ fn named_at(net: &Network, names: &List<Name>, place: u32) -> Option<Router>
     requires { place < length names.now }
     ensures some { IfSome result (λ router.
         IfSome (slice_get names.now place) (λ name. IsNamed net.now name router)) }
-    ensures none { IfNone result (IfSome (slice_get names.now place) (IsUnknown net.now)) }
+    ensures none { IfNone result (IfSome (slice_get names.now place) (NamesNoRouter net.now)) }
 {
     match names.get(place) {
         Some(name) => router_named(net, name.bytes()),

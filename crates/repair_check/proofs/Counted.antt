@@ -7,6 +7,7 @@ use Rattle.net_model.specs.declared.rows.Network.{Network}
 use Rattle.edit_list.specs.declared.edit_kinds.Edit.{Edit}
 use Rattle.edit_list.specs.declared.edit_kinds.EditFault.{EditFault}
 use Rattle.edit_list.specs.declared.edit_kinds.EditFault.TheVariants.{Limit, Memory}
+use Rattle.edit_list.specs.Prices.{none_of}
 use Rattle.policy_encode.specs.Formulas.{IsFaultOf, IsWithin}
 use Rattle.proof_check.specs.declared.checker.Checker.{Checker}
 use Rattle.proof_check.specs.Knowledge.{Knowledge}
@@ -14,7 +15,6 @@ use Rattle.policy_report.specs.declared.got.Got.TheVariants.{Head, More}
 use Rattle.policy_report.specs.declared.got.CertForm.{CertForm}
 use Rattle.policy_report.specs.declared.got.CertForm.TheVariants.{Repaired, NoRepair}
 use Rattle.std.proofs.lemmas.List.{length-map}
-use Rattle.arc_repair.specs.Repairs.{none_of}
 use Rattle.repair_check.specs.declared.phases.Phase.{Phase}
 use Rattle.repair_check.specs.declared.phases.Phase.TheVariants as phases
 use Rattle.repair_check.specs.Certifies.{CountsBound, HasBound, IsCounted}

@@ -6,6 +6,7 @@ use Rattle.net_model.specs.declared.policies.Document.{Document}
 use Rattle.net_model.specs.declared.rows.Network.{Network}
 use Rattle.net_model.specs.declared.verdicts.Verdict as verdicts
 use Rattle.edit_list.specs.declared.edit_kinds.Edit as edits
+use Rattle.edit_list.specs.Prices.{none_of}
 use Rattle.policy_report.specs.declared.got.CertFault.{CertFault}
 use Rattle.policy_report.specs.declared.got.Got.{Got}
 use Rattle.policy_report.specs.declared.got.Got.TheVariants.{More, Head, Verdict, Edit, Step, End}
@@ -13,7 +14,6 @@ use Rattle.policy_report.specs.Reports.{witness_lines}
 use Rattle.policy_report.specs.Recertifying.{Told, chosen_from, edits_answers, log_answers}
 use Rattle.policy_report.specs.Rereading.{blocks_answers, more}
 use Rattle.report_check.specs.declared.outcome.Outcome.{Outcome}
-use Rattle.arc_repair.specs.Repairs.{none_of}
 use Rattle.repair_check.specs.Outcomes.{Answers, IsEditsEnd, IsEditsOutcome}
 
 -- the flags with these set

@@ -17,7 +17,7 @@ use Rattle.edit_list.specs.declared.claims.Claim.{Claim}
 use Rattle.edit_list.specs.declared.claims.Claim.TheVariants as claims
 use Rattle.edit_list.specs.declared.edit_kinds.Edit as edits
 use Rattle.edit_list.specs.Determined.{AfterIsOne, IsCountable}
-use Rattle.edit_list.specs.Prices.{chosen_of}
+use Rattle.edit_list.specs.Prices.{chosen_of, price_of_flags, none_of}
 use Rattle.policy_encode.specs.Laws.{HaveOneFormula}
 use Rattle.price_descent.specs.Outcomes.{least_below}
 use Rattle.proof_check.specs.Knowledge.{Knowledge, start}
@@ -30,7 +30,6 @@ use Rattle.report_check.proofs.Zipped.{right_places, right_zip}
 use Rattle.arc_repair.specs.Checks.{IsMispriced}
 use Rattle.arc_repair.specs.Claims.{IsCertificate, IsRightYes, is_above_zero}
 use Rattle.arc_repair.specs.Laws.{CertificatesAreTrue}
-use Rattle.arc_repair.specs.Repairs.{cost, none_of}
 use Rattle.repair_check.specs.Certifies.{CertificatesAreAccepted, CertifiedClaimsAreTrue}
 use Rattle.repair_check.specs.Outcomes.{AfterEdits, AfterNone, IsEditsEnd, IsEditsOutcome, IsHeadOutcome, IsRepairOutcome}
 use Rattle.repair_check.proofs.Logs.{AcceptsIf, Passes, log_exact, never, passes_shows, shows_passes, steps_told}
@@ -51,7 +50,7 @@ are_yes (v ∷ vs) all = (all 0 v (omega arith), are_yes vs (λ k d l. all (suc 
 
 module _ (one_after : AfterIsOne) (one_formula : HaveOneFormula) (net : Network) (doc : Document) (list : List edits.Edit) (valid : IsValid net) (countable : IsCountable net) where
   -- the price of a right claim is right
-  priced : (price bound : ℕ) (flags : List Bool) → cost doc list flags ≡ price → price ≤ bound → bound ≤ 512 → IsMispriced doc list price bound flags → ⊥
+  priced : (price bound : ℕ) (flags : List Bool) → price_of_flags doc list flags ≡ price → price ≤ bound → bound ≤ 512 → IsMispriced doc list price bound flags → ⊥
   priced price bound flags costs affordable few (inl wrong) = wrong costs
   priced price bound flags costs affordable few (inr (inl above)) = omega (arith, above, affordable)
   priced price bound flags costs affordable few (inr (inr above)) = omega (arith, above, few)
@@ -77,7 +76,7 @@ module _ (one_after : AfterIsOne) (one_formula : HaveOneFormula) (net : Network)
               record {
                 right = record {
                   one_each = each;
-                  costs = same_cost (cost doc list chosen) price (λ (wrong : cost doc list chosen ≢ price). a.priced (inl wrong));
+                  costs = same_cost (price_of_flags doc list chosen) price (λ (wrong : price_of_flags doc list chosen ≢ price). a.priced (inl wrong));
                   affordable = let h : bound < price → ⊥ = λ above. a.priced (inr (inl above)) in omega (arith, h);
                   few = let h : 512 < bound → ⊥ = λ above. a.priced (inr (inr above)) in omega (arith, h);
                   after = a.now;

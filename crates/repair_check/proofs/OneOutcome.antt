@@ -11,7 +11,7 @@ use Rattle.net_model.specs.declared.rows.Network.{Network}
 use Rattle.net_model.specs.Validity.{IsValid}
 use Rattle.edit_list.specs.declared.edit_kinds.Edit as edits
 use Rattle.edit_list.specs.Determined.{AfterIsOne, IsCountable}
-use Rattle.edit_list.specs.Prices.{chosen_of}
+use Rattle.edit_list.specs.Prices.{chosen_of, none_of}
 use Rattle.policy_encode.specs.Laws.{HaveOneFormula}
 use Rattle.price_descent.specs.Outcomes.{least_below}
 use Rattle.proof_check.specs.declared.faults.StepFault.{StepFault}
@@ -24,7 +24,6 @@ use Rattle.policy_report.specs.Steps as reader
 use Rattle.report_check.specs.declared.outcome.Outcome.{Outcome}
 use Rattle.report_check.specs.declared.outcome.Outcome.TheVariants.{Rejected}
 use Rattle.arc_repair.specs.Claims.{is_above_zero}
-use Rattle.arc_repair.specs.Repairs.{none_of}
 use Rattle.repair_check.specs.Outcomes.{AfterEdits, AfterNone, Answers, HasOneOutcome, IsAnswerOutcome, IsBlocksOutcome, IsEditsEnd, IsEditsOutcome, IsEnded, IsHeadOutcome, IsLogOutcome, IsReadyOutcome, is_edit_kind, rejected}
 
 -- one test decides for both

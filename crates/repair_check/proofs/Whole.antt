@@ -6,6 +6,7 @@ use Rattle.net_model.specs.declared.policies.Document.{Document}
 use Rattle.net_model.specs.declared.policies.Policy.{Policy}
 use Rattle.net_model.specs.declared.rows.Network.{Network}
 use Rattle.edit_list.specs.declared.edit_kinds.Edit as edits
+use Rattle.edit_list.specs.Prices.{none_of}
 use Rattle.proof_check.specs.declared.faults.StepFault.{StepFault}
 use Rattle.proof_check.specs.Knowledge.{Knowledge, after, step_fault}
 use Rattle.policy_report.specs.declared.got.Got.TheVariants.{More, Head, Verdict, Edit, Step, End}
@@ -14,7 +15,6 @@ use Rattle.policy_report.specs.declared.got.CertFault.{CertFault}
 use Rattle.policy_report.specs.Recertifying.{IsWholeRepair}
 use Rattle.policy_report.specs.Rereading.{IsWhole}
 use Rattle.report_check.specs.declared.outcome.Outcome.TheVariants.{Accepted, Rejected}
-use Rattle.arc_repair.specs.Repairs.{none_of}
 use Rattle.repair_check.specs.Outcomes.{Answers, IsAnswerOutcome, IsBlocksOutcome, IsEditsEnd, IsEditsOutcome, IsEnded, IsHeadOutcome, IsLogOutcome, IsReadyOutcome, is_edit_kind, rejected}
 use Rattle.proof_check.specs.Outcomes.{fault_kind}
 

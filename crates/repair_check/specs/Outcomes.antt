@@ -18,7 +18,7 @@ use Rattle.net_model.specs.Validity.{IsValid}
 use Rattle.edit_list.specs.declared.edit_kinds.Edit as edits
 use Rattle.edit_list.specs.After.{IsAfter}
 use Rattle.edit_list.specs.Determined.{IsCountable}
-use Rattle.edit_list.specs.Prices.{chosen_of}
+use Rattle.edit_list.specs.Prices.{chosen_of, none_of}
 use Rattle.policy_encode.specs.Formulas.{IsRepairFormula}
 use Rattle.price_descent.specs.Outcomes.{least_below}
 use Rattle.proof_check.specs.Knowledge.{Knowledge, after, start, step_fault}
@@ -34,7 +34,6 @@ use Rattle.report_check.specs.declared.outcome.Outcome.TheVariants.{Accepted, Re
 use Rattle.report_check.specs.Outcomes.{IsRightAt}
 use Rattle.arc_repair.specs.Checks.{IsMispriced}
 use Rattle.arc_repair.specs.Claims.{is_above_zero}
-use Rattle.arc_repair.specs.Repairs.{none_of}
 
 -- the line with this number is rejected for this
 abbrev pub rejected : ℕ → CertKind → Outcome

@@ -2,7 +2,6 @@
 ghost use Rattle.std.specs.Prelude.{◌≡◌, ◌<◌, ◌≤◌, Some, None, List as Items, IfOk};
 ghost use Rattle.std.specs.Prelude.{IfErr, IfSome, OnOk, MatchOption};
 ghost use Rattle.policy_encode.specs.Formulas.{IsFaultOf, IsWithin};
-ghost use Rattle.arc_repair.specs.Repairs.{none_of};
 ghost use Rattle.price_descent.specs.Outcomes.{least_below};
 ghost use Rattle.repair_check.specs.Instances.{IsInstance, IsJudgeable};
 ghost use Rattle.repair_check.specs.Outcomes.{rejected};
@@ -12,7 +11,7 @@ ghost use Rattle.repair_check.specs.Phases.{IsReady, LeadsTo};
 use crate::phases::{Blocks, Next, Phase, RepairClaim};
 use arc_base::limits::PRICE_LIMIT;
 use arc_base::{CertKind, List, Memory};
-use edit_list::{Edit, EditFault, price};
+use edit_list::{Edit, EditFault, price, unchosen};
 use edit_space::after;
 use net_model::{Document, Network};
 use network_edit_laws::edits_keep_classes;
@@ -47,13 +46,6 @@ fn ready(
     let encoded = encode(alloc, net, doc, list, bound)?;
     let checker = Checker::make(alloc, &encoded.formula, least, &encoded.tops)?;
     Ok(checker)
-}
-
-/// A flag for each of the edits, which chooses none.
-fn unchosen(alloc: Global, edits: &[Edit]) -> Result<Vec<bool>, Memory>
-    ensures { IfOk result (λ flags. flags.items ≡ none_of edits.now) }
-{
-    Ok(edits.iter().map(|_| false).collect(alloc)?)
 }
 
 /// The least bound of the log of a repair: one less than its price.

@@ -1,6 +1,5 @@
 //! The judgement of a text whose lines come one by one.
-ghost use Rattle.std.specs.Prelude.{◌≡◌, ◌+◌, ◌<◌, ◌∷◌, ℕ, [], List as Items, IfOk, IfErr};
-ghost use Rattle.std.specs.Prelude.{IfSome};
+ghost use Rattle.std.specs.Prelude.{◌≡◌, ◌+◌, ◌<◌, ◌∷◌, ℕ, [], List as Items, IfOk, IfErr, IfSome};
 ghost use Rattle.std.specs.ControlFlow.{continue_value, MatchControlFlow};
 ghost use Rattle.arc_base.specs.TextLines.{lines};
 ghost use Rattle.policy_report.specs.Steps.{standing, step};

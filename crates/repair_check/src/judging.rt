@@ -1,5 +1,5 @@
 //! The lines after the answer, one by one.
-ghost use Rattle.std.specs.Prelude.{◌≡◌, ◌<◌, List as Items, true, length, set, IfOk};
+ghost use Rattle.std.specs.Prelude.{◌≡◌, ◌<◌, List as Items, true, set, IfOk};
 ghost use Rattle.repair_check.specs.Instances.{IsJudgeable};
 ghost use Rattle.repair_check.specs.Outcomes.{is_edit_kind};
 ghost use Rattle.repair_check.specs.Phases.{EndsEdits, IsClaimed, LeadsTo};

@@ -16,9 +16,9 @@ use Rattle.net_rules.specs.Rows.{IsRouterRow}
 use Rattle.edit_list.specs.declared.edit_kinds.Edit.{Edit}
 use Rattle.edit_list.specs.After.{IsAfter}
 use Rattle.arc_base.specs.NameForms.{IsNameBefore}
-use Rattle.edit_list.specs.Prices.{chosen_of}
+use Rattle.edit_list.specs.Prices.{chosen_of, none_of}
 use Rattle.network_edit_laws.proofs.NoEdits.{none_change}
-use Rattle.arc_repair.specs.Repairs.{Mends, none_of}
+use Rattle.arc_repair.specs.Repairs.{Mends}
 
 abbrev HasNamesInOrder : RouterRow → Type 0
 HasNamesInOrder router = AllPairs IsNameBefore router.names

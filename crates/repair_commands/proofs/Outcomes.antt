@@ -9,14 +9,14 @@ use Rattle.net_build.specs.declared.built.Built.{Built}
 use Rattle.edit_list.specs.declared.claims.Claim.{Claim}
 use Rattle.edit_list.specs.declared.claims.Claim.TheVariants.{Repaired, NoRepair}
 use Rattle.edit_list.specs.declared.edit_kinds.Edit.{Edit}
-use Rattle.edit_list.specs.Prices.{chosen_of}
+use Rattle.edit_list.specs.Prices.{chosen_of, price_of_flags}
 use Rattle.edit_list.proofs.OneEditList.{edit_lists_are_one}
 use Rattle.line_patcher.specs.Patches.{ArePatched}
 use Rattle.proof_log.specs.declared.steps.Log.{Log}
 use Rattle.policy_report.specs.Certificates.{budget_text, certificate_text}
 use Rattle.arc_repair.specs.declared.answer.Answer.{Answer}
 use Rattle.arc_repair.specs.declared.answer.Answer.TheVariants.{Done as Claimed, Budget}
-use Rattle.arc_repair.specs.Repairs.{Mends, cost}
+use Rattle.arc_repair.specs.Repairs.{Mends}
 use Rattle.file_copies.specs.Changes.{IsEditable}
 use Rattle.file_copies.proofs.Patched.{patches_have_the_network}
 use Rattle.repair_commands.specs.Outcomes.{HasRepair, HasNoRepair, HoldsCertificate, IsRepairable, ShowsCheapest, ShowsNone, ShowsSpent, TellsOutcome}
@@ -93,7 +93,7 @@ module _ (bound conflicts : ℕ) (doc : Document) (built : Built) (files : List 
 pub not_both : (bound : ℕ) (net : Network) (doc : Document) → IsValid net → HasRepair bound net doc → HasNoRepair bound net doc → ⊥
 not_both bound net doc valid can cannot =
     let same : cannot.list ≡ can.list = edit_lists_are_one net doc cannot.list can.list valid cannot.repairable.edits can.repairable.edits in
-    let P : List Edit → Type 0 = λ list. (flags : List Bool) → Mends net doc list flags → bound < cost doc list flags in
+    let P : List Edit → Type 0 = λ list. (flags : List Bool) → Mends net doc list flags → bound < price_of_flags doc list flags in
     absurd (omega (arith, subst P same cannot.none can.flags can.mends, can.affordable))
 
 -- ---- what is told

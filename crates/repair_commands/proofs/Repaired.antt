@@ -1,7 +1,7 @@
 -- The answers of `repair`.
-use Rattle.std.proofs.Common.{◌≡◌, ◌⊎◌, ℕ, ◌≤◌, inl, inr, true, false, List, [], length, refl, sym, subst}
+use Rattle.std.proofs.Common.{◌≡◌, ℕ, ◌≤◌, inl, inr, false, List, [], length, refl, sym, subst}
 use Rattle.std.specs.Prelude.{Option, Some, None, IfSome, Ok, Err, All}
-use Rattle.arc_base.specs.declared.refusal.Kind.TheVariants.{Limit, OutputName}
+use Rattle.arc_base.specs.declared.refusal.Kind.TheVariants.{Limit}
 use Rattle.arc_base.specs.declared.refusal.LimitKind.{LimitKind}
 use Rattle.arc_outside.specs.Files.{Files}
 use Rattle.net_model.specs.declared.policies.Document.{Document}
@@ -25,14 +25,12 @@ use Rattle.command_words.specs.declared.commands.RepairWords.{RepairWords}
 use Rattle.run_files.specs.declared.limits.Limits.TheVariants.{Editing}
 use Rattle.run_files.specs.declared.outcome.Done.{Done}
 use Rattle.run_files.specs.declared.outcome.Stop.{Stop}
-use Rattle.run_files.specs.declared.outcome.Stop.TheVariants as stops
 use Rattle.run_files.specs.Answers.{Answers}
 use Rattle.run_files.specs.Refusals.{refusal_of}
-use Rattle.run_files.proofs.Answering.{refused, stopped}
 use Rattle.run_inputs.specs.declared.inputs.Sources.{Sources}
 use Rattle.run_inputs.specs.Counts.{StopsFor}
 use Rattle.run_inputs.proofs.EditFaults.{limit_refused}
-use Rattle.run_inputs.specs.Inputs.{AreFit, HoldsDocument, IsDocumentRefusal, ReadsDocumentAt, ReadsSources}
+use Rattle.run_inputs.specs.Inputs.{AreFit, HoldsDocument, ReadsDocumentAt, ReadsSources}
 use Rattle.repair_commands.specs.Repairs.{has_clash, IsRepaired, IsRepairRefusal, WritesAnswer, WritesCertificate}
 use Rattle.repair_commands.specs.Steps.{IsFound, IsWholeAnswer}
 
@@ -40,48 +38,13 @@ use Rattle.repair_commands.specs.Steps.{IsFound, IsWholeAnswer}
 abbrev pub StoppedAs : RepairWords → Option Files → Stop → Type 0
 StoppedAs words held stop = Answers (WritesCertificate words) (IsRepairRefusal words) (IsRepaired words) held (Err stop)
 
-none_told : (words : RepairWords) (stop : Stop) → StoppedAs words None stop
-none_told words (stops.Refused r) = tt
-none_told words stops.Memory = tt
-none_told words stops.Failed = tt
-
-pub document_stopped : (held : Option Files) (words : RepairWords) (stop : Stop) → IfSome held (λ files. ReadsDocumentAt words.document files (Err stop)) → StoppedAs words held stop
-document_stopped held words stop told =
-    stopped (WritesCertificate words) (IsRepairRefusal words) (IsRepaired words) (IsDocumentRefusal words.document) (HoldsDocument words.document) held stop (λ files r u. inl u) told
-
 -- the document is held
 abbrev pub ReadBefore : RepairWords → Option Files → Document → Type 0
 ReadBefore words held doc = IfSome held (λ files. ReadsDocumentAt words.document files (Ok doc))
 
-clash_told : (held : Option Files) (words : RepairWords) (doc : Document) → ReadBefore words held doc → has_clash words doc ≡ true → IfSome held (λ files. IsRepairRefusal words files (refusal_of words.document 0 OutputName))
-clash_told None words doc told clash = tt
-clash_told (Some files) words doc told clash = inr (inl (record { doc = doc; document_is = told; clash = clash; told = refl }))
-
-pub clash_stopped : (held : Option Files) (words : RepairWords) (doc : Document) (stop : Stop) → ReadBefore words held doc → has_clash words doc ≡ true
-    → (stop ≡ stops.Memory) ⊎ (stop ≡ stops.Refused (refusal_of words.document 0 OutputName)) → StoppedAs words held stop
-clash_stopped held words doc stop told clash is =
-    refused (WritesCertificate words) (IsRepairRefusal words) (IsRepaired words) held (refusal_of words.document 0 OutputName) stop (clash_told held words doc told clash) is
-
 -- the router files gave this
 abbrev pub ReadSources : RepairWords → Option Files → Document → Sources → Type 0
 ReadSources words held doc sources = IfSome held (λ files. HoldsDocument words.document files doc → ReadsSources Editing [] words.document doc files (Ok sources))
-
-sources_told : (files : Files) (words : RepairWords) (doc : Document) (stop : Stop) → HoldsDocument words.document files doc → has_clash words doc ≡ false
-    → ReadsSources Editing [] words.document doc files (Err stop) → StoppedAs words (Some files) stop
-sources_told files words doc (stops.Refused r) is free told = inr (inr (inl (record { doc = doc; document_is = is; free = free; refused = told })))
-sources_told files words doc stops.Memory is free told = tt
-sources_told files words doc stops.Failed is free told = tt
-
-pub sources_stopped : (held one : Option Files) → one ≡ held → (words : RepairWords) (doc : Document) (stop : Stop) → ReadBefore words held doc → has_clash words doc ≡ false
-    → IfSome one (λ files. HoldsDocument words.document files doc → ReadsSources Editing [] words.document doc files (Err stop)) → StoppedAs words held stop
-sources_stopped held one same words doc stop before free told = go held before (subst P same told)
-  where
-    P : Option Files → Type 0
-    P o = IfSome o (λ files. HoldsDocument words.document files doc → ReadsSources Editing [] words.document doc files (Err stop))
-
-    go : (h : Option Files) → ReadBefore words h doc → P h → StoppedAs words h stop
-    go None b t = none_told words stop
-    go (Some files) b t = sources_told files words doc stop b free (t b)
 
 -- a count is refused
 counts_told : (held : Option Files) (words : RepairWords) (doc : Document) (sources : Sources) (what : LimitKind) (count : ℕ) → ReadBefore words held doc → has_clash words doc ≡ false

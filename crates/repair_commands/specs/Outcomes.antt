@@ -14,14 +14,14 @@ use Rattle.edit_list.specs.declared.claims.Claim.TheVariants.{Repaired, NoRepair
 use Rattle.edit_list.specs.declared.edit_kinds.Edit.{Edit}
 use Rattle.edit_list.specs.After.{IsAfter}
 use Rattle.edit_list.specs.EditLists.{AreEdits}
-use Rattle.edit_list.specs.Prices.{chosen_of}
+use Rattle.edit_list.specs.Prices.{chosen_of, price_of_flags}
 use Rattle.line_patcher.specs.Patches.{ArePatched}
 use Rattle.proof_log.specs.declared.steps.Log.{Log}
 use Rattle.proof_log.specs.Texts.{HasLine}
 use Rattle.policy_report.specs.Certificates.{budget_text, certificate_text}
 use Rattle.arc_repair.specs.Answers.{IsOutOfBudget, KeepsLimits}
 use Rattle.arc_repair.specs.Claims.{IsCertificate}
-use Rattle.arc_repair.specs.Repairs.{IsLeast, Mends, cost}
+use Rattle.arc_repair.specs.Repairs.{IsLeast, Mends}
 
 -- these are the edits of the network, and nothing passes its limit
 pub record IsRepairable (bound : ℕ) (net : Network) (doc : Document)
@@ -35,13 +35,13 @@ pub record HasRepair (bound : ℕ) (net : Network) (doc : Document) : Type 0 whe
   pub repairable : IsRepairable bound net doc list
   pub flags : List Bool
   pub mends : Mends net doc list flags
-  pub affordable : cost doc list flags ≤ bound
+  pub affordable : price_of_flags doc list flags ≤ bound
 
 -- no edits within the bound do
 pub record HasNoRepair (bound : ℕ) (net : Network) (doc : Document) : Type 0 where
   pub list : List Edit
   pub repairable : IsRepairable bound net doc list
-  pub none : (flags : List Bool) → Mends net doc list flags → bound < cost doc list flags
+  pub none : (flags : List Bool) → Mends net doc list flags → bound < price_of_flags doc list flags
 
 -- the proof is the certificate of this claim, whose log adds at most `conflicts` clauses
 pub record HoldsCertificate (conflicts : ℕ) (net : Network) (doc : Document)
@@ -61,7 +61,7 @@ pub record ShowsCheapest (bound conflicts : ℕ) (doc : Document) (built : Built
   pub repairable : IsRepairable bound built.net doc list
   pub flags : List Bool
   pub price : ℕ
-  pub costs : cost doc list flags ≡ price
+  pub costs : price_of_flags doc list flags ≡ price
   pub affordable : price ≤ bound
   pub least : IsLeast built.net doc list price
   pub repaired : Network

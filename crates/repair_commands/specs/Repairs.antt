@@ -15,7 +15,7 @@ use Rattle.edit_list.specs.declared.claims.Claim.TheVariants.{Repaired, NoRepair
 use Rattle.edit_list.specs.declared.edit_kinds.Edit.{Edit}
 use Rattle.edit_list.specs.declared.edit_kinds.EditFault.TheVariants as faults
 use Rattle.edit_list.specs.EditLists.{AreEdits}
-use Rattle.edit_list.specs.Prices.{chosen_of}
+use Rattle.edit_list.specs.Prices.{chosen_of, none_of}
 use Rattle.proof_log.specs.declared.steps.Log.{Log}
 use Rattle.proof_log.specs.Texts.{HasLine}
 use Rattle.policy_report.specs.Certificates.{budget_text, certificate_text}
@@ -24,7 +24,7 @@ use Rattle.arc_repair.specs.declared.answer.Answer.{Answer}
 use Rattle.arc_repair.specs.declared.answer.Answer.TheVariants.{Done as Claimed, Budget}
 use Rattle.arc_repair.specs.Answers.{AnswersFew, IsAnswer, IsRepairFault, IsUntouched, KeepsLimits}
 use Rattle.arc_repair.specs.Answers.{answer_steps}
-use Rattle.arc_repair.specs.Repairs.{Mends, none_of}
+use Rattle.arc_repair.specs.Repairs.{Mends}
 use Rattle.file_copies.specs.Outputs.{clashes, copy_names, wrote_lines, IsCopyName}
 use Rattle.file_copies.specs.Changes.{Changes, IsEditable}
 use Rattle.command_words.specs.declared.commands.RepairWords.{RepairWords}

@@ -1,12 +1,12 @@
 //! What the answer of a repair writes.
-ghost use Rattle.std.specs.Prelude.{◌≡◌, ◌<◌, ◌≤◌, ◌-◌, ◌^◌, ◌++◌, [], length, All, IfOk, codes};
-ghost use Rattle.std.specs.Prelude.{decimal};
-ghost use Rattle.net_build.specs.Networks.{IsBuiltWithin};
 ghost use Rattle.edit_list.specs.EditLists.{AreEdits};
+ghost use Rattle.net_build.specs.Networks.{IsBuiltWithin};
 ghost use Rattle.policy_report.specs.Certificates.{budget_text, IsWholeClaim};
 ghost use Rattle.repair_commands.specs.Repairs.{repair_lines, Writes, WritesAnswer, WritesClaim};
 ghost use Rattle.repair_commands.specs.Repairs.{WritesRepair};
 ghost use Rattle.repair_commands.specs.Steps.{IsWholeAnswer};
+ghost use Rattle.std.specs.Prelude.{◌≡◌, ◌<◌, ◌≤◌, ◌-◌, ◌^◌, ◌++◌, [], length, All, IfOk, codes};
+ghost use Rattle.std.specs.Prelude.{decimal};
 
 use arc_base::limits::{
     EDIT_LIMIT, EDITED_ENTRY_LIMIT, EDITED_FILE_LIMIT, PROOF_LIMIT, ROUTER_LIMIT,

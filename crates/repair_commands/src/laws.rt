@@ -1,12 +1,12 @@
 //! Laws over the definitions alone: each is the contract of a function that does nothing.
-ghost use Rattle.std.specs.Prelude.{◌≡◌};
 ghost use Rattle.arc_outside.specs.Files.{Files};
 ghost use Rattle.command_words.specs.declared.commands.RepairWords.{RepairWords};
-ghost use Rattle.run_files.specs.declared.outcome.Done.{Done};
-ghost use Rattle.run_files.specs.declared.outcome.FileRefusal.{FileRefusal};
-ghost use Rattle.run_files.specs.Answers.{IsTold};
 ghost use Rattle.repair_commands.specs.Repairs.{IsRepaired, IsRepairRefusal};
 ghost use Rattle.repair_commands.specs.Tells.{PutsCheapest, TellsRepair};
+ghost use Rattle.run_files.specs.Answers.{IsTold};
+ghost use Rattle.run_files.specs.declared.outcome.Done.{Done};
+ghost use Rattle.run_files.specs.declared.outcome.FileRefusal.{FileRefusal};
+ghost use Rattle.std.specs.Prelude.{◌≡◌};
 
 /// What the status of `repair` says; and after 0 the text that is printed has the price and the
 /// edits of the repair that the status is about, and the files that are written.

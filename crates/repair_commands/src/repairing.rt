@@ -1,12 +1,12 @@
 //! The command `repair DOC --out SUFFIX --proof NAME [--max-price N] [--conflicts N]`.
-ghost use Rattle.std.specs.Prelude.{◌≡◌, ◌≤◌, length, IfOk, IfErr};
 ghost use Rattle.arc_repair.specs.Answers.{IsRepairFault};
-ghost use Rattle.run_files.specs.Answers.{Answers, OnlyReads};
-ghost use Rattle.run_files.specs.Limits.{least_limit};
-ghost use Rattle.run_inputs.specs.Inputs.{AreFit};
 ghost use Rattle.repair_commands.specs.Repairs.{has_clash, IsRepaired, IsRepairRefusal};
 ghost use Rattle.repair_commands.specs.Repairs.{WritesCertificate};
 ghost use Rattle.repair_commands.specs.Steps.{IsFound};
+ghost use Rattle.run_files.specs.Answers.{Answers, OnlyReads};
+ghost use Rattle.run_files.specs.Limits.{least_limit};
+ghost use Rattle.run_inputs.specs.Inputs.{AreFit};
+ghost use Rattle.std.specs.Prelude.{◌≡◌, ◌≤◌, length, IfOk, IfErr};
 
 use crate::answers::answer_done;
 use arc_base::limits::{CONFLICT_LIMIT, POLICY_LIMIT, PRICE_LIMIT};
@@ -19,6 +19,7 @@ use file_copies::{clashes, copy_names};
 use net_model::{Document, Network};
 use run_files::{Done, Limits, Stop, refused};
 use run_inputs::{fault_stop, read_document, read_sources};
+use run_progress::{Listener, Work};
 use std::alloc::Global;
 
 /// Whether an output has the name of a file that is read, or of another output.
@@ -33,12 +34,13 @@ fn has_clash(alloc: Global, words: &RepairWords, doc: &Document) -> Result<bool,
 
 /// The edits of the network, and its cheapest repair within a bound on the price and a limit of
 /// conflicts.
-pub fn find_repair(
+pub fn find_repair<L: Listener>(
     alloc: Global,
     net: &Network,
     doc: &Document,
     bound: u32,
     conflicts: u64,
+    listener: &mut L,
 ) -> Result<(List<Edit>, Answer), EditFault>
     requires fit { AreFit doc.now net.now }
     requires policies { length doc.now.policies ≤ POLICY_LIMIT }
@@ -49,13 +51,18 @@ pub fn find_repair(
     ensures fault { IfErr result (IsRepairFault net.now doc.now bound) }
 {
     let list = edits(alloc, net, doc)?;
-    let answer = arc_repair::repair_of(alloc, net, doc, &list, bound, conflicts)?;
+    let answer = arc_repair::repair_of(alloc, net, doc, &list, bound, conflicts, listener)?;
     Ok((list, answer))
 }
 
 /// Finds the cheapest edits after which the network meets the document, and writes the changed
 /// files and a certificate.
-pub fn repair<S: Store>(alloc: Global, words: &RepairWords, store: &mut S) -> Result<Done, Stop>
+pub fn repair<S: Store, L: Listener>(
+    alloc: Global,
+    words: &RepairWords,
+    store: &mut S,
+    listener: &mut L,
+) -> Result<Done, Stop>
     requires bound { words.now.bound ≤ PRICE_LIMIT }
     requires most { words.now.conflicts ≤ CONFLICT_LIMIT }
     ensures answer { Answers (WritesCertificate words.now) (IsRepairRefusal words.now)
@@ -67,9 +74,17 @@ pub fn repair<S: Store>(alloc: Global, words: &RepairWords, store: &mut S) -> Re
     if has_clash(alloc, words, &doc)? {
         return Err(refused(alloc, &words.document, 0, Kind::OutputName));
     }
+    listener.heard(Work::Reading);
     let sources = read_sources(alloc, &words.document, &doc, &[], Limits::Editing, store)?;
     let net = &sources.built.net;
-    let (list, answer) = match find_repair(alloc, net, &doc, words.bound, words.conflicts) {
+    let (list, answer) = match find_repair(
+        alloc,
+        net,
+        &doc,
+        words.bound,
+        words.conflicts,
+        listener,
+    ) {
         Ok(found) => found,
         Err(fault) => return Err(fault_stop(alloc, &words.document, fault)),
     };

@@ -1,23 +1,20 @@
 -- Counts of classes: more policies have no fewer, and none has more than all.
-use Rattle.std.proofs.Common.{◌≡◌, ℕ, ◌+◌, ◌-◌, ◌^◌, ◌≤◌, ◌<◌, inl, inr, Bool, true, false, List, [], ◌∷◌, ◌++◌, length, get_or, take, drop, refl, sym, ap, subst, ◌∙◌, arith}
+use Rattle.std.proofs.Common.{◌≡◌, ℕ, ◌+◌, ◌-◌, ◌^◌, ◌≤◌, inl, inr, Bool, true, false, List, [], ◌∷◌, ◌++◌, length, take, drop, refl, sym, ap, subst, ◌∙◌, arith}
 use Rattle.std.proofs.Math.Nat.{min-le_left}
 use Rattle.std.proofs.lemmas.Bool.{cases_lt}
-use Rattle.std.proofs.lemmas.List.{take-append-drop, take-take, take_all, length-append, get_or_default}
+use Rattle.std.proofs.lemmas.List.{take-append-drop, take-take, take_all, length-append}
 use Rattle.std.proofs.lemmas.List.Concat.{flat_map-append}
 use Rattle.std.proofs.lemmas.List.Sums.{fold-append}
-use Rattle.std.proofs.lemmas.Option.{slice_get-get_or}
-use Rattle.std.specs.Prelude.{fold, if◌then◌else◌, zero, suc, Option, IfSome, slice_get}
+use Rattle.std.specs.Prelude.{fold, if◌then◌else◌, zero, suc}
 use Rattle.std.specs.List.{AllZip, flat_map, list_any}
 use Rattle.net_model.specs.declared.policies.Class.{Class}
 use Rattle.net_model.specs.declared.policies.Policy.{Policy}
 use Rattle.net_model.specs.declared.rows.Network.{Network}
-use Rattle.traffic_classes.specs.Classes.{AreClasses, HasClasses, told}
+use Rattle.traffic_classes.specs.Classes.{AreClasses, told}
 use Rattle.traffic_classes.specs.AllClasses.{with_class, is_same, each_once, HaveClasses}
 use Rattle.traffic_classes.proofs.EachPolicy.{no_more}
 use Rattle.traffic_classes.proofs.MakingUp.{one_list}
-use Rattle.verdicts.specs.declared.fault.JudgeFault.{JudgeFault}
-use Rattle.verdicts.specs.declared.fault.JudgeFault.TheVariants.{TooMany}
-use Rattle.verdicts.specs.Judged.{CountsMore}
+use Rattle.verdicts.specs.Judged.{HasFewClassesEach}
 use Rattle.run_inputs.specs.Counts.{PoliciesHaveFewClasses, HasManyClasses}
 
 -- a class more only lengthens the list
@@ -88,14 +85,6 @@ one_count net policies c d one other = elim (cases_lt one.first.place other.firs
   ]
 ]
 
--- where all classes are few, no policy has too many
-pub never_many : (net : Network) (policies : List Policy) (place : ℕ) (fault : JudgeFault) (count : ℕ) → PoliciesHaveFewClasses net policies → place < length policies → fault ≡ TooMany count →
-    CountsMore (λ n. IfSome (slice_get policies place) (λ p. HasClasses net policies p n)) fault → ⊥
-never_many net [] place fault count few within is many = absurd (omega arith)
-never_many net (q ∷ qs) place fault count few within is many =
-    let policy : Policy = get_or (q ∷ qs) place q in
-    let P : ℕ → Type 0 = λ n. IfSome (slice_get (q ∷ qs) place) (λ p. HasClasses net (q ∷ qs) p n) in
-    let said : P count × (4096 < count) = subst (CountsMore P) is many in
-    let Q : Option Policy → Type 0 = λ o. IfSome o (λ p. HasClasses net (q ∷ qs) p count) in
-    let has : HasClasses net (q ∷ qs) policy count = subst Q (slice_get-get_or (q ∷ qs) place q within) said.0 in
-    omega (arith, no_more net (q ∷ qs) policy has.classes few.classes (place, within, get_or_default (q ∷ qs) place policy q within) has.are few.are, has.counted, few.few, said.1)
+-- where all classes are few, those of each policy are
+pub few_each : (net : Network) (policies : List Policy) → PoliciesHaveFewClasses net policies → HasFewClassesEach net policies
+few_each net policies few policy one classes are = omega (arith, no_more net policies policy classes few.classes one are few.are, few.few)

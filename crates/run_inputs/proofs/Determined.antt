@@ -10,7 +10,7 @@ use Rattle.net_build.specs.Networks.{IsFirstRefusalWithin}
 use Rattle.net_build.proofs.OneAnswer as answers
 use Rattle.run_files.specs.declared.limits.Limits.{Limits}
 use Rattle.run_files.specs.declared.outcome.FileRefusal.{FileRefusal}
-use Rattle.run_inputs.specs.Inputs.{HoldsDocument, HoldsFiles, HoldsInput, RefusesDocument, RefusesFile, RefusesNetwork, IsInputRefusal, contents, named}
+use Rattle.run_inputs.specs.Inputs.{HoldsDocument, HoldsFiles, HoldsInput, RefusesDocument, RefusesFile, RefusesInputNetwork, IsInputRefusal, contents, named}
 use Rattle.run_files.specs.Limits.{document_limit, entries_limit}
 use Rattle.run_files.specs.Refusals.{refusal_of, read_refusal, routers_refusal, bytes_at}
 use Rattle.arc_base.specs.declared.refusal.Kind.TheVariants.{Limit}
@@ -62,14 +62,14 @@ module _ (limits : Limits) (down document : List ℕ) (files : Files) where
       let same : u.doc ≡ v.doc = one_document u.doc v.doc u.document_is v.document_is in
       one_value (routers_refusal limits files v.doc.routers) r s (ap (λ (d : Document). routers_refusal limits files d.routers) (sym same) ∙ u.refused) v.refused
 
-  network_once : (r s : FileRefusal) → RefusesNetwork limits down document files r → RefusesNetwork limits down document files s → r ≡ s
+  network_once : (r s : FileRefusal) → RefusesInputNetwork limits down document files r → RefusesInputNetwork limits down document files s → r ≡ s
   network_once r s u v =
       let same : u.doc ≡ v.doc = one_document u.doc v.doc u.files_are.document_is v.files_are.document_is in
       let P : Document → Type 0 = λ d. IsFirstRefusalWithin down (entries_limit limits) d (contents files d) u.refusal in
       let once : u.refusal ≡ v.refusal = answers.one_refusal down (entries_limit limits) v.doc (contents files v.doc) u.refusal v.refusal (subst P same u.refused) v.refused in
       u.is_named ∙ ap (λ (d : Document). named document d.routers u.refusal) same ∙ ap (named document v.doc.routers) once ∙ sym v.is_named
 
-  network_none : (doc : Document) (net : Network) (r : FileRefusal) → HoldsInput limits down document files doc net → RefusesNetwork limits down document files r → ⊥
+  network_none : (doc : Document) (net : Network) (r : FileRefusal) → HoldsInput limits down document files doc net → RefusesInputNetwork limits down document files r → ⊥
   network_none doc net r h u =
       let same : u.doc ≡ doc = one_document u.doc doc u.files_are.document_is h.files_are.document_is in
       let P : Document → Type 0 = λ d. IsFirstRefusalWithin down (entries_limit limits) d (contents files d) u.refusal in

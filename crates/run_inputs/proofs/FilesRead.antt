@@ -11,7 +11,7 @@ use Rattle.run_files.specs.declared.limits.Limits.{Limits}
 use Rattle.run_files.specs.declared.outcome.Stop.{Stop}
 use Rattle.run_files.specs.declared.outcome.Stop.TheVariants as stops
 use Rattle.run_files.specs.Answers.{Gives}
-use Rattle.run_inputs.specs.Inputs.{HoldsDocument, IsFilesRefusal, ReadsFiles, ReadsSources, contents, named}
+use Rattle.run_inputs.specs.Inputs.{HoldsDocument, IsFilesRefusal, ReadsRouterFiles, ReadsSources, contents, named}
 use Rattle.run_files.specs.Reading.{ReadsRouters}
 use Rattle.run_files.specs.Limits.{entries_limit}
 use Rattle.run_files.specs.Refusals.{bytes_at, routers_refusal}
@@ -54,7 +54,7 @@ sources_read limits down (Some files) document doc routers read built told same 
 -- and their network alone
 pub files_read : (limits : Limits) (down : List ℕ) (held : Option Files) (document : List ℕ) (doc : Document) (routers read : List (List ℕ)) (net : Network) →
     IfSome held (λ files. ReadsRouters limits files routers (Ok read)) → routers ≡ doc.routers → IsNetworkWithin down (entries_limit limits) doc read net →
-    IfSome held (λ files. HoldsDocument document files doc → ReadsFiles limits down document files (Ok (record { doc = doc; net = net })))
+    IfSome held (λ files. HoldsDocument document files doc → ReadsRouterFiles limits down document files (Ok (record { doc = doc; net = net })))
 files_read limits down None document doc routers read net told same is = tt
 files_read limits down (Some files) document doc routers read net told same is =
     λ held.

@@ -73,7 +73,7 @@ pub record RefusesFile (limits : Limits) (document : List ℕ) (files : Files)
   pub refused : routers_refusal limits files doc.routers ≡ Some r
 
 -- the document and the files have no network with such links, and this is why
-pub record RefusesNetwork (limits : Limits) (down : List ℕ) (document : List ℕ) (files : Files)
+pub record RefusesInputNetwork (limits : Limits) (down : List ℕ) (document : List ℕ) (files : Files)
     (r : FileRefusal) : Type 0 where
   pub doc : Document
   pub files_are : HoldsFiles limits document files doc
@@ -89,7 +89,7 @@ IsDocumentRefusal document files r =
 -- its router files, or the network of the document and them, are refused
 abbrev pub IsFilesRefusal : Limits → List ℕ → List ℕ → Files → FileRefusal → Type 0
 IsFilesRefusal limits down document files r =
-    RefusesFile limits document files r ⊎ RefusesNetwork limits down document files r
+    RefusesFile limits document files r ⊎ RefusesInputNetwork limits down document files r
 
 -- The first refusal: the document is missing or too long; it has a wrong form; a router file is
 -- missing or too long; or the document and the files have no network with such links.
@@ -117,8 +117,8 @@ ReadsSources limits down document doc files result =
     (AreSources limits down document doc files) result
 
 -- what making a network of the router files of a document that is held answers
-abbrev pub ReadsFiles : Limits → List ℕ → List ℕ → Files → Result Input Stop → Type 0
-ReadsFiles limits down document files result =
+abbrev pub ReadsRouterFiles : Limits → List ℕ → List ℕ → Files → Result Input Stop → Type 0
+ReadsRouterFiles limits down document files result =
     Gives (IsFilesRefusal limits down document files)
     (λ input. HoldsInput limits down document files input.doc input.net) result
 

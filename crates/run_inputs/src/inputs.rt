@@ -1,13 +1,14 @@
 //! What a command over a document begins with: the document, and the network of the router files
 //! that it names.
-ghost use Rattle.std.specs.Prelude.{◌≡◌, ◌⊎◌, ◌≤◌, All, None, length, IfOk, IfSome};
-ghost use Rattle.net_rules.specs.Linking.{first_above};
 ghost use Rattle.net_build.specs.Networks.{IsBuiltWithin};
 ghost use Rattle.net_doc.specs.Documents.{IsWellFormed};
-ghost use Rattle.run_inputs.specs.Inputs.{name_of, named, AreFit, HoldsDocument, IsFit};
-ghost use Rattle.run_inputs.specs.Inputs.{ReadsDocumentAt, ReadsFiles, ReadsInput, ReadsSources};
+ghost use Rattle.net_rules.specs.Linking.{first_above};
 ghost use Rattle.run_files.specs.Answers.{OnlyReads};
 ghost use Rattle.run_files.specs.Limits.{entries_limit, least_limit, router_limit};
+ghost use Rattle.run_inputs.specs.Inputs.{name_of, named, AreFit, HoldsDocument, IsFit};
+ghost use Rattle.run_inputs.specs.Inputs.{ReadsDocumentAt, ReadsRouterFiles, ReadsInput};
+ghost use Rattle.run_inputs.specs.Inputs.{ReadsSources};
+ghost use Rattle.std.specs.Prelude.{◌≡◌, ◌⊎◌, ◌≤◌, All, None, length, IfOk, IfSome};
 
 use arc_base::limits::DOCUMENT_LIMIT;
 use arc_base::{List, Memory, Name};
@@ -120,7 +121,7 @@ pub fn read_files<S: Store>(
 ) -> Result<Input, Stop>
     requires { IsWellFormed doc }
     ensures told { IfSome (S.held store.old) (λ files. HoldsDocument name.now files doc
-        → ReadsFiles limits down.now name.now files result) }
+        → ReadsRouterFiles limits down.now name.now files result) }
     ensures fit { IfOk result IsFit }
     ensures down { IfOk result (λ input. first_above (length input.net.links) down.now ≡ None) }
     ensures reads { OnlyReads least_limit S.held S.faults S.absences S.taken

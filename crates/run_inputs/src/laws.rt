@@ -1,8 +1,8 @@
 //! Laws over the definitions alone: each is the contract of a function that does nothing.
-ghost use Rattle.std.specs.Prelude.{ℕ, List};
 ghost use Rattle.arc_outside.specs.Files.{Files};
 ghost use Rattle.run_files.specs.declared.limits.Limits.{Limits};
 ghost use Rattle.run_inputs.specs.Determined.{IsDetermined, IsJudgedOnce};
+ghost use Rattle.std.specs.Prelude.{ℕ, List};
 
 /// What the names hold gives a command over a document at most one document and network, and at
 /// most one first refusal, and never both.

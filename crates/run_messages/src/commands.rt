@@ -1,6 +1,7 @@
-//! What a first word that names no command may ask for or mean.
+//! What a first word that names no command may ask for or mean, and the document of a command.
 
-use command_words::{CommandForm, command_forms};
+use arc_base::Name;
+use command_words::{Command, CommandForm, command_forms};
 
 /// The version of the program, as CHANGELOG.md counts.
 pub const VERSION: &str = "1.1.0";
@@ -22,4 +23,18 @@ pub fn asks_for_help(word: &[u8]) -> bool {
 /// Whether a first word asks for the version.
 pub fn asks_for_version(word: &[u8]) -> bool {
     matches!(word, b"--version" | b"-V" | b"version")
+}
+
+/// The document that a command reads.
+pub fn document_of(command: &Command) -> Option<&Name> {
+    match command {
+        Command::Verify(document) | Command::Check(document, _) => Some(document),
+        Command::Trace(words) => Some(&words.document),
+        Command::Repair(words) => Some(&words.document),
+        Command::Apply(words) => Some(&words.document),
+        Command::Nodes(words) => Some(&words.document),
+        Command::Prefers(words) => Some(&words.document),
+        Command::Recheck(words) => Some(&words.document),
+        Command::Solve(_) | Command::Lrat(_, _) | Command::Generate(_) => None,
+    }
 }

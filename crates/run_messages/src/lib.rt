@@ -23,7 +23,7 @@ mod showing;
 mod tests;
 mod words;
 
-pub use commands::{VERSION, asks_for_help, asks_for_version, near_form};
+pub use commands::{VERSION, asks_for_help, asks_for_version, document_of, near_form};
 pub use documents::{document_fault, document_item};
 pub use edits::edits_of_new_lists;
 pub use interfaces::missing_face;

@@ -1,6 +1,6 @@
 //! The line of a file that a refusal names, and the word of it that is wrong.
-ghost use Rattle.std.specs.Prelude.{◌<◌, ◌^◌, length};
 ghost use Rattle.ios_lines.specs.Lines.{AreLinesOf};
+ghost use Rattle.std.specs.Prelude.{◌<◌, ◌^◌, length};
 
 use arc_base::Span;
 use ios_config::opened_by;
@@ -24,7 +24,7 @@ pub enum WrongWord<'a> {
     Missing,
 }
 
-/// The kind of block that a line stands in.
+/// The kind of block that a line is in.
 fn block_of(alloc: Global, text: &[u8], lines: &Lines, line: &Line) -> BlockKind
     requires { AreLinesOf text.now lines.now }
 {

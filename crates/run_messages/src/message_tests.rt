@@ -3,7 +3,7 @@ use crate::{
     policy_words, rejection_of, subject_of, visible,
 };
 use arc_base::{Kind, LimitKind, List, Name, Prefix};
-use command_words::{ApplyWords, Command};
+use command_words::{ApplyWords, Command, RepairWords};
 use net_doc::document;
 use net_model::{Document, Network, Policy, PolicyKind, Protocol, Service};
 use run_files::{FileRefusal, Reason};
@@ -254,11 +254,6 @@ fn near_interfaces_are_found(rt: HostRuntime) -> Result<(), Fail> {
 fn clashes_of_names_are_found(rt: HostRuntime) -> Result<(), Fail> {
     let (alloc, doc) = (rt.alloc(), read(rt.alloc())?);
     let name = |text: &str| Name::make(alloc, text.as_bytes());
-    let command = Command::Apply(ApplyWords {
-        document: name("net.json")?,
-        edits: name("e")?,
-        suffix: name(".n")?,
-    });
     let rows = [
         (
             "r1.cfg",
@@ -268,18 +263,34 @@ fn clashes_of_names_are_found(rt: HostRuntime) -> Result<(), Fail> {
             "net.json",
             Some("net.json is read by this command, and would be written over"),
         ),
-        (
-            "e",
-            Some("e is read by this command, and would be written over"),
-        ),
         ("r2.cfg.n", Some("r2.cfg.n would be written twice")),
         ("p", None),
     ];
-    for (output, want) in rows {
-        let outputs = [name("r2.cfg.n")?, name(output)?];
-        let said = clash(alloc, &command, doc.routers.slice(), &outputs);
+    for (proof, want) in rows {
+        let command = Command::Repair(RepairWords {
+            document: name("net.json")?,
+            suffix: name(".n")?,
+            proof: name(proof)?,
+            bound: 32,
+            conflicts: 50_000,
+        });
+        let said = clash(alloc, &command, doc.routers.slice());
         assert!(rt; said.as_deref() == want.map(str::as_bytes));
     }
+    Ok(())
+}
+
+#[test]
+fn copies_clash_with_edits(rt: HostRuntime) -> Result<(), Fail> {
+    let (alloc, doc) = (rt.alloc(), read(rt.alloc())?);
+    let command = Command::Apply(ApplyWords {
+        document: Name::make(alloc, b"net.json")?,
+        edits: Name::make(alloc, b"r2.cfg.n")?,
+        suffix: Name::make(alloc, b".n")?,
+    });
+    let said = clash(alloc, &command, doc.routers.slice()).ok_or("no clash")?;
+    let want = b"r2.cfg.n is read by this command, and would be written over";
+    assert!(rt; said.as_slice() == want.as_slice());
     Ok(())
 }
 

@@ -1,18 +1,39 @@
 //! Why the names of files to be written are refused.
 
-use arc_base::Name;
+use crate::commands::document_of;
+use arc_base::{Memory, Name};
 use command_words::Command;
+use file_copies::{copy_names, holds};
 use std::alloc::Global;
+
+/// The names of the files that a command over these router files may write.
+fn outputs(alloc: Global, command: &Command, routers: &[Name]) -> Result<Vec<Name>, Memory> {
+    let (suffix, proof) = match command {
+        Command::Repair(words) => (Some(&words.suffix), Some(&words.proof)),
+        Command::Apply(words) => (Some(&words.suffix), None),
+        Command::Solve(words) => (None, Some(&words.proof)),
+        _ => (None, None),
+    };
+    let mut names = match suffix {
+        Some(suffix) => copy_names(alloc, suffix, routers)?,
+        None => Vec::new(alloc),
+    };
+    if let Some(proof) = proof {
+        names.push(Name::make(alloc, proof.bytes())?)?;
+    }
+    Ok(names)
+}
 
 /// Whether a command over these router files reads a file of this name.
 fn is_read(command: &Command, routers: &[Name], name: &Name) -> bool {
-    let is_of_words = match command {
-        Command::Repair(words) => words.document.is(name.bytes()),
-        Command::Apply(words) => words.document.is(name.bytes()) || words.edits.is(name.bytes()),
-        Command::Solve(words) => words.formula.is(name.bytes()),
-        _ => false,
+    let other = match command {
+        Command::Apply(words) => Some(&words.edits),
+        Command::Solve(words) => Some(&words.formula),
+        _ => None,
     };
-    is_of_words || routers.iter().any(|router| router.is(name.bytes()))
+    document_of(command).is_some_and(|document| document.is(name.bytes()))
+        || other.is_some_and(|other| other.is(name.bytes()))
+        || holds(routers, name)
 }
 
 fn is_twice(names: &[Name], name: &Name) -> bool {
@@ -25,14 +46,10 @@ fn said(alloc: Global, name: &Name, why: &str) -> Option<Vec<u8>> {
     Some(text)
 }
 
-/// Which of these outputs of a command over these router files is refused for its name, and why.
-pub fn clash(
-    alloc: Global,
-    command: &Command,
-    routers: &[Name],
-    outputs: &[Name],
-) -> Option<Vec<u8>> {
-    for name in outputs {
+/// Which output of a command over these router files is refused for its name, and why.
+pub fn clash(alloc: Global, command: &Command, routers: &[Name]) -> Option<Vec<u8>> {
+    let outputs = outputs(alloc, command, routers).ok()?;
+    for name in &outputs {
         if is_read(command, routers, name) {
             return said(
                 alloc,
@@ -41,6 +58,6 @@ pub fn clash(
             );
         }
     }
-    let repeated = outputs.iter().find(|name| is_twice(outputs, name))?;
+    let repeated = outputs.iter().find(|name| is_twice(&outputs, name))?;
     said(alloc, repeated, " would be written twice")
 }

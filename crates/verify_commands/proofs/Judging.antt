@@ -1,6 +1,6 @@
 -- Verdicts on the policies of a document, one after another.
-use Rattle.std.proofs.Common.{◌≡◌, ℕ, ◌≤◌, inl, inr, List, []}
-use Rattle.std.specs.Prelude.{Option, Some, None, IfSome, Ok, Err}
+use Rattle.std.proofs.Common.{◌≡◌, ℕ, ◌≤◌, inl, inr, List, [], ◌∷◌}
+use Rattle.std.specs.Prelude.{Option, Some, None, IfSome, Result, Ok, Err, IfOk}
 use Rattle.std.specs.List.{AllZip}
 use Rattle.net_model.specs.declared.policies.Policy.{Policy}
 use Rattle.net_model.specs.declared.rows.Network.{Network}
@@ -21,10 +21,17 @@ use Rattle.run_files.proofs.Answering.{stopped}
 use Rattle.verify_commands.specs.Verifies.{IsVerdictOn, IsVerified, verdicts_status}
 use Rattle.verify_commands.proofs.Verified.{judged_true}
 
--- a verdict that is right and is the one that is fixed
-pub verdict_on : (net : Network) (policies : List Policy) (policy : Option Policy) (v : Verdict) → IfSome policy (λ p. IsRight net p v) → IfSome policy (λ p. IsFixed net policies p v) → IfSome policy (λ p. IsVerdictOn net policies p v)
-verdict_on net policies None v right fixed = tt
-verdict_on net policies (Some policy) v right fixed = record { right = right; fixed = fixed }
+-- verdicts that are right and are those that are fixed
+verdicts_on : (net : Network) (policies judged : List Policy) (vs : List Verdict) → AllZip (IsRight net) judged vs → AllZip (IsFixed net policies) judged vs → AllZip (IsVerdictOn net policies) judged vs
+verdicts_on net policies [] [] right fixed = tt
+verdicts_on net policies [] (v ∷ vs) right fixed = absurd right
+verdicts_on net policies (p ∷ ps) [] right fixed = absurd right
+verdicts_on net policies (p ∷ ps) (v ∷ vs) right fixed = (record { right = right.0; fixed = fixed.0 }, verdicts_on net policies ps vs right.1 fixed.1)
+
+pub all_on : {E : Type 0} (net : Network) (policies : List Policy) (r : Result (List Verdict) E) → IfOk r (AllZip (IsRight net) policies) → IfOk r (AllZip (IsFixed net policies) policies) →
+    IfOk r (AllZip (IsVerdictOn net policies) policies)
+all_on net policies (Ok vs) right fixed = verdicts_on net policies policies vs right fixed
+all_on net policies (Err e) right fixed = tt
 
 -- what the reading of the input answered
 abbrev Read : Option Files → List ℕ → Input → Type 0

@@ -1,6 +1,5 @@
 -- What the statuses of `verify` say, in the words of the subject.
-use Rattle.std.proofs.Common.{◌≡◌, ℕ, ◌⊎◌, inl, inr, zero, suc, Bool, true, false, cond, List, [], ◌∷◌, refl, sym, ◌∙◌, ap, subst, arith}
-use Rattle.std.proofs.lemmas.Bool.{and_parts, and_from}
+use Rattle.std.proofs.Common.{◌≡◌, ℕ, ◌⊎◌, inl, inr, Bool, true, false, cond, List, [], ◌∷◌, refl, sym, ◌∙◌, ap, subst, arith}
 use Rattle.std.specs.Prelude.{All, ◌↔◌}
 use Rattle.std.specs.List.{AllZip, list_all}
 use Rattle.arc_outside.specs.Files.{Files}
@@ -11,7 +10,7 @@ use Rattle.net_model.specs.declared.verdicts.Verdict.{Verdict}
 use Rattle.net_model.specs.Policies.{Meets, MeetsDocument}
 use Rattle.net_model.specs.Validity.{IsValid}
 use Rattle.net_model.specs.Witnesses.{IsRight, is_yes}
-use Rattle.net_laws.proofs.RightVerdicts.{right_verdicts_decide}
+use Rattle.net_laws.proofs.RightVerdicts.{all_decided, right_verdicts_decide}
 use Rattle.run_files.specs.declared.limits.Limits.TheVariants.{Judging}
 use Rattle.run_files.specs.declared.outcome.Done.{Done}
 use Rattle.run_files.specs.declared.outcome.FileRefusal.{FileRefusal}
@@ -58,24 +57,9 @@ module _ (document : List ℕ) (files : Files) where
   pub no_or_refused : SaysNo document files → SaysRefused document files → ⊥
   no_or_refused no' refused = once.not_both no'.doc no'.net refused.refusal no'.input no'.classes refused.refused
 
-all_cons : {X : Type 0} (P : X → Type 0) (x : X) (xs : List X) → P x → All P xs → All P (x ∷ xs)
-all_cons P x xs here rest zero d within = here
-all_cons P x xs here rest (suc k) d within = rest k d (omega arith)
-
-all_rest : {X : Type 0} (P : X → Type 0) (x : X) (xs : List X) → All P (x ∷ xs) → All P xs
-all_rest P x xs all k d within = all (suc k) d (omega arith)
-
 -- right verdicts are all yes exactly where the network meets all policies
-decide : (net : Network) → IsValid net → (document policies : List Policy) (verdicts : List Verdict) → AllZip (IsVerdictOn net document) policies verdicts → (list_all is_yes verdicts ≡ true) ↔ All (Meets net) policies
-decide net valid document [] [] judged = (λ t k d within. absurd (omega arith), λ all. refl)
-decide net valid document [] (v ∷ vs) judged = absurd judged
-decide net valid document (p ∷ ps) [] judged = absurd judged
-decide net valid document (p ∷ ps) (v ∷ vs) judged =
-    let here = right_verdicts_decide net valid p v judged.0.right in
-    let rest = decide net valid document ps vs judged.1 in (
-      λ t. let both = and_parts _ _ t in all_cons (Meets net) p ps (here.0 both.0) (rest.0 both.1),
-      λ all. and_from _ _ (here.1 (all zero p (omega arith))) (rest.1 (all_rest (Meets net) p ps all)),
-    )
+decide : (net : Network) → IsValid net → (policies : List Policy) (verdicts : List Verdict) → AllZip (IsVerdictOn net policies) policies verdicts → (list_all is_yes verdicts ≡ true) ↔ All (Meets net) policies
+decide net valid policies verdicts judged = all_decided net (right_verdicts_decide net valid) policies verdicts (all_right net policies policies verdicts judged)
 
 -- the status of an answer
 abbrev status_from : Bool → ℕ
@@ -99,7 +83,7 @@ told_yes document files d done is_zero = record {
   net = done.net;
   input = done.input;
   classes = done.classes;
-  meets = (decide done.net done.valid done.doc.policies done.doc.policies done.verdicts done.judged).0 (yes_from_status _ (sym done.status ∙ is_zero));
+  meets = (decide done.net done.valid done.doc.policies done.verdicts done.judged).0 (yes_from_status _ (sym done.status ∙ is_zero));
 }
 
 told_no : (document : List ℕ) (files : Files) (d : Done) → IsVerified document files d → d.status ≡ 1 → SaysNo document files
@@ -109,7 +93,7 @@ told_no document files d done is_one = record {
   input = done.input;
   classes = done.classes;
   meets_not = λ meets.
-      let is_zero : verdicts_status done.verdicts ≡ 0 = status_when_yes done.verdicts ((decide done.net done.valid done.doc.policies done.doc.policies done.verdicts done.judged).1 meets) in
+      let is_zero : verdicts_status done.verdicts ≡ 0 = status_when_yes done.verdicts ((decide done.net done.valid done.doc.policies done.verdicts done.judged).1 meets) in
       omega (arith, is_zero, done.status, is_one);
 }
 

@@ -26,7 +26,7 @@ abbrev pub HasLinks : TraceWords → Files → Document → Network → Type 0
 HasLinks words files doc net = HoldsInput Judging words.down words.document files doc net
 
 -- and the prefixes do not lie in two different host networks of it
-pub record RefusesEnds (words : TraceWords) (files : Files) (r : FileRefusal) : Type 0 where
+pub record RefusesTraceEnds (words : TraceWords) (files : Files) (r : FileRefusal) : Type 0 where
   pub doc : Document
   pub net : Network
   pub input : HasLinks words files doc net
@@ -37,7 +37,7 @@ pub record RefusesEnds (words : TraceWords) (files : Files) (r : FileRefusal) : 
 -- the prefixes do not lie in two different host networks.
 abbrev pub IsTraceRefusal : TraceWords → Files → FileRefusal → Type 0
 IsTraceRefusal words files r =
-    IsInputRefusal Judging words.down words.document files r ⊎ RefusesEnds words files r
+    IsInputRefusal Judging words.down words.document files r ⊎ RefusesTraceEnds words files r
 
 -- the trace from the one prefix to the other, with these links down
 pub record IsTraced (words : TraceWords) (files : Files) (done : Done) : Type 0 where

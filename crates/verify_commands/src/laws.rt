@@ -1,12 +1,12 @@
 //! Laws over the definitions alone: each is the contract of a function that does nothing.
-ghost use Rattle.std.specs.Prelude.{◌≡◌, ℕ, List};
 ghost use Rattle.arc_outside.specs.Files.{Files};
 ghost use Rattle.command_words.specs.declared.commands.TraceWords.{TraceWords};
+ghost use Rattle.run_files.specs.Answers.{IsTold};
 ghost use Rattle.run_files.specs.declared.limits.Limits.TheVariants.{Judging};
 ghost use Rattle.run_files.specs.declared.outcome.Done.{Done};
 ghost use Rattle.run_files.specs.declared.outcome.FileRefusal.{FileRefusal};
-ghost use Rattle.run_files.specs.Answers.{IsTold};
 ghost use Rattle.run_inputs.specs.Counts.{IsJudgingRefusal};
+ghost use Rattle.std.specs.Prelude.{◌≡◌, ℕ, List};
 ghost use Rattle.verify_commands.specs.Traces.{IsTraced, IsTraceRefusal, TellsTrace};
 ghost use Rattle.verify_commands.specs.Verifies.{IsVerified, TellsVerdicts};
 

@@ -1,8 +1,8 @@
 //! The command `trace DOC FROM TO`.
-ghost use Rattle.std.specs.Prelude.{◌≡◌, None, IfOk};
 ghost use Rattle.net_rules.specs.Linking.{first_above};
 ghost use Rattle.run_files.specs.Answers.{Answers, IsJudging, OnlyReads};
 ghost use Rattle.run_files.specs.Limits.{least_limit};
+ghost use Rattle.std.specs.Prelude.{◌≡◌, None, IfOk};
 ghost use Rattle.verify_commands.specs.Traces.{down_flags, IsTraceRefusal, IsTraced};
 
 use arc_base::{Kind, List, Name};

@@ -1,11 +1,10 @@
 //! The command `verify DOC`.
-ghost use Rattle.std.specs.Prelude.{◌≡◌, ◌≤◌, length, IfOk};
-ghost use Rattle.std.specs.List.{AllZip, list_all};
-ghost use Rattle.net_model.specs.Witnesses.{is_yes};
-ghost use Rattle.run_inputs.specs.Counts.{PoliciesHaveFewClasses, IsJudgingRefusal};
-ghost use Rattle.run_inputs.specs.Inputs.{IsFit};
 ghost use Rattle.run_files.specs.Answers.{Answers, IsJudging, OnlyReads};
 ghost use Rattle.run_files.specs.Limits.{least_limit};
+ghost use Rattle.run_inputs.specs.Counts.{PoliciesHaveFewClasses, IsJudgingRefusal};
+ghost use Rattle.run_inputs.specs.Inputs.{IsFit};
+ghost use Rattle.std.specs.List.{AllZip};
+ghost use Rattle.std.specs.Prelude.{◌≡◌, ◌≤◌, IfOk};
 ghost use Rattle.verify_commands.specs.Verifies.{IsVerdictOn, IsVerified, verdicts_status};
 
 use arc_base::{List, Memory, Name};
@@ -14,35 +13,23 @@ use net_model::Verdict;
 use policy_report::report;
 use run_files::{Done, Limits, Stop};
 use run_inputs::{Input, count_classes, read_input};
+use run_progress::Listener;
 use std::alloc::Global;
-use traffic_classes::Marks;
-use verdicts::{JudgeFault, judge_under};
+use verdicts::are_all_yes;
 
-/// The verdict on each policy of the document, in order. All classes are few, and no policy has
-/// more than all of them.
-fn judge_all(alloc: Global, input: &Input) -> Result<List<Verdict>, Memory>
+/// The verdict on each policy of the document, in order. The policies are within `CLASS_LIMIT`, so
+/// none exceeds it.
+fn judge_all<L: Listener>(
+    alloc: Global,
+    input: &Input,
+    listener: &mut L,
+) -> Result<List<Verdict>, Memory>
     requires fit { IsFit input.now }
     requires few { PoliciesHaveFewClasses input.now.net input.now.doc.policies }
     ensures { IfOk result
         (AllZip (IsVerdictOn input.now.net input.now.doc.policies) input.now.doc.policies) }
 {
-    let marks = Marks::of(alloc, &input.net, &input.doc.policies)?;
-    let mut verdicts = List::make(alloc);
-    for which in 0..input.doc.policies.len() {
-        match judge_under(alloc, &input.net, &input.doc.policies, &marks, which) {
-            Ok(verdict) => verdicts.push(verdict)?,
-            Err(JudgeFault::TooMany(_)) => unreachable!(),
-            Err(JudgeFault::Memory) => return Err(Memory),
-        }
-    }
-    Ok(verdicts)
-}
-
-/// Whether each verdict is a yes.
-fn are_all_yes(verdicts: &[Verdict]) -> bool
-    ensures { result ≡ list_all is_yes verdicts.now }
-{
-    verdicts.iter().all(|verdict| verdict.is_yes())
+    verdicts::judge_all(alloc, &input.net, &input.doc.policies, listener)
 }
 
 /// The status of these verdicts.
@@ -54,7 +41,12 @@ fn status_of(verdicts: &[Verdict]) -> u8
 }
 
 /// Judges each policy of the document, and reports the verdicts.
-pub fn verify<S: Store>(alloc: Global, document: &Name, store: &mut S) -> Result<Done, Stop>
+pub fn verify<S: Store, L: Listener>(
+    alloc: Global,
+    document: &Name,
+    store: &mut S,
+    listener: &mut L,
+) -> Result<Done, Stop>
     ensures answer { Answers IsJudging (IsJudgingRefusal Limits.Judging document.now)
         (IsVerified document.now) (S.held store.old) result }
     ensures reads { OnlyReads least_limit S.held S.faults S.absences S.taken
@@ -62,7 +54,7 @@ pub fn verify<S: Store>(alloc: Global, document: &Name, store: &mut S) -> Result
 {
     let input = read_input(alloc, document, &[], Limits::Judging, store)?;
     count_classes(alloc, document, &input.net, &input.doc.policies)?;
-    let verdicts = judge_all(alloc, &input)?;
+    let verdicts = judge_all(alloc, &input, listener)?;
     let text = report(alloc, &input.net, &input.doc, &verdicts)?;
     Ok(Done {
         text: Name::of(text),

@@ -21,25 +21,25 @@ knows f s is = subst (Knows (start f None [])) (sym is) (record { clauses = live
 knows_after : (f : Formula) (s : State) (steps : List Step) → s ≡ core_of f → steps ≡ [] → Knows (after_all (start f None []) steps) s
 knows_after f s steps is empty = subst (λ (l : List Step). Knows (after_all (start f None []) l) s) (sym empty) (knows f s is)
 
-pub search-requires-clause-numbers : goal.search-requires-clause-numbers
-search-requires-clause-numbers c = omega (arith, ap (λ (s : State). s.last_id) c.in_ok-core.ensures.core, c.in_ok-core.ensures.few, c.requires.most)
+pub search_first-requires-clause-numbers : goal.search_first-requires-clause-numbers
+search_first-requires-clause-numbers g c = omega (arith, ap (λ (s : State). s.last_id) c.in_ok-core.ensures.core, c.in_ok-core.ensures.few, c.requires.most)
 
 pub returns-clause-log : goal.returns-clause-log
-returns-clause-log c =
+returns-clause-log g c =
     let f = c.args.formula.now in
     let ensures = c.in_ok-found.ensures in
     let positive = subst (λ (s : State). All (λ d. 1 ≤ d.id) s.clauses) (sym c.in_ok-core.ensures.core) (ids_are_positive f.clauses) in
     record {
-      accepted = all_appended (IsAccepted (start f None [])) c.make.result c.search.new.log.steps _ c.make.ensures ensures.keeps (ensures.accepted (start f None []) (knows f c.in_ok-core.core c.in_ok-core.ensures.core));
+      accepted = all_appended (IsAccepted (start f None [])) c.make.result c.search_first.new.log.steps _ c.make.ensures ensures.keeps (ensures.accepted (start f None []) (knows f c.in_ok-core.core c.in_ok-core.ensures.core));
       has_lines = ensures.lines positive (subst (All HasLine) (sym c.make.ensures) (All-nil HasLine));
     }
 
 pub returns-clause-found : goal.returns-clause-found
-returns-clause-found c =
+returns-clause-found g c =
     let f = c.args.formula.now in
     let core = c.in_ok-core.ensures.core in
     let ensures = c.in_ok-found.ensures in
-    let accepted = all_appended (IsAccepted (start f None [])) c.make.result c.search.new.log.steps _ c.make.ensures ensures.keeps (ensures.accepted (start f None []) (knows f c.in_ok-core.core core)) in
+    let accepted = all_appended (IsAccepted (start f None [])) c.make.result c.search_first.new.log.steps _ c.make.ensures ensures.keeps (ensures.accepted (start f None []) (knows f c.in_ok-core.core core)) in
     let spent = ensures.spent f None [] (knows_after f c.in_ok-core.core c.make.result core c.make.ensures) (subst (IsClean f None []) (sym c.make.ensures) tt) in
     let clean = ensures.clean f None [] (knows_after f c.in_ok-core.core c.make.result core c.make.ensures) (subst (IsClean f None []) (sym c.make.ensures) tt) in
-    is_found f c.args.limit c.search.new.log c.in_ok-found.found c.in_ok-core.core c.search.new.core c.make.result core c.make.ensures ensures.model ensures.others ensures.vars ensures.refuting spent clean accepted
+    is_found f c.args.limit c.search_first.new.log c.in_ok-found.found c.in_ok-core.core c.search_first.new.core c.make.result core c.make.ensures ensures.model ensures.others ensures.vars ensures.refuting spent clean accepted

@@ -6,12 +6,6 @@ use Rattle.policy_encode.specs.Questions.{IsQuestion}
 use Rattle.policy_encode.proofs.Making.{zip_more}
 use Rattle.policy_encode.proofs.encoding.questions.Goals as goal
 
-pub question-requires-clause-one : goal.question-requires-clause-one
-question-requires-clause-one c =
-    let low : c.loop-policy.policy-index < length c.args.doc.now.policies = omega (arith, c.loop-policy-test.true, ap length c.slice-policy-items.ensures.items) in
-    let is = c.policy-item.is ∙ ap (λ (l : List Policy). get_or l c.loop-policy.policy-index c.policy-item.result) c.slice-policy-items.ensures.items in
-    (c.loop-policy.policy-index, low, sym is)
-
 pub question-requires-clause-ends : goal.question-requires-clause-ends
 question-requires-clause-ends c =
     let low : c.loop-policy.policy-index < length c.args.doc.now.policies = omega (arith, c.loop-policy-test.true, ap length c.slice-policy-items.ensures.items) in

@@ -15,16 +15,16 @@ unreachable-requires-in_default-get c =
     let found = AllZip-right (IsRightOn c.args.input.now.net) c.args.input.now.doc.policies c.args.rechecked.now c.requires.right c.args.which c.in-Some.policy.now (sym c.in-Some.ensures.item) in
     none-some found.0 (c.in_default-get.ensures.item ∙ found.1)
 
-pub alone_given-requires-clause-ends : goal.alone_given-requires-clause-ends
-alone_given-requires-clause-ends c =
+pub alone_with-requires-clause-ends : goal.alone_with-requires-clause-ends
+alone_with-requires-clause-ends c =
     at_place (λ p. HasEnds c.args.input.now.net (subject p)) c.args.input.now.doc.policies c.args.which c.requires.fit.ends c.in-Some.policy.now (sym c.in-Some.ensures.item)
 
-pub alone_given-requires-clause-right : goal.alone_given-requires-clause-right
-alone_given-requires-clause-right c =
+pub alone_with-requires-clause-right : goal.alone_with-requires-clause-right
+alone_with-requires-clause-right c =
     right_at c.args.input.now.net c.args.input.now.doc.policies c.args.rechecked.now c.args.which c.in-Some.policy.now c.in-Some-get.one.now c.requires.right
     (sym c.in-Some.ensures.item) (sym c.in-Some-get.ensures.item)
 
-pub returns : goal.returns
-returns c =
-    IfOk-weaker c.alone_given.result _ _
-    (λ found answer. there _ c.in-Some.policy.now (λ p. IsAloneAnswer c.args.input.now.net p found) c.in-Some.ensures.item answer) c.alone_given.ensures
+pub returns-clause-answer : goal.returns-clause-answer
+returns-clause-answer c =
+    IfOk-weaker c.alone_with.result _ _
+    (λ found answer. there _ c.in-Some.policy.now (λ p. IsAloneAnswer c.args.input.now.net p found) c.in-Some.ensures.item answer) c.alone_with.ensures.answer

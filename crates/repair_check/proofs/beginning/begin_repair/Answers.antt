@@ -2,7 +2,7 @@ use Rattle.std.proofs.Common.{◌≡◌, ◌∙◌, ℕ, Option, inl, refl, ap, 
 use Rattle.std.proofs.lemmas.Result.{err_from_is_err_and}
 use Rattle.proof_check.specs.declared.checker.Checker.{Checker}
 use Rattle.policy_report.specs.declared.got.CertForm.TheVariants.{Repaired}
-use Rattle.arc_repair.specs.Repairs.{none_of}
+use Rattle.edit_list.specs.Prices.{none_of}
 use Rattle.repair_check.specs.Phases.{IsReady, IsReadyWithin}
 use Rattle.repair_check.proofs.Counted.{fault_there, repair_begun}
 use Rattle.repair_check.proofs.beginning.begin_repair.Goals.{then-bound-le-PRICE_LIMIT+in_ok-ready, else-bound-le-PRICE_LIMIT}

@@ -1,11 +1,10 @@
 use Rattle.std.proofs.Common.{◌≡◌, ℕ, zero, suc, Option, inl, inr, refl, sym, ◌∙◌, subst, nat_lt, arith}
 use Rattle.std.proofs.lemmas.Bool.{lt-ltb}
 use Rattle.edit_list.specs.After.{IsAfter}
-use Rattle.edit_list.specs.Prices.{chosen_of}
+use Rattle.edit_list.specs.Prices.{chosen_of, price_of_flags}
 use Rattle.price_descent.specs.Outcomes.{least_below}
 use Rattle.proof_check.specs.declared.checker.Checker.{Checker}
 use Rattle.arc_repair.specs.Claims.{is_above_zero}
-use Rattle.arc_repair.specs.Repairs.{cost}
 use Rattle.repair_check.specs.Phases.{IsMispricedClaim, IsReady, IsReadyWithin}
 use Rattle.repair_check.proofs.beginning.end_edits.Goals as goal
 
@@ -20,7 +19,7 @@ returns-clause-opened c =
     record {
       priced = λ (bad : IsMispricedClaim c.args.doc.now c.args.list.now c.args.claim).
           elim bad [
-            | inl different ↦ different (subst (λ flags. cost c.args.doc.now c.args.list.now flags ≡ c.args.claim.price) c.as_slice.ensures.value (sym c.price-cost.ensures ∙ (c.if-cost-from.false ∙ c.from.ensures)))
+            | inl different ↦ different (subst (λ flags. price_of_flags c.args.doc.now c.args.list.now flags ≡ c.args.claim.price) c.as_slice.ensures.value (sym c.price-cost.ensures ∙ (c.if-cost-from.false ∙ c.from.ensures)))
             | inr (inl low) ↦ omega (arith, low, c.if-claimed-bound.false)
             | inr (inr high) ↦ omega (arith, high, ready.few)
           ];
