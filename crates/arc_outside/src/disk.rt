@@ -210,7 +210,7 @@ fn read_as<R: Files>(
     }
 }
 
-/// The error of a read that failed other than for want of memory.
+/// The error of a read that failed, and not because memory ran out.
 fn failed_read(error: io::Error) -> io::Error
     ensures { error_kind result ≢ ErrorKind.OutOfMemory }
 {

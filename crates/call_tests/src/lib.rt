@@ -9,8 +9,6 @@ mod certificates;
 #[cfg(test)]
 mod cores;
 #[cfg(test)]
-mod logs;
-#[cfg(test)]
 mod models;
 #[cfg(test)]
 mod networks;

@@ -17,6 +17,13 @@ fn files(alloc: Global) -> Result<List<(Name, Name)>, Fail> {
     Ok(files)
 }
 
+// The calls that fail: the one of this number.
+fn failing(alloc: Global, call: u64) -> Result<List<u64>, Fail> {
+    let mut calls = List::make(alloc);
+    calls.push(call)?;
+    Ok(calls)
+}
+
 // No clause says that memory is had: with enough of it each call that takes some answers.
 #[test]
 fn allocating_calls_answer(rt: HostRuntime) -> Result<(), Fail> {
@@ -87,9 +94,7 @@ fn lines_come_in_order(rt: HostRuntime) -> Result<(), Fail> {
 fn line_reads_fail(rt: HostRuntime) -> Result<(), Fail> {
     let alloc = rt.alloc();
     let name = Name::make(alloc, b"a")?;
-    let mut second = List::make(alloc);
-    second.push(2)?;
-    let mut store = MemStore::make(alloc, files(alloc)?, second)?;
+    let mut store = MemStore::make(alloc, files(alloc)?, failing(alloc, 2)?)?;
     let mut pieces = Pieces::make(alloc, 9);
     assert_eq!(rt;
         pieces.next(&mut store, &name).err(),
@@ -109,9 +114,7 @@ fn line_reads_fail(rt: HostRuntime) -> Result<(), Fail> {
 fn chosen_calls_fail(rt: HostRuntime) -> Result<(), Fail> {
     let alloc = rt.alloc();
     let name = Name::make(alloc, b"a")?;
-    let mut second = List::make(alloc);
-    second.push(2)?;
-    let mut store = MemStore::make(alloc, files(alloc)?, second)?;
+    let mut store = MemStore::make(alloc, files(alloc)?, failing(alloc, 2)?)?;
     store.write_whole(&name, b"first")?;
     assert_eq!(rt;
         store.write_whole(&name, b"seven..").err(),
@@ -122,9 +125,7 @@ fn chosen_calls_fail(rt: HostRuntime) -> Result<(), Fail> {
         read_all(alloc, &mut store, &name, 2).err(),
         Some(ReadAll::TooLong)
     );
-    let mut first = List::make(alloc);
-    first.push(1)?;
-    let mut out = MemSink::make(alloc, first);
+    let mut out = MemSink::make(alloc, failing(alloc, 1)?);
     assert_eq!(rt; out.put(b"lost").err(), Some(Fault::Failed));
     assert_eq!(rt; out.put(b"kept")?, 4);
     assert_eq!(rt; out.bytes(), b"kept".as_slice());
@@ -136,9 +137,7 @@ fn chosen_calls_fail(rt: HostRuntime) -> Result<(), Fail> {
 fn short_calls_give_the_same(rt: HostRuntime) -> Result<(), Fail> {
     let alloc = rt.alloc();
     let name = Name::make(alloc, b"a")?;
-    let mut fourth = List::make(alloc);
-    fourth.push(4)?;
-    let mut store = MemStore::short(alloc, files(alloc)?, 3, fourth)?;
+    let mut store = MemStore::short(alloc, files(alloc)?, 3, failing(alloc, 4)?)?;
     let mut piece = [0u8; 4];
     assert_eq!(rt; store.read_at(&name, 1, &mut piece)?, 3);
     assert_eq!(rt; &piece[..3], b"ell".as_slice());
@@ -150,9 +149,7 @@ fn short_calls_give_the_same(rt: HostRuntime) -> Result<(), Fail> {
         read_all(alloc, &mut store, &name, 5)?.as_slice(),
         b"hello".as_slice()
     );
-    let mut second = List::make(alloc);
-    second.push(2)?;
-    let mut out = MemSink::short(alloc, 3, second);
+    let mut out = MemSink::short(alloc, 3, failing(alloc, 2)?);
     assert_eq!(rt; out.put(b"text")?, 3);
     assert_eq!(rt; out.put(b"t").err(), Some(Fault::Failed));
     assert_eq!(rt; out.put(b"t")?, 1);

@@ -1,40 +1,127 @@
-//! The texts of formulas, and their faults.
+//! The texts of formulas and of proofs: what they are read as, their faults, and how proofs are
+//! judged; the steps of proofs, as lines and as they are written.
 
+use arc_base::{List, Memory};
 use cnf_types::formula;
+use proof_check::check_log;
+use proof_log::{Log, step, text};
 use std::alloc::Global;
 use std::test::Fail;
 
-/// What a text is read as.
-fn said(alloc: Global, text: &[u8]) -> Result<String, Fail> {
+/// The text of the one step that a line writes.
+fn written_again(alloc: Global, line: &[u8]) -> Result<Vec<u8>, Memory> {
+    let mut steps = List::make(alloc);
+    if let Ok(Some(step)) = step(alloc, line) {
+        steps.push(step)?;
+    }
+    text(alloc, &Log { steps })
+}
+
+/// A line, and what is written for it. The number of a line that drops clauses is that of the
+/// clause that was added last, here of none.
+const LINES: &[(&str, &str)] = &[
+    ("3  1 -20 0 2 -7 0\r", "3 1 -20 0 2 -7 0\n"),
+    ("9223372036854775807 0 1 0", "9223372036854775807 0 1 0\n"),
+    ("3 d 2 4 0", "0 d 2 4 0\n"),
+    ("4 b 9 0", "4 b 9 0\n"),
+    ("c 5 d 1 2 0", ""),
+    (" ", ""),
+    ("3 1 0 2", ""),
+    ("3 b 4294967296 0", ""),
+    ("3 -0 0 1 0", ""),
+    ("9223372036854775808 0 1 0", ""),
+];
+
+#[test]
+fn steps_are_read_and_written(rt: HostRuntime) -> Result<(), Fail> {
+    for (line, want) in LINES {
+        assert!(rt;
+            written_again(rt.alloc(), line.as_bytes())?.as_slice() == want.as_bytes(),
+            "{line}"
+        );
+    }
+    Ok(())
+}
+
+/// What a text is: a formula, or a proof that no value of the one variable fits 1 and -1.
+#[derive(Clone, Copy)]
+enum Form {
+    Formula,
+    Proof,
+}
+
+/// What a text is read as, or how it is judged.
+fn said(alloc: Global, form: Form, text: &[u8]) -> Result<String, Fail> {
     if text.len() > 1000 {
         return Err(Fail::from("a long text"));
     }
-    Ok(format!(in alloc; "{:?}", formula(alloc, text))?)
+    match form {
+        Form::Formula => Ok(format!(in alloc; "{:?}", formula(alloc, text))?),
+        Form::Proof => match formula(alloc, b"p cnf 1 2\n1 0\n-1 0\n") {
+            Ok(formula) => Ok(format!(in alloc; "{:?}", check_log(alloc, &formula, text))?),
+            Err(_) => Err(Fail::from("a formula")),
+        },
+    }
 }
 
-const ROWS: &[(&str, &str)] = &[
+const TEXTS: &[(Form, &str, &str)] = &[
     // the clauses 1 -2 and 3, over several lines
     (
+        Form::Formula,
         "c a comment\np  cnf 3 2\r\n1 -2\nc 7 0\n\n0 003 0\n",
         "Ok(Formula { vars: 3, clauses: List { items: [\
          Clause { lits: List { items: [Lit { code: 2 }, Lit { code: 5 }] } }, \
          Clause { lits: List { items: [Lit { code: 6 }] } }] } })",
     ),
-    ("p cnf 1 1\n2 0\n", "Err(BadNumber(2))"),
-    ("p cnf 1 1\n-0 0", "Err(BadNumber(2))"),
-    ("p cnf 1 2\n1 0\n", "Err(Count(2))"),
-    ("p cnf 1 1\n1", "Err(Count(2))"),
-    ("1 0\n", "Err(BadHeader(1))"),
-    ("", "Err(BadHeader(0))"),
-    ("c 1\nc 2", "Err(BadHeader(2))"),
-    ("p cnf 16777217 0", "Err(TooLarge(Variables, 16777217))"),
+    (Form::Formula, "p cnf 1 1\n2 0\n", "Err(BadNumber(2))"),
+    (Form::Formula, "p cnf 1 1\n-0 0", "Err(BadNumber(2))"),
+    (Form::Formula, "p cnf 1 2\n1 0\n", "Err(Count(2))"),
+    (Form::Formula, "p cnf 1 1\n1", "Err(Count(2))"),
+    (Form::Formula, "1 0\n", "Err(BadHeader(1))"),
+    (Form::Formula, "", "Err(BadHeader(0))"),
+    (Form::Formula, "c 1\nc 2", "Err(BadHeader(2))"),
+    (
+        Form::Formula,
+        "p cnf 16777217 0",
+        "Err(TooLarge(Variables, 16777217))",
+    ),
+    (Form::Proof, "3 0 1 2 0", "Ok(Accepted)"),
+    (Form::Proof, "3 1 0 1 0\r\n\nc\n4 0 3 2 0", "Ok(Accepted)"),
+    (
+        Form::Proof,
+        "3 0 1 0\n",
+        "Ok(Rejected(1, Fault(NoConflict)))",
+    ),
+    (
+        Form::Proof,
+        "2 0 1 2 0\n",
+        "Ok(Rejected(1, Fault(IdNotRising)))",
+    ),
+    (
+        Form::Proof,
+        "0 d 1 0\n3 0 1 2 0\n",
+        "Ok(Rejected(2, Fault(UnknownId(0))))",
+    ),
+    (
+        Form::Proof,
+        "3 0 -1 2 0\n",
+        "Ok(Rejected(1, Fault(NegativeHint(0))))",
+    ),
+    (
+        Form::Proof,
+        "3 b 1 0\n",
+        "Ok(Rejected(1, Fault(BoundTooHigh)))",
+    ),
+    (Form::Proof, "3 0 1 2\n", "Ok(Rejected(1, Form))"),
+    (Form::Proof, "3 -1 0 2 0\n", "Ok(Rejected(2, NotRefuted))"),
+    (Form::Proof, "", "Ok(Rejected(1, NotRefuted))"),
 ];
 
 #[test]
-fn formulas_are_read(rt: HostRuntime) -> Result<(), Fail> {
-    for (text, want) in ROWS {
+fn texts_are_read_and_judged(rt: HostRuntime) -> Result<(), Fail> {
+    for (form, text, want) in TEXTS {
         assert!(rt;
-            said(rt.alloc(), text.as_bytes())?.as_str() == *want,
+            said(rt.alloc(), *form, text.as_bytes())?.as_str() == *want,
             "{want}"
         );
     }

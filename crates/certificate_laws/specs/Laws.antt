@@ -9,7 +9,7 @@ use Rattle.run_files.specs.declared.outcome.Done.{Done}
 use Rattle.run_inputs.specs.Inputs.{HoldsDocument, HoldTheSame}
 use Rattle.repair_commands.specs.Repairs.{IsRepaired}
 use Rattle.generate_commands.specs.Generates.{IsSummary}
-use Rattle.check_commands.specs.ReportChecks.{IsAccepted}
+use Rattle.check_commands.specs.ReportChecks.{IsAcceptedReport}
 use Rattle.check_commands.specs.Tells.{IsRepairAccepted}
 use Rattle.verify_commands.specs.Verifies.{IsVerified}
 
@@ -19,7 +19,7 @@ abbrev pub VerifiedIsAccepted : Type 0
 VerifiedIsAccepted =
     (document certificate : List ℕ) (before after : Files) (done : Done) →
     IsVerified document before done → HoldTheSame document before after
-    → after certificate ≡ Some done.text → IsAccepted document certificate after
+    → after certificate ≡ Some done.text → IsAcceptedReport document certificate after
 
 -- the certificate that `repair` wrote, of a repair or of that there is none, is accepted under each
 -- name that it is saved under, where the document and its router files are still the same

@@ -85,14 +85,6 @@ pub map_as_flat : {X Y : Type 0} (f : X → Y) (xs : List X) → flat_map (λ (x
 map_as_flat f [] = refl
 map_as_flat {X} {Y} f (x ∷ xs) = ap (λ (ys : List Y). f x ∷ ys) (map_as_flat f xs)
 
--- a clause for each item: those of one item more, and of all
-pub Adds-each : {X : Type 0} (f : X → List Part) (a b c : Writer) (xs : List X) (i : ℕ) (x : X) → i < length xs → x ≡ get_or xs i x →
-    Adds a b (map f (take i xs)) → Adds b c (f x ∷ []) → Adds a c (map f (take (i + 1) xs))
-Adds-each {X} f a b c xs i x l is first second =
-    Adds-same a c (map f (take i xs) ++ f x ∷ []) (map f (take (i + 1) xs))
-    (sym (ap (λ (ys : List X). map f ys) (take_more xs i x l) ∙ map-append f (take i xs) (get_or xs i x ∷ []) ∙ ap (λ (y : X). map f (take i xs) ++ f y ∷ []) (sym is)))
-    (Adds-then a b c (map f (take i xs)) (f x ∷ []) first second)
-
 pub Adds-every : {X : Type 0} (f : X → List Part) (a b : Writer) (xs : List X) (i : ℕ) → length xs ≤ i → Adds a b (map f (take i xs)) → Adds a b (map f xs)
 Adds-every {X} f a b xs i l h = Adds-same a b (map f (take i xs)) (map f xs) (ap (λ (ys : List X). map f ys) (take_all i xs l)) h
 

@@ -16,7 +16,7 @@ use Rattle.condition_formula.specs.declared.condition.Condition.{Condition}
 use Rattle.condition_formula.specs.declared.network.ConditionArc.{ConditionArc}
 use Rattle.condition_formula.specs.declared.network.Question.{Question}
 use Rattle.condition_formula.specs.Lists.{upto}
-use Rattle.condition_formula.specs.Conditions.{holds, IsOf, HasEdits, IsSound, IsClear, lists_of, is_routed, bare, routed_arcs}
+use Rattle.condition_formula.specs.Conditions.{holds, IsOfEdits, HasEdits, IsSound, IsClearArc, lists_of, is_routed, bare, routed_arcs}
 use Rattle.condition_formula.specs.Clauses.{yes, no, affirmed, denied, part_value, parts_value, Fulfils}
 use Rattle.condition_formula.specs.Reaching.{arc_at, places, out_of, into, exclusions, implications, routed_parts, node_parts, once_parts, between, family_parts, over_link, clear_parts, paths_parts}
 use Rattle.condition_formula.proofs.Parts.{Agrees, affirmed_is, denied_is, any_to, all_from, all_to, all_or_some}
@@ -50,7 +50,7 @@ family a chosen nodes links edits q used sound g h =
           let clause = no (used place) ∷ affirmed c ∷ [] in
           let t : IsTrue (parts_value a clause) = Fulfils-piece a (λ (p : ℕ). map (λ (d : Condition). no (used p) ∷ affirmed d ∷ []) (arc_at q p).routing) (places q) place
           (Fulfils-left a all ends to_ends) (in_upto (length q.arcs) place l) clause (Contains-map (λ (d : Condition). no (used place) ∷ affirmed d ∷ []) (arc_at q place).routing c m) in
-          let of : IsOf edits c = All-contains (IsOf edits) (arc_at q place).routing c (All-contains (HasEdits edits) q.arcs (arc_at q place) sound.arcs (is_arc q place l)).routing m in
+          let of : IsOfEdits edits c = All-contains (IsOfEdits edits) (arc_at q place).routing c (All-contains (HasEdits edits) q.arcs (arc_at q place) sound.arcs (is_arc q place l)).routing m in
           elim (one_of (not (a (used place))) (part_value a (affirmed c)) t) [
             | inl off ↦ absurd (not_true (a (used place)) on off)
             | inr yes_c ↦ sym (affirmed_is a chosen edits c g of) ∙ yes_c
@@ -233,7 +233,7 @@ paths_from_model a chosen nodes links edits q many used sound g apart h =
 
 -- and each routed arc is clear
 pub clear_from_model : (a chosen : ℕ → Bool) (nodes links edits : ℕ) (q : Question) (many : ℕ) (used : ℕ → ℕ → ℕ) → IsSound nodes links edits q → Agrees a chosen edits →
-    Fulfils a (paths_parts q nodes links many used) → (class : ℕ) → class < length q.classes → (arc : ConditionArc) → Contains q.arcs arc → IsTrue (is_routed chosen arc) → IsClear chosen class arc
+    Fulfils a (paths_parts q nodes links many used) → (class : ℕ) → class < length q.classes → (arc : ConditionArc) → Contains q.arcs arc → IsTrue (is_routed chosen arc) → IsClearArc chosen class arc
 clear_from_model a chosen nodes links edits q many used sound g h class l arc m routed =
     let clears = flat_map (λ (c : ℕ). flat_map (clear_parts c) q.arcs) (upto (length q.classes)) in
     let families = flat_map (λ (f : ℕ). family_parts q nodes (used f)) (upto many) in
@@ -243,13 +243,13 @@ clear_from_model a chosen nodes links edits q many used sound g h class l arc m 
     let has : HasEdits edits arc = All-contains (HasEdits edits) q.arcs arc sound.arcs m in
     let out = (lists_of arc class).outbound in
     let ins = (lists_of arc class).inbound in
-    let says : (c : Condition) → IsOf edits c → IsTrue (parts_value a (map denied arc.routing ++ affirmed c ∷ [])) → holds chosen c ≡ true = λ c of t.
+    let says : (c : Condition) → IsOfEdits edits c → IsTrue (parts_value a (map denied arc.routing ++ affirmed c ∷ [])) → holds chosen c ≡ true = λ c of t.
     let r = any_to (part_value a) (map denied arc.routing ++ affirmed c ∷ []) t in
     elim (Contains-append_cases (map denied arc.routing) (affirmed c ∷ []) r.0 r.1) [
       | inl d ↦
           let e = from_map denied arc.routing r.0 d in
           absurd (not_true (holds chosen e.0) (all_to (holds chosen) arc.routing e.0 routed e.1)
-          (sym (denied_is a chosen edits e.0 g (All-contains (IsOf edits) arc.routing e.0 has.routing e.1)) ∙ (ap (part_value a) e.2 ∙ r.2)))
+          (sym (denied_is a chosen edits e.0 g (All-contains (IsOfEdits edits) arc.routing e.0 has.routing e.1)) ∙ (ap (part_value a) e.2 ∙ r.2)))
       | inr last ↦ elim (Contains-cases (affirmed c) r.0 [] last) [
         | inl e ↦ sym (affirmed_is a chosen edits c g of) ∙ (ap (part_value a) e ∙ r.2)
         | inr none ↦ absurd (Contains-none r.0 none)

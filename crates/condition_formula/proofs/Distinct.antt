@@ -8,37 +8,9 @@ use Rattle.std.proofs.Math.Seq.{get_or-append_seam}
 use Rattle.std.proofs.lemmas.List.Elements.{Contains-append_left, Contains-append_right, Contains-get_or}
 use Rattle.std.proofs.lemmas.List.Kept.{AllPairs-cons}
 use Rattle.arc_base.proofs.Items.{Contains-head, Contains-tail, Contains-cases, Contains-none, Contains-piece, All-from, AllPairs-rest, AllPairs-first, AllPairs-append, AllPairs-none, AllPairs-single, AllPairs-unmap}
+use Rattle.graph_flow.proofs.Lists.{Without, without}
 use Rattle.condition_formula.proofs.Places.{below}
 use Rattle.condition_formula.specs.Lists.{upto}
-
--- a list that is one item shorter and holds every other item
-record Without {X : Type 0} (xs : List X) (x : X) : Type 0 where
-  rest : List X
-  shorter : length xs ≡ suc (length rest)
-  others : (y : X) → Contains xs y → (x ≡ y → ⊥) → Contains rest y
-
-without : {X : Type 0} (xs : List X) (x : X) → Contains xs x → Without xs x
-without [] x m = absurd (Contains-none x m)
-without {X} (z ∷ xs) x m =
-    elim (Contains-cases z x xs m) [
-      | inl e ↦ record {
-        rest = xs;
-        shorter = refl;
-        others = λ y a ne. elim (Contains-cases z y xs a) [
-          | inl f ↦ absurd (ne (sym e ∙ f))
-          | inr n ↦ n
-        ];
-      }
-      | inr n ↦ let w : Without xs x = without xs x n in
-          record {
-            rest = z ∷ w.rest;
-            shorter = ap suc w.shorter;
-            others = λ y a ne. elim (Contains-cases z y xs a) [
-              | inl f ↦ subst (λ (q : X). Contains (z ∷ w.rest) q) f (Contains-head z w.rest)
-              | inr b ↦ Contains-tail z y w.rest (w.others y b ne)
-            ];
-          }
-    ]
 
 -- items that differ and all stand in a list are no more than its items
 pub fit_into : {X : Type 0} (xs ys : List X) → AllPairs (λ (x y : X). x ≢ y) xs → ((x : X) → Contains xs x → Contains ys x) → length xs ≤ length ys

@@ -15,7 +15,7 @@ use Rattle.condition_formula.specs.declared.condition.Condition.{Condition}
 use Rattle.condition_formula.specs.declared.network.ConditionArc.{ConditionArc}
 use Rattle.condition_formula.specs.declared.network.Question.{Question}
 use Rattle.condition_formula.specs.Lists.{upto}
-use Rattle.condition_formula.specs.Conditions.{holds, IsOf, HasEdits, IsSound, IsClear, lists_of, is_routed, bare, routed_arcs}
+use Rattle.condition_formula.specs.Conditions.{holds, IsOfEdits, HasEdits, IsSound, IsClearArc, lists_of, is_routed, bare, routed_arcs}
 use Rattle.condition_formula.specs.Clauses.{yes, no, affirmed, denied, part_value, parts_value, Fulfils}
 use Rattle.condition_formula.specs.Reaching.{arc_at, places, out_of, into, exclusions, implications, routed_parts, node_parts, once_parts, between, family_parts, over_link, clear_parts, paths_parts}
 use Rattle.condition_formula.proofs.Parts.{Agrees, affirmed_is, denied_is, any_from, any_to, all_to, all_or_some}
@@ -81,7 +81,7 @@ family_true a chosen nodes links edits q used way sound g apart path once is =
     let routed : Fulfils a all = Fulfils-flat_map a (λ (p : ℕ). map (λ (c : Condition). no (used p) ∷ affirmed c ∷ []) (arc_at q p).routing) (places q) (λ p m.
     let l : p < length q.arcs = below (length q.arcs) p m in
     Fulfils-map a (λ (c : Condition). no (used p) ∷ affirmed c ∷ []) (arc_at q p).routing (λ c n.
-    let of : IsOf edits c = All-contains (IsOf edits) (arc_at q p).routing c (All-contains (HasEdits edits) q.arcs (arc_at q p) sound.arcs (is_arc q p l)).routing n in
+    let of : IsOfEdits edits c = All-contains (IsOfEdits edits) (arc_at q p).routing c (All-contains (HasEdits edits) q.arcs (arc_at q p) sound.arcs (is_arc q p l)).routing n in
     elim (cases_Bool (a (used p))) [
       | inl on ↦
           let r = from_routed chosen q (bare (arc_at q p)) (over arcs s t way path (bare (arc_at q p)) (is.to p l on)) in
@@ -166,16 +166,16 @@ follows a chosen q used s t way path is = record {
 }
 
 -- a routed arc that is clear makes its clauses true, and so does one that is not routed
-clear_true : (a chosen : ℕ → Bool) (edits class : ℕ) (arc : ConditionArc) → Agrees a chosen edits → HasEdits edits arc → (IsTrue (is_routed chosen arc) → IsClear chosen class arc) → Fulfils a (clear_parts class arc)
+clear_true : (a chosen : ℕ → Bool) (edits class : ℕ) (arc : ConditionArc) → Agrees a chosen edits → HasEdits edits arc → (IsTrue (is_routed chosen arc) → IsClearArc chosen class arc) → Fulfils a (clear_parts class arc)
 clear_true a chosen edits class arc g has clear =
     let out = (lists_of arc class).outbound in
     let ins = (lists_of arc class).inbound in
-    let says : (c : Condition) → IsOf edits c → (IsTrue (is_routed chosen arc) → holds chosen c ≡ true) → IsTrue (parts_value a (map denied arc.routing ++ affirmed c ∷ [])) = λ c of h.
+    let says : (c : Condition) → IsOfEdits edits c → (IsTrue (is_routed chosen arc) → holds chosen c ≡ true) → IsTrue (parts_value a (map denied arc.routing ++ affirmed c ∷ [])) = λ c of h.
     elim (all_or_some (holds chosen) arc.routing) [
       | inl routed ↦ any_from (part_value a) (map denied arc.routing ++ affirmed c ∷ []) (affirmed c) (Contains-append_right (map denied arc.routing) (affirmed c ∷ []) (affirmed c) (Contains-head (affirmed c) []))
           (affirmed_is a chosen edits c g of ∙ h routed)
       | inr d ↦ any_from (part_value a) (map denied arc.routing ++ affirmed c ∷ []) (denied d.0) (Contains-append_left (map denied arc.routing) (affirmed c ∷ []) (denied d.0) (Contains-map denied arc.routing d.0 d.1))
-          (denied_is a chosen edits d.0 g (All-contains (IsOf edits) arc.routing d.0 has.routing d.1) ∙ ap not d.2)
+          (denied_is a chosen edits d.0 g (All-contains (IsOfEdits edits) arc.routing d.0 has.routing d.1) ∙ ap not d.2)
     ] in
     Fulfils-cons a (map denied arc.routing ++ affirmed out ∷ []) ((map denied arc.routing ++ affirmed ins ∷ []) ∷ []) (says out (has.lists class).0 (λ r. (clear r).outbound))
     (Fulfils-cons a (map denied arc.routing ++ affirmed ins ∷ []) [] (says ins (has.lists class).1 (λ r. (clear r).inbound)) (Fulfils-none a))
@@ -219,7 +219,7 @@ items-rise q link (suc many) =
 -- where the ways lead and the routed arcs are clear, the clauses of reach are true
 pub paths_true : (a chosen : ℕ → Bool) (nodes links edits : ℕ) (q : Question) (many : ℕ) (used : ℕ → ℕ → ℕ) → IsSound nodes links edits q → Agrees a chosen edits → q.source ≢ q.target →
     (w : Ways (routed_arcs chosen q) q.source q.target many) →
-    ((class : ℕ) → class < length q.classes → (arc : ConditionArc) → Contains q.arcs arc → IsTrue (is_routed chosen arc) → IsClear chosen class arc) →
+    ((class : ℕ) → class < length q.classes → (arc : ConditionArc) → Contains q.arcs arc → IsTrue (is_routed chosen arc) → IsClearArc chosen class arc) →
     ((family place : ℕ) → family < many → place < length q.arcs → a (used family place) ≡ is_on q (w.way family) place) → Fulfils a (paths_parts q nodes links many used)
 paths_true a chosen nodes links edits q many used sound g apart w clear is =
     let clears = flat_map (λ (class : ℕ). flat_map (clear_parts class) q.arcs) (upto (length q.classes)) in

@@ -18,7 +18,7 @@ use Rattle.condition_formula.specs.declared.network.Demand.{Demand}
 use Rattle.condition_formula.specs.declared.network.Demand.TheVariants.{Blocked, Through, Reach}
 use Rattle.condition_formula.specs.declared.network.ConditionNet.{ConditionNet}
 use Rattle.condition_formula.specs.Lists.{upto}
-use Rattle.condition_formula.specs.Conditions.{IsSound, ends_of, routed_arcs, IsKeptOff, Passes, AreReached, MeetsDemand, IsMet}
+use Rattle.condition_formula.specs.Conditions.{IsSound, ends_of, routed_arcs, IsKeptOff, PassesEnds, AreReached, MeetsDemand, IsMet}
 use Rattle.condition_formula.specs.Prices.{price_of_first, price}
 use Rattle.condition_formula.specs.Clauses.{affirmed, edit_variable, part_value, Fulfils}
 use Rattle.condition_formula.specs.Formulas.{cell, demand_parts, demand_size, question_size, questions_parts, first_price, all_parts, tops_of}
@@ -39,7 +39,7 @@ use Rattle.condition_formula.proofs.Families.{is_on, paths_true}
 
 -- the clauses of a class's ends
 ends_from_model : (a chosen : ℕ → Bool) (nodes links edits : ℕ) (q : Question) → IsSound nodes links edits q → Agrees a chosen edits →
-    Fulfils a (flat_map (ends_parts q) (upto (length q.classes))) → (class : ℕ) → class < length q.classes → Passes chosen q class
+    Fulfils a (flat_map (ends_parts q) (upto (length q.classes))) → (class : ℕ) → class < length q.classes → PassesEnds chosen q class
 ends_from_model a chosen nodes links edits q sound g h class l =
     let both : Fulfils a (ends_parts q class) = Fulfils-piece a (ends_parts q) (upto (length q.classes)) class h (in_upto (length q.classes) class l) in
     let enters = affirmed (ends_of q class).enter ∷ [] in
@@ -98,10 +98,10 @@ own_kept_off chosen nodes links edits q sound off a first g is =
     (λ class node l m. is (class * nodes + node) (in_table (length q.classes) nodes class node l m) ∙ at_cell (comes_to chosen q) nodes class node m) off
 
 ends_true : (a chosen : ℕ → Bool) (nodes links edits : ℕ) (q : Question) → IsSound nodes links edits q → Agrees a chosen edits →
-    ((class : ℕ) → class < length q.classes → Passes chosen q class) → Fulfils a (flat_map (ends_parts q) (upto (length q.classes)))
+    ((class : ℕ) → class < length q.classes → PassesEnds chosen q class) → Fulfils a (flat_map (ends_parts q) (upto (length q.classes)))
 ends_true a chosen nodes links edits q sound g pass =
     Fulfils-flat_map a (ends_parts q) (upto (length q.classes)) (λ class m.
-    let p : Passes chosen q class = pass class (below (length q.classes) class m) in
+    let p : PassesEnds chosen q class = pass class (below (length q.classes) class m) in
     let enters = affirmed (ends_of q class).enter ∷ [] in
     let leaves = affirmed (ends_of q class).leave ∷ [] in
     Fulfils-cons a enters (leaves ∷ []) (or_left (part_value a (affirmed (ends_of q class).enter)) false (affirmed_is a chosen edits (ends_of q class).enter g (sound.ends class).0 ∙ p.enter))

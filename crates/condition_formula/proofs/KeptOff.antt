@@ -12,7 +12,7 @@ use Rattle.condition_formula.specs.declared.condition.Condition.{Condition}
 use Rattle.condition_formula.specs.declared.network.ConditionArc.{ConditionArc}
 use Rattle.condition_formula.specs.declared.network.Question.{Question}
 use Rattle.condition_formula.specs.Lists.{upto}
-use Rattle.condition_formula.specs.Conditions.{holds, IsOf, HasEdits, IsSound, lists_of, conditions_of, ends_of, is_open, counted, is_counted, bare, open_arcs, IsKeptOff}
+use Rattle.condition_formula.specs.Conditions.{holds, IsOfEdits, HasEdits, IsSound, lists_of, conditions_of, ends_of, is_open, counted, is_counted, bare, open_arcs, IsKeptOff}
 use Rattle.condition_formula.specs.Clauses.{yes, no, denied, part_value, parts_value, Fulfils}
 use Rattle.condition_formula.specs.Sides.{step_parts, side_parts, kept_off_parts}
 use Rattle.condition_formula.proofs.Parts.{Agrees, denied_is, any_from, any_to, all_to, all_or_some}
@@ -27,16 +27,16 @@ stays arcs P closed u v [] p h = subst P p h
 stays arcs P closed u v (arc ∷ way) p h = stays arcs P closed arc.head v way p.2 (closed arc p.0 (subst P (sym p.1) h))
 
 -- the conditions of an arc speak of the edits that there are
-pub of_conditions : (edits : ℕ) (arc : ConditionArc) (class : ℕ) (c : Condition) → HasEdits edits arc → Contains (conditions_of arc class) c → IsOf edits c
+pub of_conditions : (edits : ℕ) (arc : ConditionArc) (class : ℕ) (c : Condition) → HasEdits edits arc → Contains (conditions_of arc class) c → IsOfEdits edits c
 of_conditions edits arc class c has m =
     let out = (lists_of arc class).outbound in
     let ins = (lists_of arc class).inbound in
     elim (Contains-append_cases arc.routing (out ∷ ins ∷ []) c m) [
-      | inl r ↦ All-contains (IsOf edits) arc.routing c has.routing r
+      | inl r ↦ All-contains (IsOfEdits edits) arc.routing c has.routing r
       | inr l ↦ elim (Contains-cases out c (ins ∷ []) l) [
-        | inl e ↦ subst (IsOf edits) e (has.lists class).0
+        | inl e ↦ subst (IsOfEdits edits) e (has.lists class).0
         | inr n ↦ elim (Contains-cases ins c [] n) [
-          | inl e ↦ subst (IsOf edits) e (has.lists class).1
+          | inl e ↦ subst (IsOfEdits edits) e (has.lists class).1
           | inr none ↦ absurd (Contains-none c none)
         ]
       ]

@@ -12,7 +12,7 @@ use Rattle.cnf_types.specs.Literals.{literal}
 use Rattle.cnf_types.specs.Formulas.{value, clause_value}
 use Rattle.condition_formula.specs.declared.condition.Condition.{Condition}
 use Rattle.condition_formula.specs.declared.condition.Condition.TheVariants.{Always, Never, If, Unless}
-use Rattle.condition_formula.specs.Conditions.{holds, IsOf}
+use Rattle.condition_formula.specs.Conditions.{holds, IsOfEdits}
 use Rattle.condition_formula.specs.declared.part.Part.{Part}
 use Rattle.condition_formula.specs.declared.part.Part.TheVariants.{Fixed, Literal}
 use Rattle.condition_formula.specs.Clauses.{edit_variable, affirmed, denied, part_value, parts_value, Fulfils, is_fixed_true, literal_of, with_literal, distinct, written, written_clauses}
@@ -62,7 +62,7 @@ all_or_some f (y ∷ xs) =
 abbrev pub Agrees : (ℕ → Bool) → (ℕ → Bool) → ℕ → Type 0
 Agrees assignment chosen edits = (edit : ℕ) → edit < edits → assignment (edit_variable edit) ≡ chosen edit
 
-pub affirmed_is : (a chosen : ℕ → Bool) (edits : ℕ) (c : Condition) → Agrees a chosen edits → IsOf edits c → part_value a (affirmed c) ≡ holds chosen c
+pub affirmed_is : (a chosen : ℕ → Bool) (edits : ℕ) (c : Condition) → Agrees a chosen edits → IsOfEdits edits c → part_value a (affirmed c) ≡ holds chosen c
 affirmed_is a chosen edits Always g o = refl
 affirmed_is a chosen edits Never g o = refl
 affirmed_is a chosen edits (If e) g o = g e o
@@ -72,7 +72,7 @@ twice : (b : Bool) → b ≡ not (not b)
 twice true = refl
 twice false = refl
 
-pub denied_is : (a chosen : ℕ → Bool) (edits : ℕ) (c : Condition) → Agrees a chosen edits → IsOf edits c → part_value a (denied c) ≡ not (holds chosen c)
+pub denied_is : (a chosen : ℕ → Bool) (edits : ℕ) (c : Condition) → Agrees a chosen edits → IsOfEdits edits c → part_value a (denied c) ≡ not (holds chosen c)
 denied_is a chosen edits Always g o = refl
 denied_is a chosen edits Never g o = refl
 denied_is a chosen edits (If e) g o = ap not (g e o)

@@ -12,7 +12,7 @@ use Rattle.condition_formula.specs.declared.part.Part.TheVariants.{Fixed, Litera
 use Rattle.condition_formula.specs.declared.network.ConditionArc.{ConditionArc}
 use Rattle.condition_formula.specs.declared.network.Question.{Question}
 use Rattle.condition_formula.specs.Lists.{upto, pairs}
-use Rattle.condition_formula.specs.Conditions.{IsOf, HasEdits, IsSound, lists_of, conditions_of, ends_of, counted, is_counted, bare}
+use Rattle.condition_formula.specs.Conditions.{IsOfEdits, HasEdits, IsSound, lists_of, conditions_of, ends_of, counted, is_counted, bare}
 use Rattle.condition_formula.specs.Clauses.{yes, no, affirmed, denied, edit_variable}
 use Rattle.condition_formula.specs.Sides.{step_parts, side_parts, kept_off_parts}
 use Rattle.condition_formula.specs.Reaching.{arc_at, places, out_of, into, exclusions, implications, routed_parts, node_parts, once_parts, between, family_parts, over_link, ends_parts, clear_parts, paths_parts, reached_parts}
@@ -54,13 +54,13 @@ Uses P (Literal v positive) = P v
 abbrev pub AllUse : (ℕ → Type 0) → List (List Part) → Type 0
 AllUse P clauses = Each (Each (Uses P)) clauses
 
-affirmed-uses : (P : ℕ → Type 0) (edits : ℕ) (c : Condition) → ((edit : ℕ) → edit < edits → P (edit_variable edit)) → IsOf edits c → Uses P (affirmed c)
+affirmed-uses : (P : ℕ → Type 0) (edits : ℕ) (c : Condition) → ((edit : ℕ) → edit < edits → P (edit_variable edit)) → IsOfEdits edits c → Uses P (affirmed c)
 affirmed-uses P edits Always h o = tt
 affirmed-uses P edits Never h o = tt
 affirmed-uses P edits (If e) h o = h e o
 affirmed-uses P edits (Unless e) h o = h e o
 
-denied-uses : (P : ℕ → Type 0) (edits : ℕ) (c : Condition) → ((edit : ℕ) → edit < edits → P (edit_variable edit)) → IsOf edits c → Uses P (denied c)
+denied-uses : (P : ℕ → Type 0) (edits : ℕ) (c : Condition) → ((edit : ℕ) → edit < edits → P (edit_variable edit)) → IsOfEdits edits c → Uses P (denied c)
 denied-uses P edits Always h o = tt
 denied-uses P edits Never h o = tt
 denied-uses P edits (If e) h o = h e o
@@ -75,7 +75,7 @@ module _ (P : ℕ → Type 0) (nodes links edits : ℕ) (q : Question) (sound : 
 
   -- the conditions of routing, denied
   routing-uses : (arc : ConditionArc) → Contains q.arcs arc → Each (Uses P) (map denied arc.routing)
-  routing-uses arc m = Each-map (Uses P) denied arc.routing (λ c n. denied-uses P edits c of_edit (All-contains (IsOf edits) arc.routing c (arc-has arc m).routing n))
+  routing-uses arc m = Each-map (Uses P) denied arc.routing (λ c n. denied-uses P edits c of_edit (All-contains (IsOfEdits edits) arc.routing c (arc-has arc m).routing n))
 
   pub kept_off-uses : (reached : ℕ → ℕ → ℕ) → ((class node : ℕ) → class < length q.classes → node < nodes → P (reached class node)) → AllUse P (kept_off_parts q reached)
   kept_off-uses reached of_node =
@@ -113,7 +113,7 @@ module _ (P : ℕ → Type 0) (nodes links edits : ℕ) (q : Question) (sound : 
       Each-flat_map (Each (Uses P)) (clear_parts class) q.arcs (λ arc m.
       let out = (lists_of arc class).outbound in
       let ins = (lists_of arc class).inbound in
-      let one : (c : Condition) → IsOf edits c → Each (Uses P) (map denied arc.routing ++ affirmed c ∷ []) = λ c o.
+      let one : (c : Condition) → IsOfEdits edits c → Each (Uses P) (map denied arc.routing ++ affirmed c ∷ []) = λ c o.
       Each-append (Uses P) (map denied arc.routing) (affirmed c ∷ []) (routing-uses arc m) (Each-cons (Uses P) (affirmed c) [] (affirmed-uses P edits c of_edit o) (Each-none (Uses P))) in
       Each-cons (Each (Uses P)) (map denied arc.routing ++ affirmed out ∷ []) ((map denied arc.routing ++ affirmed ins ∷ []) ∷ []) (one out ((arc-has arc m).lists class).0)
       (Each-cons (Each (Uses P)) (map denied arc.routing ++ affirmed ins ∷ []) [] (one ins ((arc-has arc m).lists class).1) (Each-none (Each (Uses P)))))
@@ -151,7 +151,7 @@ module _ (P : ℕ → Type 0) (nodes links edits : ℕ) (q : Question) (sound : 
       let l : p < length q.arcs = below (length q.arcs) p m in
       Each-map (Each (Uses P)) (λ (c : Condition). no (used p) ∷ affirmed c ∷ []) (arc_at q p).routing (λ c n.
       Each-cons (Uses P) (no (used p)) (affirmed c ∷ []) (of_place p l)
-      (Each-cons (Uses P) (affirmed c) [] (affirmed-uses P edits c of_edit (All-contains (IsOf edits) (arc_at q p).routing c (All-contains (HasEdits edits) q.arcs (arc_at q p) sound.arcs (is_arc q p l)).routing n)) (Each-none (Uses P))))))
+      (Each-cons (Uses P) (affirmed c) [] (affirmed-uses P edits c of_edit (All-contains (IsOfEdits edits) (arc_at q p).routing c (All-contains (HasEdits edits) q.arcs (arc_at q p) sound.arcs (is_arc q p l)).routing n)) (Each-none (Uses P))))))
       (Each-cons (Each (Uses P)) start (end ∷ []) (Each-map (Uses P) (λ (p : ℕ). yes (used p)) (out_of q q.source) (out_at q.source))
       (Each-cons (Each (Uses P)) end [] (Each-map (Uses P) (λ (p : ℕ). yes (used p)) (into q q.target) (in_at q.target)) (Each-none (Each (Uses P))))))
       (Each-map (Each (Uses P)) (λ (p : ℕ). no (used p) ∷ []) (into q q.source) (λ p m. single (used p) (in_at q.source p m))))

@@ -24,11 +24,11 @@ holds chosen (If edit) = chosen edit
 holds chosen (Unless edit) = not (chosen edit)
 
 -- the condition's edit is one of the first `edits`
-abbrev pub IsOf : ℕ → Condition → Type 0
-IsOf edits Always = Unit {0}
-IsOf edits Never = Unit {0}
-IsOf edits (If edit) = edit < edits
-IsOf edits (Unless edit) = edit < edits
+abbrev pub IsOfEdits : ℕ → Condition → Type 0
+IsOfEdits edits Always = Unit {0}
+IsOfEdits edits Never = Unit {0}
+IsOfEdits edits (If edit) = edit < edits
+IsOfEdits edits (Unless edit) = edit < edits
 
 -- what the two packet lists of the arc say of the class
 abbrev pub lists_of : ConditionArc → ℕ → ArcLists
@@ -84,22 +84,22 @@ abbrev pub IsKeptOff : (ℕ → Bool) → Question → Type 0
 IsKeptOff chosen q = (class : ℕ) → class < length q.classes → Comes chosen q class → ⊥
 
 -- the packets of the class enter and leave
-pub record Passes (chosen : ℕ → Bool) (q : Question) (class : ℕ) : Type 0 where
+pub record PassesEnds (chosen : ℕ → Bool) (q : Question) (class : ℕ) : Type 0 where
   pub enter : IsTrue (holds chosen (ends_of q class).enter)
   pub leave : IsTrue (holds chosen (ends_of q class).leave)
 
 -- both packet lists of the arc permit the class
-pub record IsClear (chosen : ℕ → Bool) (class : ℕ) (arc : ConditionArc) : Type 0 where
+pub record IsClearArc (chosen : ℕ → Bool) (class : ℕ) (arc : ConditionArc) : Type 0 where
   pub outbound : IsTrue (holds chosen (lists_of arc class).outbound)
   pub inbound : IsTrue (holds chosen (lists_of arc class).inbound)
 
 -- all packets enter and leave; and where the two nodes differ, every routed arc is clear, and
 -- `many` paths share no link
 pub record AreReached (chosen : ℕ → Bool) (q : Question) (many : ℕ) : Type 0 where
-  pub ends : (class : ℕ) → class < length q.classes → Passes chosen q class
+  pub ends : (class : ℕ) → class < length q.classes → PassesEnds chosen q class
   pub clear : q.source ≢ q.target → (class : ℕ) → class < length q.classes →
       (arc : ConditionArc) → Contains q.arcs arc → IsTrue (is_routed chosen arc) →
-      IsClear chosen class arc
+      IsClearArc chosen class arc
   pub paths : q.source ≢ q.target → HavePaths (routed_arcs chosen q) q.source q.target many
 
 -- the demand is met
@@ -114,9 +114,9 @@ IsMet chosen q = MeetsDemand chosen q q.demand
 
 -- the conditions of the arc are about the first `edits` edits
 pub record HasEdits (edits : ℕ) (arc : ConditionArc) : Type 0 where
-  pub routing : All (IsOf edits) arc.routing
+  pub routing : All (IsOfEdits edits) arc.routing
   pub lists : (class : ℕ) →
-      IsOf edits (lists_of arc class).outbound × IsOf edits (lists_of arc class).inbound
+      IsOfEdits edits (lists_of arc class).outbound × IsOfEdits edits (lists_of arc class).inbound
 
 -- the question is one over these nodes, links and edits
 pub record IsSound (nodes links edits : ℕ) (q : Question) : Type 0 where
@@ -125,4 +125,5 @@ pub record IsSound (nodes links edits : ℕ) (q : Question) : Type 0 where
   pub graph : IsGraph (record { nodes = nodes; arcs = map bare q.arcs })
   pub of_links : All (λ arc. arc.link.0 < links) q.arcs
   pub arcs : All (HasEdits edits) q.arcs
-  pub ends : (class : ℕ) → IsOf edits (ends_of q class).enter × IsOf edits (ends_of q class).leave
+  pub ends : (class : ℕ) →
+      IsOfEdits edits (ends_of q class).enter × IsOfEdits edits (ends_of q class).leave

@@ -34,7 +34,7 @@ impl Model for Draft {
 }
 
 /// Adds an item, unless there is no room.
-pub(crate) fn push<T: Drop>(items: &mut List<T>, item: T) -> Result<(), Memory>
+pub fn push<T: Drop>(items: &mut List<T>, item: T) -> Result<(), Memory>
     ensures ok { OnOk result (items.new ≡ items.old ++ item ∷ []) }
     ensures err { OnErr result (items.new ≡ items.old) }
 {

@@ -1,6 +1,6 @@
 //! The repair formula of a network of conditions.
-ghost use Rattle.std.specs.Prelude.{◌≡◌, ◌<◌, ◌≤◌, ◌+◌, ◌-◌, ◌^◌, [], ◌∷◌, ◌++◌, ◌==◌};
-ghost use Rattle.std.specs.Prelude.{if◌then◌else◌, true, length, map, take, OnOk, IfOk, IfErr};
+ghost use Rattle.std.specs.Prelude.{◌≡◌, ◌<◌, ◌≤◌, ◌+◌, ◌-◌, [], ◌==◌, if◌then◌else◌, true, length};
+ghost use Rattle.std.specs.Prelude.{map, take, OnOk, IfOk, IfErr};
 ghost use Rattle.cnf_types.specs.Literals.{literal};
 ghost use Rattle.condition_formula.specs.Lists.{upto};
 ghost use Rattle.condition_formula.specs.Formulas.{cell, repair_formula, tops_of};

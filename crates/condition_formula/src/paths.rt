@@ -1,5 +1,5 @@
 //! Clauses of reach: families of arcs that share no link, over routed arcs that are clear.
-ghost use Rattle.std.specs.Prelude.{◌≡◌, ◌==◌, ◌<◌, ◌^◌, [], ◌∷◌, ◌++◌, if◌then◌else◌, length, map};
+ghost use Rattle.std.specs.Prelude.{◌≡◌, ◌==◌, ◌<◌, [], ◌∷◌, ◌++◌, if◌then◌else◌, length, map};
 ghost use Rattle.std.specs.Prelude.{flat_map, OnOk, IfOk};
 ghost use Rattle.condition_formula.specs.Lists.{upto};
 ghost use Rattle.condition_formula.specs.declared.pick.Pick.TheVariants.{Over};

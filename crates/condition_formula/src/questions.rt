@@ -1,6 +1,5 @@
 //! The variables and clauses of all questions.
-ghost use Rattle.std.specs.Prelude.{◌≡◌, ◌<◌, ◌≤◌, ◌+◌, ◌*◌, ◌^◌, [], ◌∷◌, ◌++◌, length, sum_by};
-ghost use Rattle.std.specs.Prelude.{All, OnOk, IfOk};
+ghost use Rattle.std.specs.Prelude.{◌≡◌, ◌<◌, ◌≤◌, ◌+◌, ◌*◌, ◌^◌, length, sum_by, All, OnOk, IfOk};
 ghost use Rattle.condition_formula.specs.Formulas.{demand_parts, question_size, questions_parts};
 ghost use Rattle.condition_formula.specs.Formulas.{variable_count};
 ghost use Rattle.condition_formula.specs.Limits.{IsSmallNet};

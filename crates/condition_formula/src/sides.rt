@@ -1,8 +1,6 @@
 //! Clauses of blocked and through: closed sides.
-ghost use Rattle.std.specs.Prelude.{◌≡◌, ◌≤◌, [], ◌∷◌, ◌++◌, if◌then◌else◌, length, map, flat_map};
-ghost use Rattle.std.specs.Prelude.{OnOk};
+ghost use Rattle.std.specs.Prelude.{◌≡◌, [], ◌∷◌, if◌then◌else◌, map, OnOk};
 ghost use Rattle.condition_formula.specs.Clauses.{yes, no, denied};
-ghost use Rattle.condition_formula.specs.Lists.{upto};
 ghost use Rattle.condition_formula.specs.Conditions.{lists_of, ends_of, is_counted, counted};
 ghost use Rattle.condition_formula.specs.Formulas.{cell};
 ghost use Rattle.condition_formula.specs.Sides.{step_parts, side_parts, kept_off_parts};

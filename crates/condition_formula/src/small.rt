@@ -1,5 +1,5 @@
 //! Whether a network of conditions is small enough to be encoded.
-ghost use Rattle.std.specs.Prelude.{◌≡◌, ◌≤◌, ◌↔◌, IsTrue, length, All};
+ghost use Rattle.std.specs.Prelude.{◌≤◌, ◌↔◌, IsTrue, length, All};
 ghost use Rattle.condition_formula.specs.Limits.{IsSmallNet};
 
 use crate::network::{ConditionNet, Question};

@@ -1,5 +1,5 @@
 //! Clauses over lists of variables.
-ghost use Rattle.std.specs.Prelude.{◌≡◌, ◌<◌, ◌^◌, [], ◌∷◌, map, OnOk};
+ghost use Rattle.std.specs.Prelude.{◌<◌, ◌^◌, [], ◌∷◌, map, OnOk};
 ghost use Rattle.condition_formula.specs.Clauses.{yes, no};
 ghost use Rattle.condition_formula.specs.Reaching.{exclusions};
 ghost use Rattle.condition_formula.specs.Writing.{Adds, AreSmall, each_implies, excludes_each};

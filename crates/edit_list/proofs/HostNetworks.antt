@@ -31,9 +31,6 @@ destinations_more net policies i policy host now next within is lies grown was =
       once = grown ∙ ap (λ l. with_prefix l host) was.once ∙ sym (fold_push with_prefix [] was.hosts host);
     }
 
-pub no_destinations : (net : Network) (policies : List Policy) (now : List Prefix) → now ≡ [] → policies ≡ [] → AreDestinations net policies now
-no_destinations net policies now none empty = record { hosts = []; are = subst (λ (l : List Policy). AllZip (λ (p : Policy) (h : Prefix). LiesInHost net p.to h) l []) (sym empty) tt; once = none }
-
 pub few_more : (now next : List Prefix) (host : Prefix) (i : ℕ) → next ≡ with_prefix now host → length now ≤ i → length next ≤ i + 1
 few_more now next host i grown few = by (list_any (is_same host) now) refl
   where

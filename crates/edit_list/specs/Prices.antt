@@ -1,6 +1,7 @@
 -- The edits that are chosen, and their price.
-use Rattle.std.specs.Prelude.{ℕ, Bool, Option, Some, None, List, sum_by, if◌then◌else◌}
+use Rattle.std.specs.Prelude.{ℕ, Bool, false, Option, Some, None, List, map, sum_by, if◌then◌else◌}
 use Rattle.std.specs.List.{filter_map, zip}
+use Rattle.net_model.specs.declared.policies.Document.{Document}
 use Rattle.net_model.specs.declared.policies.Weights.{Weights}
 use Rattle.edit_list.specs.declared.edit_kinds.Edit.{Edit}
 use Rattle.edit_list.specs.declared.edit_kinds.Edit.TheVariants as edits
@@ -28,3 +29,11 @@ cost_of weights flagged = if flagged.1 then weight weights flagged.0 else 0
 -- the price of edits: what they cost together
 abbrev pub price_of : Weights → List Edit → ℕ
 price_of weights list = sum_by (weight weights) list
+
+-- the price of the edits that the flags choose
+abbrev pub price_of_flags : Document → List Edit → List Bool → ℕ
+price_of_flags doc list flags = price_of doc.weights (chosen_of list flags)
+
+-- the flags that choose none of the edits
+abbrev pub none_of : List Edit → List Bool
+none_of list = map (λ edit. false) list

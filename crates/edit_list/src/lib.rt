@@ -19,5 +19,5 @@ pub use claims::Claim;
 pub use edit_kinds::{Edit, EditFault};
 pub use list_kinds::NewList;
 pub use listing::edits;
-pub use prices::{chosen_edits, price, weight};
+pub use prices::{chosen_edits, price, unchosen, weight};
 pub use sites::Site;

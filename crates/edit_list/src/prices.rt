@@ -1,6 +1,6 @@
 //! The edits that are chosen, and what they cost.
-ghost use Rattle.std.specs.Prelude.{◌≡◌, ◌<◌, ◌^◌, length, IfOk};
-ghost use Rattle.edit_list.specs.Prices.{if_chosen, chosen_of, weight, cost_of, price_of};
+ghost use Rattle.std.specs.Prelude.{◌≡◌, ◌<◌, length, IfOk};
+ghost use Rattle.edit_list.specs.Prices.{if_chosen, chosen_of, weight, cost_of, price_of, none_of};
 
 use crate::edit_kinds::Edit;
 use arc_base::{List, Memory};
@@ -25,6 +25,13 @@ pub fn chosen_edits(alloc: Global, edits: &[Edit], chosen: &[bool]) -> Result<Ve
             .filter_map(|(e, f)| if_chosen(*e, *f))
             .collect(alloc)?,
     )
+}
+
+/// A flag for each of the edits, which chooses none.
+pub fn unchosen(alloc: Global, edits: &[Edit]) -> Result<Vec<bool>, Memory>
+    ensures { IfOk result (λ flags. flags.items ≡ none_of edits.now) }
+{
+    Ok(edits.iter().map(|_| false).collect(alloc)?)
 }
 
 /// What an edit costs.

@@ -1,5 +1,5 @@
 //! Where entries can be added.
-ghost use Rattle.std.specs.Prelude.{◌≡◌, ◌<◌, ◌^◌, ◌++◌, length, map, IfOk};
+ghost use Rattle.std.specs.Prelude.{◌≡◌, ◌<◌, ◌^◌, length, map, IfOk};
 ghost use Rattle.std.specs.List.{filter_map};
 ghost use Rattle.arc_base.specs.Numbered.{placed};
 ghost use Rattle.edit_list.specs.Sites.{route_list_site, neighbor_site, packet_list_site};

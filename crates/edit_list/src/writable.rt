@@ -10,9 +10,6 @@ use std::alloc::Global;
 /// The number of services of one protocol.
 const PORTS: u32 = 65_536;
 
-/// The last service of all.
-const LAST: u32 = 0xff_ffff;
-
 /// Whether one entry of a packet list can say the range: all services, all of one protocol but 0,
 /// or ports of TCP or of UDP.
 pub fn is_writable(service: &Service) -> bool
@@ -22,7 +19,8 @@ pub fn is_writable(service: &Service) -> bool
     let in_one = protocol == service.high / PORTS && 1 <= protocol && protocol <= 255;
     let all_of_it = service.low % PORTS == 0 && service.high % PORTS == PORTS - 1;
     let has_ports = protocol == 6 || protocol == 17;
-    service.low == 0 && service.high == LAST || in_one && (all_of_it || has_ports)
+    let all = Service::whole();
+    service.low == all.low && service.high == all.high || in_one && (all_of_it || has_ports)
 }
 
 /// Those of the classes for which one entry of a packet list can speak, in their order.

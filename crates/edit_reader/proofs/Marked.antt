@@ -2,8 +2,9 @@
 use Rattle.std.proofs.Common.{◌≡◌, ◌≢◌, ℕ, ◌-◌, ◌<◌, ◌==◌, inl, inr, Bool, true, false, cond, Option, Some, None, List, [], ◌∷◌, ◌++◌, length, length-append, get_or, set, refl, sym, ◌∙◌, ap, subst, arith}
 use Rattle.std.specs.Prelude.{not, ◌||◌, bytes_eq, All, AllPairs, IsSome, map, filter}
 use Rattle.std.specs.List.{list_any, range_with_len}
+use Rattle.std.proofs.Math.Bool.{or-true}
 use Rattle.std.proofs.lemmas.Bool.{false≢true, cases_eq, eqb-true, eq-eqb, ne_eqb}
-use Rattle.std.proofs.lemmas.List.{map-append, append-nil, length-set, get_or-set_same, get_or-set_other, get_or_append_left, get_or-append_right}
+use Rattle.std.proofs.lemmas.List.{map-append, length-set, get_or-set_same, get_or-set_other, get_or_append_left, get_or-append_right}
 use Rattle.std.proofs.lemmas.List.Elements.{filter-append, All-append, All-cons}
 use Rattle.std.proofs.lemmas.List.Folds.{list_any-append, list_any_at, Any-from_list_any}
 use Rattle.std.proofs.lemmas.List.FromFn.{fill_by_all, length-map-range_with_len, get_or-map-range_with_len}
@@ -20,10 +21,6 @@ last_of xs x d = get_or-append_right xs (x ∷ []) (length xs) (length xs) d ref
     zero_rest : (n : ℕ) → n - n ≡ 0
     zero_rest n = omega arith
 
--- what holds of all holds of the last
-last_holds : {X : Type 0} (P : X → Type 0) (xs : List X) (x : X) → All P (xs ++ x ∷ []) → P x
-last_holds P xs x all = subst P (last_of xs x x) (all (length xs) x (omega (arith, length-append xs (x ∷ []))))
-
 -- a place is one of the named, where it is marked
 is_at-Some : (place : ℕ) (o : Option ℕ) → is_at place o ≡ true → o ≡ Some place
 is_at-Some place None e = absurd (false≢true e)
@@ -34,10 +31,6 @@ module _ (net : Network) (edits : List Edit) where
   kept true line names e = absurd (false≢true (sym e))
   kept false line names e = refl
 
-  left : (b : Bool) (line : List ℕ) (names : List (Option ℕ)) → b ≡ true → names ++ map (edit_of net edits) (cond (not b) (line ∷ []) []) ≡ names
-  left true line names e = append-nil names
-  left false line names e = absurd (false≢true e)
-
   names_more : (before : List (List ℕ)) (line : List ℕ) → named_by net edits (before ++ line ∷ []) ≡ named_by net edits before ++ map (edit_of net edits) (cond (not (is_blank_line line)) (line ∷ []) [])
   names_more before line =
       let filled : List ℕ → Bool = λ l. not (is_blank_line l) in
@@ -46,17 +39,6 @@ module _ (net : Network) (edits : List Edit) where
 
   filled_names : (before : List (List ℕ)) (line : List ℕ) → is_blank_line line ≡ false → named_by net edits (before ++ line ∷ []) ≡ named_by net edits before ++ edit_of net edits line ∷ []
   filled_names before line filled = names_more before line ∙ kept (is_blank_line line) line (named_by net edits before) filled
-
-  chosen_from : List (Option ℕ) → List Bool
-  chosen_from names = map (λ place. list_any (is_at place) names) (range_with_len 0 (length edits))
-
-  -- a line that names no edit
-  no_edit : (names : List (Option ℕ)) (o : Option ℕ) → o ≡ None → All IsSome (names ++ o ∷ []) → ⊥
-  no_edit names (Some p) none all = absurd (cc)
-  no_edit names None none all = false≢true (last_holds IsSome names None all)
-
-  pub names_none : (before : List (List ℕ)) (line : List ℕ) → is_blank_line line ≡ false → edit_of net edits line ≡ None → AreEditLines net edits (before ++ line ∷ []) → ⊥
-  names_none before line filled none lines = no_edit (named_by net edits before) (edit_of net edits line) none (subst (All IsSome) (filled_names before line filled) lines.named)
 
   -- a line that names an edit that is marked
   twice : (names : List (Option ℕ)) (place : ℕ) → list_any (is_at place) names ≡ true → AllPairs ◌≢◌ (names ++ Some place ∷ []) → ⊥
@@ -85,24 +67,16 @@ module _ (net : Network) (edits : List Edit) where
   flag_after : (names : List (Option ℕ)) (flags : List Bool) (place q : ℕ) → place < length flags → q < length flags → get_or flags q false ≡ list_any (is_at q) names →
       get_or (set flags place true) q false ≡ list_any (is_at q) (names ++ Some place ∷ [])
   flag_after names flags place q within inside before =
-      let more : list_any (is_at q) (names ++ Some place ∷ []) ≡ (list_any (is_at q) names || (place == q)) = list_any-append (is_at q) names (Some place ∷ []) ∙ ap (λ (b : Bool). list_any (is_at q) names || b) (or_none (place == q)) in
+      let more : list_any (is_at q) (names ++ Some place ∷ []) ≡ (list_any (is_at q) names || (place == q)) = list_any-append (is_at q) names (Some place ∷ []) ∙ ap (λ (b : Bool). list_any (is_at q) names || b) (or_false (place == q)) in
       elim (cases_eq q place) [
         | inl same ↦
             ap (λ (n : ℕ). get_or (set flags place true) n false) same ∙ get_or-set_same flags place true false within
-            ∙ sym (more ∙ ap (λ (b : Bool). list_any (is_at q) names || b) (eq-eqb place q (sym same)) ∙ or_true (list_any (is_at q) names))
+            ∙ sym (more ∙ ap (λ (b : Bool). list_any (is_at q) names || b) (eq-eqb place q (sym same)) ∙ or-true (list_any (is_at q) names))
         | inr other ↦
             get_or-set_other flags place q true false other ∙ before
             ∙ sym (more ∙ ap (λ (b : Bool). list_any (is_at q) names || b) (ne_eqb place q (λ e. other (sym e))) ∙ or_false (list_any (is_at q) names))
       ]
     where
-      or_none : (b : Bool) → (b || false) ≡ b
-      or_none true = refl
-      or_none false = refl
-
-      or_true : (b : Bool) → (b || true) ≡ true
-      or_true true = refl
-      or_true false = refl
-
       or_false : (b : Bool) → (b || false) ≡ b
       or_false true = refl
       or_false false = refl

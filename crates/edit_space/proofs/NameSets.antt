@@ -10,7 +10,7 @@ use Rattle.std.specs.List.Sorted.{IsStrictlySortedBy}
 use Rattle.std.specs.BTreeSet.{insert_key}
 use Rattle.std.specs.BTreeMap.{is_at}
 use Rattle.std.proofs.lemmas.Bool.{false≢true}
-use Rattle.std.proofs.lemmas.List.{take_more, take_all, append_assoc, append-nil}
+use Rattle.std.proofs.lemmas.List.{take_more, take_all, append-nil}
 use Rattle.std.proofs.lemmas.List.FromFn.{map-range_with_len_more}
 use Rattle.std.proofs.lemmas.List.Elements.{Contains-append_left, Contains-push, Contains-push_cases}
 use Rattle.std.proofs.lemmas.Map.Keys.{Less-from_sorted}
@@ -204,11 +204,6 @@ taken_is_among ks names k same = by (list_any (is_at (text_order k)) ks) refl (i
     by true e c f = e ∙ sym (among_them names k.now ((same k.now).0 (found_name ks k e)))
     by false e true f = absurd (false≢true (sym e ∙ finds_name ks k ((same k.now).1 (among names k.now f))))
     by false e false f = e ∙ sym f
-
--- the names of a set, one after another
-pub listed_more : (listed next all : List (List ℕ)) (name : Bor (List ℕ)) (rest left : List (Bor (List ℕ))) → rest ≡ name ∷ left → listed ++ texts_at rest ≡ all → next ≡ listed ++ name.now ∷ [] → next ++ texts_at left ≡ all
-listed_more listed next all name rest left is was grown =
-    ap (λ l. l ++ texts_at left) grown ∙ append_assoc listed (name.now ∷ []) (texts_at left) ∙ ap (λ l. listed ++ texts_at l) (sym is) ∙ was
 
 pub listed_all : (listed all : List (List ℕ)) (rest : List (Bor (List ℕ))) → rest ≡ [] → listed ++ texts_at rest ≡ all → listed ≡ all
 listed_all listed all rest none was = sym (append-nil listed) ∙ ap (λ l. listed ++ texts_at l) (sym none) ∙ was

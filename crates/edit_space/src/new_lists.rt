@@ -4,8 +4,7 @@ ghost use Rattle.std.specs.Prelude.{slice_set, slice_index, slice_index_or, IfOk
 ghost use Rattle.std.specs.List.{filter_map};
 ghost use Rattle.edit_list.specs.NewLists.{new_route_list, new_packet_list, new_lists};
 ghost use Rattle.arc_base.specs.Numbered.{placed};
-ghost use Rattle.edit_space.specs.Working.{AreChanges, AreNewNames, AreNamed, HasNext};
-ghost use Rattle.edit_space.specs.Working.{AreMade};
+ghost use Rattle.edit_space.specs.Working.{AreChanges, AreNewNames, AreNamed, HasNext, AreMade};
 ghost use Rattle.net_model.specs.Validity.{IsValid};
 
 use crate::changes::Changes;

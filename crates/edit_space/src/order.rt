@@ -2,8 +2,7 @@
 ghost use Rattle.std.specs.Prelude.{◌≡◌, ◌≢◌, ◌↔◌, ◌<◌, ◌^◌, length, slice_set, Contains, All};
 ghost use Rattle.std.specs.Prelude.{AllPairs, IfOk};
 ghost use Rattle.edit_list.specs.Ordered.{IsKeyBefore};
-ghost use Rattle.edit_space.specs.Working.{key_of, compare_keys, IsWithin, ArePlaces};
-ghost use Rattle.edit_space.specs.Working.{AreInPlace};
+ghost use Rattle.edit_space.specs.Working.{key_of, compare_keys, IsWithin, ArePlaces, AreInPlace};
 
 use arc_base::{List, Memory, Name};
 use edit_list::Site;

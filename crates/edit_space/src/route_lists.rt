@@ -1,5 +1,5 @@
 //! The route lists after edits.
-ghost use Rattle.std.specs.Prelude.{◌≡◌, ◌++◌, All, length, map, IfOk, OnOk};
+ghost use Rattle.std.specs.Prelude.{◌≡◌, ◌++◌, All, length, IfOk, OnOk};
 ghost use Rattle.std.specs.List.{filter_map};
 ghost use Rattle.arc_base.specs.Numbered.{EachRow};
 ghost use Rattle.edit_space.specs.Working.{AreChanges, IsWithin, route_keys, new_key_by};

@@ -4,8 +4,7 @@ ghost use Rattle.edit_list.specs.After.{IsRouterAfter, turned_if, passive_after}
 ghost use Rattle.edit_list.specs.Changes.{turns_session, new_classes, new_prefixes};
 ghost use Rattle.edit_list.specs.NewLists.{new_names_of};
 ghost use Rattle.arc_base.specs.Numbered.{placed, is_empty, IsTableOf, EachRow};
-ghost use Rattle.edit_space.specs.Working.{AreChanges, moved, bound_at, face_after};
-ghost use Rattle.edit_space.specs.Working.{session_after};
+ghost use Rattle.edit_space.specs.Working.{AreChanges, moved, bound_at, face_after, session_after};
 
 use crate::changes::Changes;
 use crate::names::joined_names;

@@ -1,6 +1,5 @@
 //! Laws over the definitions alone: each is the contract of a function that does nothing.
-ghost use Rattle.file_copies.specs.Changes.{ChangesAreLeft, PatchesAreThere};
-ghost use Rattle.file_copies.specs.Changes.{PatchesHaveTheNetwork};
+ghost use Rattle.file_copies.specs.Changes.{ChangesAreLeft, PatchesAreThere, PatchesHaveTheNetwork};
 
 /// Once the copies of the changed files are written, the router files are left patched.
 pub fn changes_are_left()

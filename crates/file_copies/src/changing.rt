@@ -1,9 +1,9 @@
 //! The copies of the router files that edits change.
-ghost use Rattle.std.specs.Prelude.{◌≡◌, ◌≤◌, [], length, All, IfOk};
-ghost use Rattle.net_build.specs.Networks.{IsBuiltWithin};
 ghost use Rattle.edit_list.specs.EditLists.{AreEdits};
 ghost use Rattle.edit_list.specs.Prices.{chosen_of};
 ghost use Rattle.file_copies.specs.Changes.{Changes};
+ghost use Rattle.net_build.specs.Networks.{IsBuiltWithin};
+ghost use Rattle.std.specs.Prelude.{◌≡◌, ◌≤◌, [], length, All, IfOk};
 
 use crate::outputs::copies;
 use arc_base::limits::{EDIT_LIMIT, EDITED_ENTRY_LIMIT, EDITED_FILE_LIMIT};

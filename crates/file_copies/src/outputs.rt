@@ -1,7 +1,7 @@
 //! The files that a command writes beside those that it read.
-ghost use Rattle.std.specs.Prelude.{◌≡◌, ◌++◌, ◌||◌, ◌∷◌, length, IfOk, bytes_eq};
-ghost use Rattle.std.specs.List.{list_any};
 ghost use Rattle.file_copies.specs.Outputs.{clashes, copies, copy_names, wrote_lines};
+ghost use Rattle.std.specs.List.{list_any};
+ghost use Rattle.std.specs.Prelude.{◌≡◌, ◌++◌, ◌||◌, ◌∷◌, length, IfOk, bytes_eq};
 
 use arc_base::{List, Memory, Name};
 use std::alloc::Global;

@@ -8,13 +8,13 @@ use Rattle.net_model.specs.declared.rows.Network.{Network}
 use Rattle.run_files.specs.declared.limits.Limits.TheVariants.{Judging, Editing}
 use Rattle.run_inputs.specs.declared.inputs.Input.{Input}
 use Rattle.run_inputs.specs.declared.inputs.Sources.{Sources}
-use Rattle.run_inputs.specs.Inputs.{HoldsDocument, ReadsFiles, ReadsSources}
+use Rattle.run_inputs.specs.Inputs.{HoldsDocument, ReadsRouterFiles, ReadsSources}
 use Rattle.any_forwarding_laws.specs.Forwardings.{IsOpenNetwork}
 use Rattle.any_forwarding_laws.specs.Laws.{RunsEverywhere, VerdictsDecideAny}
 use Rattle.forwarding_notes.specs.Notes.{SaysOfAny, IsAfterLines, AreClosed}
 
 pub said_of_any : (held : Option Files) (document : List ℕ) (doc : Document) (input : Input) (any : Bool) →
-    IfSome held (λ files. HoldsDocument document files doc → ReadsFiles Judging [] document files (Ok input)) →
+    IfSome held (λ files. HoldsDocument document files doc → ReadsRouterFiles Judging [] document files (Ok input)) →
     (IsTrue any ↔ RunsEverywhere input.net) → (IsTrue any → IsOpenNetwork input.net) → (IsTrue any → VerdictsDecideAny input.net) →
     IfSome held (λ files. HoldsDocument document files doc → SaysOfAny document files any)
 said_of_any None document doc input any told exact opened decide = tt

@@ -1,4 +1,4 @@
--- What is said of any forwarding beside an answer.
+-- What is said of any forwarding in addition to an answer.
 use Rattle.std.specs.Prelude.{◌↔◌, ℕ, Bool, IsTrue, List, []}
 use Rattle.arc_outside.specs.Files.{Files}
 use Rattle.net_model.specs.declared.policies.Document.{Document}

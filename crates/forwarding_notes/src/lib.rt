@@ -1,5 +1,5 @@
-//! What there is to say of any forwarding beside an answer: that a yes holds for it, where the
-//! network of the files is open, and that edits of sessions take this away.
+//! What there is to say of any forwarding in addition to an answer: that a yes holds for it, where
+//! the network of the files is open, and that edits of sessions take this away.
 #![tactic(auto)]
 
 mod notes;

@@ -1,8 +1,8 @@
 //! Whether the network of router files is open, and whether edits close it.
-ghost use Rattle.std.specs.Prelude.{◌≡◌, ◌≤◌, ◌<◌, ◌^◌, length, IfOk, IfSome, IsTrue};
+ghost use Rattle.forwarding_notes.specs.Notes.{SaysOfAny, IsAfterLines, AreClosed};
 ghost use Rattle.net_doc.specs.Documents.{IsWellFormed};
 ghost use Rattle.run_inputs.specs.Inputs.{AreFit, HoldsDocument};
-ghost use Rattle.forwarding_notes.specs.Notes.{SaysOfAny, IsAfterLines, AreClosed};
+ghost use Rattle.std.specs.Prelude.{◌≡◌, ◌≤◌, ◌<◌, ◌^◌, length, IfOk, IfSome, IsTrue};
 
 use arc_base::limits::POLICY_LIMIT;
 use arc_base::{Memory, Name};

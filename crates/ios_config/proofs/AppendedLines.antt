@@ -91,6 +91,13 @@ part-head block (commands.ListLine name entry) within opens known = absurd (know
 part-head block (commands.PrefixLine name number entry) within opens known = absurd (known (sym opens))
 part-head block _ within opens known = refl
 
+-- a command that comes no later than a place is before it
+pub in-front : (place : ℕ) (commands : List FileCommand) (split : Split place commands) (c : FileCommand) → Contains commands c → c.line ≤ place → Contains split.front c
+in-front place commands split c among early = ⊎_elim
+    (λ front. front)
+    (λ back. let over : place < c.line = all-of (λ (d : FileCommand). place < d.line) split.back c split.high back in absurd (omega arith))
+    (Contains-append_cases split.front split.back c (subst (λ (cs : List FileCommand). Contains cs c) split.parts among))
+
 -- a command after all of its block changes what the block sets, and nothing else
 pub block-sets : (commands : List FileCommand) (head last : FileCommand) (within : BlockKind) (line : List ℕ) (command : Command) → HasBlock commands head last within → IsLineOf line within head.line command →
     Split last.line commands → HasOneOther (bare_config (config_of commands)) (bare_config (config_of (with_command last.line (command_at (last.line + 1) head.line command) commands)))
@@ -101,10 +108,7 @@ block-sets commands head last within line command b of split =
     let part = Block head.line in
     let own : part_of head ≡ part = part-head head.block head.command within b.opens b.known ∙ ap Block b.own in
     let early : head.line ≤ place = b.latest head b.among own in
-    let in_front : Contains split.front head = ⊎_elim
-    (λ front. front)
-    (λ back. let over : place < head.line = all-of (λ (d : FileCommand). place < d.line) split.back head split.high back in absurd (omega arith))
-    (Contains-append_cases split.front split.back head (subst (λ (cs : List FileCommand). Contains cs head) split.parts b.among)) in
+    let in_front : Contains split.front head = in-front place commands split head b.among early in
     let same_part : part_of c ≡ part_moved place part = of.part ∙ ap Block (sym (moved-low place head.line early)) in
     let sets = one-sets-other place split.front c split.back part same_part (inl (any-part part split.front head in_front own)) in
     let none_back : members split.back part ≡ [] = none-part part split.back (λ d has same.

@@ -14,8 +14,9 @@ use Rattle.ios_config.proofs.BareSettings.{bare-groups-set}
 use Rattle.std.proofs.lemmas.Grind.{flat_map-append}
 use Rattle.std.specs.Prelude.{Option, option_map}
 use Rattle.ios_config.specs.Groups.{Part, is_same, part_of, distinct, members, groups}
-use Rattle.ios_config.specs.Inserted.{command_moved}
-use Rattle.ios_config.specs.Joined.{between, members_with}
+use Rattle.ios_config.specs.Effects.{Split}
+use Rattle.ios_config.specs.Inserted.{command_moved, with_command}
+use Rattle.ios_config.specs.Joined.{between, members_with, part_moved, StandsBeside}
 use Rattle.ios_config.proofs.JoinedGroups.{joins-group, begins-group, beside-parts, map-apart, same-map}
 use Rattle.ios_config.proofs.JoinedParts.{any-others, other-way, is-self}
 use Rattle.ios_config.proofs.PartLists.{is_same-Decides, others}
@@ -140,6 +141,19 @@ one-sets-other place front c back part is beside =
     subst (λ (x : Config). HasOneOther x (bare_config (config_of (between place front c back))) group other) (sym (bare-groups-set (front ++ back)))
     (subst (λ (x : Config). HasOneOther (config_from (option_map bare_setting (router_name (front ++ back))) (bare_groups (front ++ back))) x group other) (sym (bare-groups-set (between place front c back)))
     (one-other _ _ joined.before joined.after _ _ group other joined.old joined.new))
+
+-- the same of commands that are split at a place
+pub split-sets-other : (place : ℕ) (commands : List FileCommand) (split : Split place commands) (c : FileCommand) (part : Part) → part_of c ≡ part_moved place part →
+    StandsBeside part split.front split.back → HasOneOther (bare_config (config_of commands)) (bare_config (config_of (with_command place c commands)))
+    (map bare (members split.front part ++ members split.back part)) (map bare (members split.front part) ++ bare c ∷ map bare (members split.back part))
+split-sets-other place commands split c part is beside =
+    let group = map bare (members split.front part ++ members split.back part) in
+    let other = map bare (members split.front part) ++ bare c ∷ map bare (members split.back part) in
+    subst (λ (cs : List FileCommand). HasOneOther (bare_config (config_of cs)) (bare_config (config_of (with_command place c commands))) group other) (sym split.parts)
+    (subst (λ (cs : List FileCommand). HasOneOther (bare_config (config_of (split.front ++ split.back))) (bare_config (config_of cs)) group other) (sym (split.with_one c))
+    (subst (λ (g : List FileCommand). HasOneOther (bare_config (config_of (split.front ++ split.back))) (bare_config (config_of (between place split.front c split.back))) (map bare g) other)
+    (filter-append (λ d. is_same part (part_of d)) split.front split.back)
+    (one-sets-other place split.front c split.back part is beside)))
 
 -- what groups set, with one group more
 one-more : (h k : Option Setting) (before after gs hs : List (List FileCommand)) (other : List FileCommand) → gs ≡ before ++ after → hs ≡ before ++ other ∷ after → HasOneOther (config_from h gs) (config_from k hs) [] other

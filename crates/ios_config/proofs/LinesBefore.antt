@@ -1,7 +1,7 @@
 -- A line that is put before another, over lists of lines.
-use Rattle.std.proofs.Common.{◌≡◌, ◌≢◌, ℕ, ◌+◌, ◌<◌, ◌≤◌, Bool, true, false, cond, List, [], ◌∷◌, ◌++◌, length, map, filter, take, None, refl, sym, ap, subst, ◌∙◌, arith, ⊎_elim, inl, inr, Contains, IsTrue}
+use Rattle.std.proofs.Common.{◌≡◌, ◌≢◌, ℕ, ◌+◌, ◌<◌, ◌≤◌, Bool, true, false, cond, List, [], ◌∷◌, ◌++◌, length, filter, take, None, refl, sym, ap, subst, ◌∙◌, arith, ⊎_elim, inl, inr, Contains, IsTrue}
 use Rattle.std.proofs.lemmas.Bool.{cases_Bool}
-use Rattle.std.proofs.lemmas.List.Elements.{filter-append, Contains-append_cases}
+use Rattle.std.proofs.lemmas.List.Elements.{Contains-append_cases}
 use Rattle.std.specs.List.{AllZip, AllByRecursion, enumerate_from}
 use Rattle.arc_base.proofs.Items.{Contains-cases, Contains-none}
 use Rattle.ios_lines.specs.Kinds.{closes, kind_at, open_banner}
@@ -10,15 +10,13 @@ use Rattle.ios_lines.specs.Changes.{inserted, MayStandAt}
 use Rattle.ios_lines.proofs.ChangedTexts.{inner-may, top-may}
 use Rattle.ios_lines.proofs.Insertions.{moved-low}
 use Rattle.ios_config.specs.declared.commands.FileCommand.{FileCommand}
-use Rattle.ios_config.specs.Bare.{bare, bare_config, HasOneOther}
-use Rattle.ios_config.specs.Groups.{Block, is_same, part_of, members}
+use Rattle.ios_config.specs.Groups.{Block, part_of}
 use Rattle.ios_config.specs.Inserted.{IsMarkRead, Opened, command_at, with_command}
-use Rattle.ios_config.specs.Joined.{part_moved, between}
+use Rattle.ios_config.specs.Joined.{part_moved}
 use Rattle.ios_config.specs.LineLists.{marks_in, AreCommandsIn, ALineIsPutBeforeIn, ASingleLineIsPutBeforeIn}
-use Rattle.ios_config.specs.Texts.{config_of}
-use Rattle.ios_config.proofs.AppendedLines.{any-part, all-of, part-head}
+use Rattle.ios_config.proofs.AppendedLines.{in-front, any-part, all-of, part-head}
 use Rattle.ios_config.proofs.InsertedCommands.{marks-split, says}
-use Rattle.ios_config.proofs.JoinedSettings.{one-sets-other}
+use Rattle.ios_config.proofs.JoinedSettings.{split-sets-other}
 use Rattle.ios_config.proofs.LineLists.{command-spot, inner-in, single-in}
 
 pub put-before-in : ALineIsPutBeforeIn
@@ -44,23 +42,14 @@ put-before-in lines commands head next within place line command are b of number
     let split = marks-split (marks_in lines) commands place are.reads in
     let own : part_of head ≡ part = part-head head.block head.command within b.opens b.known ∙ ap Block b.own in
     let early : head.line ≤ place = omega arith in
-    let in_front : Contains split.front head = ⊎_elim
-    (λ front. front)
-    (λ back. let over : place < head.line = all-of (λ (d : FileCommand). place < d.line) split.back head split.high back in absurd (omega arith))
-    (Contains-append_cases split.front split.back head (subst (λ (cs : List FileCommand). Contains cs head) split.parts b.among)) in
+    let in_front : Contains split.front head = in-front place commands split head b.among early in
     let same_part : part_of c ≡ part_moved place part = of.part ∙ ap Block (sym (moved-low place head.line early)) in
-    let sets = one-sets-other place split.front c split.back part same_part (inl (any-part part split.front head in_front own)) in
-    let other = map bare (members split.front part) ++ bare c ∷ map bare (members split.back part) in
+    let sets = split-sets-other place commands split c part same_part (inl (any-part part split.front head in_front own)) in
     record {
       may = may;
       stands = subst (λ n. AreCommandsIn (inserted place line lines) (with_command place (command_at (place + 1) n command) commands)) block added;
       split = split;
-      sets =
-          subst (λ (cs : List FileCommand). HasOneOther (bare_config (config_of cs)) (bare_config (config_of (with_command place c commands))) (map bare (members split.front part ++ members split.back part)) other) (sym split.parts)
-          (subst (λ (cs : List FileCommand). HasOneOther (bare_config (config_of (split.front ++ split.back))) (bare_config (config_of cs)) (map bare (members split.front part ++ members split.back part)) other) (sym (split.with_one c))
-          (subst (λ (g : List FileCommand). HasOneOther (bare_config (config_of (split.front ++ split.back))) (bare_config (config_of (between place split.front c split.back))) (map bare g) other)
-          (filter-append (λ d. is_same part (part_of d)) split.front split.back)
-          sets));
+      sets = sets;
     }
 
 -- the lines of the commands rise, from this one on
@@ -124,16 +113,10 @@ single-before-in lines commands next place line command are among top number sin
     (Contains-append_cases split.front split.back next (subst (λ (cs : List FileCommand). Contains cs next) split.parts among)) in
     let up = rising-back 1 split.front split.back (subst (Rising 1) split.parts (rising-from (marks_in lines) 1 (marks_in lines) commands are.reads)) in
     let (rest, first) = first-is up.0 place split.back next up.1 split.high in_back number in
-    let sets = one-sets-other place split.front c split.back part (same ∙ sym (still place)) (inr (next, rest, first, refl)) in
-    let other = map bare (members split.front part) ++ bare c ∷ map bare (members split.back part) in
+    let sets = split-sets-other place commands split c part (same ∙ sym (still place)) (inr (next, rest, first, refl)) in
     record {
       may = may;
       stands = added;
       split = split;
-      sets =
-          subst (λ (cs : List FileCommand). HasOneOther (bare_config (config_of cs)) (bare_config (config_of (with_command place c commands))) (map bare (members split.front part ++ members split.back part)) other) (sym split.parts)
-          (subst (λ (cs : List FileCommand). HasOneOther (bare_config (config_of (split.front ++ split.back))) (bare_config (config_of cs)) (map bare (members split.front part ++ members split.back part)) other) (sym (split.with_one c))
-          (subst (λ (g : List FileCommand). HasOneOther (bare_config (config_of (split.front ++ split.back))) (bare_config (config_of (between place split.front c split.back))) (map bare g) other)
-          (filter-append (λ d. is_same part (part_of d)) split.front split.back)
-          sets));
+      sets = sets;
     }

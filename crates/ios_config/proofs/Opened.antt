@@ -10,7 +10,7 @@ use Rattle.ios_lines.specs.declared.line.Lines.{Lines}
 use Rattle.ios_lines.specs.declared.line.Line.{Line}
 use Rattle.ios_lines.specs.Kinds.{kind_at, kind_within, words_kind, top_kind, open_banner, is_banner, is_indented, is_mark, opens_block, closes, is_head, is_inert}
 use Rattle.arc_base.specs.Words.{words}
-use Rattle.ios_lines.specs.Blocks.{Heads, IsOpen}
+use Rattle.ios_lines.specs.Blocks.{Heads, IsOpenBlock}
 use Rattle.ios_lines.specs.Texts.{text_lines}
 use Rattle.ios_lines.specs.Lines.{IsRow}
 use Rattle.ios_words.specs.declared.kinds.BlockKind.{BlockKind}
@@ -103,7 +103,7 @@ module _ (text : List ℕ) (lines : Lines) (n : ℕ) (r : Line) (row : IsRow tex
   pub stands_within : IsWithin text lines r (standing r current)
   stands_within = by (is_top r) refl
     where
-      inner : (block : ℕ) → r.head ≡ false → block ≢ 0 → IsOpen (kind_at (text_lines text)) (n + 1) block → Opens text lines block current
+      inner : (block : ℕ) → r.head ≡ false → block ≢ 0 → IsOpenBlock (kind_at (text_lines text)) (n + 1) block → Opens text lines block current
       inner zero lacks some is = absurd (some refl)
       inner (suc head) lacks some is = at_head (cases_lt head n)
         where

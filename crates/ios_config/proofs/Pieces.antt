@@ -1,31 +1,19 @@
 -- What loops over groups and commands make, one more at a time.
-use Rattle.std.proofs.Common.{◌≡◌, ℕ, ◌+◌, ◌<◌, ◌≤◌, List, [], ◌∷◌, ◌++◌, length, get_or, take, map, sym, ◌∙◌, ap, Option, Some, None, true, false, if◌then◌else◌}
+use Rattle.std.proofs.Common.{◌≡◌, ℕ, ◌+◌, ◌<◌, List, [], ◌∷◌, ◌++◌, length, get_or, take, map, sym, ◌∙◌, ap, Option, Some, None, true, false, if◌then◌else◌}
 use denote.Ref.{Bor}
 use Rattle.ios_config.specs.declared.commands.FileCommand.{FileCommand}
 use Rattle.ios_words.specs.declared.commands.Command.{Command}
 use Rattle.ios_config.specs.declared.settings.Given.{Given}
 use Rattle.ios_config.specs.Texts.{entries, given, is_entry}
 use Rattle.ios_config.specs.Seen.{commands_seen}
-use Rattle.std.specs.List.{flat_map, cons_option}
-use Rattle.std.proofs.lemmas.List.{map_more, take_all, append-nil}
+use Rattle.std.specs.List.{cons_option}
+use Rattle.std.proofs.lemmas.List.{map_more, append-nil}
 use Rattle.std.proofs.lemmas.List.Elements.{filter_map-append}
-use Rattle.std.proofs.lemmas.List.Concat.{flat_map-append}
 
 -- one more item of a map
 pub map_to_more : {X Y : Type 0} (g : X → Y) (xs : List X) (i : ℕ) (x : X) → i < length xs → x ≡ get_or xs i x →
     map g (take (i + 1) xs) ≡ map g (take i xs) ++ g x ∷ []
 map_to_more g xs i x h e = map_more g xs i x h ∙ ap (λ y. map g (take i xs) ++ g y ∷ []) (sym e)
-
--- one more piece of a flat map over a map
-pub pieces_more : {X Y Z : Type 0} (f : Y → List Z) (g : X → Y) (now next : List Z) (xs : List X) (i : ℕ) (x : X) → i < length xs → x ≡ get_or xs i x →
-    now ≡ flat_map f (map g (take i xs)) → next ≡ now ++ f (g x) → next ≡ flat_map f (map g (take (i + 1) xs))
-pieces_more f g now next xs i x h e is grown =
-    grown ∙ ap (λ l. l ++ f (g x)) is ∙ ap (λ l. flat_map f (map g (take i xs)) ++ l) (sym (append-nil (f (g x)))) ∙
-    sym (flat_map-append f (map g (take i xs)) (g x ∷ [])) ∙ ap (flat_map f) (sym (map_to_more g xs i x h e))
-
--- all pieces
-pub pieces_all : {X Y Z : Type 0} (f : Y → List Z) (g : X → Y) (now : List Z) (xs : List X) (i : ℕ) → length xs ≤ i → now ≡ flat_map f (map g (take i xs)) → now ≡ flat_map f (map g xs)
-pieces_all f g now xs i h is = is ∙ ap (λ l. flat_map f (map g l)) (take_all i xs h)
 
 -- one more command that a reference leads to
 pub seen_more : (xs : List (Bor FileCommand)) (i : ℕ) (x : Bor FileCommand) → i < length xs → x ≡ get_or xs i x →

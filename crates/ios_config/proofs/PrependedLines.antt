@@ -1,25 +1,21 @@
 -- A line that is put before another.
-use Rattle.std.proofs.Common.{◌≡◌, ◌≢◌, ◌+◌, ◌<◌, ◌≤◌, false, List, ◌∷◌, ◌++◌, length, map, take, None, sym, ap, subst, ◌∙◌, arith, ⊎_elim, inl, Contains}
+use Rattle.std.proofs.Common.{◌≡◌, ◌≢◌, ◌+◌, ◌<◌, ◌≤◌, false, length, take, None, sym, ap, subst, ◌∙◌, arith, ⊎_elim, inl, Contains}
 use Rattle.std.proofs.lemmas.Bool.{cases_Bool}
-use Rattle.std.proofs.lemmas.List.Elements.{filter-append, Contains-append_cases}
 use Rattle.ios_lines.specs.Texts.{text_lines}
 use Rattle.ios_lines.specs.Kinds.{open_banner}
 use Rattle.ios_lines.specs.Views.{open_block}
 use Rattle.ios_lines.specs.Changes.{MayStandAt}
 use Rattle.ios_lines.proofs.ChangedTexts.{an-inserted-line as line-stands, inner-may}
 use Rattle.ios_lines.proofs.Insertions.{moved-low}
-use Rattle.ios_config.specs.declared.commands.FileCommand.{FileCommand}
-use Rattle.ios_config.specs.Bare.{bare, bare_config, HasOneOther}
 use Rattle.ios_config.specs.Commands.{AreCommandsOf}
-use Rattle.ios_config.specs.Groups.{Block, is_same, part_of, members}
+use Rattle.ios_config.specs.Groups.{Block, part_of}
 use Rattle.ios_config.specs.Inserted.{IsPut, Opened, command_at, with_command}
-use Rattle.ios_config.specs.Joined.{part_moved, between}
+use Rattle.ios_config.specs.Joined.{part_moved}
 use Rattle.ios_config.specs.Prepended.{ALineIsPutBefore}
-use Rattle.ios_config.specs.Texts.{config_of}
-use Rattle.ios_config.proofs.AppendedLines.{command-place, any-part, all-of, part-head}
+use Rattle.ios_config.proofs.AppendedLines.{in-front, command-place, any-part, part-head}
 use Rattle.ios_config.proofs.InsertedCommands.{commands-split}
 use Rattle.ios_config.proofs.InsertedLines.{inner-adds}
-use Rattle.ios_config.proofs.JoinedSettings.{one-sets-other}
+use Rattle.ios_config.proofs.JoinedSettings.{split-sets-other}
 
 pub a-line-put-before : ALineIsPutBefore
 a-line-put-before old new lines more commands head next within place line command cut have b of number is =
@@ -46,21 +42,12 @@ a-line-put-before old new lines more commands head next within place line comman
     let split = commands-split old lines commands place have.reads in
     let own : part_of head ≡ part = part-head head.block head.command within b.opens b.known ∙ ap Block b.own in
     let early : head.line ≤ place = omega arith in
-    let in_front : Contains split.front head = ⊎_elim
-    (λ front. front)
-    (λ back. let over : place < head.line = all-of (λ (d : FileCommand). place < d.line) split.back head split.high back in absurd (omega arith))
-    (Contains-append_cases split.front split.back head (subst (λ (cs : List FileCommand). Contains cs head) split.parts b.among)) in
+    let in_front : Contains split.front head = in-front place commands split head b.among early in
     let same_part : part_of c ≡ part_moved place part = of.part ∙ ap Block (sym (moved-low place head.line early)) in
-    let sets = one-sets-other place split.front c split.back part same_part (inl (any-part part split.front head in_front own)) in
-    let other = map bare (members split.front part) ++ bare c ∷ map bare (members split.back part) in
+    let sets = split-sets-other place commands split c part same_part (inl (any-part part split.front head in_front own)) in
     record {
       cut = (line-stands old new place line may is cut).cut;
       reads = subst (λ n. AreCommandsOf new more (with_command place (command_at (place + 1) n command) commands)) block added;
       split = split;
-      sets =
-          subst (λ (cs : List FileCommand). HasOneOther (bare_config (config_of cs)) (bare_config (config_of (with_command place c commands))) (map bare (members split.front part ++ members split.back part)) other) (sym split.parts)
-          (subst (λ (cs : List FileCommand). HasOneOther (bare_config (config_of (split.front ++ split.back))) (bare_config (config_of cs)) (map bare (members split.front part ++ members split.back part)) other) (sym (split.with_one c))
-          (subst (λ (g : List FileCommand). HasOneOther (bare_config (config_of (split.front ++ split.back))) (bare_config (config_of (between place split.front c split.back))) (map bare g) other)
-          (filter-append (λ d. is_same part (part_of d)) split.front split.back)
-          sets));
+      sets = sets;
     }

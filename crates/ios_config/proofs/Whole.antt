@@ -1,7 +1,7 @@
 -- The answers of `config`, from those of its parts.
 use Rattle.std.proofs.Common.{◌≡◌, ℕ, List, inl, inr, refl, subst}
 use Rattle.std.specs.Prelude.{Err}
-use Rattle.arc_base.specs.declared.refusal.Kind.TheVariants.{DuplicateBlock, SequenceNotRising}
+use Rattle.arc_base.specs.declared.refusal.Kind.TheVariants.{SequenceNotRising}
 use Rattle.ios_lines.specs.declared.line.Lines.{Lines}
 use Rattle.ios_config.specs.declared.commands.FileCommand.{FileCommand}
 use Rattle.ios_config.specs.declared.settings.Config.{Config}
@@ -11,7 +11,7 @@ use Rattle.ios_config.specs.Commands.{AreCommandsOf, IsFaultOf}
 use Rattle.ios_config.specs.Configs.{IsConfigOf, IsRefused, Configures}
 use Rattle.ios_config.specs.Rising.{NumbersRise, IsFirstNotRising}
 use Rattle.ios_config.specs.Texts.{config_of}
-use Rattle.ios_config.specs.Twice.{StandOnce, IsFirstDuplicate}
+use Rattle.ios_config.specs.Twice.{StandOnce}
 
 -- the first line that is no command
 pub refused_line : (text : List ℕ) (lines : Lines) (fault : ConfigFault) → IsFaultOf text lines fault → Configures text lines (Err fault)
@@ -19,10 +19,6 @@ refused_line text lines (Refused line kind) is = inl is
 refused_line text lines Memory is = tt
 
 module _ (text : List ℕ) (lines : Lines) (cs : List FileCommand) (read : AreCommandsOf text lines cs) where
-  -- the first block or list that stands twice
-  pub refused_twice : (line : ℕ) → IsFirstDuplicate cs line → IsRefused text lines line DuplicateBlock
-  refused_twice line is = inr (inl (refl, record { commands = cs; read = read; duplicate = is }))
-
   -- the first entry whose number does not rise
   pub refused_falls : (config : Config) (line : ℕ) → StandOnce cs → config ≡ config_of cs →
       IsFirstNotRising config.lists line → IsRefused text lines line SequenceNotRising

@@ -26,7 +26,7 @@ pub fn config_is_unique()
     ensures { HasOneConfig }
 {}
 
-/// A file has one first refusal at most, and no settings beside one.
+/// A file has one first refusal at most, and no settings if it has one.
 pub fn refusal_is_unique()
     ensures one { HasOneRefusal }
     ensures alone { HasNoConfigWhereRefused }

@@ -6,7 +6,7 @@ use Rattle.ios_lines.specs.declared.line.Line.{Line}
 use Rattle.ios_lines.specs.declared.line.Lines.{Lines}
 use Rattle.ios_lines.specs.Texts.{text_lines}
 use Rattle.ios_lines.specs.Kinds.{is_head, kind_at}
-use Rattle.ios_lines.specs.Blocks.{Heads, IsOpen}
+use Rattle.ios_lines.specs.Blocks.{Heads, IsOpenBlock}
 use Rattle.ios_lines.specs.Lines.{AreLinesOf}
 use Rattle.ios_lines.specs.Views.{Mark, mark_of, marks_of}
 use Rattle.ios_lines.specs.ChangeLaws.{HasHead, BlocksHaveHeads}
@@ -22,7 +22,7 @@ get-within [] k low = absurd (omega arith)
 get-within (x ∷ xs) zero low = (x, refl)
 get-within (x ∷ xs) (suc k) low = get-within xs k (omega arith)
 
-head-of : (text : List ℕ) (lines : Lines) (place block : ℕ) → AreLinesOf text lines → place < length lines.rows → IsOpen (kind_at (text_lines text)) (place + 1) block → block ≢ 0 → HasHead (marks_of text lines) block
+head-of : (text : List ℕ) (lines : Lines) (place block : ℕ) → AreLinesOf text lines → place < length lines.rows → IsOpenBlock (kind_at (text_lines text)) (place + 1) block → block ≢ 0 → HasHead (marks_of text lines) block
 head-of text lines place zero are low is some = absurd (some refl)
 head-of text lines place (suc h) are low is some =
     let before : h < place + 1 = is.before in
@@ -40,4 +40,4 @@ blocks-have-heads text lines place m are there some =
     let (row, at, same) = get-map (mark_of text) lines.rows place m there in
     let low = slice_get_within lines.rows place row at in
     let block : row.block ≡ m.block = ap (λ (n : Mark). n.block) same in
-    head-of text lines place m.block are low (subst (IsOpen (kind_at (text_lines text)) (place + 1)) block (are.rows place row at).block) some
+    head-of text lines place m.block are low (subst (IsOpenBlock (kind_at (text_lines text)) (place + 1)) block (are.rows place row at).block) some

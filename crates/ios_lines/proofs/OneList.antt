@@ -10,7 +10,7 @@ use Rattle.ios_lines.specs.Texts.{IsLine, Join, text_lines}
 use Rattle.ios_lines.specs.Words.{AreBlank, IsNextWord, AreWords}
 use Rattle.arc_base.specs.Words.{is_blank}
 use Rattle.ios_lines.specs.Kinds.{closes, kind_at}
-use Rattle.ios_lines.specs.Blocks.{Heads, IsOpen}
+use Rattle.ios_lines.specs.Blocks.{Heads, IsOpenBlock}
 use Rattle.ios_lines.specs.Lines.{IsRow}
 use Rattle.ios_lines.specs.Laws.{LinesAreOneList, LinesJoin}
 use Rattle.ios_lines.proofs.LineSteps.{line-step, line-bounds}
@@ -69,7 +69,7 @@ same-head kinds count v w one two low =
     let closed : closes (kinds w) ≡ true = ap closes two.opens in
     cc
 
-pub same-open : (kinds : ℕ → Kind) (count v w : ℕ) → IsOpen kinds count v → IsOpen kinds count w → v ≡ w
+pub same-open : (kinds : ℕ → Kind) (count v w : ℕ) → IsOpenBlock kinds count v → IsOpenBlock kinds count w → v ≡ w
 same-open kinds count zero zero one two = refl
 same-open kinds count zero (suc w) one two = absurd (one w two)
 same-open kinds count (suc v) zero one two = absurd (two v one)

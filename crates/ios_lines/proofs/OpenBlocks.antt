@@ -5,11 +5,11 @@ use Rattle.ios_lines.specs.declared.banner.Delimiter.{Delimiter}
 use Rattle.ios_lines.specs.declared.kind.Kind.{Kind}
 use Rattle.ios_lines.specs.declared.kind.Kind.TheVariants.{Blank, Comment, Remark, Inner, Single, Head, Banner}
 use Rattle.ios_lines.specs.Kinds.{closes, kind_at, open_banner}
-use Rattle.ios_lines.specs.Blocks.{IsOpen, IsOrphan, Unclosed, IsUnclosed}
+use Rattle.ios_lines.specs.Blocks.{IsOpenBlock, IsOrphan, Unclosed, IsUnclosed}
 use Rattle.ios_lines.specs.Reading.{block_after, first_after, is_alone}
 
 -- a line that closes the block and opens none leaves none open
-closing : (kinds : ℕ → Kind) (count : ℕ) (k : Kind) → kinds count ≡ k → closes k ≡ true → (k ≡ Head → ⊥) → IsOpen kinds (count + 1) 0
+closing : (kinds : ℕ → Kind) (count : ℕ) (k : Kind) → kinds count ≡ k → closes k ≡ true → (k ≡ Head → ⊥) → IsOpenBlock kinds (count + 1) 0
 closing kinds count k is closes_it no_head = λ head heads. ⊎_elim
     (λ last. no_head (sym is ∙ ap kinds (sym last) ∙ heads.opens))
     (λ other.
@@ -20,7 +20,7 @@ closing kinds count k is closes_it no_head = λ head heads. ⊎_elim
     (cases_eq head count)
 
 -- a line that closes nothing leaves open what was
-keeping : (kinds : ℕ → Kind) (count block : ℕ) (k : Kind) → kinds count ≡ k → closes k ≡ false → (k ≡ Head → ⊥) → IsOpen kinds count block → IsOpen kinds (count + 1) block
+keeping : (kinds : ℕ → Kind) (count block : ℕ) (k : Kind) → kinds count ≡ k → closes k ≡ false → (k ≡ Head → ⊥) → IsOpenBlock kinds count block → IsOpenBlock kinds (count + 1) block
 keeping kinds count zero k is keeps no_head none = λ head heads. ⊎_elim
     (λ last. no_head (sym is ∙ ap kinds (sym last) ∙ heads.opens))
     (λ other.
@@ -39,11 +39,11 @@ keeping kinds count (suc block) k is keeps no_head heads =
     }
 
 -- a line that opens a block heads it
-opening : (kinds : ℕ → Kind) (count : ℕ) → kinds count ≡ Head → IsOpen kinds (count + 1) (count + 1)
-opening kinds count is = subst (IsOpen kinds (count + 1)) (sym (add-one count)) (record { before = omega arith; opens = is; unclosed = λ place low high. absurd (omega arith) })
+opening : (kinds : ℕ → Kind) (count : ℕ) → kinds count ≡ Head → IsOpenBlock kinds (count + 1) (count + 1)
+opening kinds count is = subst (IsOpenBlock kinds (count + 1)) (sym (add-one count)) (record { before = omega arith; opens = is; unclosed = λ place low high. absurd (omega arith) })
 
 -- the block that is open after one more line
-pub open-step : (kinds : ℕ → Kind) (count block : ℕ) (k : Kind) → kinds count ≡ k → IsOpen kinds count block → IsOpen kinds (count + 1) (block_after k (count + 1) block)
+pub open-step : (kinds : ℕ → Kind) (count block : ℕ) (k : Kind) → kinds count ≡ k → IsOpenBlock kinds count block → IsOpenBlock kinds (count + 1) (block_after k (count + 1) block)
 open-step kinds count block Blank is before = keeping kinds count block Blank is refl (λ e. cc) before
 open-step kinds count block Comment is before = closing kinds count Comment is refl (λ e. cc)
 open-step kinds count block Remark is before = keeping kinds count block Remark is refl (λ e. cc) before
@@ -57,12 +57,12 @@ other-kind : (lines : List (List ℕ)) (count : ℕ) (k : Kind) → kind_at line
 other-kind lines count k is other orphan = other (sym is ∙ orphan.inner)
 
 -- nor is a line in a block
-in-block : (lines : List (List ℕ)) (count block : ℕ) → IsOpen (kind_at lines) count block → (block ≡ 0 → ⊥) → IsOrphan lines count → ⊥
+in-block : (lines : List (List ℕ)) (count block : ℕ) → IsOpenBlock (kind_at lines) count block → (block ≡ 0 → ⊥) → IsOrphan lines count → ⊥
 in-block lines count zero open_block some orphan = some refl
 in-block lines count (suc head) heads some orphan = orphan.alone head heads
 
 -- the code's test of an orphan is right
-pub no-orphan : (lines : List (List ℕ)) (count block : ℕ) (k : Kind) → kind_at lines count ≡ k → IsOpen (kind_at lines) count block → is_alone k block ≡ false → IsOrphan lines count → ⊥
+pub no-orphan : (lines : List (List ℕ)) (count block : ℕ) (k : Kind) → kind_at lines count ≡ k → IsOpenBlock (kind_at lines) count block → is_alone k block ≡ false → IsOrphan lines count → ⊥
 no-orphan lines count block Blank is stands test = other-kind lines count Blank is (λ e. cc)
 no-orphan lines count block Comment is stands test = other-kind lines count Comment is (λ e. cc)
 no-orphan lines count block Remark is stands test = other-kind lines count Remark is (λ e. cc)

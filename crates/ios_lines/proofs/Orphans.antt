@@ -9,7 +9,7 @@ use Rattle.ios_lines.specs.declared.kind.Kind.{Kind}
 use Rattle.ios_lines.specs.declared.kind.Kind.TheVariants.{Blank, Comment, Remark, Inner, Single, Head, Banner}
 use Rattle.ios_lines.specs.Texts.{text_lines}
 use Rattle.ios_lines.specs.Kinds.{after_line, kind, kind_at, kind_within, open_banner}
-use Rattle.ios_lines.specs.Blocks.{IsOpen, IsOrphan, IsFirstOrphan, Unclosed}
+use Rattle.ios_lines.specs.Blocks.{IsOpenBlock, IsOrphan, IsFirstOrphan, Unclosed}
 use Rattle.ios_lines.specs.Lines.{HasOrphanAt, HasOpenBannerAt}
 use Rattle.ios_lines.specs.Reading.{block_after, is_alone}
 use Rattle.ios_lines.specs.Views.{Seen, seen_from, seen, open_block}
@@ -44,16 +44,16 @@ alone-inner Head block test = absurd cc
 alone-inner Banner block test = absurd cc
 
 -- a line that is no orphan
-not-alone : (lines : List (List ℕ)) (count : ℕ) (line : List ℕ) (rest : List (List ℕ)) (k : Kind) (block : ℕ) → drop count lines ≡ line ∷ rest → kind_at lines count ≡ k → IsOpen (kind_at lines) count block → (IsOrphan lines count → ⊥) → is_alone k block ≡ false
+not-alone : (lines : List (List ℕ)) (count : ℕ) (line : List ℕ) (rest : List (List ℕ)) (k : Kind) (block : ℕ) → drop count lines ≡ line ∷ rest → kind_at lines count ≡ k → IsOpenBlock (kind_at lines) count block → (IsOrphan lines count → ⊥) → is_alone k block ≡ false
 not-alone lines count line rest k block there kind open_block none = ⊎_elim
     (λ alone.
     let both = alone-inner k block alone in
     let at = stands_at lines count line rest there in
-    absurd (none (record { within = at.more; inner = kind ∙ both.0; alone = subst (IsOpen (kind_at lines) count) both.1 open_block })))
+    absurd (none (record { within = at.more; inner = kind ∙ both.0; alone = subst (IsOpenBlock (kind_at lines) count) both.1 open_block })))
     (λ other. other)
     (cases_Bool (is_alone k block))
 
-all-stand : (lines : List (List ℕ)) (count : ℕ) (banner : Option Delimiter) (block : ℕ) (rest : List (List ℕ)) → drop count lines ≡ rest → banner ≡ open_banner (take count lines) → IsOpen (kind_at lines) count block → ((place : ℕ) → IsOrphan lines place → ⊥) →
+all-stand : (lines : List (List ℕ)) (count : ℕ) (banner : Option Delimiter) (block : ℕ) (rest : List (List ℕ)) → drop count lines ≡ rest → banner ≡ open_banner (take count lines) → IsOpenBlock (kind_at lines) count block → ((place : ℕ) → IsOrphan lines place → ⊥) →
     AllByRecursion NotAlone (seen_from count banner block rest)
 all-stand lines count banner block [] there is open_block none = tt
 all-stand lines count banner block (line ∷ rest) there is open_block none =
@@ -65,7 +65,7 @@ all-stand lines count banner block (line ∷ rest) there is open_block none =
     )
 
 -- no line is an orphan where each is seen in a block or needs none
-none-alone : (lines : List (List ℕ)) (count : ℕ) (banner : Option Delimiter) (block : ℕ) (rest : List (List ℕ)) → drop count lines ≡ rest → banner ≡ open_banner (take count lines) → IsOpen (kind_at lines) count block →
+none-alone : (lines : List (List ℕ)) (count : ℕ) (banner : Option Delimiter) (block : ℕ) (rest : List (List ℕ)) → drop count lines ≡ rest → banner ≡ open_banner (take count lines) → IsOpenBlock (kind_at lines) count block →
     AllByRecursion NotAlone (seen_from count banner block rest) → (place : ℕ) → count ≤ place → IsOrphan lines place → ⊥
 none-alone lines count banner block [] there is open_block all place high orphan =
     let within : place < length lines = orphan.within in
@@ -81,7 +81,7 @@ none-alone lines count banner block (line ∷ rest) there is open_block all plac
     (λ other. none-alone lines (count + 1) (after_line banner line) (block_after k (count + 1) block) rest at.left (banner-next lines count line rest banner there is) (open-step (kind_at lines) count block k kind open_block) all.1 place (omega arith) orphan)
     (cases_eq place count)
 
-none-open : (lines : List (List ℕ)) → IsOpen (kind_at lines) 0 0
+none-open : (lines : List (List ℕ)) → IsOpenBlock (kind_at lines) 0 0
 none-open lines head heads = let low : head < 0 = heads.before in absurd (omega arith)
 
 pub stand-all : (lines : List (List ℕ)) → ((place : ℕ) → IsOrphan lines place → ⊥) → AllByRecursion NotAlone (seen lines)

@@ -11,7 +11,7 @@ use Rattle.ios_lines.specs.Texts.{part, IsLine, text_lines}
 use Rattle.ios_lines.specs.Words.{AreWords}
 use Rattle.arc_base.specs.Words.{words}
 use Rattle.ios_lines.specs.Kinds.{after_line, kind_at, kind_within, is_head, is_inert, open_banner}
-use Rattle.ios_lines.specs.Blocks.{IsOpen, IsOrphan, IsFirstOrphan, IsUnclosed}
+use Rattle.ios_lines.specs.Blocks.{IsOpenBlock, IsOrphan, IsFirstOrphan, IsUnclosed}
 use Rattle.ios_lines.specs.Lines.{HasOrphanAt}
 use Rattle.ios_lines.specs.Reading.{block_after, first_after, is_alone, Stands, IsNext}
 use Rattle.ios_lines.proofs.LineSteps.{line-step, line-bounds}
@@ -50,7 +50,7 @@ orphan-here text at to end state k some stands line is test =
     let there = stands_at (text_lines text) state.count _ _ next in
     let both = alone k state.block test in
     let kind : kind_at (text_lines text) state.count ≡ Inner = kind-here (text_lines text) state _ _ k there stands.banner is ∙ both.0 in
-    let orphan : IsOrphan (text_lines text) state.count = record { within = there.more; inner = kind; alone = subst (IsOpen (kind_at (text_lines text)) state.count) both.1 stands.block } in
+    let orphan : IsOrphan (text_lines text) state.count = record { within = there.more; inner = kind; alone = subst (IsOpenBlock (kind_at (text_lines text)) state.count) both.1 stands.block } in
     subst (IsFirstOrphan (text_lines text)) (sym (add-one state.count)) (orphan, stands.no_orphan)
 
 module _ (text : List ℕ) (at : ℕ) (state after : Open) (line : Line) (k : Kind) (some : at < length text) (stands : Stands text at state) (begins : line.span.from ≡ at) (ends : IsLine text at line.span.to line.end)
@@ -69,8 +69,8 @@ module _ (text : List ℕ) (at : ℕ) (state after : Open) (line : Line) (k : Ki
   next-banner : open_banner (take (state.count + 1) (text_lines text)) ≡ after.banner
   next-banner = banner-step (text_lines text) state _ _ next-at stands.banner ∙ sym banner
 
-  next-block : IsOpen (kind_at (text_lines text)) (state.count + 1) after.block
-  next-block = subst (IsOpen (kind_at (text_lines text)) (state.count + 1)) (sym block) (open-step (kind_at (text_lines text)) state.count state.block k next-kind stands.block)
+  next-block : IsOpenBlock (kind_at (text_lines text)) (state.count + 1) after.block
+  next-block = subst (IsOpenBlock (kind_at (text_lines text)) (state.count + 1)) (sym block) (open-step (kind_at (text_lines text)) state.count state.block k next-kind stands.block)
 
   next-orphans : (place : ℕ) → place < after.count → ¬ IsOrphan (text_lines text) place
   next-orphans place low orphan = ⊎_elim
@@ -95,7 +95,7 @@ module _ (text : List ℕ) (at : ℕ) (state after : Open) (line : Line) (k : Ki
         counted = omega arith;
         lines = ap (λ n. drop n (text_lines text)) count ∙ next-at.left;
         banner = sym next-banner ∙ ap (λ n. open_banner (take n (text_lines text))) (sym count);
-        block = subst (λ n. IsOpen (kind_at (text_lines text)) n after.block) (sym count) next-block;
+        block = subst (λ n. IsOpenBlock (kind_at (text_lines text)) n after.block) (sym count) next-block;
         first = next-first;
         no_orphan = next-orphans;
       }
@@ -111,7 +111,7 @@ module _ (text : List ℕ) (at : ℕ) (state after : Open) (line : Line) (k : Ki
         row = record {
           spans = subst (λ from. AreWords text from line.span.to line.words) (sym begins) spans;
           texts = texts ∙ ap words (sym here);
-          block = subst (IsOpen (kind_at (text_lines text)) (state.count + 1)) (sym same_block) next-block;
+          block = subst (IsOpenBlock (kind_at (text_lines text)) (state.count + 1)) (sym same_block) next-block;
           head = head ∙ ap is_head (sym next-kind);
           inert = inert ∙ ap is_inert (sym next-kind);
         };

@@ -5,7 +5,7 @@ use Rattle.std.proofs.lemmas.Option.{same_Some, none-some, slice_get-map, slice_
 use Rattle.std.specs.Prelude.{option_map}
 use Rattle.ios_lines.specs.declared.banner.Delimiter.{Delimiter}
 use Rattle.ios_lines.specs.Kinds.{after_line, is_head, kind_at, kind_within, open_banner}
-use Rattle.ios_lines.specs.Blocks.{Heads, IsOpen}
+use Rattle.ios_lines.specs.Blocks.{Heads, IsOpenBlock}
 use Rattle.ios_lines.specs.Reading.{block_after}
 use Rattle.ios_lines.specs.Views.{Seen, seen_in, seen_from, seen, Mark, mark_seen, open_block}
 use Rattle.ios_lines.specs.ChangeLaws.{HasHead}
@@ -16,25 +16,25 @@ use Rattle.ios_lines.proofs.Rows.{stands_at}
 use Rattle.ios_lines.proofs.ViewRows.{kind-next, banner-next}
 
 -- the block of a line is the one that is open after it
-seen-open : (lines : List (List ℕ)) (count : ℕ) (banner : Option Delimiter) (block : ℕ) (rest : List (List ℕ)) (k : ℕ) (s : Seen) → drop count lines ≡ rest → banner ≡ open_banner (take count lines) → IsOpen (kind_at lines) count block →
-    slice_get (seen_from count banner block rest) k ≡ Some s → IsOpen (kind_at lines) (count + 1 + k) s.block
+seen-open : (lines : List (List ℕ)) (count : ℕ) (banner : Option Delimiter) (block : ℕ) (rest : List (List ℕ)) (k : ℕ) (s : Seen) → drop count lines ≡ rest → banner ≡ open_banner (take count lines) → IsOpenBlock (kind_at lines) count block →
+    slice_get (seen_from count banner block rest) k ≡ Some s → IsOpenBlock (kind_at lines) (count + 1 + k) s.block
 seen-open lines count banner block [] k s there is open_now at = absurd (none-some s at)
 seen-open lines count banner block (line ∷ rest) zero s there is open_now at =
     let kind = kind-next lines count line rest banner there is in
     let now = open-step (kind_at lines) count block (kind_within banner line) kind open_now in
     let number : count + 1 ≡ count + 1 + 0 = omega arith in
-    subst (λ n. IsOpen (kind_at lines) n s.block) number (subst (IsOpen (kind_at lines) (count + 1)) (ap (λ (x : Seen). x.block) (same_Some _ s at)) now)
+    subst (λ n. IsOpenBlock (kind_at lines) n s.block) number (subst (IsOpenBlock (kind_at lines) (count + 1)) (ap (λ (x : Seen). x.block) (same_Some _ s at)) now)
 seen-open lines count banner block (line ∷ rest) (suc k) s there is open_now at =
     let kind = kind-next lines count line rest banner there is in
     let next = stands_at lines count line rest there in
     let number : count + 1 + 1 + k ≡ count + 1 + suc k = omega arith in
-    subst (λ n. IsOpen (kind_at lines) n s.block) number
+    subst (λ n. IsOpenBlock (kind_at lines) n s.block) number
     (seen-open lines (count + 1) (after_line banner line) (block_after (kind_within banner line) (count + 1) block) rest k s next.left (banner-next lines count line rest banner there is) (open-step (kind_at lines) count block (kind_within banner line) kind open_now) at)
 
-none-open : (lines : List (List ℕ)) → IsOpen (kind_at lines) 0 0
+none-open : (lines : List (List ℕ)) → IsOpenBlock (kind_at lines) 0 0
 none-open lines head heads = let low : head < 0 = heads.before in absurd (omega arith)
 
-head-seen : (lines : List (List ℕ)) (k block : ℕ) → k < length lines → IsOpen (kind_at lines) (0 + 1 + k) block → block ≢ 0 → HasHead (map mark_seen (seen lines)) block
+head-seen : (lines : List (List ℕ)) (k block : ℕ) → k < length lines → IsOpenBlock (kind_at lines) (0 + 1 + k) block → block ≢ 0 → HasHead (map mark_seen (seen lines)) block
 head-seen lines k zero low is some = absurd (some refl)
 head-seen lines k (suc h) low is some =
     let before : h < 0 + 1 + k = is.before in
@@ -59,4 +59,4 @@ seen-heads lines k m at some =
     let within = slice_get_within (seen lines) k s there in
     let long = length-seen 0 None 0 lines in
     let block : s.block ≡ m.block = ap (λ (x : Mark). x.block) same in
-    head-seen lines k m.block (omega arith) (subst (IsOpen (kind_at lines) (0 + 1 + k)) block (seen-open lines 0 None 0 lines k s refl refl (none-open lines) there)) some
+    head-seen lines k m.block (omega arith) (subst (IsOpenBlock (kind_at lines) (0 + 1 + k)) block (seen-open lines 0 None 0 lines k s refl refl (none-open lines) there)) some

@@ -6,7 +6,7 @@ use Rattle.std.proofs.lemmas.List.Sums.{fold-append}
 use Rattle.ios_lines.specs.Texts.{part, bytes_of, text_lines}
 use Rattle.arc_base.specs.Words.{words}
 use Rattle.ios_lines.specs.Kinds.{after_line, is_head, is_inert, kind_at, kind_within, open_banner}
-use Rattle.ios_lines.specs.Blocks.{IsOpen}
+use Rattle.ios_lines.specs.Blocks.{IsOpenBlock}
 use Rattle.ios_lines.specs.Lines.{IsRow}
 use Rattle.ios_lines.specs.Reading.{block_after}
 use Rattle.ios_lines.specs.ChangeLaws.{RowsAreSeen}
@@ -37,7 +37,7 @@ banner-next lines count line rest banner there is =
     sym (ap open_banner at.front ∙ fold-append after_line None (take count lines) (line ∷ []) ∙ ap (λ b. after_line b line) (sym is))
 
 row-of-seen : (text : List ℕ) (count : ℕ) (line : List ℕ) (rest : List (List ℕ)) (row : Line) (banner : Option Delimiter) (block : ℕ) → drop count (text_lines text) ≡ line ∷ rest → part text row.span ≡ line → IsRow text count row →
-    banner ≡ open_banner (take count (text_lines text)) → IsOpen (kind_at (text_lines text)) count block → mark_of text row ≡ mark_seen (seen_in (count + 1) line (kind_within banner line) block)
+    banner ≡ open_banner (take count (text_lines text)) → IsOpenBlock (kind_at (text_lines text)) count block → mark_of text row ≡ mark_seen (seen_in (count + 1) line (kind_within banner line) block)
 row-of-seen text count line rest row banner block there same row-is is open_block =
     let kind = kind-next (text_lines text) count line rest banner there is in
     let k = kind_within banner line in
@@ -49,7 +49,7 @@ row-of-seen text count line rest row banner block there same row-is is open_bloc
 
 rows-seen : (text : List ℕ) (count : ℕ) (rest : List (List ℕ)) (rows : List Line) (banner : Option Delimiter) (block : ℕ) → drop count (text_lines text) ≡ rest → bytes_of text rows ≡ rest →
     ((place : ℕ) (line : Line) → slice_get rows place ≡ Some line → IsRow text (count + place) line) →
-    banner ≡ open_banner (take count (text_lines text)) → IsOpen (kind_at (text_lines text)) count block →
+    banner ≡ open_banner (take count (text_lines text)) → IsOpenBlock (kind_at (text_lines text)) count block →
     map (mark_of text) rows ≡ map mark_seen (seen_from count banner block rest)
 rows-seen text count [] [] banner block there bytes all is open_block = refl
 rows-seen text count [] (row ∷ rows) banner block there bytes all is open_block = absurd cc

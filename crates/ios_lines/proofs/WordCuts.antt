@@ -59,10 +59,6 @@ words-blanks (b ∷ line) = ⊎_elim
     (λ other. subst (λ v. words (drop (cond (not v) 0 (suc (front (λ b. not (is_blank b)) line))) (b ∷ line)) ≡ words (b ∷ line)) (sym other) refl)
     (cases_Bool (is_blank b))
 
--- a first part that is put before the others
-abbrev joined : List ℕ → List (List ℕ) → List (List ℕ)
-joined part parts = part ∷ parts
-
 -- the parts of a line: what stands before its first blank, and the parts after that
 pub split-first : (line : List ℕ) → (rest : List (List ℕ)) × (slice_split is_blank line ≡ take (front is_blank line) line ∷ rest) × (kept rest ≡ words (drop (front is_blank line) line))
 split-first [] = ([], refl, refl)

@@ -4,7 +4,7 @@ use Rattle.std.proofs.Math.Seq.{take-append_seam, drop-append_seam}
 use Rattle.std.proofs.lemmas.Bool.{cond-true, cond-false}
 use Rattle.std.proofs.lemmas.List.Elements.{All-nil, All-cons}
 use Rattle.arc_base.specs.declared.span.Span.{Span}
-use Rattle.ios_lines.specs.Texts.{part, LiesIn}
+use Rattle.ios_lines.specs.Texts.{part, LiesInText}
 use Rattle.ios_lines.specs.Words.{AreBlank, AreWords}
 use Rattle.arc_base.specs.Words.{is_blank, words}
 use Rattle.ios_lines.proofs.Slices.{slice-at, length-slice_range, slice-cut}
@@ -70,9 +70,9 @@ spans-words text at to (w ∷ ws) order within (next, rest) =
     ∙ sym (ap words cut ∙ words-after_blanks before (word ++ after) (blank-part text at w.from (omega arith) next.blanks) ∙ words-after_word word after (omega arith) filled begins)
 
 -- the words lie in the text
-pub words-inside : (text : List ℕ) (at to : ℕ) (spans : List Span) → to ≤ length text → AreWords text at to spans → All (LiesIn text) spans
-words-inside text at to [] within words = All-nil (LiesIn text)
+pub words-inside : (text : List ℕ) (at to : ℕ) (spans : List Span) → to ≤ length text → AreWords text at to spans → All (LiesInText text) spans
+words-inside text at to [] within words = All-nil (LiesInText text)
 words-inside text at to (w ∷ ws) within (next, rest) =
     let some : w.from < w.to = next.some in
     let inside : w.to ≤ to = next.within in
-    All-cons (LiesIn text) w ws (omega arith, omega arith) (words-inside text w.to to ws within rest)
+    All-cons (LiesInText text) w ws (omega arith, omega arith) (words-inside text w.to to ws within rest)

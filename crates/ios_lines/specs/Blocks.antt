@@ -13,15 +13,15 @@ pub record Heads (kinds : ℕ → Kind) (count head : ℕ) : Type 0 where
 
 -- the block that is open after the first `count` lines is that of the line of this number, or there
 -- is none and the number is 0
-abbrev pub IsOpen : (ℕ → Kind) → ℕ → ℕ → Type 0
-IsOpen kinds count zero = (head : ℕ) → ¬ Heads kinds count head
-IsOpen kinds count (suc head) = Heads kinds count head
+abbrev pub IsOpenBlock : (ℕ → Kind) → ℕ → ℕ → Type 0
+IsOpenBlock kinds count zero = (head : ℕ) → ¬ Heads kinds count head
+IsOpenBlock kinds count (suc head) = Heads kinds count head
 
 -- the line at a place ought to belong to a block, and none is open before it
 pub record IsOrphan (lines : List (List ℕ)) (place : ℕ) : Type 0 where
   pub within : place < length lines
   pub inner : kind_at lines place ≡ Inner
-  pub alone : IsOpen (kind_at lines) place 0
+  pub alone : IsOpenBlock (kind_at lines) place 0
 
 -- the line of this number is the first such line
 abbrev pub IsFirstOrphan : List (List ℕ) → ℕ → Type 0

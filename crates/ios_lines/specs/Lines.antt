@@ -8,13 +8,13 @@ use Rattle.ios_lines.specs.Texts.{part, HasWordsIn, Join, bytes_of, text_lines}
 use Rattle.ios_lines.specs.Words.{AreWords}
 use Rattle.arc_base.specs.Words.{words}
 use Rattle.ios_lines.specs.Kinds.{kind_at, is_head, is_inert}
-use Rattle.ios_lines.specs.Blocks.{IsOpen, IsFirstOrphan, IsUnclosed}
+use Rattle.ios_lines.specs.Blocks.{IsOpenBlock, IsFirstOrphan, IsUnclosed}
 
 -- the line at a place has its words, and its marks say its block and its kind
 pub record IsRow (text : List ℕ) (place : ℕ) (line : Line) : Type 0 where
   pub spans : AreWords text line.span.from line.span.to line.words
   pub texts : map (part text) line.words ≡ words (part text line.span)
-  pub block : IsOpen (kind_at (text_lines text)) (place + 1) line.block
+  pub block : IsOpenBlock (kind_at (text_lines text)) (place + 1) line.block
   pub head : line.head ≡ is_head (kind_at (text_lines text) place)
   pub inert : line.inert ≡ is_inert (kind_at (text_lines text) place)
 

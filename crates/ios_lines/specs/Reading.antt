@@ -9,7 +9,7 @@ use Rattle.ios_lines.specs.declared.line.Line.{Line}
 use Rattle.ios_lines.specs.declared.reading.Open.{Open}
 use Rattle.ios_lines.specs.Texts.{part, HasWordsIn, IsLine, text_lines}
 use Rattle.ios_lines.specs.Kinds.{kind_at, open_banner}
-use Rattle.ios_lines.specs.Blocks.{IsOpen, IsOrphan, IsUnclosed}
+use Rattle.ios_lines.specs.Blocks.{IsOpenBlock, IsOrphan, IsUnclosed}
 use Rattle.ios_lines.specs.Lines.{IsRow}
 
 -- the number of the block that is open after the line of this kind and number, from that before it
@@ -45,7 +45,7 @@ pub record Stands (text : List ℕ) (at : ℕ) (state : Open) : Type 0 where
   pub counted : state.count ≤ length (text_lines text)
   pub lines : drop state.count (text_lines text) ≡ text_lines (drop at text)
   pub banner : state.banner ≡ open_banner (take state.count (text_lines text))
-  pub block : IsOpen (kind_at (text_lines text)) state.count state.block
+  pub block : IsOpenBlock (kind_at (text_lines text)) state.count state.block
   pub first : IsSome state.banner → IsUnclosed (text_lines text) state.count state.first
   pub no_orphan : (place : ℕ) → place < state.count → ¬ IsOrphan (text_lines text) place
 

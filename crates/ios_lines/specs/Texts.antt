@@ -10,12 +10,12 @@ abbrev pub part : List ℕ → Span → List ℕ
 part text span = slice_range text span.from span.to
 
 -- the span lies in the text
-abbrev pub LiesIn : List ℕ → Span → Type 0
-LiesIn text span = (span.from ≤ span.to) × (span.to ≤ length text)
+abbrev pub LiesInText : List ℕ → Span → Type 0
+LiesInText text span = (span.from ≤ span.to) × (span.to ≤ length text)
 
 -- the words of the line lie in the text
 abbrev pub HasWordsIn : List ℕ → Line → Type 0
-HasWordsIn text line = All (LiesIn text) line.words
+HasWordsIn text line = All (LiesInText text) line.words
 
 -- no byte between the two places is a line feed
 abbrev pub HasNoFeed : List ℕ → ℕ → ℕ → Type 0

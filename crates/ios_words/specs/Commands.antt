@@ -11,7 +11,7 @@ use Rattle.ios_words.specs.Language.{rows}
 use Rattle.ios_words.specs.Meanings.{give}
 use Rattle.ios_words.specs.Readings.{matches, read}
 use Rattle.ios_words.specs.Rows.{Rule}
-pub use Rattle.ios_lines.specs.Texts.{LiesIn, HasWordsIn}
+pub use Rattle.ios_lines.specs.Texts.{LiesInText, HasWordsIn}
 pub use Rattle.ios_words.specs.Spans.{line_words}
 use Rattle.ios_words.specs.Values.{Values}
 

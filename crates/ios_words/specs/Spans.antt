@@ -2,11 +2,11 @@
 use Rattle.std.specs.Prelude.{ℕ, List, map, All}
 use Rattle.arc_base.specs.declared.span.Span.{Span}
 use Rattle.ios_lines.specs.declared.line.Line.{Line}
-use Rattle.ios_lines.specs.Texts.{part, LiesIn}
+use Rattle.ios_lines.specs.Texts.{part, LiesInText}
 
 -- the spans lie in the text
 abbrev pub LieIn : List ℕ → List Span → Type 0
-LieIn text spans = All (LiesIn text) spans
+LieIn text spans = All (LiesInText text) spans
 
 -- the parts of the text that the spans cover
 abbrev pub words_at : List ℕ → List Span → List (List ℕ)

@@ -41,7 +41,7 @@ pub fn names_have_their_form()
 
 /// The plain line of a command is read as the command: it has the command's words, it heads a block
 /// exactly where the command does, and the language gives just this command for its words in a
-/// block of the kind in which it stands. The line `!` closes a block.
+/// block of the kind that it belongs to. The line `!` closes a block.
 pub fn plain_lines_are_read()
     ensures lines { PlainLinesAreRead }
     ensures closing { IsClosingLine (codes "!") }

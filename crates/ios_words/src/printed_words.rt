@@ -1,4 +1,4 @@
-//! The words of lines, put at the end of a text.
+//! The words of lines, appended to a text.
 ghost use Rattle.std.specs.Prelude.{◌≡◌, ◌≤◌, ◌-◌, ◌^◌, ◌∷◌, ◌++◌, [], map, Some, OnOk};
 ghost use Rattle.std.specs.Prelude.{if◌then◌else◌};
 ghost use Rattle.ios_lines.specs.Written.{spaced};

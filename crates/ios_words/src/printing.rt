@@ -1,4 +1,4 @@
-//! The plain line of each command, put at the end of a text without its end. A line of a block
+//! The plain line of each command, appended to a text without its line end. A line of a block
 //! begins with one space.
 ghost use Rattle.std.specs.Prelude.{◌≡◌, ◌++◌, OnOk};
 ghost use Rattle.ios_words.specs.declared.commands.Command.TheVariants.{ListLine, PrefixLine};

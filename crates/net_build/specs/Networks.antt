@@ -136,10 +136,6 @@ IsNetworkOf doc files net = IsNetworkWithin [] ENTRY_LIMIT doc files net
 abbrev pub IsBuilt : Document → List (List ℕ) → Built → Type 0
 IsBuilt doc files built = IsBuiltWithin [] ENTRY_LIMIT doc files built
 
--- the first refusal,
-abbrev pub IsFirstRefusal : Document → List (List ℕ) → Refusal → Type 0
-IsFirstRefusal doc files r = IsFirstRefusalWithin [] ENTRY_LIMIT doc files r
-
 -- and the answer
 abbrev pub Builds : Document → List (List ℕ) → Result Built NetFault → Type 0
 Builds doc files result = BuildsWithin [] ENTRY_LIMIT doc files result

@@ -1,5 +1,5 @@
 -- The far ends of links as they are gathered, and the neighbours that are named without being among them.
-use Rattle.std.proofs.Common.{◌≡◌, ℕ, ◌+◌, ◌<◌, ◌⊎◌, inl, inr, Option, Some, None, List, [], length, get_or, take, refl, sym, ◌∙◌, ap, subst, arith, Bool, true, false, ◌↔◌, nat_eq, if◌then◌else◌}
+use Rattle.std.proofs.Common.{◌≡◌, ℕ, ◌+◌, ◌<◌, ◌⊎◌, inl, inr, Option, Some, None, List, length, get_or, take, refl, sym, ◌∙◌, ap, subst, Bool, true, false, ◌↔◌, nat_eq, if◌then◌else◌}
 use Rattle.std.specs.Prelude.{Any, All, Contains, IsSome}
 use Rattle.std.specs.Option.{option_or}
 use Rattle.std.proofs.lemmas.Bool.{false≢true}
@@ -12,14 +12,13 @@ use Rattle.net_model.specs.declared.rows.LinkRow.{LinkRow}
 use Rattle.ios_words.specs.declared.commands.Command.{Command}
 use Rattle.ios_words.specs.declared.commands.Command.TheVariants as commands
 use Rattle.ios_config.specs.declared.settings.Given.{Given}
-use Rattle.net_rules.specs.Neighbors.{names_peer, says_remote, remote_of}
-use Rattle.ios_config.specs.Least.{IsLeast, FindsLeast}
+use Rattle.net_rules.specs.Neighbors.{says_remote, remote_of}
+use Rattle.ios_config.specs.Least.{FindsLeast}
 use Rattle.net_checks.specs.FarEnds.{LeadsTo, LinkLeadsTo, AddsFarEnd, IsListed, IsReached, gives_remote}
 use Rattle.net_rules.specs.Peers.{NamesOther}
 use Rattle.net_rules.specs.Settings.{lines_of}
 use Rattle.ios_config.specs.declared.settings.Config.{Config}
-use Rattle.net_rules.proofs.Anys.{Any-none, Any-before, Any-now, Any-either}
-use Rattle.arc_base.proofs.Items.{Contains-none}
+use Rattle.net_rules.proofs.Anys.{Any-before, Any-now, Any-either}
 use Rattle.net_rules.proofs.Lasts.{last_more}
 use Rattle.ios_config.proofs.Least.{least_same}
 
@@ -108,13 +107,6 @@ says_other peer other asn h = by (nat_eq other peer) refl h
     by true e h = (Decides-eqb other peer).0 e
     by false e h = absurd (no_some ℕ h)
 
-module _ (IsKnown : ℕ → Type 0) (g : Given Command) where
-  pub names_none : names_peer g.value ≡ None → (n : ℕ) → ¬ NamesOther IsKnown n g
-  names_none is n bad = none-some bad.1.0 (sym is ∙ bad.1.1)
-
-  pub names_other : (peer : ℕ) → names_peer g.value ≡ Some peer → ¬ IsKnown peer → IsLeast (λ n. NamesOther IsKnown n g) g.line
-  names_other peer is unknown = record { has = (refl, (peer, is, unknown)); least = λ m bad. omega (arith, bad.0) }
-
 -- what is named beside the one set is named beside the same set
 pub others_same : (P Q : ℕ → Type 0) → ((peer : ℕ) → P peer ↔ Q peer) → (lines : List (Given Command)) (n : ℕ) → Any (NamesOther P n) lines → Any (NamesOther Q n) lines
 others_same P Q same lines n (k, g, l, e, (line, (peer, named, unknown))) = (k, g, l, e, (line, (peer, named, λ known. unknown ((same peer).1 known))))
@@ -186,16 +178,5 @@ least_reached ends remotes router config lines found is are least =
       λ h. (h.0, (are peer).1 (subst (λ (l : List (Given Command)). IsSome (remote_of l peer)) (sym is) h.1)),
     )
 
-pub more_fail : {X : Type 0} (P : X → Type 0) (xs : List X) (n : ℕ) (x : X) → n < length xs → x ≡ get_or xs n x → ¬ Any P (take n xs) → ¬ P x → ¬ Any P (take (n + 1) xs)
-more_fail P xs n x within is before now h = by (Any-either P xs n x within is h)
-  where
-    by : Any P (take n xs) ⊎ P x → ⊥
-    by (inl h) = before h
-    by (inr h) = now h
-
 pub item_of_all : {X : Type 0} (P : X → Type 0) (xs ys : List X) (n : ℕ) (x : X) → n < length xs → x ≡ get_or xs n x → xs ≡ ys → All P ys → P x
 item_of_all {X} P xs ys n x within is same all = All-contains P xs x (subst (λ (l : List X). All P l) (sym same) all) (n, within, sym is)
-
--- before any link and any line
-pub no_ends : (faces : List FaceRow) (keys : List (ℕ × ℕ)) → keys ≡ [] → (pair : ℕ × ℕ) → Contains keys pair ↔ Any (LinkLeadsTo faces pair) []
-no_ends faces keys is pair = (λ h. absurd (Contains-none pair (subst (λ (l : List (ℕ × ℕ)). Contains l pair) is h)), λ h. absurd (Any-none (LinkLeadsTo faces pair) h))

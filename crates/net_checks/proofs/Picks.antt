@@ -1,5 +1,5 @@
 -- What is picked out of a list, item by item.
-use Rattle.std.proofs.Common.{◌≡◌, ℕ, ◌+◌, ◌<◌, Option, Some, List, [], ◌∷◌, ◌++◌, length, get_or, take, sym, ◌∙◌, ap}
+use Rattle.std.proofs.Common.{◌≡◌, ℕ, ◌+◌, ◌<◌, Option, List, [], ◌∷◌, ◌++◌, length, get_or, take, sym, ◌∙◌, ap}
 use Rattle.std.specs.List.{filter_map, cons_option}
 use Rattle.std.proofs.lemmas.List.{take_more, append_assoc}
 use Rattle.std.proofs.lemmas.List.Elements.{filter_map-append}
@@ -7,12 +7,6 @@ use Rattle.std.proofs.lemmas.List.Elements.{filter_map-append}
 module _ {X Y : Type 0} (h : X → Option Y) (xs : List X) (n : ℕ) (x : X) (within : n < length xs) (is : x ≡ get_or xs n x) where
   more : filter_map h (take (n + 1) xs) ≡ filter_map h (take n xs) ++ cons_option (h x) []
   more = ap (filter_map h) (take_more xs n x within ∙ ap (λ (y : X). take n xs ++ y ∷ []) (sym is)) ∙ filter_map-append h (take n xs) (x ∷ [])
-
-  -- a value is picked of one more item
-  pub picked : (before now next : List Y) (y : Y) → h x ≡ Some y → now ≡ before ++ filter_map h (take n xs) → next ≡ now ++ y ∷ [] → next ≡ before ++ filter_map h (take (n + 1) xs)
-  picked before now next y some was grown =
-      grown ∙ ap (λ (l : List Y). l ++ y ∷ []) was ∙ append_assoc before (filter_map h (take n xs)) (y ∷ []) ∙
-      ap (λ (l : List Y). before ++ l) (ap (λ (o : Option Y). filter_map h (take n xs) ++ cons_option o []) (sym some) ∙ sym more)
 
 -- what one more item gives, if it gives something, was added
 pub pick_more : {X Y : Type 0} (h : X → Option Y) (xs : List X) (n : ℕ) (x : X) (before now next : List Y) (o : Option Y) → n < length xs → x ≡ get_or xs n x → o ≡ h x →

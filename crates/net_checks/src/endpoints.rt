@@ -1,5 +1,5 @@
 //! The host networks between which the policies go.
-ghost use Rattle.std.specs.Prelude.{◌≡◌, ◌≤◌, ◌↔◌, All, IsTrue, OnOk, length};
+ghost use Rattle.std.specs.Prelude.{◌≤◌, ◌↔◌, All, IsTrue, OnOk, length};
 ghost use Rattle.arc_base.specs.declared.refusal.Kind.TheVariants as kinds;
 ghost use Rattle.net_model.specs.Validity.{IsValid};
 ghost use Rattle.net_rules.specs.Reasons.{TriedAlone, InDocument};

@@ -1,13 +1,12 @@
 //! Subnets that overlap. They are sorted, so that each one that overlaps another is next to one
 //! that it overlaps.
-ghost use Rattle.std.specs.Prelude.{[], ◌++◌, ◌≡◌, ◌≢◌, ◌↔◌, ◌<◌, ◌≤◌, ◌^◌, IsTrue, IfOk, IfNone};
-ghost use Rattle.std.specs.Prelude.{OnOk, MatchBool, MatchOption, All, AllPairs, length, ℕ, take};
+ghost use Rattle.std.specs.Prelude.{[], ◌++◌, ◌≡◌, ◌<◌, ◌≤◌, ◌^◌, IfOk, IfNone, OnOk, MatchBool};
+ghost use Rattle.std.specs.Prelude.{MatchOption, All, AllPairs, length, ℕ};
 ghost use Rattle.std.specs.List.{range_with_len, cons_option};
 ghost use Rattle.net_model.specs.Validity.{AreLinksApart};
 ghost use Rattle.net_model.specs.declared.policies.Document.{Document};
 ghost use Rattle.net_checks.specs.Claims.{AreLinkedOrApart, AreOfPartners, ArePartners};
-ghost use Rattle.net_checks.specs.Claims.{AreClaimsOf};
-ghost use Rattle.net_checks.specs.Claims.{ClearBelow, claim_of};
+ghost use Rattle.net_checks.specs.Claims.{AreClaimsOf, ClearBelow, claim_of};
 ghost use Rattle.std.specs.Option.{option_map_or};
 ghost use Rattle.arc_base.specs.Lists.{AreDistinct};
 ghost use Rattle.net_rules.specs.Sites.{full_names, sites};

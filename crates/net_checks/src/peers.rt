@@ -1,7 +1,7 @@
 //! What the lines of BGP processes name: neighbours at the far ends of links, and connected
 //! networks.
-ghost use Rattle.std.specs.Prelude.{◌≡◌, ◌≤◌, ◌<◌, ◌^◌, ◌↔◌, ◌⊎◌, ℕ, Any, All, Contains, IfOk};
-ghost use Rattle.std.specs.Prelude.{IsTrue, IsSome, length};
+ghost use Rattle.std.specs.Prelude.{◌≡◌, ◌≤◌, ◌<◌, ◌↔◌, ◌⊎◌, ℕ, Any, All, Contains, IfOk, IsTrue};
+ghost use Rattle.std.specs.Prelude.{IsSome, length};
 ghost use Rattle.arc_base.specs.declared.prefix.Prefix.{Prefix};
 ghost use Rattle.ios_config.specs.declared.settings.Given.{Given};
 ghost use Rattle.ios_config.specs.declared.settings.Config.{Config};
@@ -15,8 +15,7 @@ ghost use Rattle.net_rules.specs.Reasons.{TriedAlone, InFiles};
 ghost use Rattle.net_rules.specs.Rows.{AreBaseRows};
 ghost use Rattle.arc_base.specs.Lists.{AreDistinct};
 ghost use Rattle.net_rules.specs.Sites.{full_names};
-ghost use Rattle.net_checks.specs.FarEnds.{FindsOnly, LeadsTo, LinkLeadsTo, AddsFarEnd};
-ghost use Rattle.net_checks.specs.FarEnds.{IsListed};
+ghost use Rattle.net_checks.specs.FarEnds.{FindsOnly, LeadsTo, LinkLeadsTo, AddsFarEnd, IsListed};
 ghost use Rattle.net_checks.specs.FarEnds.{IsReached, gives_remote};
 ghost use Rattle.net_rules.specs.Peers.{NamesOther, RefusesNeighbor, RefusesNetwork, IsConnectedAt};
 ghost use Rattle.net_rules.specs.Peers.{TellsUnconnected};

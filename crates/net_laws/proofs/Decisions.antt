@@ -7,13 +7,16 @@ use Rattle.std.proofs.lemmas.Option.{slice_get_within}
 use Rattle.arc_base.specs.declared.prefix.Prefix.{Prefix}
 use Rattle.arc_base.specs.declared.place.Face.{Face}
 use Rattle.arc_base.specs.declared.place.ListId.{ListId}
+use Rattle.net_model.specs.declared.lists.Packet.{Packet}
+use Rattle.net_model.specs.declared.lists.PacketList.{PacketList}
 use Rattle.net_model.specs.declared.lists.RouteList.{RouteList}
 use Rattle.net_model.specs.declared.rows.FaceRow.{FaceRow}
 use Rattle.net_model.specs.declared.rows.LinkRow.{LinkRow}
 use Rattle.net_model.specs.declared.rows.SessionRow.{SessionRow}
 use Rattle.net_model.specs.declared.rows.Network.{Network}
 use Rattle.net_model.specs.Decided.{is_able_end, is_open, is_told}
-use Rattle.net_model.specs.Lists.{route_permits}
+use Rattle.net_model.specs.Lists.{permits, route_permits}
+use Rattle.net_model.specs.Forwarding.{Ends, Leaves, ListPermits}
 use Rattle.net_model.specs.Routing.{Arc, IsArc, IsRouted, IsUsable, Advertises, IsAbleEnd, IsOpen, RouteListPermits, FilterPermits, Carries, session_at, tail_face, head_face, tail_end, head_end}
 use Rattle.net_model.proofs.Arcs.{one_item, IsArc-unique}
 use Rattle.net_model.proofs.Decided.{able_right, open_right, told_right}
@@ -178,3 +181,17 @@ module _ (net : Network) (to : Prefix) (failed : ℕ → Bool) where
   usable_arcs =
       let all : Listed (length net.links) = list_below (length net.links) in
       record { arcs = all.arcs; usable = all.usable; complete = λ b u. all.complete b u (slice_get_within net.links b.link b.row u.is_arc.link) }
+
+-- whether a packet leaves can be decided
+permitted : (net : Network) (list : Option ListId) (p : Packet) → Decided (ListPermits net list p)
+permitted net list p =
+    let P : PacketList → Type 0 = λ l. IsTrue (permits l.entries p) in
+    if_some (λ (id : ListId). IsSomeAnd (slice_get net.packet_lists id.0) P)
+    (λ id. is_some_and P (λ l. is_true (permits l.entries p)) (slice_get net.packet_lists id.0)) list
+
+pub leaves_surely : (net : Network) (ends : Ends) (p : Packet) → ((¬ Leaves net ends p) → ⊥) → Leaves net ends p
+leaves_surely net ends p h =
+    elim (both (is_true ends.target.up) (permitted net ends.target.list_out p)) [
+      | inl leaves ↦ leaves
+      | inr stays ↦ absurd (h stays)
+    ]

@@ -83,11 +83,7 @@ hits-total n failed (l ∷ ls) within =
     total-cong n (λ k. (ind (l.0 == k) + times ls k) * ind (failed k)) (λ k. ind (l.0 == k) * ind (failed k) + times ls k * ind (failed k)) (λ k m. omega arith) in
     omega (arith, rest, one, both, spread)
 
-ind-le : (b : Bool) → ind b ≤ 1
-ind-le true = omega arith
-ind-le false = omega arith
-
-once_or_less : (m : ℕ) (b : Bool) → m ≤ 1 → m * ind b ≤ ind b
+pub once_or_less : (m : ℕ) (b : Bool) → m ≤ 1 → m * ind b ≤ ind b
 once_or_less m true l = omega arith
 once_or_less m false l = omega arith
 

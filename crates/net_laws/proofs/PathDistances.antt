@@ -260,7 +260,6 @@ module _ (net : Network) (to : Prefix) (t : ℕ) where
         let Least : ℕ → Type 0 = λ least. Offers net to failed (along arcs) w least × ((n : ℕ) → Offers net to failed (along arcs) w n → least ≤ n) in
         elim (on_route_or_off arcs u w) [
           | inl at ↦ let next : Onward arcs w = onward arcs u w path once at apart in
-              let best : ℕ = cost net next.arc + next.rest in
               let least : Least (cost net next.arc + next.rest) =
               (offered_here w at apart (cost net next.arc + next.rest) next.here, not_less w (cost net next.arc + next.rest) next.here) in
               subst (λ (o : Option ℕ). MatchOption o Nothing Least) (sym next.here) least

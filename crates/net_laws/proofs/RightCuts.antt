@@ -33,7 +33,7 @@ among_from (m ∷ links) l (suc k, within, e) =
     ap (λ (b : Bool). (m.0 == l.0) || b) (among_from links l (k, omega arith, e)) ∙ or-true (m.0 == l.0)
 
 -- no more links have failed than the list has
-or_le : (a b : Bool) → ind (a || b) ≤ ind a + ind b
+pub or_le : (a b : Bool) → ind (a || b) ≤ ind a + ind b
 or_le true b = omega arith
 or_le false b = omega arith
 
@@ -41,7 +41,7 @@ among_le : (links : List Link) (link : ℕ) → ind (among links link) ≤ times
 among_le [] link = omega arith
 among_le (l ∷ links) link = omega (arith, or_le (l.0 == link) (among links link), among_le links link)
 
-one_at_most : (n x : ℕ) → total n (λ k. ind (x == k)) ≤ 1
+pub one_at_most : (n x : ℕ) → total n (λ k. ind (x == k)) ≤ 1
 unfolding total
 one_at_most zero x = omega arith
 one_at_most (suc n) x =
@@ -96,7 +96,6 @@ module _ (net : Network) (valid : IsValid net) (ends : Ends) (k : ℕ) (whole : 
 -- the source is a router of the network
 pub source_in : (net : Network) → IsValid net → (class : Class) (ends : Ends) → AreEnds net class ends → source_router ends < length net.routers
 source_in net valid class ends are =
-    let place : ℕ = are.source.0 in
     let read : slice_get net.faces are.source.0 ≡ Some ends.source =
     slice_get-get_or net.faces are.source.0 ends.source are.source.1 ∙ ap Some are.source.2 in
     let face : IsValidFace net are.source.0 ends.source = valid.faces are.source.0 ends.source read in face.router

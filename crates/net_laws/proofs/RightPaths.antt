@@ -78,8 +78,6 @@ pub not_stuck : (net : Network) → IsValid net → (ends : Ends) (whole : Class
     IsStable net ends.to (target_router ends) failed d → (p : Packet) → IsOf whole p → Leaves net ends p → ((n : ℕ) × (d (source_router ends) ≡ Some n)) →
     (arcs : List Arc) → IsStuck net ends failed d p arcs → ⊥
 not_stuck net valid ends whole clear failed d stable p of leaves source arcs stuck =
-    let Denies : Type 0 = IsDenied net ends.to failed d p stuck.router in
-    let There : Type 0 = (stuck.router ≡ target_router ends) × (¬ Leaves net ends p) in
     elim stuck.stuck [
       | inl there ↦ there.1 leaves
       | inr other ↦ elim other [

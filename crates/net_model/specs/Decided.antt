@@ -1,5 +1,5 @@
--- Whether interfaces are able and open, and tell a host network, as truth values, for definitions
--- that compute with them. Each is true where the fact of `Routing` holds.
+-- Whether interfaces are able and open, and advertise a host network, as truth values, for
+-- definitions that compute with them. Each is true where the fact of `Routing` holds.
 use Rattle.std.specs.Prelude.{◌==◌, ◌&&◌, not, Bool, true, false, is_some, Option, slice_get}
 use Rattle.std.specs.List.{list_any}
 use Rattle.std.specs.Option.{option_map_or}

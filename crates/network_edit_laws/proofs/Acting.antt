@@ -19,9 +19,9 @@ use Rattle.net_model.specs.Forwarding.{ListPermits}
 use Rattle.net_model.specs.Lists.{permits, route_permits}
 use Rattle.net_model.specs.Routing.{RouteListPermits}
 use Rattle.net_model.specs.Validity.{IsPlace, IsValid, IsValidFace, IsValidSession, AreSessionsApart}
-use Rattle.net_model.specs.Witnesses.{IsUniform}
+use Rattle.net_model.specs.Witnesses.{IsUniform, IsUniformFor}
 use Rattle.net_model.proofs.Readings.{item_at_place}
-use Rattle.traffic_classes.specs.Parts.{IsUniformFor, TellApart}
+use Rattle.traffic_classes.specs.Parts.{TellApart}
 use Rattle.traffic_classes.proofs.Unions.{tell_apart}
 use Rattle.edit_list.specs.declared.edit_kinds.Edit.{Edit}
 use Rattle.edit_list.specs.declared.edit_kinds.Edit.TheVariants as edits

@@ -3,10 +3,10 @@ use Rattle.std.proofs.Common.{◌≡◌, ℕ, ◌<◌, ◌≤◌, ◌^◌, ◌&&
 use Rattle.std.specs.Prelude.{Contains, nat_le}
 use Rattle.std.specs.List.{find}
 use Rattle.std.specs.Option.{option_map_or}
-use Rattle.std.proofs.lemmas.Bool.{false≢true, cases_Bool, and_parts, and_from, leb-true, le-leb}
+use Rattle.std.proofs.lemmas.Bool.{false≢true, cases_Bool, and_parts, and_from, le-leb}
 use Rattle.arc_base.specs.Addresses.{holds, inside, Holds}
 use Rattle.arc_base.specs.declared.prefix.Prefix.{Prefix}
-use Rattle.arc_base.proofs.Agreement.{Holds-first, IsInside-shorter}
+use Rattle.arc_base.proofs.Agreement.{IsInside-shorter}
 use Rattle.arc_base.proofs.Items.{Contains-head, Contains-tail, Contains-cases, Contains-none}
 use Rattle.net_model.specs.declared.lists.Packet.{Packet}
 use Rattle.net_model.specs.declared.lists.PacketEntry.{PacketEntry}
@@ -17,8 +17,9 @@ use Rattle.net_model.specs.declared.services.Service.{Service}
 use Rattle.net_model.specs.Services.{serves, Serves, whole_service}
 use Rattle.net_model.specs.Packets.{IsOf}
 use Rattle.net_model.proofs.ServiceRanges.{bounds, serve}
-use Rattle.traffic_classes.proofs.Ranges.{same_length, holds_range}
+use Rattle.traffic_classes.proofs.Ranges.{holds_range}
 use Rattle.edit_list.specs.After.{any, every_packet, class_entry, exact_entry, new_packet_entries, new_route_entries}
+use Rattle.network_edit_laws.proofs.Turning.{exactly, itself}
 
 abbrev packet_answer : Option PacketEntry → Bool
 packet_answer o = option_map_or (λ (e : PacketEntry). e.permit) o false
@@ -86,21 +87,6 @@ module _ (p : Packet) where
   ]
 
 module _ (p : Prefix) where
-  exactly : (q : Prefix) → route_matches p (exact_entry false q) ≡ true → p ≡ q
-  exactly q hit =
-      let high = and_parts (inside p q && nat_le q.len p.len) (nat_le p.len q.len) hit in
-      let low = and_parts (inside p q) (nat_le q.len p.len) high.0 in
-      let in_q = and_parts (nat_le q.len p.len) (holds q p.addr) low.0 in
-      let longer : q.len ≤ p.len = leb-true q.len p.len low.1 in
-      let shorter : p.len ≤ q.len = leb-true p.len q.len high.1 in
-      same_length p q p.addr (omega (arith, longer, shorter)) (Holds-first p) in_q.1
-
-  itself : route_matches p (exact_entry false p) ≡ true
-  itself =
-      let whole : p.len ≤ p.len = omega arith in
-      let long : nat_le p.len p.len ≡ true = le-leb p.len p.len whole in
-      and_from (inside p p && nat_le p.len p.len) (nat_le p.len p.len) (and_from (inside p p) (nat_le p.len p.len) (and_from (nat_le p.len p.len) (holds p p.addr) long (Holds-first p)) long) long
-
   last_takes : route_permits (record { permit = true; prefix = any; low = 0; high = 32 } ∷ []) p ≡ true
   last_takes =
       let short : p.len ≤ 32 = p.length in
@@ -113,7 +99,7 @@ module _ (p : Prefix) where
   pub new_takes : (prefixes : List Prefix) → ¬ Contains prefixes p → route_permits (new_route_entries prefixes) p ≡ true
   new_takes [] none = last_takes
   new_takes (q ∷ qs) none = elim (cases_Bool (route_matches p (exact_entry false q))) [
-    | inl hit ↦ absurd (none (subst (λ (r : Prefix). Contains (q ∷ qs) r) (sym (exactly q hit)) (Contains-head q qs)))
+    | inl hit ↦ absurd (none (subst (λ (r : Prefix). Contains (q ∷ qs) r) (sym (exactly false p q hit)) (Contains-head q qs)))
     | inr miss ↦
         route_step (exact_entry false q) (route_matches p (exact_entry false q)) false (find (route_matches p) (new_route_entries qs)) miss ∙
         new_takes qs (λ there. none (Contains-tail q p qs there))
@@ -127,7 +113,7 @@ module _ (p : Prefix) where
     | inr miss ↦
         route_step (exact_entry false q) (route_matches p (exact_entry false q)) false (find (route_matches p) (new_route_entries qs)) miss ∙
         elim (Contains-cases q p qs there) [
-          | inl same ↦ absurd (false≢true (sym miss ∙ subst (λ (r : Prefix). route_matches p (exact_entry false r) ≡ true) (sym same) itself))
+          | inl same ↦ absurd (false≢true (sym miss ∙ subst (λ (r : Prefix). route_matches p (exact_entry false r) ≡ true) (sym same) (itself false p)))
           | inr later ↦ new_refuses qs later
         ]
   ]

@@ -19,7 +19,7 @@ use Rattle.net_model.specs.Packets.{IsOf, first_packet}
 use Rattle.net_model.specs.Witnesses.{IsUniform}
 use Rattle.net_model.proofs.Packets.{first_is_of}
 use Rattle.traffic_classes.proofs.Ranges.{same_length}
-use Rattle.edit_list.specs.After.{opposite_packet_entry, opposite_route_entry}
+use Rattle.edit_list.specs.After.{exact_entry, opposite_packet_entry, opposite_route_entry}
 use Rattle.network_edit_laws.specs.Laws.{ClassesTurn, OthersStay, PrefixesTurn, OtherPrefixesStay}
 
 -- the answer of the entry that is found
@@ -84,27 +84,28 @@ module _ (base : List PacketEntry) (p : Packet) where
           packet_miss (opposite_packet_entry base c) (matches p (opposite_packet_entry base c)) (find (matches p) (map (opposite_packet_entry base) cs ++ base)) miss ∙
           more (later miss)
 
+-- an entry for exactly a prefix matches it, and no other
+pub exactly : (permit : Bool) (p q : Prefix) → route_matches p (exact_entry permit q) ≡ true → p ≡ q
+exactly permit p q hit =
+    let high = and_parts (inside p q && nat_le q.len p.len) (nat_le p.len q.len) hit in
+    let low = and_parts (inside p q) (nat_le q.len p.len) high.0 in
+    let in_q = and_parts (nat_le q.len p.len) (holds q p.addr) low.0 in
+    let longer : q.len ≤ p.len = leb-true q.len p.len low.1 in
+    let shorter : p.len ≤ q.len = leb-true p.len q.len high.1 in
+    same_length p q p.addr (omega (arith, longer, shorter)) (Holds-first p) in_q.1
+
+pub itself : (permit : Bool) (p : Prefix) → route_matches p (exact_entry permit p) ≡ true
+itself permit p =
+    let whole : p.len ≤ p.len = omega arith in
+    let long : nat_le p.len p.len ≡ true = le-leb p.len p.len whole in
+    and_from (inside p p && nat_le p.len p.len) (nat_le p.len p.len) (and_from (inside p p) (nat_le p.len p.len) (and_from (nat_le p.len p.len) (holds p p.addr) long (Holds-first p)) long) long
+
 module _ (base : List RouteEntry) (p : Prefix) where
-  exactly : (q : Prefix) → route_matches p (opposite_route_entry base q) ≡ true → p ≡ q
-  exactly q hit =
-      let high = and_parts (inside p q && nat_le q.len p.len) (nat_le p.len q.len) hit in
-      let low = and_parts (inside p q) (nat_le q.len p.len) high.0 in
-      let in_q = and_parts (nat_le q.len p.len) (holds q p.addr) low.0 in
-      let longer : q.len ≤ p.len = leb-true q.len p.len low.1 in
-      let shorter : p.len ≤ q.len = leb-true p.len q.len high.1 in
-      same_length p q p.addr (omega (arith, longer, shorter)) (Holds-first p) in_q.1
-
-  itself : route_matches p (opposite_route_entry base p) ≡ true
-  itself =
-      let whole : p.len ≤ p.len = omega arith in
-      let long : nat_le p.len p.len ≡ true = le-leb p.len p.len whole in
-      and_from (inside p p && nat_le p.len p.len) (nat_le p.len p.len) (and_from (inside p p) (nat_le p.len p.len) (and_from (nat_le p.len p.len) (holds p p.addr) long (Holds-first p)) long) long
-
   other_prefixes_stay : (prefixes : List Prefix) → ¬ Contains prefixes p → route_permits (map (opposite_route_entry base) prefixes ++ base) p ≡ route_permits base p
   other_prefixes_stay [] none = refl
   other_prefixes_stay (q ∷ qs) none =
       route_miss (opposite_route_entry base q) (route_matches p (opposite_route_entry base q)) (find (route_matches p) (map (opposite_route_entry base) qs ++ base))
-      (false_from_ne_true (route_matches p (opposite_route_entry base q)) (λ hit. none (subst (λ (r : Prefix). Contains (q ∷ qs) r) (sym (exactly q hit)) (Contains-head q qs)))) ∙
+      (false_from_ne_true (route_matches p (opposite_route_entry base q)) (λ hit. none (subst (λ (r : Prefix). Contains (q ∷ qs) r) (sym (exactly (not (route_permits base q)) p q hit)) (Contains-head q qs)))) ∙
       other_prefixes_stay qs (λ there. none (Contains-tail q p qs there))
 
   prefixes_turn : (prefixes : List Prefix) → Contains prefixes p → route_permits (map (opposite_route_entry base) prefixes ++ base) p ≡ not (route_permits base p)
@@ -113,14 +114,14 @@ module _ (base : List RouteEntry) (p : Prefix) where
     where
       later : route_matches p (opposite_route_entry base q) ≡ false → Contains qs p
       later miss = elim (Contains-cases q p qs there) [
-        | inl same ↦ absurd (false≢true (sym miss ∙ subst (λ (r : Prefix). route_matches p (opposite_route_entry base r) ≡ true) (sym same) itself))
+        | inl same ↦ absurd (false≢true (sym miss ∙ subst (λ (r : Prefix). route_matches p (opposite_route_entry base r) ≡ true) (sym same) (itself (not (route_permits base p)) p)))
         | inr after ↦ after
       ]
 
       by : (Contains qs p → route_permits (map (opposite_route_entry base) qs ++ base) p ≡ not (route_permits base p)) → (b : Bool) → route_matches p (opposite_route_entry base q) ≡ b → route_permits (map (opposite_route_entry base) (q ∷ qs) ++ base) p ≡ not (route_permits base p)
       by more true hit =
           route_hit (opposite_route_entry base q) (route_matches p (opposite_route_entry base q)) (find (route_matches p) (map (opposite_route_entry base) qs ++ base)) hit ∙
-          ap (λ (r : Prefix). not (route_permits base r)) (sym (exactly q hit))
+          ap (λ (r : Prefix). not (route_permits base r)) (sym (exactly (not (route_permits base q)) p q hit))
       by more false miss =
           route_miss (opposite_route_entry base q) (route_matches p (opposite_route_entry base q)) (find (route_matches p) (map (opposite_route_entry base) qs ++ base)) miss ∙
           more (later miss)

@@ -7,9 +7,9 @@ use Rattle.net_model.specs.declared.policies.Document.{Document}
 use Rattle.net_model.specs.declared.policies.Policy.{Policy}
 use Rattle.net_model.specs.declared.rows.Network.{Network}
 use Rattle.net_model.specs.Forwarding.{HasEnds}
+use Rattle.net_model.specs.Witnesses.{IsUniformFor}
 use Rattle.traffic_classes.specs.AllClasses.{AreAllClasses}
 use Rattle.traffic_classes.specs.Classes.{AreClasses}
-use Rattle.traffic_classes.specs.Parts.{IsUniformFor}
 use Rattle.edit_list.specs.declared.edit_kinds.Edit.{Edit}
 use Rattle.edit_list.specs.EditLists.{AreEdits, LiesInHost}
 use Rattle.edit_list.specs.Prices.{chosen_of}

@@ -1,9 +1,8 @@
 //! The texts of certificates.
-ghost use Rattle.std.specs.Prelude.{◌≡◌, ◌++◌, ◌∷◌, [], codes, decimal, length, IfOk, OnOk};
+ghost use Rattle.std.specs.Prelude.{◌≡◌, ◌++◌, ◌∷◌, [], length, IfOk, OnOk};
 ghost use Rattle.edit_list.specs.Prices.{chosen_of};
-ghost use Rattle.policy_report.specs.Lines.{line};
 ghost use Rattle.policy_report.specs.Edits.{edit_lines};
-ghost use Rattle.policy_report.specs.Certificates.{claim_line, shown_lines, log_lines, budget_line};
+ghost use Rattle.policy_report.specs.Certificates.{claim_line, shown_lines, log_lines};
 ghost use Rattle.policy_report.specs.Certificates.{certificate_text, budget_text, IsWholeClaim};
 
 use crate::edits::push_edit;

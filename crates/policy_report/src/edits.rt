@@ -1,7 +1,6 @@
 //! The texts of edits, and the edit that a text names.
-ghost use Rattle.std.specs.Prelude.{◌≡◌, ◌<◌, ◌≤◌, ◌++◌, ◌∷◌, [], bytes_eq, codes, length, IfOk};
-ghost use Rattle.std.specs.Prelude.{IfSome, OnOk};
-ghost use Rattle.arc_base.specs.PrefixText.{prefix_text};
+ghost use Rattle.std.specs.Prelude.{◌≡◌, ◌<◌, ◌++◌, ◌∷◌, [], bytes_eq, codes, length, IfOk, IfSome};
+ghost use Rattle.std.specs.Prelude.{OnOk};
 ghost use Rattle.policy_report.specs.Lines.{after_spaces};
 ghost use Rattle.policy_report.specs.Edits.{router_name, owner_name, face_name, neighbor_text};
 ghost use Rattle.policy_report.specs.Edits.{route_list_words, packet_list_words, edit_words};

@@ -1,19 +1,15 @@
 -- The first word of a line, and the number that it writes.
-use Rattle.std.proofs.Common.{◌≡◌, filter, ℕ, ◌+◌, ◌-◌, ◌<◌, ◌≤◌, ◌^◌, ℤ, pos, Bool, true, false, List, [], ◌∷◌, ◌++◌, length, take, drop, get_or, refl, ap, sym, subst, ◌∙◌, arith, All, Option, Some, None, cond, ◌||◌, is_none, option_and_then, nat_le, append-nil, take-append-drop, length-drop, length-take-le, ⊎_elim}
-use Rattle.std.specs.List.{list_any}
-use Rattle.std.specs.Str.{all_ascii_digits, bytes_eq}
+use Rattle.std.proofs.Common.{◌≡◌, filter, ℕ, ◌+◌, ◌-◌, ◌<◌, ◌≤◌, ◌^◌, ℤ, pos, Bool, true, false, List, [], ◌∷◌, ◌++◌, length, take, drop, get_or, refl, ap, sym, subst, ◌∙◌, arith, All, Some, None, cond, option_and_then, nat_le, append-nil, take-append-drop, length-drop, length-take-le, ⊎_elim}
+use Rattle.std.specs.Str.{all_ascii_digits}
 use Rattle.std.specs.Char.{is_ascii_digit}
-use Rattle.std.proofs.lemmas.Bool.{and_from, and_parts, cases_Bool, cond-true, le-leb}
+use Rattle.std.proofs.lemmas.Bool.{and_from, and_parts, cond-true, le-leb}
 use Rattle.std.proofs.lemmas.Bool.Decides.{nat_tests}
-use Rattle.std.proofs.lemmas.Option.{none-some}
 use Rattle.std.proofs.lemmas.List.{take_more}
 use Rattle.std.proofs.lemmas.List.Splits.{slice_split_none}
 use Rattle.std.proofs.lemmas.List.Elements.{All-cons, All-nil, All-weaker}
-use Rattle.std.proofs.lemmas.Slice.Eq.{bytes_eq-Decides}
 use Rattle.arc_base.specs.Words.{words, is_filled, is_blank}
 use Rattle.arc_base.specs.WordNumbers.{natural, is_natural, minus, value_after, with_digit}
 use Rattle.proof_log.specs.Fronts.{EndsWord, IsFirstNumber}
-use Rattle.proof_log.specs.Reading.{is_bad, log_number}
 use Rattle.proof_log.proofs.Printed.{IsWord, filled_by, first_word, front_word, no_blanks, number_plain}
 
 -- one digit more
@@ -102,15 +98,3 @@ signed_first line bytes rest count value z true minus_first none some within dig
     subst (λ l. IsFirstNumber l (Some z) rest) (sym (minus_first refl)) (negative_first bytes rest count value z some within digits value_is small number ends)
 signed_first line bytes rest count value z false minus_first none some within digits value_is small number ends =
     subst (λ o. IsFirstNumber line o rest) (sym number) (subst (λ l. IsFirstNumber l (Some (pos value)) rest) (sym (none refl)) (natural_first bytes rest count value some within digits value_is small ends))
-
--- what the first word adds
-pub first_bad : (line rest : List ℕ) (o : Option ℤ) → IsFirstNumber line o rest → list_any is_bad (words line) ≡ (is_none o || list_any is_bad (words rest))
-first_bad line rest o f =
-    ap (list_any is_bad) f.words_are ∙ ap (λ p. is_none p || list_any is_bad (words rest)) f.number_is
-
--- a number is no letter
-no_letter : (w letter : List ℕ) (z : ℤ) → log_number w ≡ Some z → log_number letter ≡ None → bytes_eq w letter ≡ false
-no_letter w letter z number none = ⊎_elim
-    (λ (e : bytes_eq w letter ≡ true). absurd (none-some z (sym none ∙ ap log_number (sym ((bytes_eq-Decides w letter).0 e)) ∙ number)))
-    (λ (e : bytes_eq w letter ≡ false). e)
-    (cases_Bool (bytes_eq w letter))

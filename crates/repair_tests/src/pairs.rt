@@ -1,9 +1,9 @@
 //! Router r1 with 10.1.0.0/24 and router r2 with 10.2.0.0/24, joined by a link.
-ghost use Rattle.std.specs.Prelude.{◌≤◌, ◌<◌, ◌^◌, length, IfOk, All};
 ghost use Rattle.net_doc.specs.Documents.{IsWellFormed};
 ghost use Rattle.net_model.specs.Forwarding.{HasEnds};
 ghost use Rattle.net_model.specs.Packets.{subject};
 ghost use Rattle.net_model.specs.Validity.{IsValid};
+ghost use Rattle.std.specs.Prelude.{◌<◌, ◌^◌, length, IfOk, All};
 
 use arc_base::{List, Memory, Name};
 use net_build::network;
@@ -18,25 +18,29 @@ pub const THROUGH: &str = "\"through\"";
 
 pub const REACH: &str = "\"reach\", \"failures\": 0";
 
-const OSPF_1: &str = "hostname r1
+/// The files of the two routers under OSPF.
+pub const OSPF: (&str, &str) = (
+    "hostname r1
 interface GigabitEthernet0/0
  ip address 10.1.0.1 255.255.255.0
 interface GigabitEthernet0/1
  ip address 10.0.1.1 255.255.255.252
 router ospf 1
  network 0.0.0.0 255.255.255.255 area 0
-";
-
-const OSPF_2: &str = "hostname r2
+",
+    "hostname r2
 interface GigabitEthernet0/0
  ip address 10.2.0.1 255.255.255.0
 interface GigabitEthernet0/1
  ip address 10.0.1.2 255.255.255.252
 router ospf 1
  network 0.0.0.0 255.255.255.255 area 0
-";
+",
+);
 
-const BGP_1: &str = "hostname r1
+/// The files of the two routers, each an AS of its own, with a session over the link.
+pub const BGP: (&str, &str) = (
+    "hostname r1
 interface GigabitEthernet0/0
  ip address 10.1.0.1 255.255.255.0
 interface GigabitEthernet0/1
@@ -44,9 +48,8 @@ interface GigabitEthernet0/1
 router bgp 65001
  neighbor 10.0.1.2 remote-as 65002
  network 10.1.0.0 mask 255.255.255.0
-";
-
-const BGP_2: &str = "hostname r2
+",
+    "hostname r2
 interface GigabitEthernet0/0
  ip address 10.2.0.1 255.255.255.0
 interface GigabitEthernet0/1
@@ -54,7 +57,8 @@ interface GigabitEthernet0/1
 router bgp 65002
  neighbor 10.0.1.1 remote-as 65001
  network 10.2.0.0 mask 255.255.255.0
-";
+",
+);
 
 /// A document and the network of its files.
 #[derive(Drop)]
@@ -75,7 +79,7 @@ fn file(alloc: Global, text: &str) -> Result<Name, Memory>
 
 /// The pair of these files, with a document of one policy of this kind from the one host network to
 /// the other.
-fn built(alloc: Global, kind: &str, first: &str, second: &str) -> Result<Pair, NetFault>
+pub fn pair_of(alloc: Global, texts: (&str, &str), kind: &str) -> Result<Pair, NetFault>
     ensures valid { IfOk result (λ pair. IsValid pair.net) }
     ensures ends { IfOk result (λ pair.
         All (λ policy. HasEnds pair.net (subject policy)) pair.doc.policies) }
@@ -91,31 +95,11 @@ fn built(alloc: Global, kind: &str, first: &str, second: &str) -> Result<Pair, N
         return Err(NetFault::Memory);
     }
     let mut files = List::make(alloc);
-    files.push(file(alloc, first)?)?;
-    files.push(file(alloc, second)?)?;
+    files.push(file(alloc, texts.0)?)?;
+    files.push(file(alloc, texts.1)?)?;
     let built = network(alloc, &doc, &files)?;
     Ok(Pair {
         doc,
         net: built.net,
     })
-}
-
-/// The two routers under OSPF.
-pub fn ospf(alloc: Global, kind: &str) -> Result<Pair, NetFault>
-    ensures valid { IfOk result (λ pair. IsValid pair.net) }
-    ensures ends { IfOk result (λ pair.
-        All (λ policy. HasEnds pair.net (subject policy)) pair.doc.policies) }
-    ensures well_formed { IfOk result (λ pair. IsWellFormed pair.doc) }
-{
-    built(alloc, kind, OSPF_1, OSPF_2)
-}
-
-/// The two routers, each an AS of its own, with a session over the link.
-pub fn bgp(alloc: Global, kind: &str) -> Result<Pair, NetFault>
-    ensures valid { IfOk result (λ pair. IsValid pair.net) }
-    ensures ends { IfOk result (λ pair.
-        All (λ policy. HasEnds pair.net (subject policy)) pair.doc.policies) }
-    ensures well_formed { IfOk result (λ pair. IsWellFormed pair.doc) }
-{
-    built(alloc, kind, BGP_1, BGP_2)
 }

@@ -1,12 +1,12 @@
 //! Repairs of pairs of routers, with what their logs show.
-ghost use Rattle.std.specs.Prelude.{◌≤◌, All};
+ghost use Rattle.arc_repair.specs.Checks.{HasFlags};
 ghost use Rattle.net_doc.specs.Documents.{IsWellFormed};
 ghost use Rattle.net_model.specs.Forwarding.{HasEnds};
 ghost use Rattle.net_model.specs.Packets.{subject};
 ghost use Rattle.net_model.specs.Validity.{IsValid};
-ghost use Rattle.arc_repair.specs.Checks.{HasFlags};
+ghost use Rattle.std.specs.Prelude.{◌≤◌, All};
 
-use crate::pairs::{BLOCKED, Pair, REACH, ospf};
+use crate::pairs::{BLOCKED, OSPF, Pair, REACH, pair_of};
 use arc_base::List;
 use arc_repair::{Answer, Check, Made, repair};
 use edit_list::{Claim, EditFault};
@@ -77,7 +77,7 @@ fn repaired(alloc: Global, pair: &Pair, bound: u32) -> Result<Option<Outcome>, E
 fn outcome_of(alloc: Global, kind: &str, bound: u32) -> Result<Option<Outcome>, Fail>
     requires { bound ≤ 512 }
 {
-    let pair = ospf(alloc, kind)?;
+    let pair = pair_of(alloc, OSPF, kind)?;
     let outcome = repaired(alloc, &pair, bound)?;
     Ok(outcome)
 }

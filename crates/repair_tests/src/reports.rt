@@ -1,10 +1,10 @@
 //! Reports on the two routers, as they are judged.
-ghost use Rattle.std.specs.Prelude.{All};
 ghost use Rattle.net_model.specs.Forwarding.{HasEnds};
 ghost use Rattle.net_model.specs.Packets.{subject};
 ghost use Rattle.net_model.specs.Validity.{IsValid};
+ghost use Rattle.std.specs.Prelude.{All};
 
-use crate::pairs::{BLOCKED, Pair, ospf};
+use crate::pairs::{BLOCKED, OSPF, Pair, pair_of};
 use arc_base::{CertKind, Memory};
 use policy_report::CertFault;
 use report_check::{Outcome, check_report};
@@ -24,7 +24,7 @@ fn judged(alloc: Global, pair: &Pair, text: &str) -> Result<Outcome, Memory>
 
 /// What it is judged to where packets from r1's users are to be blocked.
 fn outcome_of(alloc: Global, text: &str) -> Result<Outcome, Fail> {
-    let pair = ospf(alloc, BLOCKED)?;
+    let pair = pair_of(alloc, OSPF, BLOCKED)?;
     let outcome = judged(alloc, &pair, text)?;
     Ok(outcome)
 }

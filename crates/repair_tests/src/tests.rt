@@ -1,10 +1,10 @@
-ghost use Rattle.std.specs.Prelude.{◌≤◌, All};
 ghost use Rattle.net_doc.specs.Documents.{IsWellFormed};
 ghost use Rattle.net_model.specs.Forwarding.{HasEnds};
 ghost use Rattle.net_model.specs.Packets.{subject};
 ghost use Rattle.net_model.specs.Validity.{IsValid};
+ghost use Rattle.std.specs.Prelude.{◌≤◌, All};
 
-use crate::pairs::{BLOCKED, Pair, REACH, THROUGH, bgp, ospf};
+use crate::pairs::{BGP, BLOCKED, OSPF, Pair, REACH, THROUGH, pair_of};
 use cnf_types::Clause;
 use edit_list::{EditFault, edits};
 use policy_encode::{Encoded, encode};
@@ -79,46 +79,39 @@ fn counts(encoded: &Encoded) -> Counts {
     )
 }
 
-/// The sessions of both ends of the link, and a new inbound list at each of the four interfaces.
-#[test]
-fn edits_under_ospf(rt: HostRuntime) -> Result<(), Fail> {
-    let alloc = rt.alloc();
-    let pair = ospf(alloc, BLOCKED)?;
-    let texts = edit_texts(alloc, &pair)?;
-    let expected = "edit session r1 GigabitEthernet0/1
+/// What comes first among the edits of the pair: the sessions of both ends of the link.
+const SESSIONS: &str = "edit session r1 GigabitEthernet0/1
 edit session r2 GigabitEthernet0/1
-edit packet r1 interface GigabitEthernet0/0 10.1.0.0/24 10.2.0.0/24
+";
+
+/// What comes last: a new inbound list at each of the four interfaces.
+const LISTS: &str = "edit packet r1 interface GigabitEthernet0/0 10.1.0.0/24 10.2.0.0/24
 edit packet r1 interface GigabitEthernet0/1 10.1.0.0/24 10.2.0.0/24
 edit packet r2 interface GigabitEthernet0/0 10.1.0.0/24 10.2.0.0/24
 edit packet r2 interface GigabitEthernet0/1 10.1.0.0/24 10.2.0.0/24
 ";
-    assert_eq!(rt; texts.as_slice(), expected.as_bytes());
-    Ok(())
-}
 
 /// Under eBGP each session may also get a new route list for the one destination.
-#[test]
-fn edits_under_bgp(rt: HostRuntime) -> Result<(), Fail> {
-    let alloc = rt.alloc();
-    let pair = bgp(alloc, BLOCKED)?;
-    let texts = edit_texts(alloc, &pair)?;
-    let expected = "edit session r1 GigabitEthernet0/1
-edit session r2 GigabitEthernet0/1
-edit route r1 neighbor 10.0.1.2 10.2.0.0/24
+const ROUTES: &str = "edit route r1 neighbor 10.0.1.2 10.2.0.0/24
 edit route r2 neighbor 10.0.1.1 10.2.0.0/24
-edit packet r1 interface GigabitEthernet0/0 10.1.0.0/24 10.2.0.0/24
-edit packet r1 interface GigabitEthernet0/1 10.1.0.0/24 10.2.0.0/24
-edit packet r2 interface GigabitEthernet0/0 10.1.0.0/24 10.2.0.0/24
-edit packet r2 interface GigabitEthernet0/1 10.1.0.0/24 10.2.0.0/24
 ";
-    assert_eq!(rt; texts.as_slice(), expected.as_bytes());
+
+#[test]
+fn edits_are_those_of_the_protocol(rt: HostRuntime) -> Result<(), Fail> {
+    let alloc = rt.alloc();
+    for (texts, routes) in [(OSPF, ""), (BGP, ROUTES)] {
+        let pair = pair_of(alloc, texts, BLOCKED)?;
+        let found = edit_texts(alloc, &pair)?;
+        let expected = format!(in alloc; "{SESSIONS}{routes}{LISTS}")?;
+        assert_eq!(rt; found.as_slice(), expected.as_bytes());
+    }
     Ok(())
 }
 
 /// The repair formula of the two routers under OSPF with a policy of this kind, for price 0 alone:
 /// its clauses, and how large it is.
 fn formula_of(alloc: Global, kind: &str) -> Result<(String, Counts), Fail> {
-    let pair = ospf(alloc, kind)?;
+    let pair = pair_of(alloc, OSPF, kind)?;
     let encoded = encoded(alloc, &pair, 0)?;
     let lines = lines(alloc, &encoded)?;
     Ok((lines, counts(&encoded)))

@@ -26,11 +26,6 @@ one_more A None x none = (inr refl, λ n h. ⊎_elim (λ a. absurd (none n a)) (
 one_more A (Some m) x least =
     (lesser_is_one A m x least.0, λ n h. ⊎_elim (λ a. omega (arith, least.1 n a)) (λ e. omega (arith, e)) h)
 
--- a number is the least of the set of it alone
-pub alone : (o : Option ℕ) → IsLeastOf (λ n. o ≡ Some n) o
-alone None = λ n e. none-some n e
-alone (Some m) = (refl, λ n e. let same : m ≡ n = same_Some m n e in omega (arith, same))
-
 -- where the set holds a number, it has a least one
 pub has_least : (A : ℕ → Type 0) (o : Option ℕ) (n : ℕ) → IsLeastOf A o → A n → (m : ℕ) × (o ≡ Some m) × A m × (m ≤ n)
 has_least A None n none a = absurd (none n a)

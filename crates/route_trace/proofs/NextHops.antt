@@ -86,7 +86,6 @@ module _ (net : Network) (to : Prefix) (failed : FailureSet) (steps : List Step)
 
   to_hop : (link : Link) → IsNextHop net to failed d at link → Contains (hops_of steps d at) link
   to_hop link h =
-      let step : Step = step_of net h.arc in
       let among : Contains steps (step_of net h.arc) =
       are.complete h.arc h.attains.usable (slice_get_within net.links h.arc.link h.arc.row h.attains.usable.is_arc.link) in
       let hop : is_hop d at (step_of net h.arc) ≡ true =

@@ -90,10 +90,6 @@ module _ (distances : List (Option ℕ)) (settled : List Bool) (old rest : List 
         late = late_still;
       }
 
-none_from : (o : Option ℕ) → ((n : ℕ) → o ≡ Some n → ⊥) → o ≡ None
-none_from None h = refl
-none_from (Some n) h = absurd (h n refl)
-
 -- a router that takes a lesser distance has an entry more
 pub one_taken : (distances : List (Option ℕ)) (settled : List Bool) (old now : List Entry) (at x : ℕ) → at < length distances → IsQueue distances settled old →
     IsPermutation (record { 0 = (x, at) } ∷ old) now → IsHeap entry_cmp now → ((m : ℕ) → distance_map distances at ≡ Some m → x ≤ m) →

@@ -39,9 +39,6 @@ module _ (steps : List Step) (owner : ℕ) (d e : DistanceMap) (s t : ℕ → Bo
     (was_open : s w ≡ false) (here : d w ≡ Some n) (nearest : (u m : ℕ) → s u ≡ false → d u ≡ Some m → n ≤ m)
     (now_settled : t w ≡ true) (others : (u : ℕ) → (u ≡ w → ⊥) → t u ≡ s u)
     (relaxed : (u : ℕ) → IsLeastOf (λ k. (d u ≡ Some k) ⊎ IsGiven (steps_at Head steps w) n u k) (e u)) where
-  Old : ℕ → ℕ → Type 0
-  Old u k = (d u ≡ Some k) ⊎ IsGiven (steps_at Head steps w) n u k
-
   given_no_less : (u k : ℕ) → IsGiven (steps_at Head steps w) n u k → n ≤ k
   given_no_less u k g = omega (arith, g.sum)
 
@@ -187,17 +184,6 @@ finished steps owner d s half none = record {
         sum = o.sum;
       })
       (half.elsewhere u off);
-}
-
--- at the start the owner alone has a distance, and no router is settled
-pub starting : (steps : List Step) (owner : ℕ) (d : DistanceMap) (s : ℕ → Bool) → d owner ≡ Some 0 → ((u : ℕ) → (u ≡ owner → ⊥) → d u ≡ None) →
-    ((u : ℕ) → s u ≡ false) → IsHalfway steps owner d s
-starting steps owner d s at_owner off_owner none = record {
-  at_owner = at_owner;
-  elsewhere = λ u off. subst (IsLeastOf (IsOffered steps (only s d) u)) (sym (off_owner u off))
-      (λ k o. none-some o.rest (sym (only_open s d o.step.head.0 (none o.step.head.0)) ∙ o.head));
-  known = λ u settled. absurd (false≢true (sym (none u) ∙ settled));
-  order = λ u v m k settled waits known later. absurd (false≢true (sym (none u) ∙ settled));
 }
 
 -- the distances stay below what the routers that are still to be settled leave room for

@@ -32,6 +32,8 @@ const BLOCKED: &str = r#"{"version": 1, "routers": ["r1.cfg", "r2.cfg"],
  "links": [{"a": "r1:GigabitEthernet0/1", "b": "r2:GigabitEthernet0/1"}],
  "policies": [{"kind": "blocked", "from": "10.1.0.0/24", "to": "10.2.0.0/24"}]}"#;
 
+const TWO_ROUTERS: &[(&str, &str)] = &[("net.json", BLOCKED), ("r1.cfg", R1), ("r2.cfg", R2)];
+
 const R1_OF_TWO_LINKS: &str =
     "hostname r1\n!\ninterface GigabitEthernet0/0\n ip address 10.1.0.1 255.255.255.0\n!\n\
       interface GigabitEthernet0/1\n\x20ip address 10.0.1.1 255.255.255.252\n!\n\
@@ -70,6 +72,13 @@ const CERTIFICATE: &str =
 
 const WALK: &str = "arc-report 1\n1 blocked no 1\nwalk 10.1.0.0/24 10.2.0.0/24 1\nend\n";
 
+const WITH_A_REPORT: &[(&str, &str)] = &[
+    ("net.json", BLOCKED),
+    ("old", WALK),
+    ("r1.cfg", R1),
+    ("r2.cfg", R2),
+];
+
 /// No assignment gives the variables values.
 const EIGHT: &str = "p cnf 3 8\n1 2 3 0\n1 2 -3 0\n1 -2 3 0\n1 -2 -3 0\n\
       -1 2 3 0\n-1 2 -3 0\n-1 -2 3 0\n-1 -2 -3 0\n";
@@ -90,7 +99,7 @@ pub const CASES: [Case; 11] = [
         outputs: &[],
     },
     Case {
-        files: &[("net.json", BLOCKED), ("r1.cfg", R1), ("r2.cfg", R2)],
+        files: TWO_ROUTERS,
         words: &["trace", "net.json", "10.1.0.0/24", "10.2.0.0/24"],
         text: "trace 10.1.0.0/24 r1 10.2.0.0/24 r2\nr1 1 via 1\nr2 0\n",
         code: 0,
@@ -98,12 +107,7 @@ pub const CASES: [Case; 11] = [
         outputs: &[],
     },
     Case {
-        files: &[
-            ("net.json", BLOCKED),
-            ("old", WALK),
-            ("r1.cfg", R1),
-            ("r2.cfg", R2),
-        ],
+        files: WITH_A_REPORT,
         words: &["check", "net.json", "old"],
         text: "accepted\n",
         code: 0,
@@ -124,12 +128,7 @@ pub const CASES: [Case; 11] = [
         outputs: &[],
     },
     Case {
-        files: &[
-            ("net.json", BLOCKED),
-            ("old", WALK),
-            ("r1.cfg", R1),
-            ("r2.cfg", R2),
-        ],
+        files: WITH_A_REPORT,
         words: &["recheck", "net.json", "old"],
         text: "arc-recheck 1\n1 blocked no 1 kept\nwalk 10.1.0.0/24 10.2.0.0/24 1\nend\n",
         code: 1,
@@ -137,7 +136,7 @@ pub const CASES: [Case; 11] = [
         outputs: &[],
     },
     Case {
-        files: &[("net.json", BLOCKED), ("r1.cfg", R1), ("r2.cfg", R2)],
+        files: TWO_ROUTERS,
         words: &["nodes", "net.json", "10.1.0.0/24", "10.2.0.0/24", "1"],
         text: "arc-nodes 1\nreach-routers 1 yes 1\narc 1\nend\n",
         code: 0,
@@ -145,7 +144,7 @@ pub const CASES: [Case; 11] = [
         outputs: &[],
     },
     Case {
-        files: &[("net.json", BLOCKED), ("r1.cfg", R1), ("r2.cfg", R2)],
+        files: TWO_ROUTERS,
         words: &["prefers", "net.json", "10.1.0.0/24", "10.2.0.0/24", "r1,r2"],
         text: "arc-prefers 1\nprefers yes 2\nlabel r1 1\nlabel r2 0\nend\n",
         code: 0,

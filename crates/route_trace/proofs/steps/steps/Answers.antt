@@ -16,7 +16,6 @@ loop-place-init c =
 pub loop-place-preserved : goal.loop-place-preserved
 loop-place-preserved c =
     let z : RoutedLink = record { from_a = false; from_b = false } in
-    let rows : List RoutedLink = c.slice-flags-items.result.now in
     let within : c.loop-place.place < length c.slice-flags-items.result.now = c.loop-place-test.true in
     let read : slice_get c.in_ok-table.table c.loop-place.place ≡ Some (get_or c.slice-flags-items.result.now c.loop-place.place z) =
     subst (λ (ys : List RoutedLink). slice_get ys c.loop-place.place ≡ Some (get_or c.slice-flags-items.result.now c.loop-place.place z)) c.slice-flags-items.ensures.items
